@@ -21,7 +21,7 @@ use Rattle.trace_text.specs.declared.events.EntryName.TheVariants.{{OfTask, OfOb
 use Rattle.trace_text.specs.declared.events.Finished.TheVariants as finished
 use Rattle.trace_text.specs.declared.events.Ended.TheVariants as ended
 use Rattle.trace_text.specs.declared.events.Event.TheVariants as event
-use Rattle.trace_text.specs.Queue.{{Line}}
+use Rattle.trace_text.specs.Queue.{{TraceLine}}
 {more}"""
 
 BASE = """
@@ -143,7 +143,7 @@ def main():
     if base:
         print(BASE, end="")
     for name, file in pairs:
-        print(f"\nunfoldable pub {name} : List Line\n{name} =")
+        print(f"\nunfoldable pub {name} : List TraceLine\n{name} =")
         for line in open(file, encoding="ascii").read().splitlines():
             tick, *words = line.split(" ")
             print(f"    ({tick}, {event(words, line)}) ∷")

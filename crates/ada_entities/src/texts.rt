@@ -42,7 +42,7 @@ fn append_name(text: &mut Text, name: &Option<Text>) -> Result<(), NoMemory>
 }
 
 // The names of the frames from this one outwards.
-#[tactic(auto, using(crate::proofs::Drops::drop_there, crate::proofs::Drops::drop_past, crate::proofs::Drops::nothing_left))]
+#[tactic(auto, using(crate::proofs::Drops::drop_there, crate::proofs::Drops::drop_past, std::proofs::lemmas::List::drop_all))]
 fn prefix_from(alloc: Global, frames: &List<Frame>, place: usize) -> Result<Text, NoMemory>
     requires { place ≤ length frames.now }
     ensures { IfOk result (λ text. text ≡ prefix_of (drop place frames.now)) }

@@ -54,7 +54,8 @@ fn is_word_spelt(source: &[u8], token: Token, text: &[u8]) -> bool
 
 fn is_this_delimiter(source: &[u8], token: Token, delimiter: Delimiter) -> bool
     requires { IsTokenOf source.now token }
-    ensures { result ≡ is_this_delimiter (delimiter_letters delimiter) (lexeme_of source.now token) }
+    ensures { result
+        ≡ is_this_delimiter (delimiter_letters delimiter) (lexeme_of source.now token) }
 {
     token.kind == Kind::Delimiter && spelling(source, token) == delimiter.letters()
 }

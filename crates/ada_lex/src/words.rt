@@ -251,7 +251,8 @@ impl Reserved {
 }
 
 fn first_of(entries: &[Reserved], spelling: &[u8]) -> Option<Reserved>
-    ensures found { IfSome result (λ entry. word_letters entry ≡ map to_ascii_lowercase spelling.now) }
+    ensures found { IfSome result
+        (λ entry. word_letters entry ≡ map to_ascii_lowercase spelling.now) }
     ensures none { IfNone result
         ((k : ℕ) → k < length entries.now
         → word_letters (slice_index_or entries.now k Reserved.Abort)
@@ -267,7 +268,8 @@ fn first_of(entries: &[Reserved], spelling: &[u8]) -> Option<Reserved>
 
 /// The reserved word that is spelt so, in any case; None where there is none.
 pub fn reserved_word(spelling: &[u8]) -> Option<Reserved>
-    ensures found { IfSome result (λ entry. word_letters entry ≡ map to_ascii_lowercase spelling.now) }
+    ensures found { IfSome result
+        (λ entry. word_letters entry ≡ map to_ascii_lowercase spelling.now) }
     ensures none { IfNone result
         ((entry : Reserved) → word_letters entry ≢ map to_ascii_lowercase spelling.now) }
 {

@@ -1,22 +1,11 @@
 -- What use clauses make visible, from a place of a list on.
-use Rattle.std.proofs.Common.{◌≡◌, ◌<◌, ◌-◌, ℕ, ◌+◌, zero, suc, cond, eqb, List, [], ◌∷◌, Some, drop, length, slice_get, refl, ap, ◌∙◌, sym, arith}
+use Rattle.std.proofs.Common.{◌≡◌, ◌<◌, ◌-◌, ℕ, ◌+◌, cond, eqb, List, Some, drop, slice_get, ap, ◌∙◌, sym, arith}
 use Rattle.ada_regions.specs.declared.entities.Sought.{Sought}
 use Rattle.ada_regions.specs.declared.table.Names.{Names}
 use Rattle.ada_regions.specs.declared.table.Frame.{Frame}
 use Rattle.ada_regions.specs.declared.table.UseClause.{UseClause}
 use Rattle.ada_regions.specs.Visibility.{visible_in, joined_if, used_in, used_around}
-
-step : {X : Type 0} (x : X) (xs : List X) (i : ℕ) → drop (i + 1) xs ≡ drop (suc i + 1) (x ∷ xs)
-step x xs i = let e : suc i + 1 ≡ suc (i + 1) = omega arith in sym (ap (λ n. drop n (x ∷ xs)) e)
-
-drop_there : {X : Type 0} (xs : List X) (i : ℕ) (x : X) → slice_get xs i ≡ Some x → drop i xs ≡ x ∷ drop (i + 1) xs
-drop_there [] i x e = cc
-drop_there (y ∷ ys) zero x e = let same : y ≡ x = cc in ap (λ z. z ∷ ys) same
-drop_there (y ∷ ys) (suc i) x e = drop_there ys i x e ∙ ap (λ zs. x ∷ zs) (step y ys i)
-
-pub nothing_left : {X : Type 0} (xs : List X) → drop (length xs) xs ≡ []
-nothing_left [] = refl
-nothing_left (x ∷ xs) = nothing_left xs
+use Rattle.ada_entities.proofs.Drops.{drop_there}
 
 one_less : (place : ℕ) → 0 < place → place - 1 + 1 ≡ place
 one_less place h = omega (arith, h)

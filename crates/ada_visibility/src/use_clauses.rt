@@ -209,7 +209,7 @@ fn used_before(names: &Names<'_>, name: &[u8], region: u32, place: usize, behind
 }
 
 /// What the packages that clauses of a region name make visible, joined to what others do.
-#[tactic(auto, using(crate::proofs::Drops::nothing_left))]
+#[tactic(auto, using(std::proofs::lemmas::List::drop_all))]
 pub(crate) fn used_in(names: &Names<'_>, name: &[u8], region: u32, others: Sought) -> Sought
     ensures { result ≡ used_in names.now name.now region names.now.uses others }
 {
@@ -238,7 +238,7 @@ fn used_in_frame(names: &Names<'_>, name: &[u8], place: usize, outside: Sought) 
 }
 
 /// What clauses of the open regions make visible.
-#[tactic(auto, using(crate::proofs::Drops::nothing_left))]
+#[tactic(auto, using(std::proofs::lemmas::List::drop_all))]
 pub(crate) fn used_around(names: &Names<'_>, name: &[u8]) -> Sought
     ensures { result ≡ used_around names.now name.now names.now.frames }
 {

@@ -11,7 +11,7 @@ use Rattle.commands.specs.declared.outcomes.Outcome.TheVariants.{Ended, Accepted
 use Rattle.commands.specs.declared.requests.Work.{Work}
 use Rattle.commands.specs.declared.requests.Work.TheVariants as work
 use Rattle.commands.specs.declared.requests.TableTest.{TableTest}
-use Rattle.trace_text.specs.Queue.{Line}
+use Rattle.trace_text.specs.Queue.{TraceLine}
 use Rattle.trace_text.specs.Text.{ArePrintable}
 use Rattle.profile_machine.specs.Run.{run_of, lines_of_run}
 use Rattle.commands.specs.Requests.{Asked, SourceAsked, ScriptAsked, LoadAsked, TableAsked, TraceAsked}
@@ -82,11 +82,11 @@ done_told asked shelf out notes o status p c small = done_by asked shelf out o s
 -- ---- the laws of runs
 
 -- a law of every run, as one of the lines that a run is said to have
-abbrev pub OfRuns : (List Line → Type 0) → Type 0
+abbrev pub OfRuns : (List TraceLine → Type 0) → Type 0
 OfRuns law = (p : Image) (script : List (ℤ × Item)) (bound : ℕ) → law (run_of p script bound)
 
 -- the same of the runs of each image that has this
-abbrev pub OfRunsWhere : (Image → Type 0) → (List Line → Type 0) → Type 0
+abbrev pub OfRunsWhere : (Image → Type 0) → (List TraceLine → Type 0) → Type 0
 OfRunsWhere has law = (p : Image) → has p → (script : List (ℤ × Item)) (bound : ℕ) → law (run_of p script bound)
 
 -- the image of each source that is accepted has this
@@ -94,18 +94,18 @@ abbrev pub OfAccepted : (Image → Type 0) → Type 0
 OfAccepted has = (bytes : List ℕ) (p : Image) → IsAccepted bytes p → has p
 
 -- a law of the runs of these images
-abbrev OfAcceptedRuns : (List Line → Type 0) → Type 0
+abbrev OfAcceptedRuns : (List TraceLine → Type 0) → Type 0
 OfAcceptedRuns law = (bytes : List ℕ) (p : Image) → IsAccepted bytes p → (script : List (ℤ × Item)) (bound : ℕ) → law (run_of p script bound)
 
-law_of_lines : (law : List Line → Type 0) → OfAcceptedRuns law → (bytes : List ℕ) (p : Image) → IsAccepted bytes p → (script : List (ℤ × Item)) (bound : ℕ) → law (lines_of_run p script bound)
+law_of_lines : (law : List TraceLine → Type 0) → OfAcceptedRuns law → (bytes : List ℕ) (p : Image) → IsAccepted bytes p → (script : List (ℤ × Item)) (bound : ℕ) → law (lines_of_run p script bound)
 unfolding lines_of_run
 law_of_lines law holds bytes p fits script bound = holds bytes p fits script bound
 
 -- a law of the lines of each run that was done
-abbrev OfDone : (List Line → Type 0) → Type 0
+abbrev OfDone : (List TraceLine → Type 0) → Type 0
 OfDone law = (items : List (ℤ × Item)) (ticks : ℕ) (bytes : List ℕ) (out : SinkChange) (o : Outcome) (done : IsDone items (work.Run ticks) bytes out o) → law (lines_of_run done.image items ticks)
 
-law_done : (law : List Line → Type 0) → OfDone law → (items : List (ℤ × Item)) (ticks : ℕ) (bytes : List ℕ) (out : SinkChange) (o : Outcome) → IsDone items (work.Run ticks) bytes out o → WrittenKeeps law items ticks bytes out
+law_done : (law : List TraceLine → Type 0) → OfDone law → (items : List (ℤ × Item)) (ticks : ℕ) (bytes : List ℕ) (out : SinkChange) (o : Outcome) → IsDone items (work.Run ticks) bytes out o → WrittenKeeps law items ticks bytes out
 law_done law holds items ticks bytes out o done = record {
   image = done.image;
   lines = lines_of_run done.image items ticks;
@@ -115,7 +115,7 @@ law_done law holds items ticks bytes out o done = record {
   keeps = holds items ticks bytes out o done;
 }
 
-law_by : (law : List Line → Type 0) → OfDone law → (asked : Option Asked) (shelf : ShelfChange) (out : SinkChange) (status : ℕ) → DoneTold asked shelf out status → LawTold law asked shelf out
+law_by : (law : List TraceLine → Type 0) → OfDone law → (asked : Option Asked) (shelf : ShelfChange) (out : SinkChange) (status : ℕ) → DoneTold asked shelf out status → LawTold law asked shelf out
 law_by law holds None shelf out status h = tt
 law_by law holds (Some (SourceAsked source (work.Run ticks))) shelf out status h =
     told_map (told shelf.files source) (λ bytes. EndedWith [] (work.Run ticks) bytes out status) (λ bytes. WrittenKeeps law [] ticks bytes out) (λ bytes ended. law_done law holds [] ticks bytes out ended.0 ended.1) h
@@ -128,15 +128,15 @@ law_by law holds (Some (LoadAsked tasks)) shelf out status h = tt
 law_by law holds (Some (TableAsked table t)) shelf out status h = tt
 law_by law holds (Some (TraceAsked trace w)) shelf out status h = tt
 
-accepted_done : (law : List Line → Type 0) → OfAcceptedRuns law → OfDone law
+accepted_done : (law : List TraceLine → Type 0) → OfAcceptedRuns law → OfDone law
 accepted_done law holds items ticks bytes out o done = law_of_lines law holds bytes done.image done.accepted items ticks
 
-pub law_told : (law : List Line → Type 0) → OfRuns law → (asked : Option Asked) (shelf : ShelfChange) (out notes : SinkChange) (o : Outcome) (status : ℕ) → Performs asked shelf out o → Concludes o notes status → status ≤ 3 → LawTold law asked shelf out
+pub law_told : (law : List TraceLine → Type 0) → OfRuns law → (asked : Option Asked) (shelf : ShelfChange) (out notes : SinkChange) (o : Outcome) (status : ℕ) → Performs asked shelf out o → Concludes o notes status → status ≤ 3 → LawTold law asked shelf out
 law_told law holds asked shelf out notes o status p c small =
     law_by law (accepted_done law (λ bytes image fits script bound. holds image script bound)) asked shelf out status (done_told asked shelf out notes o status p c small)
 
 -- a law that needs of an image what each accepted source gives it
-pub law_told_where : (has : Image → Type 0) → OfAccepted has → (law : List Line → Type 0) → OfRunsWhere has law → (asked : Option Asked) (shelf : ShelfChange) (out notes : SinkChange) (o : Outcome) (status : ℕ) → Performs asked shelf out o → Concludes o notes status → status ≤ 3 → LawTold law asked shelf out
+pub law_told_where : (has : Image → Type 0) → OfAccepted has → (law : List TraceLine → Type 0) → OfRunsWhere has law → (asked : Option Asked) (shelf : ShelfChange) (out notes : SinkChange) (o : Outcome) (status : ℕ) → Performs asked shelf out o → Concludes o notes status → status ≤ 3 → LawTold law asked shelf out
 law_told_where has given law holds asked shelf out notes o status p c small =
     law_by law (accepted_done law (λ bytes image fits script bound. holds image (given bytes image fits) script bound)) asked shelf out status (done_told asked shelf out notes o status p c small)
 

@@ -15,7 +15,7 @@ use Rattle.sched_tests.specs.declared.duties.TheConstants.{TABLE_BYTES}
 use Rattle.sched_tests.specs.declared.duties.Duty.{Duty}
 use Rattle.sched_tests.specs.Reading.{table_of, CutTablesAreReadAlike}
 use Rattle.trace_text.specs.declared.events.Who.TheVariants as subject
-use Rattle.trace_text.specs.Queue.{Line, last_from}
+use Rattle.trace_text.specs.Queue.{TraceLine, last_from}
 use Rattle.trace_text.specs.Laws.{Formed}
 use Rattle.run_report.specs.Accounts.{accounts_of, run_of, idle_of}
 use Rattle.run_report.specs.Kept.{Reported, reported_of, accounts_in, StandsFor}
@@ -233,8 +233,8 @@ verdict_told Missing verdict is = is
 verdict_told (Holds bytes) verdict is = ap verdict_answer is
 
 -- the answer of a report: what is kept of the lines is what they show
-kept_text : ((lines : List Line) → Formed lines → accounts_in (reported_of lines) ≡ accounts_of lines) → ((lines : List Line) → Formed lines → (reported_of lines).agent_run ≡ run_of subject.Agent lines) → ((lines : List Line) → Formed lines → (reported_of lines).idle ≡ idle_of lines) →
-    ((lines : List Line) → (reported_of lines).seen.tick ≡ last_from 0 lines) → (lines : List Line) (report : Reported) → Formed lines → StandsFor report lines → report_text lines ≡ text_in report
+kept_text : ((lines : List TraceLine) → Formed lines → accounts_in (reported_of lines) ≡ accounts_of lines) → ((lines : List TraceLine) → Formed lines → (reported_of lines).agent_run ≡ run_of subject.Agent lines) → ((lines : List TraceLine) → Formed lines → (reported_of lines).idle ≡ idle_of lines) →
+    ((lines : List TraceLine) → (reported_of lines).seen.tick ≡ last_from 0 lines) → (lines : List TraceLine) (report : Reported) → Formed lines → StandsFor report lines → report_text lines ≡ text_in report
 kept_text accounts agent idle ticks lines report formed stands =
     sym (ap text_in stands
     ∙ ap (λ xs. account_texts xs ++ totals_text (reported_of lines).agent_run (reported_of lines).idle (reported_of lines).seen.tick) (accounts lines formed)
@@ -242,7 +242,7 @@ kept_text accounts agent idle ticks lines report formed stands =
     ∙ ap (λ n. account_texts (accounts_of lines) ++ totals_text (run_of subject.Agent lines) n (reported_of lines).seen.tick) (idle lines formed)
     ∙ ap (λ n. account_texts (accounts_of lines) ++ totals_text (run_of subject.Agent lines) (idle_of lines) n) (ticks lines))
 
-report_here : ((lines : List Line) (report : Reported) → Formed lines → StandsFor report lines → report_text lines ≡ text_in report) → (bytes : List ℕ) (told_so : FileReport) → IsReported bytes told_so → trace_answer question.Report bytes ≡ file_answer told_so
+report_here : ((lines : List TraceLine) (report : Reported) → Formed lines → StandsFor report lines → report_text lines ≡ text_in report) → (bytes : List ℕ) (told_so : FileReport) → IsReported bytes told_so → trace_answer question.Report bytes ≡ file_answer told_so
 report_here text bytes (reported.Formed report) h = ap report_answer h.1 ∙ ap (λ t. Ok (t, false)) (text h.0 report h.2 h.3)
 report_here text bytes (reported.Refused line) h = ap report_answer h
 
@@ -251,6 +251,6 @@ file_told Untold told_so f h = tt
 file_told Missing told_so f h = h
 file_told (Holds bytes) told_so f h = f bytes h
 
-pub reported_told : ((lines : List Line) → Formed lines → accounts_in (reported_of lines) ≡ accounts_of lines) → ((lines : List Line) → Formed lines → (reported_of lines).agent_run ≡ run_of subject.Agent lines) → ((lines : List Line) → Formed lines → (reported_of lines).idle ≡ idle_of lines) →
-    ((lines : List Line) → (reported_of lines).seen.tick ≡ last_from 0 lines) → (file : ToldFile) (told_so : FileReport) → WhereTold file (λ bytes. IsReported bytes told_so) → WhereTold file (λ bytes. trace_answer question.Report bytes ≡ file_answer told_so)
+pub reported_told : ((lines : List TraceLine) → Formed lines → accounts_in (reported_of lines) ≡ accounts_of lines) → ((lines : List TraceLine) → Formed lines → (reported_of lines).agent_run ≡ run_of subject.Agent lines) → ((lines : List TraceLine) → Formed lines → (reported_of lines).idle ≡ idle_of lines) →
+    ((lines : List TraceLine) → (reported_of lines).seen.tick ≡ last_from 0 lines) → (file : ToldFile) (told_so : FileReport) → WhereTold file (λ bytes. IsReported bytes told_so) → WhereTold file (λ bytes. trace_answer question.Report bytes ≡ file_answer told_so)
 reported_told accounts agent idle ticks file told_so h = file_told file told_so (λ bytes. report_here (kept_text accounts agent idle ticks) bytes told_so) h

@@ -6,7 +6,7 @@ use Rattle.trace_laws.specs.declared.verdicts.Verdict.{Verdict}
 use Rattle.trace_laws.specs.Verdicts.{texts_in, laws_answer, Says}
 use Rattle.commands.specs.declared.requests.TraceWork.{TraceWork}
 use Rattle.commands.specs.declared.requests.TraceWork.TheVariants as question
-use Rattle.trace_text.specs.Queue.{Line}
+use Rattle.trace_text.specs.Queue.{TraceLine}
 use Rattle.trace_files.specs.Reported.{formed_lines, IsFormedTrace}
 use Rattle.commands.specs.Traces.{trace_answer, report_answer, trace_note}
 use Rattle.commands.specs.Requests.{Asked, TraceAsked}
@@ -51,12 +51,12 @@ laws_told says only asked shelf out notes o status p c trace bytes is there u =
     record { verdict = laws_answer bytes; says = says bytes; only = only bytes; told_so = trace_told asked shelf out notes o status p c trace bytes question.Laws is there u }
 
 -- the report, by what a formed trace is
-no_lines : (bytes : List ℕ) (out notes : SinkChange) (status : ℕ) (answer : Result (List Line) ℕ) → formed_lines bytes ≡ answer → ((lines : List Line) → formed_lines bytes ≡ Ok lines → IsFormedTrace (texts_in bytes) lines) →
-    IsTraceAnswer (report_answer answer) out notes status → ((lines : List Line) → IsFormedTrace (texts_in bytes) lines → ⊥) → status ≡ 11
+no_lines : (bytes : List ℕ) (out notes : SinkChange) (status : ℕ) (answer : Result (List TraceLine) ℕ) → formed_lines bytes ≡ answer → ((lines : List TraceLine) → formed_lines bytes ≡ Ok lines → IsFormedTrace (texts_in bytes) lines) →
+    IsTraceAnswer (report_answer answer) out notes status → ((lines : List TraceLine) → IsFormedTrace (texts_in bytes) lines → ⊥) → status ≡ 11
 no_lines bytes out notes status (Ok lines) is formed h none = absurd (none lines (formed lines is))
 no_lines bytes out notes status (Err line) is formed h none = h.1
 
-pub report_told : ((bytes : List ℕ) (lines : List Line) → formed_lines bytes ≡ Ok lines → IsFormedTrace (texts_in bytes) lines) → ((bytes : List ℕ) (lines : List Line) → IsFormedTrace (texts_in bytes) lines → formed_lines bytes ≡ Ok lines) →
+pub report_told : ((bytes : List ℕ) (lines : List TraceLine) → formed_lines bytes ≡ Ok lines → IsFormedTrace (texts_in bytes) lines) → ((bytes : List ℕ) (lines : List TraceLine) → IsFormedTrace (texts_in bytes) lines → formed_lines bytes ≡ Ok lines) →
     (asked : Option Asked) (shelf : ShelfChange) (out notes : SinkChange) (o : Outcome) (status : ℕ) → Performs asked shelf out o → Concludes o notes status → ReportTold asked shelf out notes status
 report_told formed only asked shelf out notes o status p c trace bytes is there u =
     let h = trace_told asked shelf out notes o status p c trace bytes question.Report is there u in

@@ -12,7 +12,7 @@ use Rattle.sched_tests.specs.declared.duties.TableFault.{TableFault}
 use Rattle.sched_tests.specs.Demand.{busy_of}
 use Rattle.sched_tests.specs.Reading.{table_of}
 use Rattle.sched_tests.specs.Reports.{table_note}
-use Rattle.trace_text.specs.Queue.{Line}
+use Rattle.trace_text.specs.Queue.{TraceLine}
 use Rattle.trace_text.specs.Text.{text_of}
 use Rattle.profile_machine.specs.Run.{lines_of_run}
 use Rattle.run_report.specs.Texts.{report_text}
@@ -124,8 +124,8 @@ LawsTold asked shelf out notes status =
 -- Where they ask for the report: that of the lines of the trace is written, where they are formed and within the most
 -- bytes; and where there are none such, the status is 11.
 pub record IsReportTold (bytes : List ℕ) (out notes : SinkChange) (status : ℕ) : Type 0 where
-  pub formed : (lines : List Line) → IsFormedTrace (texts_in bytes) lines → Gained out (report_text lines) × (status ≡ 0) × IsKept notes
-  pub refused : ((lines : List Line) → IsFormedTrace (texts_in bytes) lines → ⊥) → status ≡ 11
+  pub formed : (lines : List TraceLine) → IsFormedTrace (texts_in bytes) lines → Gained out (report_text lines) × (status ≡ 0) × IsKept notes
+  pub refused : ((lines : List TraceLine) → IsFormedTrace (texts_in bytes) lines → ⊥) → status ≡ 11
 
 abbrev pub ReportTold : Option Asked → ShelfChange → SinkChange → SinkChange → ℕ → Type 0
 ReportTold asked shelf out notes status =
@@ -158,9 +158,9 @@ DoneTold (Some (TraceAsked trace work)) shelf out status =
 
 -- Lines were written that keep a law, and they are those of the run of the accepted bytes. Different lists of printable
 -- lines have different texts, so where the law is that they are printable the text says which lines they are.
-pub record WrittenKeeps (law : List Line → Type 0) (items : List (ℤ × Item)) (ticks : ℕ) (bytes : List ℕ) (out : SinkChange) : Type 0 where
+pub record WrittenKeeps (law : List TraceLine → Type 0) (items : List (ℤ × Item)) (ticks : ℕ) (bytes : List ℕ) (out : SinkChange) : Type 0 where
   pub image : Image
-  pub lines : List Line
+  pub lines : List TraceLine
   pub accepted : IsAccepted bytes image
   pub are_of_run : lines ≡ lines_of_run image items ticks
   pub text : Gained out (text_of lines)
@@ -168,7 +168,7 @@ pub record WrittenKeeps (law : List Line → Type 0) (items : List (ℤ × Item)
 
 -- Where a run is asked for of a source that is there, without a script or under one that is there, the lines that were
 -- written keep a law.
-abbrev pub LawTold : (List Line → Type 0) → Option Asked → ShelfChange → SinkChange → Type 0
+abbrev pub LawTold : (List TraceLine → Type 0) → Option Asked → ShelfChange → SinkChange → Type 0
 LawTold law None shelf out = Unit {0}
 LawTold law (Some (SourceAsked source (work.Run ticks))) shelf out = WhereTold (told shelf.files source) (λ bytes. WrittenKeeps law [] ticks bytes out)
 LawTold law (Some (SourceAsked source (work.Summary ticks))) shelf out = Unit {0}

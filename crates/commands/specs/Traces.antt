@@ -1,6 +1,6 @@
 -- What is answered of a trace.
 use Rattle.std.specs.Prelude.{ℕ, Bool, true, false, if◌then◌else◌, List, [], ◌∷◌, ◌++◌, Result, Ok, Err, codes, decimal}
-use Rattle.trace_text.specs.Queue.{Line}
+use Rattle.trace_text.specs.Queue.{TraceLine}
 use Rattle.run_report.specs.Texts.{report_text, text_in}
 use Rattle.trace_files.specs.declared.reporting.FileReport.{FileReport}
 use Rattle.trace_files.specs.declared.reporting.FileReport.TheVariants as reported
@@ -27,7 +27,7 @@ verdict_answer (verdict.Broken line law) = Ok (codes "broken " ++ (decimal line 
 verdict_answer (verdict.Refused line) = Err line
 
 -- the same of the lines of a trace, or of its first line that is refused
-abbrev pub report_answer : Result (List Line) ℕ → Result (List ℕ × Bool) ℕ
+abbrev pub report_answer : Result (List TraceLine) ℕ → Result (List ℕ × Bool) ℕ
 report_answer (Ok lines) = Ok (report_text lines, false)
 report_answer (Err line) = Err line
 

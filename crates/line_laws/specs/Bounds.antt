@@ -2,16 +2,16 @@
 use Rattle.std.specs.Prelude.{◌≡◌, ◌≢◌, ℕ, ℤ, suc, ◌+◌, ◌<◌, List, [], ◌∷◌, ◌++◌}
 use Rattle.trace_text.specs.declared.events.Event.TheVariants as line
 use Rattle.trace_text.specs.declared.events.Ended.TheVariants as why
-use Rattle.trace_text.specs.Queue.{Line, RisesFrom, up_to}
+use Rattle.trace_text.specs.Queue.{TraceLine, RisesFrom, up_to}
 use Rattle.profile_machine.specs.declared.image.Image.{Image}
 use Rattle.profile_machine.specs.declared.run_data.Item.{Item}
 use Rattle.profile_machine.specs.Run.{Ran, opening, run_from, run, run_of}
 
 -- The shorter lines are a front of the longer ones, but for the `end` line at the bound; what the longer ones have behind
 -- that front is at the bound or later.
-pub record AreCutAt (bound : ℕ) (short long : List Line) : Type 0 where
-  pub front : List Line
-  pub rest : List Line
+pub record AreCutAt (bound : ℕ) (short long : List TraceLine) : Type 0 where
+  pub front : List TraceLine
+  pub rest : List TraceLine
   pub short_is : short ≡ front ++ (bound, line.End why.Bound) ∷ []
   pub long_is : long ≡ front ++ rest
   pub later : RisesFrom bound rest

@@ -7,7 +7,7 @@ use Rattle.trace_text.specs.declared.events.QueueEnd.TheVariants.{Tail}
 use Rattle.trace_text.specs.declared.events.Waits.TheVariants as waits
 use Rattle.trace_text.specs.declared.events.Ended.TheVariants as ended
 use Rattle.trace_text.specs.declared.events.Event.TheVariants as line
-use Rattle.trace_text.specs.Queue.{Line}
+use Rattle.trace_text.specs.Queue.{TraceLine}
 
 abbrev task : ℕ → Who
 task number = subject.Task (record { 0 = number })
@@ -16,7 +16,7 @@ abbrev object : ℕ → ObjectNo
 object number = record { 0 = number }
 
 -- task 1 is interrupted by a handler at tick 5, and delays at tick 8
-unfoldable pub kept_lines : List Line
+unfoldable pub kept_lines : List TraceLine
 kept_lines =
     (3, line.Ready (task 1) 10 Tail None) ∷
     (3, line.Run (task 1)) ∷
@@ -32,7 +32,7 @@ kept_lines =
     []
 
 -- task 1 is told to run while it runs
-unfoldable pub told_twice : List Line
+unfoldable pub told_twice : List TraceLine
 told_twice =
     (3, line.Ready (task 1) 10 Tail None) ∷
     (3, line.Run (task 1)) ∷
@@ -40,7 +40,7 @@ told_twice =
     []
 
 -- the first release is passed over
-unfoldable pub passed_over : List Line
+unfoldable pub passed_over : List TraceLine
 passed_over =
     (5, line.Release 1 (object 1) (codes "tick")) ∷
     (5, line.Release 2 (object 1) (codes "tick")) ∷
@@ -50,7 +50,7 @@ passed_over =
     []
 
 -- a release is taken up before it came
-unfoldable pub served_early : List Line
+unfoldable pub served_early : List TraceLine
 served_early =
     (5, line.Ready subject.Agent 30 Tail None) ∷
     (5, line.Run subject.Agent) ∷
@@ -59,7 +59,7 @@ served_early =
     []
 
 -- an effect comes behind the choice of its tick
-unfoldable pub chosen_early : List Line
+unfoldable pub chosen_early : List TraceLine
 chosen_early =
     (3, line.Ready (task 1) 10 Tail None) ∷
     (3, line.Run (task 1)) ∷
@@ -67,7 +67,7 @@ chosen_early =
     []
 
 -- task 1 is ready, and the run is said to be stuck
-unfoldable pub not_stuck : List Line
+unfoldable pub not_stuck : List TraceLine
 not_stuck =
     (3, line.Ready (task 1) 10 Tail None) ∷
     (3, line.End ended.Stuck) ∷

@@ -3,7 +3,7 @@ use Rattle.std.specs.Prelude.{ℕ, ℤ, Bool, true, IsTrue, List, []}
 use Rattle.trace_text.specs.declared.events.Action.{Action}
 use Rattle.trace_text.specs.declared.events.Event.{Event}
 use Rattle.trace_text.specs.declared.events.Event.TheVariants as line
-use Rattle.trace_text.specs.Queue.{Line, AtEachLine}
+use Rattle.trace_text.specs.Queue.{TraceLine, AtEachLine}
 use Rattle.trace_text.specs.Laws.{actions_after, is_exclusive}
 use Rattle.profile_machine.specs.declared.image.Image.{Image}
 use Rattle.profile_machine.specs.declared.run_data.Item.{Item}
@@ -15,7 +15,7 @@ abbrev pub enters_rightly : List Action → Event → Bool
 enters_rightly actions (line.Exit who object) = true
 enters_rightly actions event = is_exclusive actions event
 
-abbrev pub EntersOk : List Line → Type 0
+abbrev pub EntersOk : List TraceLine → Type 0
 EntersOk = AtEachLine actions_after [] (λ actions event. IsTrue (enters_rightly actions event))
 
 abbrev pub RunsExclude : Type 0

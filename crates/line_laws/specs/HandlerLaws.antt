@@ -1,6 +1,6 @@
 -- Handlers: what the law of traces says of the lines of releases, one by one, and the law itself.
 use Rattle.std.specs.Prelude.{ℕ, ℤ, IsTrue, List}
-use Rattle.trace_text.specs.Queue.{Line, AtEachLine}
+use Rattle.trace_text.specs.Queue.{TraceLine, AtEachLine}
 use Rattle.trace_text.specs.Laws.{no_releases, see_releases, is_in_order, HandlersOk}
 use Rattle.profile_machine.specs.declared.image.Image.{Image}
 use Rattle.profile_machine.specs.declared.run_data.Item.{Item}
@@ -8,7 +8,7 @@ use Rattle.profile_machine.specs.Run.{run_of}
 
 -- `release`, `serve` and `served` lines each bear the numbers 1, 2, 3 and so on. No release is served before it was released
 -- or while another is served.
-abbrev pub ServedInTurn : List Line → Type 0
+abbrev pub ServedInTurn : List TraceLine → Type 0
 ServedInTurn = AtEachLine see_releases no_releases (λ state event. IsTrue (is_in_order state event))
 
 abbrev pub RunsServeInTurn : Type 0

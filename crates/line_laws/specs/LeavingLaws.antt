@@ -3,7 +3,7 @@ use Rattle.std.specs.Prelude.{ℕ, ℤ, Bool, true, false, not, ◌&&◌, ◌==�
 use Rattle.std.specs.List.{list_all}
 use Rattle.trace_text.specs.declared.events.Event.{Event}
 use Rattle.trace_text.specs.declared.events.Event.TheVariants as line
-use Rattle.trace_text.specs.Queue.{Line, AtEachLine}
+use Rattle.trace_text.specs.Queue.{TraceLine, AtEachLine}
 use Rattle.trace_text.specs.Laws.{is_left_before, is_leaving, inits_of, regions_of, is_final_before, remember, LeftOk}
 use Rattle.profile_machine.specs.declared.image.Image.{Image}
 use Rattle.profile_machine.specs.declared.run_data.Item.{Item}
@@ -32,7 +32,7 @@ is_in_turn past (line.Final who object) =
 is_in_turn past (line.Replace who object) = length (regions_of object past) == 1 && not (is_final_before object past)
 is_in_turn past _ = true
 
-abbrev pub InTurn : List Line → Type 0
+abbrev pub InTurn : List TraceLine → Type 0
 InTurn = AtEachLine remember [] (λ past event. IsTrue (is_in_turn past event))
 
 abbrev pub RunsLeaveInTurn : Type 0

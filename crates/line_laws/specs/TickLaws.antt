@@ -7,7 +7,7 @@ use Rattle.trace_text.specs.declared.events.Event.{Event}
 use Rattle.trace_text.specs.declared.events.Event.TheVariants as line
 use Rattle.trace_text.specs.declared.events.Ended.TheVariants as why
 use Rattle.trace_text.specs.declared.events.Entry.{Entry}
-use Rattle.trace_text.specs.Queue.{Line, AtEachLine, follows_lines, queue_after, runner_after, somebody_eq}
+use Rattle.trace_text.specs.Queue.{TraceLine, AtEachLine, follows_lines, queue_after, runner_after, somebody_eq}
 use Rattle.profile_machine.specs.declared.image.Image.{Image}
 use Rattle.profile_machine.specs.declared.run_data.Item.{Item}
 use Rattle.ann_base.specs.Lists.{is_empty}
@@ -23,10 +23,10 @@ is_switch runner line.Idle = is_some runner
 is_switch runner (line.Serve release) = somebody_eq runner (Some subject.Agent)
 is_switch runner _ = true
 
-abbrev pub SwitchesOk : List Line → Type 0
+abbrev pub SwitchesOk : List TraceLine → Type 0
 SwitchesOk = AtEachLine runner_after None (λ runner event. IsTrue (is_switch runner event))
 
-abbrev pub follows_switches : List Line → Bool
+abbrev pub follows_switches : List TraceLine → Bool
 follows_switches = follows_lines runner_after is_switch None
 
 -- RELEASES. The `release` lines bear 1, 2, 3 and so on, and so do the `serve` lines; none is taken up before it came (own).
@@ -47,10 +47,10 @@ is_next_release counts (line.Release number object handler) = number == suc coun
 is_next_release counts (line.Serve number) = number == suc counts.begun && nat_le number counts.released
 is_next_release counts _ = true
 
-abbrev pub ReleasesOk : List Line → Type 0
+abbrev pub ReleasesOk : List TraceLine → Type 0
 ReleasesOk = AtEachLine counts_after no_counts (λ counts event. IsTrue (is_next_release counts event))
 
-abbrev pub follows_releases : List Line → Bool
+abbrev pub follows_releases : List TraceLine → Bool
 follows_releases = follows_lines counts_after is_next_release no_counts
 
 -- ORDER. The lines of one tick are those of effects, and behind them at most one `run` or `idle`, and behind it at most one
@@ -67,10 +67,10 @@ is_serve _ = false
 abbrev pub may_follow : Event → Event → Bool
 may_follow first second = is_of_effect first || (is_run first && is_serve second)
 
-abbrev pub stands_rightly : Line → Line → Bool
+abbrev pub stands_rightly : TraceLine → TraceLine → Bool
 stands_rightly first second = not (first.0 == second.0) || may_follow first.1 second.1
 
-abbrev pub follows_tick_order : List Line → Bool
+abbrev pub follows_tick_order : List TraceLine → Bool
 follows_tick_order = all_adjacent stands_rightly
 
 -- STUCK. An `end stuck` line stands only where nobody is in the ready queues (own).
@@ -78,10 +78,10 @@ abbrev pub is_rightly_stuck : List Entry → Event → Bool
 is_rightly_stuck queue (line.End why.Stuck) = is_empty queue
 is_rightly_stuck queue _ = true
 
-abbrev pub StuckOk : List Line → Type 0
+abbrev pub StuckOk : List TraceLine → Type 0
 StuckOk = AtEachLine queue_after [] (λ queue event. IsTrue (is_rightly_stuck queue event))
 
-abbrev pub follows_stuck : List Line → Bool
+abbrev pub follows_stuck : List TraceLine → Bool
 follows_stuck = follows_lines queue_after is_rightly_stuck []
 
 -- ---- of every run

@@ -4,7 +4,7 @@
 //! `proofs/Ticks/LineByLine.antt` has the skeleton of a law of lines: what the opening, an instant and a tock keep of what lines
 //! show, every run keeps.
 ghost use Rattle.std.specs.Prelude.{◌≡◌, ◌↔◌, IsTrue, List, false};
-ghost use Rattle.trace_text.specs.Queue.{Line};
+ghost use Rattle.trace_text.specs.Queue.{TraceLine};
 ghost use Rattle.line_laws.specs.TickLaws.{SwitchesOk, ReleasesOk, StuckOk, follows_switches, follows_releases, follows_tick_order, follows_stuck, RunsSwitch, RunsReleaseInOrder, RunsAreInTickOrder, RunsAreRightlyStuck};
 ghost use Rattle.line_laws.specs.Examples.{kept_lines, told_twice, passed_over, served_early, chosen_early, not_stuck};
 
@@ -38,9 +38,9 @@ pub fn runs_are_rightly_stuck()
 /// Where the test of lines computes to true the law holds of them, and nowhere else.
 #[tactic(auto, using(crate::proofs::Ticks::TestLemmas::switches_told, crate::proofs::Ticks::TestLemmas::releases_told, crate::proofs::Ticks::TestLemmas::stuck_told))]
 pub fn tests_tell()
-    ensures switches { (lines : List Line) → (IsTrue (follows_switches lines) ↔ SwitchesOk lines) }
-    ensures releases { (lines : List Line) → (IsTrue (follows_releases lines) ↔ ReleasesOk lines) }
-    ensures stuck { (lines : List Line) → (IsTrue (follows_stuck lines) ↔ StuckOk lines) }
+    ensures switches { (lines : List TraceLine) → (IsTrue (follows_switches lines) ↔ SwitchesOk lines) }
+    ensures releases { (lines : List TraceLine) → (IsTrue (follows_releases lines) ↔ ReleasesOk lines) }
+    ensures stuck { (lines : List TraceLine) → (IsTrue (follows_stuck lines) ↔ StuckOk lines) }
 {}
 
 /// A few lines keep the laws, and some break one each.

@@ -1,7 +1,7 @@
 -- A tally of lines.
 use Rattle.std.specs.Prelude.{◌≡◌, ℕ, ◌+◌, if◌then◌else◌, List, map}
 use Rattle.std.specs.Str.{bytes_eq}
-use Rattle.trace_text.specs.Queue.{Line}
+use Rattle.trace_text.specs.Queue.{TraceLine}
 use Rattle.trace_text.specs.declared.words.Word.{Word}
 use Rattle.trace_text.specs.Words.{word_text, all_words}
 use Rattle.trace_text.specs.Summary.{count_of, count_line, last_line}
@@ -12,7 +12,7 @@ abbrev pub none_of : Word → Count
 none_of w = record { word = w; count = 0 }
 
 -- how often a word occurs in lines
-abbrev pub count_in : List Line → Word → Count
+abbrev pub count_in : List TraceLine → Word → Count
 count_in lines w = record { word = w; count = count_of w lines }
 
 -- with a line of a word more
@@ -24,6 +24,6 @@ abbrev pub count_text : Count → List ℕ
 count_text count = count_line count.word count.count
 
 -- a tally is that of these lines
-pub record Tallies (tally : Tally) (lines : List Line) : Type 0 where
+pub record Tallies (tally : Tally) (lines : List TraceLine) : Type 0 where
   pub counts : tally.counts.items ≡ map (count_in lines) all_words
   pub last : tally.last.items ≡ last_line lines

@@ -1,6 +1,6 @@
 //! A tally of lines: how often each event word occurred, and which line came last.
 ghost use Rattle.std.specs.Prelude.{◌≡◌, ◌≤◌, ◌++◌, List, [], length, map, IfOk, OnOk};
-ghost use Rattle.trace_text.specs.Queue.{Line};
+ghost use Rattle.trace_text.specs.Queue.{TraceLine};
 ghost use Rattle.trace_text.specs.Text.{ArePrintable, text_of};
 ghost use Rattle.trace_text.specs.Summary.{summary_of};
 ghost use Rattle.load_runs.specs.Tallies.{Tallies, counted, count_text, none_of};
@@ -41,7 +41,7 @@ impl Tally {
     /// Errors: memory ran out for its text, or a count is no number of 64 bits any more.
     pub fn piece(&mut self, piece: &[u8]) -> Result<(), NoMemory>
         ensures { OnOk result
-            ((before lines : List Line) → Tallies self.old before → length lines ≤ 1
+            ((before lines : List TraceLine) → Tallies self.old before → length lines ≤ 1
             → ArePrintable lines → piece.now ≡ text_of lines → Tallies self.new (before ++ lines)) }
     {
         match read_line(piece) {
@@ -65,7 +65,7 @@ impl Tally {
     /// The summary of the lines that are counted.
     pub fn text(&self, alloc: Global) -> Result<Vec<u8>, NoMemory>
         ensures { IfOk result
-            (λ text. (lines : List Line) → Tallies self.now lines → text.items ≡ summary_of lines) }
+            (λ text. (lines : List TraceLine) → Tallies self.now lines → text.items ≡ summary_of lines) }
     {
         let mut text = Vec::new(alloc);
         for count in self.counts.iter() {

@@ -7,7 +7,7 @@ use Rattle.trace_text.specs.declared.events.Ended.{Ended}
 use Rattle.trace_text.specs.declared.events.Ended.TheVariants as why
 use Rattle.trace_text.specs.declared.events.Who.{Who}
 use Rattle.trace_text.specs.declared.events.Who.TheVariants as who
-use Rattle.trace_text.specs.Queue.{Line, RisesFrom, seen_from, up_to, last_from, head_of, who_of, runner_after, Sight, see, nothing_seen}
+use Rattle.trace_text.specs.Queue.{TraceLine, RisesFrom, seen_from, up_to, last_from, head_of, who_of, runner_after, Sight, see, nothing_seen}
 use Rattle.trace_text.specs.Laws.{DispatchOk}
 use Rattle.profile_machine.specs.declared.image.Image.{Image}
 use Rattle.profile_machine.specs.declared.run_data.Item.{Item}
@@ -34,7 +34,7 @@ after_all : Sight → List Event → Sight
 after_all s [] = s
 after_all s (x ∷ xs) = after_all (see s x) xs
 
-seen-at_tick : (n : ℕ) (s : Sight) (events : List Event) (rest : List Line) → seen_from see s (at_tick n events ++ rest) ≡ seen_from see (after_all s events) rest
+seen-at_tick : (n : ℕ) (s : Sight) (events : List Event) (rest : List TraceLine) → seen_from see s (at_tick n events ++ rest) ≡ seen_from see (after_all s events) rest
 unfolding after_all
 seen-at_tick n s [] rest = refl
 seen-at_tick n s (x ∷ xs) rest = seen-at_tick n (see s x) xs rest
@@ -165,18 +165,18 @@ tock-first p s w h =
 
 -- ---- at each tick of a run
 
-Held : Sight → ℕ → List Line → Type 0
+Held : Sight → ℕ → List TraceLine → Type 0
 Held s now lines = (tick : ℕ) → now ≤ tick → tick < last_from now lines → Runs_first (seen_from see s (up_to tick lines))
 
-up_to-at_tick : (tick now : ℕ) (events : List Event) (rest : List Line) → now ≤ tick → up_to tick (at_tick now events ++ rest) ≡ at_tick now events ++ up_to tick rest
+up_to-at_tick : (tick now : ℕ) (events : List Event) (rest : List TraceLine) → now ≤ tick → up_to tick (at_tick now events ++ rest) ≡ at_tick now events ++ up_to tick rest
 up_to-at_tick tick now [] rest a = refl
 up_to-at_tick tick now (x ∷ xs) rest a = let within : leb now tick ≡ true = grind arith in rw within (ap (λ l. (now, x) ∷ l) (up_to-at_tick tick now xs rest a))
 
-up_to-later : (tick later : ℕ) (rest : List Line) → tick < later → RisesFrom later rest → up_to tick rest ≡ []
+up_to-later : (tick later : ℕ) (rest : List TraceLine) → tick < later → RisesFrom later rest → up_to tick rest ≡ []
 up_to-later tick later [] a h = refl
 up_to-later tick later (x ∷ xs) a h = let beyond : leb x.0 tick ≡ false = grind (arith, h.0) in rw beyond refl
 
-last_from-at_tick : (now : ℕ) (events : List Event) (rest : List Line) → last_from now (at_tick now events ++ rest) ≡ last_from now rest
+last_from-at_tick : (now : ℕ) (events : List Event) (rest : List TraceLine) → last_from now (at_tick now events ++ rest) ≡ last_from now rest
 last_from-at_tick now [] rest = refl
 last_from-at_tick now (x ∷ xs) rest = last_from-at_tick now xs rest
 
@@ -184,11 +184,11 @@ last_from-alone : (now : ℕ) (events : List Event) → last_from now (at_tick n
 last_from-alone now [] = refl
 last_from-alone now (x ∷ xs) = last_from-alone now xs
 
-last_from-later : (m n : ℕ) (rest : List Line) → m ≤ n → last_from m rest ≤ last_from n rest
+last_from-later : (m n : ℕ) (rest : List TraceLine) → m ≤ n → last_from m rest ≤ last_from n rest
 last_from-later m n [] a = a
 last_from-later m n (x ∷ xs) a = omega arith
 
-seen-up_to : (tick now : ℕ) (s : Sight) (events : List Event) (rest : List Line) → now ≤ tick → seen_from see s (up_to tick (at_tick now events ++ rest)) ≡ seen_from see (after_all s events) (up_to tick rest)
+seen-up_to : (tick now : ℕ) (s : Sight) (events : List Event) (rest : List TraceLine) → now ≤ tick → seen_from see s (up_to tick (at_tick now events ++ rest)) ≡ seen_from see (after_all s events) (up_to tick rest)
 seen-up_to tick now s events rest a = ap (seen_from see s) (up_to-at_tick tick now events rest a) ∙ seen-at_tick now s events (up_to tick rest)
 
 by_test : {P : Type 0} (b : Bool) → (b ≡ true → P) → (b ≡ false → P) → P
@@ -196,7 +196,7 @@ by_test true p q = p refl
 by_test false p q = q refl
 
 -- the lines of one turn, and what is left of the run
-Held-turn : (s : Sight) (now : ℕ) (events : List Event) (rest : List Line) → RisesFrom (suc now) rest → Runs_first (after_all s events) → Held (after_all s events) (suc now) rest → Held s now (at_tick now events ++ rest)
+Held-turn : (s : Sight) (now : ℕ) (events : List Event) (rest : List TraceLine) → RisesFrom (suc now) rest → Runs_first (after_all s events) → Held (after_all s events) (suc now) rest → Held s now (at_tick now events ++ rest)
 unfolding Held
 Held-turn s now events rest rises first later tick a b =
     let seen = seen-up_to tick now s events rest a in

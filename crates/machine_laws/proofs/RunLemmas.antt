@@ -6,7 +6,7 @@ use Rattle.trace_text.specs.declared.events.Event.{Event}
 use Rattle.trace_text.specs.declared.events.Event.TheVariants as line
 use Rattle.trace_text.specs.declared.events.Ended.{Ended}
 use Rattle.trace_text.specs.declared.events.Ended.TheVariants as why
-use Rattle.trace_text.specs.Queue.{Line, RisesFrom}
+use Rattle.trace_text.specs.Queue.{TraceLine, RisesFrom}
 use Rattle.profile_machine.specs.declared.image.Image.{Image}
 use Rattle.profile_machine.specs.declared.run_data.Item.{Item}
 use Rattle.profile_machine.specs.declared.world.World.{World}
@@ -68,7 +68,7 @@ stop-bound p bound w e =
 
 -- ---- lists of lines
 
-RisesFrom-less : (m n : ℕ) (xs : List Line) → m ≤ n → RisesFrom n xs → RisesFrom m xs
+RisesFrom-less : (m n : ℕ) (xs : List TraceLine) → m ≤ n → RisesFrom n xs → RisesFrom m xs
 RisesFrom-less m n [] a h = tt
 RisesFrom-less m n (x ∷ xs) a h = (omega (arith, h.0), h.1)
 
@@ -76,7 +76,7 @@ RisesFrom-at_tick : (m n : ℕ) (events : List Event) → m ≤ n → RisesFrom 
 RisesFrom-at_tick m n [] a = tt
 RisesFrom-at_tick m n (x ∷ xs) a = (a, RisesFrom-at_tick n n xs (omega arith))
 
-RisesFrom-then : (m n : ℕ) (events : List Event) (rest : List Line) → m ≤ n → RisesFrom n rest → RisesFrom m (at_tick n events ++ rest)
+RisesFrom-then : (m n : ℕ) (events : List Event) (rest : List TraceLine) → m ≤ n → RisesFrom n rest → RisesFrom m (at_tick n events ++ rest)
 RisesFrom-then m n [] rest a h = RisesFrom-less m n rest a h
 RisesFrom-then m n (x ∷ xs) rest a h = (a, RisesFrom-then n n xs rest (omega arith) h)
 
@@ -84,7 +84,7 @@ AllUpTo-at_tick : (bound n : ℕ) (events : List Event) → n ≤ bound → AllU
 AllUpTo-at_tick bound n [] a = tt
 AllUpTo-at_tick bound n (x ∷ xs) a = (a, AllUpTo-at_tick bound n xs a)
 
-AllUpTo-then : (bound n : ℕ) (events : List Event) (rest : List Line) → n ≤ bound → AllUpTo bound rest → AllUpTo bound (at_tick n events ++ rest)
+AllUpTo-then : (bound n : ℕ) (events : List Event) (rest : List TraceLine) → n ≤ bound → AllUpTo bound rest → AllUpTo bound (at_tick n events ++ rest)
 AllUpTo-then bound n [] rest a h = h
 AllUpTo-then bound n (x ∷ xs) rest a h = (a, AllUpTo-then bound n xs rest a h)
 
@@ -92,7 +92,7 @@ NoneEnds-at_tick : (n : ℕ) (events : List Event) → AllAre is_no_end events �
 NoneEnds-at_tick n [] a = tt
 NoneEnds-at_tick n (x ∷ xs) a = (a.0, NoneEnds-at_tick n xs a.1)
 
-NoneEnds-then : (n : ℕ) (events : List Event) (rest : List Line) → AllAre is_no_end events → NoneEnds rest → NoneEnds (at_tick n events ++ rest)
+NoneEnds-then : (n : ℕ) (events : List Event) (rest : List TraceLine) → AllAre is_no_end events → NoneEnds rest → NoneEnds (at_tick n events ++ rest)
 NoneEnds-then n [] rest a h = h
 NoneEnds-then n (x ∷ xs) rest a h = (a.0, NoneEnds-then n xs rest a.1 h)
 
@@ -100,7 +100,7 @@ at_tick-append : (n : ℕ) (xs ys : List Event) → at_tick n (xs ++ ys) ≡ at_
 at_tick-append n [] ys = refl
 at_tick-append n (x ∷ xs) ys = ap (λ rest. (n, x) ∷ rest) (at_tick-append n xs ys)
 
-append-three : (xs ys zs : List Line) → xs ++ (ys ++ zs) ≡ (xs ++ ys) ++ zs
+append-three : (xs ys zs : List TraceLine) → xs ++ (ys ++ zs) ≡ (xs ++ ys) ++ zs
 append-three [] ys zs = refl
 append-three (x ∷ xs) ys zs = ap (λ rest. x ∷ rest) (append-three xs ys zs)
 

@@ -3,7 +3,7 @@
 use Rattle.std.specs.Prelude.{◌≡◌, ℕ, ℤ, ◌≤◌, true, List, [], ◌∷◌, ◌++◌}
 use Rattle.trace_text.specs.declared.events.Event.TheVariants as line
 use Rattle.trace_text.specs.declared.events.Ended.TheVariants as why
-use Rattle.trace_text.specs.Queue.{Line, RisesFrom}
+use Rattle.trace_text.specs.Queue.{TraceLine, RisesFrom}
 use Rattle.profile_machine.specs.declared.image.Image.{Image}
 use Rattle.profile_machine.specs.declared.run_data.Item.{Item}
 use Rattle.profile_machine.specs.declared.world.World.{World}
@@ -11,7 +11,7 @@ use Rattle.profile_machine.specs.Run.{Ran, run, run_of}
 use Rattle.machine_laws.specs.Reached.{Reached}
 use Rattle.machine_laws.specs.LineKinds.{is_no_end}
 
-abbrev pub AllUpTo : ℕ → List Line → Type 0
+abbrev pub AllUpTo : ℕ → List TraceLine → Type 0
 AllUpTo bound [] = Unit {0}
 AllUpTo bound (x ∷ xs) = (x.0 ≤ bound) × AllUpTo bound xs
 
@@ -26,13 +26,13 @@ LinesStayWithin = (p : Image) (script : List (ℤ × Item)) (bound : ℕ) → Al
 abbrev pub TicksNeverFall : Type 0
 TicksNeverFall = (p : Image) (script : List (ℤ × Item)) (bound : ℕ) → RisesFrom 0 (run_of p script bound)
 
-abbrev pub NoneEnds : List Line → Type 0
+abbrev pub NoneEnds : List TraceLine → Type 0
 NoneEnds [] = Unit {0}
 NoneEnds (x ∷ xs) = (is_no_end x.1 ≡ true) × NoneEnds xs
 
 -- its last line says why it stopped, and no line before it does; where the bound was the reason it stands at the bound
 pub record EndsAt (bound : ℕ) (r : Ran) : Type 0 where
-  pub front : List Line
+  pub front : List TraceLine
   pub last : ℕ
   pub shape : r.lines ≡ front ++ (last, line.End r.stop) ∷ []
   pub once : NoneEnds front

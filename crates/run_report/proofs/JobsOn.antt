@@ -8,7 +8,7 @@ use Rattle.trace_text.specs.declared.events.QueueEnd.{QueueEnd}
 use Rattle.trace_text.specs.declared.events.QueueEnd.TheVariants.{Head, Tail}
 use Rattle.trace_text.specs.declared.events.Event.{Event}
 use Rattle.trace_text.specs.declared.events.Event.TheVariants.{Ready, Block, Done}
-use Rattle.trace_text.specs.Queue.{Line, who_eq, queue_after}
+use Rattle.trace_text.specs.Queue.{TraceLine, who_eq, queue_after}
 use Rattle.trace_lines.specs.Seen.{Seen, see_line, seen_after}
 use Rattle.run_report.specs.declared.tallies.Move.{Move}
 use Rattle.run_report.specs.declared.tallies.Move.TheVariants.{Enters, Leaves, Stays}
@@ -18,16 +18,16 @@ use Rattle.run_report.proofs.Moves.{after_move}
 
 -- ---- jobs
 
-abbrev pub since_from : TaskNo → List Entry → Option ℕ → List Line → Option ℕ
+abbrev pub since_from : TaskNo → List Entry → Option ℕ → List TraceLine → Option ℕ
 since_from task queue since [] = since
 since_from task queue since (line ∷ lines) = since_from task (queue_after queue line.1) (since_by (is_in task queue) (is_in task (queue_after queue line.1)) line.0 since) lines
 
-pub since_from-append : (task : TaskNo) (seen : Seen) (since : Option ℕ) (lines : List Line) (line : Line) → since_from task seen.queue since (lines ++ line ∷ []) ≡
+pub since_from-append : (task : TaskNo) (seen : Seen) (since : Option ℕ) (lines : List TraceLine) (line : TraceLine) → since_from task seen.queue since (lines ++ line ∷ []) ≡
     since_by (is_in task (seen_after seen lines).queue) (is_in task (queue_after (seen_after seen lines).queue line.1)) line.0 (since_from task seen.queue since lines)
 since_from-append task seen since [] line = refl
 since_from-append task seen since (first ∷ lines) line = since_from-append task (see_line seen first) (since_by (is_in task seen.queue) (is_in task (queue_after seen.queue first.1)) first.0 since) lines line
 
-pub responses-append : (task : TaskNo) (seen : Seen) (since : Option ℕ) (lines : List Line) (line : Line) → responses_from task seen.queue since (lines ++ line ∷ []) ≡
+pub responses-append : (task : TaskNo) (seen : Seen) (since : Option ℕ) (lines : List TraceLine) (line : TraceLine) → responses_from task seen.queue since (lines ++ line ∷ []) ≡
     responses_from task seen.queue since lines ++ response_by (is_in task (seen_after seen lines).queue) (is_in task (queue_after (seen_after seen lines).queue line.1)) line.0 (since_from task seen.queue since lines)
 responses-append task seen since [] line = append-nil (response_by (is_in task seen.queue) (is_in task (queue_after seen.queue line.1)) line.0 since)
 responses-append task seen since (first ∷ lines) line =
@@ -102,7 +102,7 @@ tail_moved task tail tick (Block who why) = tail_left (who_eq who (subject.Task 
 tail_moved task tail tick (Done other) = tail_left (other.0 == task.0) tick tail
 tail_moved task tail tick event = refl
 
-pub tail_from-append : (task : TaskNo) (tail : Option ℕ) (lines : List Line) (line : Line) → tail_from task tail (lines ++ line ∷ []) ≡ tail_after task (tail_from task tail lines) line
+pub tail_from-append : (task : TaskNo) (tail : Option ℕ) (lines : List TraceLine) (line : TraceLine) → tail_from task tail (lines ++ line ∷ []) ≡ tail_after task (tail_from task tail lines) line
 tail_from-append task tail [] line = refl
 tail_from-append task tail (first ∷ lines) line = tail_from-append task (tail_after task tail first) lines line
 
@@ -115,7 +115,7 @@ one_if false x = refl
 sum_assoc : (a b c : ℕ) → a + (b + c) ≡ (a + b) + c
 sum_assoc a b c = omega arith
 
-pub preemptions-append : (task : TaskNo) (before lines : List Line) (line : Line) → preemptions_from task before (lines ++ line ∷ []) ≡ preemptions_from task before lines + ticks_if (is_preempted task (before ++ lines) line) 1
+pub preemptions-append : (task : TaskNo) (before lines : List TraceLine) (line : TraceLine) → preemptions_from task before (lines ++ line ∷ []) ≡ preemptions_from task before lines + ticks_if (is_preempted task (before ++ lines) line) 1
 preemptions-append task before [] line = one_if (is_preempted task before line) 0 ∙ ap (λ ls. 0 + ticks_if (is_preempted task ls line) 1) (sym (append-nil before))
 preemptions-append task before (first ∷ lines) line =
     let here : ℕ = if is_preempted task before first then 1 else 0 in

@@ -8,7 +8,7 @@ use Rattle.trace_text.specs.declared.events.Who.TheVariants as subject
 use Rattle.trace_text.specs.declared.events.Created.TheVariants as created
 use Rattle.trace_text.specs.declared.events.Event.{Event}
 use Rattle.trace_text.specs.declared.events.Event.TheVariants.{New, Ready, Block, Run, Idle, Base, Done}
-use Rattle.trace_text.specs.Queue.{Line, who_eq, somebody_eq, runner_after, seen_from, follows_lines}
+use Rattle.trace_text.specs.Queue.{TraceLine, who_eq, somebody_eq, runner_after, seen_from, follows_lines}
 use Rattle.trace_text.specs.Laws.{Shape, see_shape, has, is_known, is_ready_formed, is_subject_formed, is_formed_next}
 use Rattle.trace_lines.specs.Seen.{Seen, see_line, seen_after}
 use Rattle.run_report.specs.declared.tallies.Tally.{Tally}
@@ -109,7 +109,7 @@ pub record IsFresh (task : TaskNo) (seen : Seen) (tally : Tally) : Type 0 where
   pub tally_is : tally ≡ fresh
   pub idle : somebody_eq seen.runner (Some (subject.Task task)) ≡ false
 
-pub quiet_along : (task : TaskNo) (seen : Seen) (lines : List Line) → list_all (λ line. is_quiet task line.1) lines ≡ true → somebody_eq seen.runner (Some (subject.Task task)) ≡ false → IsFresh task (seen_after seen lines) (tally_from task seen fresh lines)
+pub quiet_along : (task : TaskNo) (seen : Seen) (lines : List TraceLine) → list_all (λ line. is_quiet task line.1) lines ≡ true → somebody_eq seen.runner (Some (subject.Task task)) ≡ false → IsFresh task (seen_after seen lines) (tally_from task seen fresh lines)
 quiet_along task seen [] quiet idle = record { tally_is = refl; idle = idle }
 quiet_along task seen (line ∷ lines) quiet idle =
     let parts = both (is_quiet task line.1) (list_all (λ line. is_quiet task line.1) lines) quiet in
@@ -126,7 +126,7 @@ named_less : (number : ℕ) (shape : Shape) (event : Event) → has number (see_
 named_less number shape (New (created.Task task) name level) none = (either (number == task.0) (has number shape.tasks) none).1
 named_less number shape event none = none
 
-pub named_before : (number : ℕ) (shape : Shape) (lines : List Line) → has number (seen_from see_shape shape lines).tasks ≡ false → has number shape.tasks ≡ false
+pub named_before : (number : ℕ) (shape : Shape) (lines : List TraceLine) → has number (seen_from see_shape shape lines).tasks ≡ false → has number shape.tasks ≡ false
 named_before number shape [] none = none
 named_before number shape (line ∷ lines) none = named_less number shape line.1 (named_before number (see_shape shape line.1) lines none)
 
@@ -148,7 +148,7 @@ quiet_here task shape (Run who) formed none = on (who_eq who (subject.Task task)
 quiet_here task shape (Base other level) formed none = on (task.0 == other.0) (false_from_ne_true (task.0 == other.0) (λ same. never (has other.0 shape.tasks) formed (ap (λ n. has n shape.tasks) (sym (eqb-true task.0 other.0 same)) ∙ none)))
 quiet_here task shape event formed none = refl
 
-pub quiet_before : (task : TaskNo) (shape : Shape) (lines : List Line) → follows_lines see_shape is_formed_next shape lines ≡ true → has task.0 (seen_from see_shape shape lines).tasks ≡ false → list_all (λ line. is_quiet task line.1) lines ≡ true
+pub quiet_before : (task : TaskNo) (shape : Shape) (lines : List TraceLine) → follows_lines see_shape is_formed_next shape lines ≡ true → has task.0 (seen_from see_shape shape lines).tasks ≡ false → list_all (λ line. is_quiet task line.1) lines ≡ true
 quiet_before task shape [] formed none = refl
 quiet_before task shape (line ∷ lines) formed none =
     let parts = both (is_formed_next shape line.1) (follows_lines see_shape is_formed_next (see_shape shape line.1) lines) formed in

@@ -6,7 +6,7 @@ use Rattle.trace_text.specs.declared.events.Who.TheVariants as subject
 use Rattle.trace_text.specs.declared.events.Created.TheVariants as created
 use Rattle.trace_text.specs.declared.events.Event.{Event}
 use Rattle.trace_text.specs.declared.events.Event.TheVariants.{New, Base}
-use Rattle.trace_text.specs.Queue.{Line, RisesFrom, somebody_eq, last_from}
+use Rattle.trace_text.specs.Queue.{TraceLine, RisesFrom, somebody_eq, last_from}
 use Rattle.trace_text.specs.Laws.{level_of}
 use Rattle.trace_lines.specs.Seen.{Seen, nothing_kept, see_line, seen_after, seen_of, kept_bases}
 use Rattle.trace_lines.proofs.Facts.{seen_after-append, tick_kept}
@@ -18,7 +18,7 @@ use Rattle.run_report.proofs.Moves.{in_after}
 use Rattle.run_report.proofs.JobsOn.{since_from, since_from-append, responses-append, response_moved, since_moved, ready_moved, length_more, greatest_more, total_more, tail_moved, tail_from-append, preemptions-append}
 use Rattle.run_report.proofs.TicksOn.{count_more, streak_more, longest_more}
 
-pub record Tallied (task : TaskNo) (lines : List Line) (tally : Tally) : Type 0 where
+pub record Tallied (task : TaskNo) (lines : List TraceLine) (tally : Tally) : Type 0 where
   pub jobs : tally.jobs ≡ length (responses_of task lines)
   pub worst : tally.worst ≡ greatest (responses_of task lines)
   pub sum : tally.sum ≡ total (responses_of task lines)
@@ -41,7 +41,7 @@ base_moved task bases (Base other level) = sym (level_of-insert_entry task.0 bas
 base_moved task bases event = refl
 
 -- the responses with one line more
-responses_on : (task : TaskNo) (lines : List Line) (line : Line) (tally : Tally) → Tallied task lines tally → responses_of task (lines ++ line ∷ []) ≡ responses_of task lines ++ option_to_list (response_at (move_of task line.1) line.0 tally.since)
+responses_on : (task : TaskNo) (lines : List TraceLine) (line : TraceLine) (tally : Tally) → Tallied task lines tally → responses_of task (lines ++ line ∷ []) ≡ responses_of task lines ++ option_to_list (response_at (move_of task line.1) line.0 tally.since)
 responses_on task lines line tally h =
     let before = is_in task (seen_of lines).queue in
     let since : Option ℕ = since_from task [] None lines in
@@ -52,7 +52,7 @@ responses_on task lines line tally h =
     ∙ response_moved (move_of task line.1) before line.0 since known
     ∙ sym (ap (λ s. option_to_list (response_at (move_of task line.1) line.0 s)) h.since))
 
-since_on : (task : TaskNo) (lines : List Line) (line : Line) (tally : Tally) → Tallied task lines tally → since_after (move_of task line.1) line.0 tally.since ≡ since_from task [] None (lines ++ line ∷ [])
+since_on : (task : TaskNo) (lines : List TraceLine) (line : TraceLine) (tally : Tally) → Tallied task lines tally → since_after (move_of task line.1) line.0 tally.since ≡ since_from task [] None (lines ++ line ∷ [])
 since_on task lines line tally h =
     let before = is_in task (seen_of lines).queue in
     let since : Option ℕ = since_from task [] None lines in
@@ -62,17 +62,17 @@ since_on task lines line tally h =
     ∙ sym (ap (λ b. since_by before b line.0 since) (in_after task (seen_of lines).queue line.1))
     ∙ sym (since_from-append task nothing_kept None lines line)
 
-put_off_on : (task : TaskNo) (lines : List Line) (line : Line) (tally : Tally) → Tallied task lines tally → is_put_off task (seen_of lines).runner line.0 line.1 tally ≡ is_preempted task lines line
+put_off_on : (task : TaskNo) (lines : List TraceLine) (line : TraceLine) (tally : Tally) → Tallied task lines tally → is_put_off task (seen_of lines).runner line.0 line.1 tally ≡ is_preempted task lines line
 put_off_on task lines line tally h =
     ap (λ b. chooses_another task line.1 && somebody_eq (seen_of lines).runner (Some (subject.Task task)) && b && not (is_tick line.0 tally.tail)) h.ready
     ∙ ap (λ t. chooses_another task line.1 && somebody_eq (seen_of lines).runner (Some (subject.Task task)) && is_in task (seen_of lines).queue && not (is_tick line.0 t)) h.tail
 
-waiting_on : (task : TaskNo) (lines : List Line) (tick : ℕ) (tally : Tally) → Tallied task lines tally → is_waiting (passing_in (seen_of lines) tick) tally ≡ is_lowered task (seen_of lines)
+waiting_on : (task : TaskNo) (lines : List TraceLine) (tick : ℕ) (tally : Tally) → Tallied task lines tally → is_waiting (passing_in (seen_of lines) tick) tally ≡ is_lowered task (seen_of lines)
 waiting_on task lines tick tally h =
     ap (λ b. b && is_lower (runner_base (seen_of lines).runner (seen_of lines).bases) tally.base) h.ready
     ∙ ap (λ b. is_in task (seen_of lines).queue && is_lower (runner_base (seen_of lines).runner (seen_of lines).bases) b) h.base
 
-pub tallied_on : (task : TaskNo) (lines : List Line) (line : Line) (tally : Tally) → RisesFrom 0 lines → last_from 0 lines ≤ line.0 → Tallied task lines tally →
+pub tallied_on : (task : TaskNo) (lines : List TraceLine) (line : TraceLine) (tally : Tally) → RisesFrom 0 lines → last_from 0 lines ≤ line.0 → Tallied task lines tally →
     Tallied task (lines ++ line ∷ []) (tally_after task (passing_in (seen_of lines) line.0) line.0 line.1 tally)
 tallied_on task lines line tally rises from h =
     let seen = seen_of lines in
@@ -109,18 +109,18 @@ tallied_on task lines line tally rises from h =
 
 -- ---- the tally along the lines
 
-abbrev pub tally_from : TaskNo → Seen → Tally → List Line → Tally
+abbrev pub tally_from : TaskNo → Seen → Tally → List TraceLine → Tally
 tally_from task seen tally [] = tally
 tally_from task seen tally (line ∷ lines) = tally_from task (see_line seen line) (tally_after task (passing_in seen line.0) line.0 line.1 tally) lines
 
-abbrev pub tally_of : TaskNo → List Line → Tally
+abbrev pub tally_of : TaskNo → List TraceLine → Tally
 tally_of task lines = tally_from task nothing_kept fresh lines
 
-pub rises_parts : (tick : ℕ) (front : List Line) (line : Line) (lines : List Line) → RisesFrom tick (front ++ line ∷ lines) → RisesFrom tick front × (last_from tick front ≤ line.0)
+pub rises_parts : (tick : ℕ) (front : List TraceLine) (line : TraceLine) (lines : List TraceLine) → RisesFrom tick (front ++ line ∷ lines) → RisesFrom tick front × (last_from tick front ≤ line.0)
 rises_parts tick [] line lines rises = (tt, rises.0)
 rises_parts tick (first ∷ front) line lines rises = let rest = rises_parts first.0 front line lines rises.1 in ((rises.0, rest.0), rest.1)
 
-tallied_along : (task : TaskNo) (front lines : List Line) (tally : Tally) → RisesFrom 0 (front ++ lines) → Tallied task front tally → Tallied task (front ++ lines) (tally_from task (seen_of front) tally lines)
+tallied_along : (task : TaskNo) (front lines : List TraceLine) (tally : Tally) → RisesFrom 0 (front ++ lines) → Tallied task front tally → Tallied task (front ++ lines) (tally_from task (seen_of front) tally lines)
 tallied_along task front [] tally rises h = subst (λ ls. Tallied task ls tally) (sym (append-nil front)) h
 tallied_along task front (line ∷ lines) tally rises h =
     let parts = rises_parts 0 front line lines rises in
@@ -129,10 +129,10 @@ tallied_along task front (line ∷ lines) tally rises h =
     subst (λ ls. Tallied task ls (tally_from task (see_line (seen_of front) line) (tally_after task (passing_in (seen_of front) line.0) line.0 line.1 tally) lines)) (append_assoc front (line ∷ []) lines)
     (subst (λ seen. Tallied task ((front ++ line ∷ []) ++ lines) (tally_from task seen (tally_after task (passing_in (seen_of front) line.0) line.0 line.1 tally) lines)) (seen_after-append nothing_kept front line) whole)
 
-pub tally_told : (task : TaskNo) (lines : List Line) → RisesFrom 0 lines → Tallied task lines (tally_of task lines)
+pub tally_told : (task : TaskNo) (lines : List TraceLine) → RisesFrom 0 lines → Tallied task lines (tally_of task lines)
 tally_told task lines rises = tallied_along task [] lines fresh rises (tallied_first task)
 
-pub tally_from-append : (task : TaskNo) (seen : Seen) (tally : Tally) (lines : List Line) (line : Line) →
+pub tally_from-append : (task : TaskNo) (seen : Seen) (tally : Tally) (lines : List TraceLine) (line : TraceLine) →
     tally_from task seen tally (lines ++ line ∷ []) ≡ tally_after task (passing_in (seen_after seen lines) line.0) line.0 line.1 (tally_from task seen tally lines)
 tally_from-append task seen tally [] line = refl
 tally_from-append task seen tally (first ∷ lines) line = tally_from-append task (see_line seen first) (tally_after task (passing_in seen first.0) first.0 first.1 tally) lines line

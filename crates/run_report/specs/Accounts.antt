@@ -9,7 +9,7 @@ use Rattle.trace_text.specs.declared.events.QueueEnd.TheVariants.{Tail}
 use Rattle.trace_text.specs.declared.events.Created.TheVariants as created
 use Rattle.trace_text.specs.declared.events.Event.{Event}
 use Rattle.trace_text.specs.declared.events.Event.TheVariants.{New, Ready, Run}
-use Rattle.trace_text.specs.Queue.{Line, who_eq, somebody_eq, entry_of, queue_after, up_to, last_from}
+use Rattle.trace_text.specs.Queue.{TraceLine, who_eq, somebody_eq, entry_of, queue_after, up_to, last_from}
 use Rattle.trace_text.specs.Laws.{level_of}
 use Rattle.trace_lines.specs.Seen.{Seen, seen_of}
 use Rattle.run_report.specs.declared.accounts.Account.{Account}
@@ -29,7 +29,7 @@ longest_below zero test = 0
 longest_below (suc n) test = max (longest_below n test) (streak_below (suc n) test)
 
 -- at tick n is behind all lines up to tick n
-abbrev pub at_tick : List Line → ℕ → Seen
+abbrev pub at_tick : List TraceLine → ℕ → Seen
 at_tick lines tick = seen_of (up_to tick lines)
 
 -- ---- running
@@ -41,11 +41,11 @@ abbrev pub is_idle : Seen → Bool
 is_idle seen = somebody_eq seen.runner None
 
 -- the ticks in which it is the runner
-abbrev pub run_of : Who → List Line → ℕ
+abbrev pub run_of : Who → List TraceLine → ℕ
 run_of who lines = count_below (last_from 0 lines) (λ tick. is_runner who (at_tick lines tick))
 
 -- the ticks without a runner
-abbrev pub idle_of : List Line → ℕ
+abbrev pub idle_of : List TraceLine → ℕ
 idle_of lines = count_below (last_from 0 lines) (λ tick. is_idle (at_tick lines tick))
 
 -- ---- waiting for tasks of lower base priority
@@ -68,10 +68,10 @@ runner_base (Some subject.Agent) bases = None
 abbrev pub is_lowered : TaskNo → Seen → Bool
 is_lowered task seen = is_in task seen.queue && is_lower (runner_base seen.runner seen.bases) (level_of task.0 seen.bases)
 
-abbrev pub lower_of : TaskNo → List Line → ℕ
+abbrev pub lower_of : TaskNo → List TraceLine → ℕ
 lower_of task lines = count_below (last_from 0 lines) (λ tick. is_lowered task (at_tick lines tick))
 
-abbrev pub longest_of : TaskNo → List Line → ℕ
+abbrev pub longest_of : TaskNo → List TraceLine → ℕ
 longest_of task lines = longest_below (last_from 0 lines) (λ tick. is_lowered task (at_tick lines tick))
 
 -- ---- jobs: from a line by which the task enters the queue to the next line by which it leaves it
@@ -90,14 +90,14 @@ response_by true false tick None = []
 response_by true false tick (Some begun) = (tick - begun) ∷ []
 response_by false after tick since = []
 
-abbrev pub responses_from : TaskNo → List Entry → Option ℕ → List Line → List ℕ
+abbrev pub responses_from : TaskNo → List Entry → Option ℕ → List TraceLine → List ℕ
 responses_from task queue since [] = []
 responses_from task queue since (line ∷ lines) =
     response_by (is_in task queue) (is_in task (queue_after queue line.1)) line.0 since
     ++ responses_from task (queue_after queue line.1) (since_by (is_in task queue) (is_in task (queue_after queue line.1)) line.0 since) lines
 
 -- the responses of the jobs that ended, in order
-abbrev pub responses_of : TaskNo → List Line → List ℕ
+abbrev pub responses_of : TaskNo → List TraceLine → List ℕ
 responses_of task = responses_from task [] None
 
 abbrev pub greatest : List ℕ → ℕ
@@ -111,11 +111,11 @@ total (n ∷ ns) = n + total ns
 -- ---- preemptions: another subject is chosen while the task runs and is ready, and was not placed behind all of its level at that tick
 
 -- the tick of its last `ready` line with `tail`
-abbrev pub tail_after : TaskNo → Option ℕ → Line → Option ℕ
+abbrev pub tail_after : TaskNo → Option ℕ → TraceLine → Option ℕ
 tail_after task tail (tick, Ready who level Tail deadline) = if who_eq who (subject.Task task) then Some tick else tail
 tail_after task tail (tick, event) = tail
 
-abbrev pub tail_from : TaskNo → Option ℕ → List Line → Option ℕ
+abbrev pub tail_from : TaskNo → Option ℕ → List TraceLine → Option ℕ
 tail_from task tail [] = tail
 tail_from task tail (line ∷ lines) = tail_from task (tail_after task tail line) lines
 
@@ -127,11 +127,11 @@ abbrev pub chooses_another : TaskNo → Event → Bool
 chooses_another task (Run who) = not (who_eq who (subject.Task task))
 chooses_another task _ = false
 
-abbrev pub is_preempted : TaskNo → List Line → Line → Bool
+abbrev pub is_preempted : TaskNo → List TraceLine → TraceLine → Bool
 is_preempted task before line =
     chooses_another task line.1 && is_runner (subject.Task task) (seen_of before) && is_in task (seen_of before).queue && not (is_tick line.0 (tail_from task None before))
 
-abbrev pub preemptions_from : TaskNo → List Line → List Line → ℕ
+abbrev pub preemptions_from : TaskNo → List TraceLine → List TraceLine → ℕ
 preemptions_from task before [] = 0
 preemptions_from task before (line ∷ lines) = (if is_preempted task before line then 1 else 0) + preemptions_from task (before ++ line ∷ []) lines
 
@@ -142,11 +142,11 @@ abbrev pub created_by : Event → List (TaskNo × List ℕ)
 created_by (New (created.Task task) name level) = (task, name) ∷ []
 created_by _ = []
 
-abbrev pub created_in : List Line → List (TaskNo × List ℕ)
+abbrev pub created_in : List TraceLine → List (TaskNo × List ℕ)
 created_in [] = []
 created_in (line ∷ lines) = created_by line.1 ++ created_in lines
 
-abbrev pub account_of : List Line → TaskNo × List ℕ → Account
+abbrev pub account_of : List TraceLine → TaskNo × List ℕ → Account
 account_of lines named = record {
   task = named.0;
   name = named.1;
@@ -159,5 +159,5 @@ account_of lines named = record {
   longest = longest_of named.0 lines;
 }
 
-abbrev pub accounts_of : List Line → List Account
+abbrev pub accounts_of : List TraceLine → List Account
 accounts_of lines = map (account_of lines) (created_in lines)

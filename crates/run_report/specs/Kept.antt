@@ -8,7 +8,7 @@ use Rattle.trace_text.specs.declared.events.QueueEnd.TheVariants.{Head, Tail}
 use Rattle.trace_text.specs.declared.events.Created.TheVariants as created
 use Rattle.trace_text.specs.declared.events.Event.{Event}
 use Rattle.trace_text.specs.declared.events.Event.TheVariants.{New, Ready, Block, Base, Done}
-use Rattle.trace_text.specs.Queue.{Line, who_eq, somebody_eq}
+use Rattle.trace_text.specs.Queue.{TraceLine, who_eq, somebody_eq}
 use Rattle.trace_lines.specs.Seen.{Seen, nothing_kept, see_line}
 use Rattle.run_report.specs.declared.accounts.Account.{Account}
 use Rattle.run_report.specs.declared.tallies.TheConstants.{ROOM}
@@ -132,7 +132,7 @@ abbrev pub nothing_reported : Reported
 nothing_reported = record { seen = nothing_kept; kept = []; agent_run = 0; idle = 0 }
 
 -- one line more
-abbrev pub report_line : Reported → Line → Reported
+abbrev pub report_line : Reported → TraceLine → Reported
 report_line reported line = record {
   seen = see_line reported.seen line;
   kept = map (kept_after (passing_in reported.seen line.0) line.0 line.1) reported.kept ++ newly_kept line.1;
@@ -140,15 +140,15 @@ report_line reported line = record {
   idle = reported.idle + ticks_if (somebody_eq reported.seen.runner None) (line.0 - reported.seen.tick);
 }
 
-abbrev pub reported_after : Reported → List Line → Reported
+abbrev pub reported_after : Reported → List TraceLine → Reported
 reported_after reported [] = reported
 reported_after reported (line ∷ lines) = reported_after (report_line reported line) lines
 
-abbrev pub reported_of : List Line → Reported
+abbrev pub reported_of : List TraceLine → Reported
 reported_of = reported_after nothing_reported
 
 -- what is kept stands for a list of lines
-abbrev pub StandsFor : Reported → List Line → Type 0
+abbrev pub StandsFor : Reported → List TraceLine → Type 0
 StandsFor reported lines = reported ≡ reported_of lines
 
 abbrev pub account_in : Kept → Account

@@ -1,7 +1,7 @@
 -- The text of a report: a line for each task, and three lines for the whole.
 use Rattle.std.specs.Prelude.{ℕ, List, [], ◌∷◌, ◌++◌, codes, decimal}
 use Rattle.trace_text.specs.declared.events.Who.TheVariants as subject
-use Rattle.trace_text.specs.Queue.{Line, last_from}
+use Rattle.trace_text.specs.Queue.{TraceLine, last_from}
 use Rattle.run_report.specs.declared.accounts.Account.{Account}
 use Rattle.run_report.specs.Accounts.{accounts_of, run_of, idle_of}
 use Rattle.run_report.specs.Kept.{Reported, accounts_in}
@@ -28,7 +28,7 @@ totals_text agent_run idle ticks =
     codes "agent run " ++ (decimal agent_run ++ 10 ∷ (codes "idle " ++ (decimal idle ++ 10 ∷ (codes "ticks " ++ (decimal ticks ++ 10 ∷ [])))))
 
 -- the report of a list of lines
-abbrev pub report_text : List Line → List ℕ
+abbrev pub report_text : List TraceLine → List ℕ
 report_text lines = account_texts (accounts_of lines) ++ totals_text (run_of subject.Agent lines) (idle_of lines) (last_from 0 lines)
 
 -- the same of what is kept

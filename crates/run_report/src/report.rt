@@ -5,7 +5,7 @@ ghost use Rattle.std.specs.Ordering.{nat_cmp};
 ghost use Rattle.std.specs.BTreeMap.{get};
 ghost use Rattle.trace_text.specs.declared.lines.TheConstants.{LAST_TICK};
 ghost use Rattle.trace_text.specs.declared.events.Who.TheVariants as subject;
-ghost use Rattle.trace_text.specs.Queue.{Line, last_from, somebody_eq};
+ghost use Rattle.trace_text.specs.Queue.{TraceLine, last_from, somebody_eq};
 ghost use Rattle.trace_text.specs.Laws.{Formed};
 ghost use Rattle.trace_lines.specs.Seen.{with_line, is_formed_after, IsFault};
 ghost use Rattle.run_report.specs.Accounts.{accounts_of, run_of, idle_of, runner_base};
@@ -100,9 +100,9 @@ impl Report {
     /// might pass its type, after 18,000,000,000 lines at the earliest, is answered as want of memory. An error changes
     /// nothing.
     pub fn line(&mut self, now: u64, event: &Event) -> Result<(), OrMemory<Malformed>>
-        ensures malformed { (lines : List Line) → Formed lines → StandsFor self.old lines
+        ensures malformed { (lines : List TraceLine) → Formed lines → StandsFor self.old lines
             → (IsFault result ↔ (Formed (with_line lines now event.now) → ⊥)) }
-        ensures stands { (lines : List Line) → StandsFor self.old lines
+        ensures stands { (lines : List TraceLine) → StandsFor self.old lines
             → OnOk result (StandsFor self.new (with_line lines now event.now)) }
         ensures unchanged { OnErr result (self.new ≡ self.old) }
     {
@@ -170,7 +170,7 @@ impl Report {
     /// The account of the task at this place, in the order of the `new` lines, counted from 0; None exactly past the last.
     pub fn account(&self, place: u32) -> Option<Account>
         ensures kept { result ≡ slice_get (accounts_in self.now) place }
-        ensures account { (lines : List Line) → Formed lines → StandsFor self.now lines
+        ensures account { (lines : List TraceLine) → Formed lines → StandsFor self.now lines
             → result ≡ slice_get (accounts_of lines) place }
     {
         accounts_tell();
@@ -187,7 +187,7 @@ impl Report {
     /// The ticks in which the agent ran.
     pub fn agent_run(&self) -> u64
         ensures kept { result ≡ self.now.agent_run }
-        ensures agent_run { (lines : List Line) → Formed lines → StandsFor self.now lines
+        ensures agent_run { (lines : List TraceLine) → Formed lines → StandsFor self.now lines
             → result ≡ run_of subject.Agent lines }
     {
         accounts_tell();
@@ -197,7 +197,7 @@ impl Report {
     /// The ticks in which nobody ran.
     pub fn idle(&self) -> u64
         ensures kept { result ≡ self.now.idle }
-        ensures idle { (lines : List Line) → Formed lines → StandsFor self.now lines
+        ensures idle { (lines : List TraceLine) → Formed lines → StandsFor self.now lines
             → result ≡ idle_of lines }
     {
         accounts_tell();
@@ -207,7 +207,7 @@ impl Report {
     /// The last line's tick, 0 without lines.
     pub fn ticks(&self) -> u64
         ensures kept { result ≡ self.now.seen.tick }
-        ensures ticks { (lines : List Line) → StandsFor self.now lines
+        ensures ticks { (lines : List TraceLine) → StandsFor self.now lines
             → result ≡ last_from 0 lines }
     {
         accounts_tell();

@@ -1,7 +1,7 @@
 -- The lines of a run that were told are tallied, and what is to come is the rest.
 use Rattle.std.proofs.Common.{◌≡◌, ◌≤◌, ℕ, List, [], ◌∷◌, ◌++◌, Option, Result, Ok, Err, OnErr, length, refl, sym, ap, ◌∙◌, subst, append_assoc, append-nil, arith}
 use Rattle.outside_bytes.specs.Pieces.{HoldsPrefix}
-use Rattle.trace_text.specs.Queue.{Line}
+use Rattle.trace_text.specs.Queue.{TraceLine}
 use Rattle.trace_text.specs.Text.{ArePrintable, line_text, text_of}
 use Rattle.trace_text.specs.declared.events.Ended.{Ended}
 use Rattle.machine_kernel.specs.Future.{first_line, written_of}
@@ -11,20 +11,20 @@ use Rattle.machine_kernel.specs.declared.kernel.Next.TheVariants as did
 use Rattle.load_runs.specs.declared.tally.Tally.{Tally}
 use Rattle.load_runs.specs.Tallies.{Tallies}
 
-abbrev pub TalliedUpTo : Tally → List Line → List Line → Type 0
-TalliedUpTo tally whole to_come = (told : List Line) × Tallies tally told × (told ++ to_come ≡ whole)
+abbrev pub TalliedUpTo : Tally → List TraceLine → List TraceLine → Type 0
+TalliedUpTo tally whole to_come = (told : List TraceLine) × Tallies tally told × (told ++ to_come ≡ whole)
 
-first_line-short : (owed : List Line) → length (first_line owed) ≤ 1
+first_line-short : (owed : List TraceLine) → length (first_line owed) ≤ 1
 first_line-short [] = omega arith
 first_line-short (line ∷ owed) = omega arith
 
-first_line-text : (owed : List Line) → written_of owed ≡ text_of (first_line owed)
+first_line-text : (owed : List TraceLine) → written_of owed ≡ text_of (first_line owed)
 first_line-text [] = refl
 first_line-text (line ∷ owed) = sym (append-nil (line_text line.0 line.1))
 
 -- the line that is told is tallied
-pub one_more_tallied : (owed : List Line) (before after : Tally) (piece : List ℕ) (to_come later whole : List Line) → TalliedUpTo before whole to_come → first_line owed ++ later ≡ to_come → ArePrintable (first_line owed) → piece ≡ written_of owed →
-    ((told lines : List Line) → Tallies before told → length lines ≤ 1 → ArePrintable lines → piece ≡ text_of lines → Tallies after (told ++ lines)) → TalliedUpTo after whole later
+pub one_more_tallied : (owed : List TraceLine) (before after : Tally) (piece : List ℕ) (to_come later whole : List TraceLine) → TalliedUpTo before whole to_come → first_line owed ++ later ≡ to_come → ArePrintable (first_line owed) → piece ≡ written_of owed →
+    ((told lines : List TraceLine) → Tallies before told → length lines ≤ 1 → ArePrintable lines → piece ≡ text_of lines → Tallies after (told ++ lines)) → TalliedUpTo after whole later
 one_more_tallied owed before after piece to_come later whole so_far told printable text counts = (
   so_far.0 ++ first_line owed,
   counts so_far.0 (first_line owed) so_far.1 (first_line-short owed) printable (text ∙ first_line-text owed),
@@ -32,11 +32,11 @@ one_more_tallied owed before after piece to_come later whole so_far told printab
 )
 
 -- where nothing is to come, all is tallied
-pub all_tallied : (tally : Tally) (to_come whole : List Line) → TalliedUpTo tally whole to_come → to_come ≡ [] → Tallies tally whole
+pub all_tallied : (tally : Tally) (to_come whole : List TraceLine) → TalliedUpTo tally whole to_come → to_come ≡ [] → Tallies tally whole
 all_tallied tally to_come whole so_far none = subst (Tallies tally) (sym (append-nil so_far.0) ∙ ap (λ xs. so_far.0 ++ xs) (sym none) ∙ so_far.2) so_far.1
 
 -- where the run has ended, nothing is to come
-pub none_to_come : (next : Next) (stop : Ended) (to_come : List Line) (why : Ended) → next ≡ did.Ended stop → IfEnded (λ w. (to_come ≡ []) × (w ≡ why)) next → to_come ≡ []
+pub none_to_come : (next : Next) (stop : Ended) (to_come : List TraceLine) (why : Ended) → next ≡ did.Ended stop → IfEnded (λ w. (to_come ≡ []) × (w ≡ why)) next → to_come ≡ []
 none_to_come next stop to_come why is ended = (subst (IfEnded (λ w. (to_come ≡ []) × (w ≡ why))) is ended).0
 
 -- a prefix of an equal text

@@ -3,7 +3,7 @@ use Rattle.std.proofs.Common.{◌≡◌, ◌<◌, ◌⊎◌, inl, inr, ◌+◌, 
 use Rattle.std.proofs.lemmas.Bool.{lt-ltb, le-ltb}
 use Rattle.outside_bytes.specs.Files.{ToldFile, Untold, Missing, Holds, WhereTold}
 use Rattle.trace_text.specs.declared.events.Event.{Event}
-use Rattle.trace_text.specs.Queue.{Line}
+use Rattle.trace_text.specs.Queue.{TraceLine}
 use Rattle.trace_text.specs.Laws.{Formed, KeepsLaws}
 use Rattle.trace_lines.specs.Seen.{with_line}
 use Rattle.trace_reading.specs.Lines.{line_in}
@@ -25,7 +25,7 @@ told_map Missing F G f h = h
 told_map (Holds bytes) F G f h = f bytes h
 
 -- nothing is read
-pub judged_first : ((lines : List Line) → answer_of lines ≡ Ok tt → Formed lines × KeepsLaws lines) → (file : List ℕ) (laws : Watched) (trace : TraceFile) (left : Option (List ℕ)) → laws ≡ nothing_watched → nothing_read trace → IsLeft trace left file → Judged file laws trace left
+pub judged_first : ((lines : List TraceLine) → answer_of lines ≡ Ok tt → Formed lines × KeepsLaws lines) → (file : List ℕ) (laws : Watched) (trace : TraceFile) (left : Option (List ℕ)) → laws ≡ nothing_watched → nothing_read trace → IsLeft trace left file → Judged file laws trace left
 judged_first tells file laws trace left none first left_is =
     let empty = tells [] refl in
     record { rest = file; lines = []; left_is = left_is; answer = ap (λ n. verdict_from n [] (texts_in file)) (sym first.0); counted = sym first.1; stands = none; formed = empty.0; lawful = empty.1 }
@@ -35,7 +35,7 @@ pub judged_whole : (file : List ℕ) (laws : Watched) (trace : TraceFile) (left 
 judged_whole file laws trace left count j none same =
     j.answer ∙ ap (verdict_from trace.before j.lines) (none j.rest j.left_is) ∙ ap verdict.Lawful (j.counted ∙ sym same)
 
-beyond_or_none : (lines : List Line) (read : Option Line) (later : List Line → Verdict) (b : Bool) → (b ≡ true) ⊎ (read ≡ None) → cond b (verdict.Refused (length lines + 1)) (verdict_with lines read later) ≡ verdict.Refused (length lines + 1)
+beyond_or_none : (lines : List TraceLine) (read : Option TraceLine) (later : List TraceLine → Verdict) (b : Bool) → (b ≡ true) ⊎ (read ≡ None) → cond b (verdict.Refused (length lines + 1)) (verdict_with lines read later) ≡ verdict.Refused (length lines + 1)
 beyond_or_none lines read later true why = refl
 beyond_or_none lines read later false (inl beyond) = cc
 beyond_or_none lines read later false (inr none) = ap (λ r. verdict_with lines r later) none
@@ -53,7 +53,7 @@ judged_refused file laws trace left count j none same =
     ∙ ap (λ n. verdict.Refused (n + 1)) (j.counted ∙ sym same)
 
 -- the next text is a line
-at_line : (before : ℕ) (lines : List Line) (text : List ℕ) (texts : List (List ℕ)) (line : Line) (b : Bool) → b ≡ false → line_in text ≡ Some line →
+at_line : (before : ℕ) (lines : List TraceLine) (text : List ℕ) (texts : List (List ℕ)) (line : TraceLine) (b : Bool) → b ≡ false → line_in text ≡ Some line →
     cond b (verdict.Refused (length lines + 1)) (verdict_with lines (line_in text) (λ more. verdict_from (before + length text) more texts))
     ≡ verdict_at (length lines + 1) (answer_of (lines ++ line ∷ [])) (lines ++ line ∷ []) (λ more. verdict_from (before + length text) more texts)
 at_line before lines text texts line true within is = cc
@@ -67,13 +67,13 @@ next_line file laws trace left tick event new after j h =
     ∙ ap (λ n. verdict_at (length j.lines + 1) (answer_of (with_line j.lines tick event)) (with_line j.lines tick event) (λ more. verdict_from n more (texts_in h.behind))) (sym h.before_is)
 
 -- the line is at fault
-fault_at : (lines : List Line) (later : List Line → Verdict) (number : ℕ) (fault : LawFault) (answer : Result (Unit {0}) LawFault) → answer ≡ Err fault → verdict_at number answer lines later ≡ verdict_on fault number
+fault_at : (lines : List TraceLine) (later : List TraceLine → Verdict) (number : ℕ) (fault : LawFault) (answer : Result (Unit {0}) LawFault) → answer ≡ Err fault → verdict_at number answer lines later ≡ verdict_on fault number
 fault_at lines later number Malformed answer is = ap (λ a. verdict_at number a lines later) is
 fault_at lines later number (Broken law) answer is = ap (λ a. verdict_at number a lines later) is
 
 pub judged_fault : (file : List ℕ) (laws : Watched) (trace : TraceFile) (left : Option (List ℕ)) (tick : ℕ) (event : Event) (new : TraceFile) (after : Option (List ℕ)) (fault : LawFault) → Judged file laws trace left →
     ((rest : List ℕ) → IsLeft trace left rest → HasLine trace.before rest tick event new after) → new.count ≡ trace.count + 1 →
-    ((lines : List Line) → Formed lines → KeepsLaws lines → StandsFor laws lines → answer_of (with_line lines tick event) ≡ Err fault) → laws_answer file ≡ verdict_on fault new.count
+    ((lines : List TraceLine) → Formed lines → KeepsLaws lines → StandsFor laws lines → answer_of (with_line lines tick event) ≡ Err fault) → laws_answer file ≡ verdict_on fault new.count
 judged_fault file laws trace left tick event new after fault j goes counted answers =
     let h = goes j.rest j.left_is in
     next_line file laws trace left tick event new after j h
@@ -83,9 +83,9 @@ judged_fault file laws trace left tick event new after fault j goes counted answ
 -- the line is lawful
 pub judged_on : (file : List ℕ) (laws : Watched) (trace : TraceFile) (left : Option (List ℕ)) (tick : ℕ) (event : Event) (new : TraceFile) (after : Option (List ℕ)) (more : Watched) → Judged file laws trace left →
     ((rest : List ℕ) → IsLeft trace left rest → HasLine trace.before rest tick event new after) → new.count ≡ trace.count + 1 →
-    ((lines : List Line) → Formed lines → KeepsLaws lines → StandsFor laws lines → answer_of (with_line lines tick event) ≡ Ok tt) →
-    ((lines : List Line) → StandsFor laws lines → StandsFor more (with_line lines tick event)) →
-    ((lines : List Line) → Formed lines → KeepsLaws lines → StandsFor laws lines → Formed (with_line lines tick event) × KeepsLaws (with_line lines tick event)) → Judged file more new after
+    ((lines : List TraceLine) → Formed lines → KeepsLaws lines → StandsFor laws lines → answer_of (with_line lines tick event) ≡ Ok tt) →
+    ((lines : List TraceLine) → StandsFor laws lines → StandsFor more (with_line lines tick event)) →
+    ((lines : List TraceLine) → Formed lines → KeepsLaws lines → StandsFor laws lines → Formed (with_line lines tick event) × KeepsLaws (with_line lines tick event)) → Judged file more new after
 judged_on file laws trace left tick event new after more j goes counted answers stands lawful =
     let h = goes j.rest j.left_is in
     let longer = lawful j.lines j.formed j.lawful j.stands in

@@ -1,7 +1,7 @@
 -- The lines of a formed trace, from its texts.
 use Rattle.std.proofs.Common.{◌≡◌, ◌≤◌, ◌<◌, ℕ, ◌+◌, Bool, true, false, ◌&&◌, cond, ltb, if◌then◌else◌, List, [], ◌∷◌, ◌++◌, length, Option, Some, None, Result, Ok, Err, refl, ap, sym, subst, ◌∙◌, append_assoc, append-nil, arith}
 use Rattle.std.proofs.lemmas.Bool.{le-ltb, ltb-false}
-use Rattle.trace_text.specs.Queue.{Line}
+use Rattle.trace_text.specs.Queue.{TraceLine}
 use Rattle.trace_text.specs.Laws.{Formed, follows_form}
 use Rattle.trace_reading.specs.Lines.{line_in}
 use Rattle.trace_laws.specs.declared.verdicts.TheConstants.{TRACE_BYTES}
@@ -11,38 +11,38 @@ use Rattle.trace_files.specs.Reported.{lines_with, lines_from, IsFormedTrace}
 
 -- ---- what is answered is formed
 
-cond_ok : (b : Bool) (number : ℕ) (rest : Result (List Line) ℕ) (lines : List Line) → cond b (Err number) rest ≡ Ok lines → (b ≡ false) × (rest ≡ Ok lines)
+cond_ok : (b : Bool) (number : ℕ) (rest : Result (List TraceLine) ℕ) (lines : List TraceLine) → cond b (Err number) rest ≡ Ok lines → (b ≡ false) × (rest ≡ Ok lines)
 cond_ok true number rest lines e = cc
 cond_ok false number rest lines e = (refl, e)
 
-form_ok : (b : Bool) (number : ℕ) (rest : Result (List Line) ℕ) (lines : List Line) → cond b rest (Err number) ≡ Ok lines → (b ≡ true) × (rest ≡ Ok lines)
+form_ok : (b : Bool) (number : ℕ) (rest : Result (List TraceLine) ℕ) (lines : List TraceLine) → cond b rest (Err number) ≡ Ok lines → (b ≡ true) × (rest ≡ Ok lines)
 form_ok true number rest lines e = (refl, e)
 form_ok false number rest lines e = cc
 
-with_ok : (sofar : List Line) (read : Option Line) (later : List Line → Result (List Line) ℕ) (lines : List Line) → lines_with sofar read later ≡ Ok lines →
-    (line : Line) × (read ≡ Some line) × (follows_form (sofar ++ line ∷ []) ≡ true) × (later (sofar ++ line ∷ []) ≡ Ok lines)
+with_ok : (sofar : List TraceLine) (read : Option TraceLine) (later : List TraceLine → Result (List TraceLine) ℕ) (lines : List TraceLine) → lines_with sofar read later ≡ Ok lines →
+    (line : TraceLine) × (read ≡ Some line) × (follows_form (sofar ++ line ∷ []) ≡ true) × (later (sofar ++ line ∷ []) ≡ Ok lines)
 with_ok sofar None later lines e = cc
 with_ok sofar (Some line) later lines e = let h = form_ok (follows_form (sofar ++ line ∷ [])) (length sofar + 1) (later (sofar ++ line ∷ [])) lines e in (line, refl, h.0, h.1)
 
-abbrev lines_in : List Line → Result (List Line) ℕ → List Line
+abbrev lines_in : List TraceLine → Result (List TraceLine) ℕ → List TraceLine
 lines_in other (Ok lines) = lines
 lines_in other (Err number) = other
 
-abbrev lines_answer : List Line → Result (List Line) ℕ
+abbrev lines_answer : List TraceLine → Result (List TraceLine) ℕ
 lines_answer lines = Ok lines
 
-same_lines : (a b : List Line) → lines_answer a ≡ Ok b → a ≡ b
+same_lines : (a b : List TraceLine) → lines_answer a ≡ Ok b → a ≡ b
 same_lines a b e = ap (lines_in a) e
 
 -- behind so many bytes, which were these lines
-record IsOn (n : ℕ) (sofar : List Line) (texts : List (List ℕ)) (lines : List Line) : Type 0 where
-  more : List Line
+record IsOn (n : ℕ) (sofar : List TraceLine) (texts : List (List ℕ)) (lines : List TraceLine) : Type 0 where
+  more : List TraceLine
   lines_is : sofar ++ more ≡ lines
   read : Reads texts more
   form : follows_form lines ≡ true
   within : n + bytes_in texts ≤ TRACE_BYTES
 
-on_texts : (n : ℕ) (sofar : List Line) (texts : List (List ℕ)) (lines : List Line) → follows_form sofar ≡ true → n ≤ TRACE_BYTES → lines_from n sofar texts ≡ Ok lines → IsOn n sofar texts lines
+on_texts : (n : ℕ) (sofar : List TraceLine) (texts : List (List ℕ)) (lines : List TraceLine) → follows_form sofar ≡ true → n ≤ TRACE_BYTES → lines_from n sofar texts ≡ Ok lines → IsOn n sofar texts lines
 on_texts n sofar [] lines form fits e =
     let same = same_lines sofar lines e in
     record { more = []; lines_is = append-nil sofar ∙ same; read = tt; form = subst (λ ls. follows_form ls ≡ true) same form; within = omega (arith, fits) }
@@ -58,26 +58,26 @@ on_texts n sofar (text ∷ texts) lines form fits e =
       within = omega (arith, rest.within);
     }
 
-pub formed_told : ((lines : List Line) → (follows_form lines ≡ true → Formed lines) × (Formed lines → follows_form lines ≡ true)) → (texts : List (List ℕ)) (lines : List Line) → lines_from 0 [] texts ≡ Ok lines → IsFormedTrace texts lines
+pub formed_told : ((lines : List TraceLine) → (follows_form lines ≡ true → Formed lines) × (Formed lines → follows_form lines ≡ true)) → (texts : List (List ℕ)) (lines : List TraceLine) → lines_from 0 [] texts ≡ Ok lines → IsFormedTrace texts lines
 formed_told tests texts lines e =
     let h = on_texts 0 [] texts lines refl (omega arith) e in
     record { read = subst (Reads texts) h.lines_is h.read; formed = (tests lines).0 h.form; within = omega (arith, h.within) }
 
 -- ---- and what is formed is answered
 
-from_reads : (n : ℕ) (sofar : List Line) (texts : List (List ℕ)) (lines : List Line) → Reads texts lines → n + bytes_in texts ≤ TRACE_BYTES → ((front back : List Line) → lines ≡ front ++ back → follows_form (sofar ++ front) ≡ true) →
+from_reads : (n : ℕ) (sofar : List TraceLine) (texts : List (List ℕ)) (lines : List TraceLine) → Reads texts lines → n + bytes_in texts ≤ TRACE_BYTES → ((front back : List TraceLine) → lines ≡ front ++ back → follows_form (sofar ++ front) ≡ true) →
     lines_from n sofar texts ≡ Ok (sofar ++ lines)
 from_reads n sofar [] [] reads within good = ap Ok (sym (append-nil sofar))
 from_reads n sofar [] (line ∷ lines) reads within good = absurd reads
 from_reads n sofar (text ∷ texts) [] reads within good = absurd reads
 from_reads n sofar (text ∷ texts) (line ∷ lines) reads within good =
-    let later = λ (more : List Line). lines_from (n + length text) more texts in
+    let later = λ (more : List TraceLine). lines_from (n + length text) more texts in
     ap (λ b. cond b (Err (length sofar + 1)) (lines_with sofar (line_in text) later)) (le-ltb TRACE_BYTES (n + length text) (omega (arith, within)))
     ∙ ap (λ read. lines_with sofar read later) reads.0
     ∙ ap (λ b. cond b (later (sofar ++ line ∷ [])) (Err (length sofar + 1))) (good (line ∷ []) lines refl)
     ∙ from_reads (n + length text) (sofar ++ line ∷ []) texts lines reads.1 (omega (arith, within)) (λ front back is. ap follows_form (append_assoc sofar (line ∷ []) front) ∙ good (line ∷ front) back (ap (λ xs. line ∷ xs) is))
     ∙ ap Ok (append_assoc sofar (line ∷ []) lines)
 
-pub only_told : ((lines : List Line) → (follows_form lines ≡ true → Formed lines) × (Formed lines → follows_form lines ≡ true)) → (texts : List (List ℕ)) (lines : List Line) → IsFormedTrace texts lines → lines_from 0 [] texts ≡ Ok lines
+pub only_told : ((lines : List TraceLine) → (follows_form lines ≡ true → Formed lines) × (Formed lines → follows_form lines ≡ true)) → (texts : List (List ℕ)) (lines : List TraceLine) → IsFormedTrace texts lines → lines_from 0 [] texts ≡ Ok lines
 only_told tests texts lines h =
     from_reads 0 [] texts lines h.read (omega (arith, h.within)) (λ front back is. front_formed front back (ap follows_form (sym is) ∙ (tests lines).1 h.formed))

@@ -2,7 +2,7 @@
 use Rattle.std.proofs.Common.{◌≡◌, ◌<◌, ◌⊎◌, inl, inr, ◌+◌, ℕ, Bool, true, false, cond, ltb, List, [], ◌∷◌, ◌++◌, Option, Some, None, Result, Ok, Err, length, refl, ap, sym, ◌∙◌, length-append}
 use Rattle.std.proofs.lemmas.Bool.{lt-ltb, le-ltb, false_from_ne_true}
 use Rattle.trace_text.specs.declared.events.Event.{Event}
-use Rattle.trace_text.specs.Queue.{Line}
+use Rattle.trace_text.specs.Queue.{TraceLine}
 use Rattle.trace_text.specs.Laws.{Formed, follows_form}
 use Rattle.trace_lines.specs.Seen.{with_line}
 use Rattle.trace_reading.specs.Lines.{line_in}
@@ -19,10 +19,10 @@ reporting_first empty file report trace left none first left_is =
     record { rest = file; lines = []; left_is = left_is; answer = ap (λ n. lines_from n [] (texts_in file)) (sym first.0); counted = sym first.1; stands = none; formed = empty }
 
 -- nothing is left
-pub reported_whole : (file : List ℕ) (report : Reported) (trace : TraceFile) (left : Option (List ℕ)) → Reporting file report trace left → ((rest : List ℕ) → IsLeft trace left rest → texts_in rest ≡ []) → (lines : List Line) × (formed_lines file ≡ Ok lines) × Formed lines × StandsFor report lines
+pub reported_whole : (file : List ℕ) (report : Reported) (trace : TraceFile) (left : Option (List ℕ)) → Reporting file report trace left → ((rest : List ℕ) → IsLeft trace left rest → texts_in rest ≡ []) → (lines : List TraceLine) × (formed_lines file ≡ Ok lines) × Formed lines × StandsFor report lines
 reported_whole file report trace left j none = (j.lines, j.answer ∙ ap (lines_from trace.before j.lines) (none j.rest j.left_is), j.formed, j.stands)
 
-beyond_or_none : (lines : List Line) (read : Option Line) (later : List Line → Result (List Line) ℕ) (b : Bool) → (b ≡ true) ⊎ (read ≡ None) → cond b (Err (length lines + 1)) (lines_with lines read later) ≡ Err (length lines + 1)
+beyond_or_none : (lines : List TraceLine) (read : Option TraceLine) (later : List TraceLine → Result (List TraceLine) ℕ) (b : Bool) → (b ≡ true) ⊎ (read ≡ None) → cond b (Err (length lines + 1)) (lines_with lines read later) ≡ Err (length lines + 1)
 beyond_or_none lines read later true why = refl
 beyond_or_none lines read later false (inl beyond) = cc
 beyond_or_none lines read later false (inr none) = ap (λ r. lines_with lines r later) none
@@ -40,7 +40,7 @@ reported_refused file report trace left count j none same =
     ∙ ap (λ n. Err (n + 1)) (j.counted ∙ sym same)
 
 -- the next text is a line
-at_line : (before : ℕ) (lines : List Line) (text : List ℕ) (texts : List (List ℕ)) (line : Line) (b : Bool) → b ≡ false → line_in text ≡ Some line →
+at_line : (before : ℕ) (lines : List TraceLine) (text : List ℕ) (texts : List (List ℕ)) (line : TraceLine) (b : Bool) → b ≡ false → line_in text ≡ Some line →
     cond b (Err (length lines + 1)) (lines_with lines (line_in text) (λ more. lines_from (before + length text) more texts))
     ≡ cond (follows_form (lines ++ line ∷ [])) (lines_from (before + length text) (lines ++ line ∷ []) texts) (Err (length lines + 1))
 at_line before lines text texts line true within is = cc
@@ -54,9 +54,9 @@ next_line file report trace left tick event new after j h =
     ∙ ap (λ n. cond (follows_form (with_line j.lines tick event)) (lines_from n (with_line j.lines tick event) (texts_in h.behind)) (Err (length j.lines + 1))) (sym h.before_is)
 
 -- the lines do not stay formed
-pub reported_fault : (tests : (lines : List Line) → (follows_form lines ≡ true → Formed lines) × (Formed lines → follows_form lines ≡ true)) (file : List ℕ) (report : Reported) (trace : TraceFile) (left : Option (List ℕ)) (tick : ℕ) (event : Event) (new : TraceFile) (after : Option (List ℕ)) → Reporting file report trace left →
+pub reported_fault : (tests : (lines : List TraceLine) → (follows_form lines ≡ true → Formed lines) × (Formed lines → follows_form lines ≡ true)) (file : List ℕ) (report : Reported) (trace : TraceFile) (left : Option (List ℕ)) (tick : ℕ) (event : Event) (new : TraceFile) (after : Option (List ℕ)) → Reporting file report trace left →
     ((rest : List ℕ) → IsLeft trace left rest → HasLine trace.before rest tick event new after) → new.count ≡ trace.count + 1 →
-    ((lines : List Line) → Formed lines → StandsFor report lines → Formed (with_line lines tick event) → ⊥) → formed_lines file ≡ Err new.count
+    ((lines : List TraceLine) → Formed lines → StandsFor report lines → Formed (with_line lines tick event) → ⊥) → formed_lines file ≡ Err new.count
 reported_fault tests file report trace left tick event new after j goes counted malformed =
     let h = goes j.rest j.left_is in
     let longer = with_line j.lines tick event in
@@ -68,15 +68,15 @@ reported_fault tests file report trace left tick event new after j goes counted 
 never : (b : Bool) → b ≡ true → b ≡ false → ⊥
 never b t f = cc
 
-formed_by : (lines : List Line) (b : Bool) → follows_form lines ≡ b → (follows_form lines ≡ true → Formed lines) × (Formed lines → follows_form lines ≡ true) → ((Formed lines → ⊥) → ⊥) → follows_form lines ≡ true
+formed_by : (lines : List TraceLine) (b : Bool) → follows_form lines ≡ b → (follows_form lines ≡ true → Formed lines) × (Formed lines → follows_form lines ≡ true) → ((Formed lines → ⊥) → ⊥) → follows_form lines ≡ true
 formed_by lines true e tests h = e
 formed_by lines false e tests h = absurd (h (λ formed. never (follows_form lines) (tests.1 formed) e))
 
 -- they stay formed
-pub reporting_on : (tests : (lines : List Line) → (follows_form lines ≡ true → Formed lines) × (Formed lines → follows_form lines ≡ true)) (file : List ℕ) (report : Reported) (trace : TraceFile) (left : Option (List ℕ)) (tick : ℕ) (event : Event) (new : TraceFile) (after : Option (List ℕ)) (more : Reported) → Reporting file report trace left →
+pub reporting_on : (tests : (lines : List TraceLine) → (follows_form lines ≡ true → Formed lines) × (Formed lines → follows_form lines ≡ true)) (file : List ℕ) (report : Reported) (trace : TraceFile) (left : Option (List ℕ)) (tick : ℕ) (event : Event) (new : TraceFile) (after : Option (List ℕ)) (more : Reported) → Reporting file report trace left →
     ((rest : List ℕ) → IsLeft trace left rest → HasLine trace.before rest tick event new after) → new.count ≡ trace.count + 1 →
-    ((lines : List Line) → Formed lines → StandsFor report lines → (Formed (with_line lines tick event) → ⊥) → ⊥) →
-    ((lines : List Line) → StandsFor report lines → StandsFor more (with_line lines tick event)) → Reporting file more new after
+    ((lines : List TraceLine) → Formed lines → StandsFor report lines → (Formed (with_line lines tick event) → ⊥) → ⊥) →
+    ((lines : List TraceLine) → StandsFor report lines → StandsFor more (with_line lines tick event)) → Reporting file more new after
 reporting_on tests file report trace left tick event new after more j goes counted formed stands =
     let h = goes j.rest j.left_is in
     let longer = with_line j.lines tick event in

@@ -1,6 +1,6 @@
 -- How far a trace is judged.
 use Rattle.std.specs.Prelude.{◌≡◌, ℕ, List, Option, length}
-use Rattle.trace_text.specs.Queue.{Line}
+use Rattle.trace_text.specs.Queue.{TraceLine}
 use Rattle.trace_text.specs.Laws.{Formed, KeepsLaws}
 use Rattle.trace_laws.specs.declared.laws.LawFault.{LawFault}
 use Rattle.trace_laws.specs.declared.laws.LawFault.TheVariants.{Malformed, Broken}
@@ -14,7 +14,7 @@ use Rattle.trace_files.specs.Texts.{IsLeft}
 -- The lines that were read are formed and keep the laws, the laws stand for them, and what is left decides.
 pub record Judged (file : List ℕ) (laws : Watched) (trace : TraceFile) (left : Option (List ℕ)) : Type 0 where
   pub rest : List ℕ
-  pub lines : List Line
+  pub lines : List TraceLine
   pub left_is : IsLeft trace left rest
   pub answer : laws_answer file ≡ verdict_from trace.before lines (texts_in rest)
   pub counted : length lines ≡ trace.count

@@ -4,7 +4,7 @@ use Rattle.std.proofs.lemmas.List.{append-nil}
 use Rattle.std.proofs.lemmas.Bool.{lt-ltb, le-ltb}
 use Rattle.trace_text.specs.declared.lines.TheConstants.{LAST_TICK}
 use Rattle.trace_text.specs.declared.events.Event.{Event}
-use Rattle.trace_text.specs.Queue.{Line, see, nothing_seen, somebody_eq, who_of, head_of, follows_ticks, follows_lines}
+use Rattle.trace_text.specs.Queue.{TraceLine, see, nothing_seen, somebody_eq, who_of, head_of, follows_ticks, follows_lines}
 use Rattle.trace_text.specs.Laws.{Formed, KeepsLaws, see_shape, is_formed_next, no_shape, see_levels, is_below_ceiling, no_levels, actions_after, is_exclusive, see_releases, is_in_order, no_releases, is_agent_right, remember, is_rightly_left, follows_order, follows_form, follows_dispatch, follows_ceilings, follows_exclusion, follows_handlers, follows_leaving}
 use Rattle.trace_reading.specs.Lines.{line_in}
 use Rattle.trace_laws.specs.declared.laws.LawFault.{LawFault}
@@ -32,16 +32,16 @@ each_by : (a b c d : Bool) → (a && b) ≡ true → (a ≡ true → c ≡ true)
 each_by true b c d e first second = ap (λ x. x && d) (first refl) ∙ second e
 each_by false b c d e first second = cc
 
-front_lines : {S : Type 0} (see : S → Event → S) (lawful : S → Event → Bool) (s : S) (front back : List Line) → follows_lines see lawful s (front ++ back) ≡ true → follows_lines see lawful s front ≡ true
+front_lines : {S : Type 0} (see : S → Event → S) (lawful : S → Event → Bool) (s : S) (front back : List TraceLine) → follows_lines see lawful s (front ++ back) ≡ true → follows_lines see lawful s front ≡ true
 front_lines see lawful s [] back e = refl
 front_lines see lawful s (line ∷ front) back e = last_by (lawful s line.1) (follows_lines see lawful (see s line.1) (front ++ back)) (follows_lines see lawful (see s line.1) front) e (front_lines see lawful (see s line.1) front back)
 
-front_ticks : {S : Type 0} (see : S → Event → S) (right : S → Bool) (tick : ℕ) (s : S) (front back : List Line) → follows_ticks see right tick s (front ++ back) ≡ true → follows_ticks see right tick s front ≡ true
+front_ticks : {S : Type 0} (see : S → Event → S) (right : S → Bool) (tick : ℕ) (s : S) (front back : List TraceLine) → follows_ticks see right tick s (front ++ back) ≡ true → follows_ticks see right tick s front ≡ true
 front_ticks see right tick s [] back e = refl
 front_ticks see right tick s (line ∷ front) back e =
     last_by (leb line.0 tick || right s) (follows_ticks see right line.0 (see s line.1) (front ++ back)) (follows_ticks see right line.0 (see s line.1) front) e (front_ticks see right line.0 (see s line.1) front back)
 
-front_order : (tick : ℕ) (front back : List Line) → follows_order tick (front ++ back) ≡ true → follows_order tick front ≡ true
+front_order : (tick : ℕ) (front back : List TraceLine) → follows_order tick (front ++ back) ≡ true → follows_order tick front ≡ true
 front_order tick [] back e = refl
 front_order tick (line ∷ front) back e = third_by (leb tick line.0) (leb line.0 LAST_TICK) (follows_order line.0 (front ++ back)) (follows_order line.0 front) e (front_order line.0 front back)
 
@@ -56,7 +56,7 @@ passes form dispatch ceilings exclusion handlers leaving f d c e h l =
     ∙ ap (λ x. answer_by true true true x handlers leaving) e ∙ ap (λ x. answer_by true true true true x leaving) h ∙ ap (λ x. answer_by true true true true true x) l
 
 -- the six tests of a list
-pub record Tested (lines : List Line) : Type 0 where
+pub record Tested (lines : List TraceLine) : Type 0 where
   pub form : follows_form lines ≡ true
   pub dispatch : follows_dispatch lines ≡ true
   pub ceilings : follows_ceilings lines ≡ true
@@ -64,12 +64,12 @@ pub record Tested (lines : List Line) : Type 0 where
   pub handlers : follows_handlers lines ≡ true
   pub leaving : follows_leaving lines ≡ true
 
-pub front_formed : (front back : List Line) → follows_form (front ++ back) ≡ true → follows_form front ≡ true
+pub front_formed : (front back : List TraceLine) → follows_form (front ++ back) ≡ true → follows_form front ≡ true
 front_formed front back form =
     each_by (follows_order 0 (front ++ back)) (follows_lines see_shape is_formed_next no_shape (front ++ back)) (follows_order 0 front) (follows_lines see_shape is_formed_next no_shape front) form
     (front_order 0 front back) (front_lines see_shape is_formed_next no_shape front back)
 
-pub front_tested : (front back : List Line) → Tested (front ++ back) → answer_of front ≡ Ok tt
+pub front_tested : (front back : List TraceLine) → Tested (front ++ back) → answer_of front ≡ Ok tt
 front_tested front back t =
     passes (follows_form front) (follows_dispatch front) (follows_ceilings front) (follows_exclusion front) (follows_handlers front) (follows_leaving front)
     (front_formed front back t.form)
@@ -82,14 +82,14 @@ front_tested front back t =
 
 -- ---- the verdict behind lines that are lawful
 
-on_reads : (n : ℕ) (sofar : List Line) (before : List (List ℕ)) (lines : List Line) (texts : List (List ℕ)) → Reads before lines → n + bytes_in before ≤ TRACE_BYTES
-    → ((front back : List Line) → lines ≡ front ++ back → answer_of (sofar ++ front) ≡ Ok tt)
+on_reads : (n : ℕ) (sofar : List TraceLine) (before : List (List ℕ)) (lines : List TraceLine) (texts : List (List ℕ)) → Reads before lines → n + bytes_in before ≤ TRACE_BYTES
+    → ((front back : List TraceLine) → lines ≡ front ++ back → answer_of (sofar ++ front) ≡ Ok tt)
     → verdict_from n sofar (before ++ texts) ≡ verdict_from (n + bytes_in before) (sofar ++ lines) texts
 on_reads n sofar [] [] texts reads within good = let same : n ≡ n + 0 = omega arith in ap (λ m. verdict_from m sofar texts) same ∙ ap (λ ls. verdict_from (n + 0) ls texts) (sym (append-nil sofar))
 on_reads n sofar [] (line ∷ lines) texts reads within good = absurd reads
 on_reads n sofar (text ∷ before) [] texts reads within good = absurd reads
 on_reads n sofar (text ∷ before) (line ∷ lines) texts reads within good =
-    let later = λ (more : List Line). verdict_from (n + length text) more (before ++ texts) in
+    let later = λ (more : List TraceLine). verdict_from (n + length text) more (before ++ texts) in
     let fits : ltb TRACE_BYTES (n + length text) ≡ false = le-ltb TRACE_BYTES (n + length text) (omega (arith, within)) in
     let sum : (n + length text) + bytes_in before ≡ n + (length text + bytes_in before) = omega arith in
     ap (λ b. cond b (verdict.Refused (length sofar + 1)) (verdict_with sofar (line_in text) later)) fits
@@ -99,7 +99,7 @@ on_reads n sofar (text ∷ before) (line ∷ lines) texts reads within good =
     ∙ ap (λ m. verdict_from m ((sofar ++ line ∷ []) ++ lines) texts) sum
     ∙ ap (λ ls. verdict_from (n + (length text + bytes_in before)) ls texts) (append_assoc sofar (line ∷ []) lines)
 
-from_start : (before : List (List ℕ)) (lines : List Line) (texts : List (List ℕ)) → Reads before lines → bytes_in before ≤ TRACE_BYTES → ((front back : List Line) → lines ≡ front ++ back → answer_of front ≡ Ok tt)
+from_start : (before : List (List ℕ)) (lines : List TraceLine) (texts : List (List ℕ)) → Reads before lines → bytes_in before ≤ TRACE_BYTES → ((front back : List TraceLine) → lines ≡ front ++ back → answer_of front ≡ Ok tt)
     → verdict_from 0 [] (before ++ texts) ≡ verdict_from (bytes_in before) lines texts
 from_start before lines texts reads within good =
     let same : 0 + bytes_in before ≡ bytes_in before = omega arith in
@@ -109,7 +109,7 @@ either_refused : (b : Bool) (number : ℕ) (other : Verdict) → (b ≡ false �
 either_refused true number other none = refl
 either_refused false number other none = none refl
 
-refused_here : (n : ℕ) (lines : List Line) (text : List ℕ) (later : List Line → Verdict) → (TRACE_BYTES < n + length text) ⊎ ((line_in text ≡ None) ⊎ ((line : Line) × (line_in text ≡ Some line) × (answer_of (lines ++ line ∷ []) ≡ Err Malformed))) →
+refused_here : (n : ℕ) (lines : List TraceLine) (text : List ℕ) (later : List TraceLine → Verdict) → (TRACE_BYTES < n + length text) ⊎ ((line_in text ≡ None) ⊎ ((line : TraceLine) × (line_in text ≡ Some line) × (answer_of (lines ++ line ∷ []) ≡ Err Malformed))) →
     cond (ltb TRACE_BYTES (n + length text)) (verdict.Refused (length lines + 1)) (verdict_with lines (line_in text) later) ≡ verdict.Refused (length lines + 1)
 refused_here n lines text later (inl more) = ap (λ b. cond b (verdict.Refused (length lines + 1)) (verdict_with lines (line_in text) later)) (lt-ltb TRACE_BYTES (n + length text) more)
 refused_here n lines text later (inr (inl none)) = either_refused (ltb TRACE_BYTES (n + length text)) (length lines + 1) (verdict_with lines (line_in text) later) (λ e. ap (λ read. verdict_with lines read later) none)
@@ -117,19 +117,19 @@ refused_here n lines text later (inr (inr (line, is, bad))) =
     either_refused (ltb TRACE_BYTES (n + length text)) (length lines + 1) (verdict_with lines (line_in text) later)
     (λ e. ap (λ read. verdict_with lines read later) is ∙ ap (λ answer. verdict_at (length lines + 1) answer (lines ++ line ∷ []) later) bad)
 
-broken_here : (n : ℕ) (lines : List Line) (text : List ℕ) (line : Line) (law : Law) (later : List Line → Verdict) → n + length text ≤ TRACE_BYTES → line_in text ≡ Some line → answer_of (lines ++ line ∷ []) ≡ Err (Broken law) →
+broken_here : (n : ℕ) (lines : List TraceLine) (text : List ℕ) (line : TraceLine) (law : Law) (later : List TraceLine → Verdict) → n + length text ≤ TRACE_BYTES → line_in text ≡ Some line → answer_of (lines ++ line ∷ []) ≡ Err (Broken law) →
     cond (ltb TRACE_BYTES (n + length text)) (verdict.Refused (length lines + 1)) (verdict_with lines (line_in text) later) ≡ verdict.Broken (length lines + 1) law
 broken_here n lines text line law later within is breaks =
     ap (λ b. cond b (verdict.Refused (length lines + 1)) (verdict_with lines (line_in text) later)) (le-ltb TRACE_BYTES (n + length text) within)
     ∙ ap (λ read. verdict_with lines read later) is ∙ ap (λ answer. verdict_at (length lines + 1) answer (lines ++ line ∷ []) later) breaks
 
 -- the texts before the one that offends
-before_offence : ((lines : List Line) → Formed lines → KeepsLaws lines → Tested lines) → (texts : List (List ℕ)) (number : ℕ) (o : Offends texts number) → verdict_from 0 [] texts ≡ verdict_from (bytes_in o.before) o.lines (o.text ∷ o.behind)
+before_offence : ((lines : List TraceLine) → Formed lines → KeepsLaws lines → Tested lines) → (texts : List (List ℕ)) (number : ℕ) (o : Offends texts number) → verdict_from 0 [] texts ≡ verdict_from (bytes_in o.before) o.lines (o.text ∷ o.behind)
 before_offence tests texts number o =
     ap (verdict_from 0 []) o.whole ∙ from_start o.before o.lines (o.text ∷ o.behind) o.read o.within
     (λ front back is. front_tested front back (subst Tested is (tests o.lines o.formed o.lawful)))
 
-pub verdict_only : ((lines : List Line) → Formed lines → KeepsLaws lines → Tested lines) → (texts : List (List ℕ)) (v : Verdict) → Says texts v → verdict_from 0 [] texts ≡ v
+pub verdict_only : ((lines : List TraceLine) → Formed lines → KeepsLaws lines → Tested lines) → (texts : List (List ℕ)) (v : Verdict) → Says texts v → verdict_from 0 [] texts ≡ v
 verdict_only tests texts (verdict.Lawful count) h =
     ap (verdict_from 0 []) (sym (append-nil texts)) ∙ from_start texts h.lines [] h.read h.within (λ front back is. front_tested front back (subst Tested is (tests h.lines h.formed h.lawful)))
     ∙ ap verdict.Lawful h.counted

@@ -4,7 +4,7 @@ use Rattle.std.specs.Option.{option_to_list}
 use Rattle.trace_text.specs.declared.events.Action.{Action}
 use Rattle.trace_text.specs.declared.events.Event.{Event}
 use Rattle.trace_text.specs.declared.events.Event.TheVariants.{Release, Serve, Served}
-use Rattle.trace_text.specs.Queue.{Line, somebody_eq, who_of, head_of}
+use Rattle.trace_text.specs.Queue.{TraceLine, somebody_eq, who_of, head_of}
 use Rattle.trace_text.specs.Laws.{Levels, is_below_ceiling, actions_after, is_exclusive, Releases, is_in_order, is_agent_right, follows_dispatch, follows_ceilings, follows_exclusion, follows_handlers, follows_leaving, follows_form}
 use Rattle.trace_lines.specs.Seen.{Seen, nothing_kept, see_line, is_formed_after}
 use Rattle.trace_laws.specs.Regions.{Leavings, no_leavings, leavings_after, is_left_rightly}
@@ -39,7 +39,7 @@ abbrev pub nothing_watched : Watched
 nothing_watched = record { seen = nothing_kept; actions = []; counts = nothing_counted; leavings = no_leavings }
 
 -- one line more
-abbrev pub watch_line : Watched → Line → Watched
+abbrev pub watch_line : Watched → TraceLine → Watched
 watch_line watched line = record {
   seen = see_line watched.seen line;
   actions = actions_after watched.actions line.1;
@@ -47,15 +47,15 @@ watch_line watched line = record {
   leavings = leavings_after watched.leavings line.1;
 }
 
-abbrev pub watched_after : Watched → List Line → Watched
+abbrev pub watched_after : Watched → List TraceLine → Watched
 watched_after watched [] = watched
 watched_after watched (line ∷ lines) = watched_after (watch_line watched line) lines
 
-abbrev pub watched_of : List Line → Watched
+abbrev pub watched_of : List TraceLine → Watched
 watched_of = watched_after nothing_watched
 
 -- what is kept stands for a list of lines
-abbrev pub StandsFor : Watched → List Line → Type 0
+abbrev pub StandsFor : Watched → List TraceLine → Type 0
 StandsFor watched lines = watched ≡ watched_of lines
 
 -- before a later tick the head of the ready queue runs
@@ -94,7 +94,7 @@ abbrev pub answer_after : Watched → ℕ → Event → Result (Unit {0}) LawFau
 answer_after watched tick event = if is_formed_after watched.seen tick event then fault_of (broken_by watched tick event) else Err Malformed
 
 -- the first law that a list breaks
-abbrev pub first_broken : List Line → Option Law
+abbrev pub first_broken : List TraceLine → Option Law
 first_broken lines =
     if not (follows_dispatch lines) then Some Dispatch
     else (if not (follows_ceilings lines) then Some Ceiling
@@ -103,5 +103,5 @@ first_broken lines =
     else (if not (follows_leaving lines) then Some Left else None))))
 
 -- what is answered of a list: that it is not formed, or else the first law that it breaks
-abbrev pub answer_of : List Line → Result (Unit {0}) LawFault
+abbrev pub answer_of : List TraceLine → Result (Unit {0}) LawFault
 answer_of lines = if follows_form lines then fault_of (first_broken lines) else Err Malformed

@@ -2,7 +2,7 @@
 ghost use Rattle.std.specs.Prelude.{◌≡◌, ◌==◌, ◌||◌, not, length, List, IfOk, OnOk, OnErr};
 ghost use Rattle.std.specs.Option.{option_to_list};
 ghost use Rattle.ann_base.specs.Answers.{Answers};
-ghost use Rattle.trace_text.specs.Queue.{Line, somebody_eq};
+ghost use Rattle.trace_text.specs.Queue.{TraceLine, somebody_eq};
 ghost use Rattle.trace_text.specs.Laws.{Formed, KeepsLaws, is_at_most, is_base_below, is_entry_below, base_of, is_below_ceiling, is_agent_right};
 ghost use Rattle.trace_lines.specs.Seen.{with_line};
 ghost use Rattle.trace_laws.specs.Watched.{nothing_watched, watch_line, StandsFor, levels_in, releases_in, is_dispatch_kept, are_handlers_kept, broken_by, answer_after, answer_of};
@@ -191,12 +191,12 @@ impl Laws {
     /// `Broken` exactly where it stays formed and breaks a law, with the first one in their order.
     /// An error changes nothing.
     pub fn line(&mut self, now: u64, event: &Event) -> Result<(), OrMemory<LawFault>>
-        ensures answer { (lines : List Line) → Formed lines → KeepsLaws lines
+        ensures answer { (lines : List TraceLine) → Formed lines → KeepsLaws lines
             → StandsFor self.old lines
             → Answers result (answer_of (with_line lines now event.now)) }
-        ensures stands { (lines : List Line) → StandsFor self.old lines
+        ensures stands { (lines : List TraceLine) → StandsFor self.old lines
             → OnOk result (StandsFor self.new (with_line lines now event.now)) }
-        ensures lawful { (lines : List Line) → Formed lines → KeepsLaws lines
+        ensures lawful { (lines : List TraceLine) → Formed lines → KeepsLaws lines
             → StandsFor self.old lines
             → OnOk result
             (Formed (with_line lines now event.now) × KeepsLaws (with_line lines now event.now)) }

@@ -8,7 +8,7 @@ use Rattle.trace_text.specs.declared.events.Who.TheVariants as subject
 use Rattle.trace_text.specs.declared.events.Created.TheVariants as created
 use Rattle.trace_text.specs.declared.events.Event.{Event}
 use Rattle.trace_text.specs.declared.events.Event.TheVariants.{New, Ready, Block, Run, Idle, Base, Deadline, Quantum, Done, Raise, Put, Call, Start, Finish, Cancel, Gone, Enter, Exit, Held, Abort, Trigger, Leave, Init, Final, Left, Replace, Release, Serve, Served, Interrupt, Port, Mask, Unmask, Masked, End}
-use Rattle.trace_text.specs.Queue.{Line, seen_from, last_from, follows_lines, queue_after}
+use Rattle.trace_text.specs.Queue.{TraceLine, seen_from, last_from, follows_lines, queue_after}
 use Rattle.trace_text.specs.Laws.{Shape, no_shape, see_shape, has, is_known, is_ready_formed, is_subject_formed, is_formed_next, follows_order, follows_form}
 use Rattle.trace_lines.specs.Seen.{Seen, nothing_kept, see_line, seen_after, seen_of, with_line, shape_of, is_formed_after, kept_bases}
 use Rattle.trace_lines.proofs.Facts.{tick_kept}
@@ -110,21 +110,21 @@ both : (a b : Bool) → (a && b) ≡ true → (a ≡ true) × (b ≡ true)
 both true b e = (refl, e)
 both false b e = cc
 
-pub same_kept : (s : Shape) (seen : Seen) (lines : List Line) → Same s (shape_of seen) → follows_lines see_shape is_formed_next s lines ≡ true → Same (seen_from see_shape s lines) (shape_of (seen_after seen lines))
+pub same_kept : (s : Shape) (seen : Seen) (lines : List TraceLine) → Same s (shape_of seen) → follows_lines see_shape is_formed_next s lines ≡ true → Same (seen_from see_shape s lines) (shape_of (seen_after seen lines))
 same_kept s seen [] h e = h
 same_kept s seen (line ∷ lines) h e =
     let parts = both (is_formed_next s line.1) (follows_lines see_shape is_formed_next (see_shape s line.1) lines) e in
     same_kept (see_shape s line.1) (see_line seen line) lines
     (stays_same s seen line.0 line.1 h (both (not s.is_ended) (is_subject_formed s line.1) parts.0).1) parts.1
 
-pub follows_lines-append : {S : Type 0} (see : S → Event → S) (lawful : S → Event → Bool) (s : S) (lines : List Line) (line : Line)
+pub follows_lines-append : {S : Type 0} (see : S → Event → S) (lawful : S → Event → Bool) (s : S) (lines : List TraceLine) (line : TraceLine)
     → follows_lines see lawful s (lines ++ line ∷ []) ≡ (follows_lines see lawful s lines && lawful (seen_from see s lines) line.1)
 follows_lines-append see lawful s [] line = and_true (lawful s line.1)
 follows_lines-append see lawful s (first ∷ lines) line =
     ap (λ b. lawful s first.1 && b) (follows_lines-append see lawful (see s first.1) lines line)
     ∙ and_and (lawful s first.1) (follows_lines see lawful (see s first.1) lines) (lawful (seen_from see (see s first.1) lines) line.1)
 
-pub follows_order-append : (tick : ℕ) (lines : List Line) (line : Line) → follows_order tick (lines ++ line ∷ []) ≡ (follows_order tick lines && (leb (last_from tick lines) line.0 && leb line.0 LAST_TICK))
+pub follows_order-append : (tick : ℕ) (lines : List TraceLine) (line : TraceLine) → follows_order tick (lines ++ line ∷ []) ≡ (follows_order tick lines && (leb (last_from tick lines) line.0 && leb line.0 LAST_TICK))
 follows_order-append tick [] line = and_true (leb tick line.0 && leb line.0 LAST_TICK)
 follows_order-append tick (first ∷ lines) line =
     ap (λ b. leb tick first.0 && leb first.0 LAST_TICK && b) (follows_order-append first.0 lines line)
@@ -133,7 +133,7 @@ follows_order-append tick (first ∷ lines) line =
 nothing_same : Same no_shape (shape_of nothing_kept)
 nothing_same = record { queue = refl; tasks = λ number. refl; objects = λ number. refl; is_ended = refl }
 
-pub form_shows : (lines : List Line) (tick : ℕ) (event : Event) → follows_form lines ≡ true → is_formed_after (seen_of lines) tick event ≡ follows_form (with_line lines tick event)
+pub form_shows : (lines : List TraceLine) (tick : ℕ) (event : Event) → follows_form lines ≡ true → is_formed_after (seen_of lines) tick event ≡ follows_form (with_line lines tick event)
 form_shows lines tick event e =
     let parts = both (follows_order 0 lines) (follows_lines see_shape is_formed_next no_shape lines) e in
     let order : follows_order 0 (with_line lines tick event) ≡ (leb (last_from 0 lines) tick && leb tick LAST_TICK) =

@@ -11,7 +11,7 @@ use Rattle.trace_text.specs.declared.events.Entry.{Entry}
 use Rattle.trace_text.specs.declared.events.Created.TheVariants as created
 use Rattle.trace_text.specs.declared.events.Event.{Event}
 use Rattle.trace_text.specs.declared.events.Event.TheVariants.{New, Base, End}
-use Rattle.trace_text.specs.Queue.{Line, queue_after, runner_after}
+use Rattle.trace_text.specs.Queue.{TraceLine, queue_after, runner_after}
 use Rattle.trace_text.specs.Laws.{Shape, is_formed_next}
 
 -- The last tick, whether an `end` line came, who runs, the ready queue, the last base of each task that has a `new` line
@@ -41,7 +41,7 @@ kept_ceilings ceilings (New (created.Object object) name level) = insert_entry n
 kept_ceilings ceilings _ = ceilings
 
 -- one line more
-abbrev pub see_line : Seen → Line → Seen
+abbrev pub see_line : Seen → TraceLine → Seen
 see_line seen line = record {
   tick = line.0;
   is_ended = ended_after seen.is_ended line.1;
@@ -51,19 +51,19 @@ see_line seen line = record {
   ceilings = kept_ceilings seen.ceilings line.1;
 }
 
-abbrev pub seen_after : Seen → List Line → Seen
+abbrev pub seen_after : Seen → List TraceLine → Seen
 seen_after seen [] = seen
 seen_after seen (line ∷ lines) = seen_after (see_line seen line) lines
 
-abbrev pub seen_of : List Line → Seen
+abbrev pub seen_of : List TraceLine → Seen
 seen_of = seen_after nothing_kept
 
 -- what is kept stands for a list of lines
-abbrev pub StandsFor : Seen → List Line → Type 0
+abbrev pub StandsFor : Seen → List TraceLine → Type 0
 StandsFor seen lines = seen ≡ seen_of lines
 
 -- the list with one line more
-abbrev pub with_line : List Line → ℕ → Event → List Line
+abbrev pub with_line : List TraceLine → ℕ → Event → List TraceLine
 with_line lines tick event = lines ++ (tick, event) ∷ []
 
 -- what the form of a further line depends on

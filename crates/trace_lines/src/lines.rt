@@ -1,6 +1,6 @@
 //! A list of lines, of which facts are kept.
 ghost use Rattle.std.specs.Prelude.{◌≡◌, ◌↔◌, true, false, ◌&&◌, List, OnOk, OnErr};
-ghost use Rattle.trace_text.specs.Queue.{Line, entry_of, head_of, who_of};
+ghost use Rattle.trace_text.specs.Queue.{TraceLine, entry_of, head_of, who_of};
 ghost use Rattle.trace_text.specs.Laws.{Formed, level_of, is_known, is_ready_formed, is_subject_formed};
 ghost use Rattle.trace_lines.specs.Seen.{nothing_kept, see_line, StandsFor, with_line, level_in, deadline_in, shape_of, is_formed_after, IsFault};
 
@@ -77,9 +77,9 @@ impl Lines {
     /// `Malformed` exactly where the list that this stands for is formed and does not stay so with this line.
     /// An error changes nothing.
     pub fn take(&mut self, now: u64, event: &Event) -> Result<(), OrMemory<Malformed>>
-        ensures malformed { (lines : List Line) → Formed lines → StandsFor self.old lines
+        ensures malformed { (lines : List TraceLine) → Formed lines → StandsFor self.old lines
             → (IsFault result ↔ (Formed (with_line lines now event.now) → ⊥)) }
-        ensures stands { (lines : List Line) → StandsFor self.old lines
+        ensures stands { (lines : List TraceLine) → StandsFor self.old lines
             → OnOk result (StandsFor self.new (with_line lines now event.now)) }
         ensures fault { IsFault result ↔ (is_formed_after self.old now event.now ≡ false) }
         ensures taken { OnOk result (self.new ≡ see_line self.old (now, event.now)) }

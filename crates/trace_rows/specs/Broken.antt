@@ -7,10 +7,10 @@ use Rattle.trace_text.specs.declared.events.Mode.TheVariants as mode
 use Rattle.trace_text.specs.declared.events.Leaves.TheVariants as leaves
 use Rattle.trace_text.specs.declared.events.Ended.TheVariants as ended
 use Rattle.trace_text.specs.declared.events.Event.TheVariants as event
-use Rattle.trace_text.specs.Queue.{Line}
+use Rattle.trace_text.specs.Queue.{TraceLine}
 use Rattle.trace_rows.specs.Numbers.{task, object, region, who}
 
-unfoldable pub wrong_runner : List Line
+unfoldable pub wrong_runner : List TraceLine
 wrong_runner =
     (0, event.New (created.Task (task 0)) (codes "main") 15) ∷
     (0, event.Ready (who 0) 15 Tail None) ∷
@@ -43,7 +43,7 @@ wrong_runner =
     (35, event.End ended.Completed) ∷
     []
 
-unfoldable pub ceiling_too_low : List Line
+unfoldable pub ceiling_too_low : List TraceLine
 ceiling_too_low =
     (0, event.New (created.Task (task 0)) (codes "main") 15) ∷
     (0, event.Ready (who 0) 15 Tail None) ∷
@@ -57,7 +57,7 @@ ceiling_too_low =
     (10, event.End ended.Completed) ∷
     []
 
-unfoldable pub final_left_out : List Line
+unfoldable pub final_left_out : List TraceLine
 final_left_out =
     (0, event.New (created.Task (task 0)) (codes "main") 15) ∷
     (0, event.Ready (who 0) 15 Tail None) ∷
@@ -90,7 +90,7 @@ final_left_out =
     (37, event.End ended.Completed) ∷
     []
 
-unfoldable pub new_twice : List Line
+unfoldable pub new_twice : List TraceLine
 new_twice =
     (0, event.New (created.Task (task 0)) (codes "main") 15) ∷
     (0, event.New (created.Task (task 0)) (codes "main") 15) ∷

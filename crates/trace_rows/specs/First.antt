@@ -9,10 +9,10 @@ use Rattle.trace_text.specs.declared.events.EntryName.TheVariants.{OfTask}
 use Rattle.trace_text.specs.declared.events.Finished.TheVariants as finished
 use Rattle.trace_text.specs.declared.events.Ended.TheVariants as ended
 use Rattle.trace_text.specs.declared.events.Event.TheVariants as event
-use Rattle.trace_text.specs.Queue.{Line}
+use Rattle.trace_text.specs.Queue.{TraceLine}
 use Rattle.trace_rows.specs.Numbers.{task, object, call, region, who}
 
-unfoldable pub trace_01 : List Line
+unfoldable pub trace_01 : List TraceLine
 trace_01 =
     (0, event.New (created.Task (task 0)) (codes "main") 15) ∷
     (0, event.Ready (who 0) 15 Tail None) ∷
@@ -22,7 +22,7 @@ trace_01 =
     (9, event.End ended.Completed) ∷
     []
 
-unfoldable pub trace_03 : List Line
+unfoldable pub trace_03 : List TraceLine
 trace_03 =
     (0, event.New (created.Task (task 0)) (codes "main") 15) ∷
     (0, event.Ready (who 0) 15 Tail None) ∷
@@ -55,7 +55,7 @@ trace_03 =
     (35, event.End ended.Completed) ∷
     []
 
-unfoldable pub trace_04 : List Line
+unfoldable pub trace_04 : List TraceLine
 trace_04 =
     (0, event.New (created.Task (task 0)) (codes "main") 15) ∷
     (0, event.Ready (who 0) 15 Tail None) ∷
@@ -78,7 +78,7 @@ trace_04 =
     (14, event.End ended.Completed) ∷
     []
 
-unfoldable pub trace_05a : List Line
+unfoldable pub trace_05a : List TraceLine
 trace_05a =
     (0, event.New (created.Task (task 0)) (codes "main") 15) ∷
     (0, event.Ready (who 0) 15 Tail None) ∷
@@ -89,7 +89,7 @@ trace_05a =
     (7, event.End (ended.Exception (codes "program_error"))) ∷
     []
 
-unfoldable pub trace_05b : List Line
+unfoldable pub trace_05b : List TraceLine
 trace_05b =
     (0, event.New (created.Task (task 0)) (codes "main") 15) ∷
     (0, event.Ready (who 0) 15 Tail None) ∷
@@ -103,7 +103,7 @@ trace_05b =
     (10, event.End ended.Completed) ∷
     []
 
-unfoldable pub trace_05c : List Line
+unfoldable pub trace_05c : List TraceLine
 trace_05c =
     (0, event.New (created.Task (task 0)) (codes "main") 15) ∷
     (0, event.Ready (who 0) 15 Tail None) ∷
@@ -115,7 +115,7 @@ trace_05c =
     (10, event.End ended.Completed) ∷
     []
 
-unfoldable pub trace_06 : List Line
+unfoldable pub trace_06 : List TraceLine
 trace_06 =
     (0, event.New (created.Task (task 0)) (codes "main") 15) ∷
     (0, event.Ready (who 0) 15 Tail None) ∷
@@ -171,7 +171,7 @@ trace_06 =
     (44, event.End ended.Completed) ∷
     []
 
-unfoldable pub trace_08a : List Line
+unfoldable pub trace_08a : List TraceLine
 trace_08a =
     (0, event.New (created.Task (task 0)) (codes "main") 15) ∷
     (0, event.Ready (who 0) 15 Tail None) ∷
@@ -204,7 +204,7 @@ trace_08a =
     (21, event.End ended.Completed) ∷
     []
 
-unfoldable pub trace_08b : List Line
+unfoldable pub trace_08b : List TraceLine
 trace_08b =
     (0, event.New (created.Task (task 0)) (codes "main") 15) ∷
     (0, event.Ready (who 0) 15 Tail None) ∷
@@ -230,7 +230,7 @@ trace_08b =
     (17, event.End ended.Stuck) ∷
     []
 
-unfoldable pub trace_09a : List Line
+unfoldable pub trace_09a : List TraceLine
 trace_09a =
     (0, event.New (created.Task (task 0)) (codes "main") 15) ∷
     (0, event.Ready (who 0) 15 Tail None) ∷
@@ -255,7 +255,7 @@ trace_09a =
     (21, event.End ended.Completed) ∷
     []
 
-unfoldable pub trace_09b : List Line
+unfoldable pub trace_09b : List TraceLine
 trace_09b =
     (0, event.New (created.Task (task 0)) (codes "main") 15) ∷
     (0, event.Ready (who 0) 15 Tail None) ∷
@@ -280,7 +280,7 @@ trace_09b =
     (21, event.End ended.Completed) ∷
     []
 
-unfoldable pub trace_10 : List Line
+unfoldable pub trace_10 : List TraceLine
 trace_10 =
     (0, event.New (created.Task (task 0)) (codes "main") 15) ∷
     (0, event.Ready (who 0) 15 Tail None) ∷
@@ -304,7 +304,7 @@ trace_10 =
     (16, event.End ended.Completed) ∷
     []
 
-unfoldable pub trace_11 : List Line
+unfoldable pub trace_11 : List TraceLine
 trace_11 =
     (0, event.New (created.Task (task 0)) (codes "main") 15) ∷
     (0, event.Ready (who 0) 15 Tail None) ∷
@@ -321,7 +321,7 @@ trace_11 =
     (34, event.End ended.Completed) ∷
     []
 
-unfoldable pub trace_12 : List Line
+unfoldable pub trace_12 : List TraceLine
 trace_12 =
     (0, event.New (created.Task (task 0)) (codes "main") 15) ∷
     (0, event.Ready (who 0) 15 Tail None) ∷
@@ -355,7 +355,7 @@ trace_12 =
     (37, event.End ended.Completed) ∷
     []
 
-unfoldable pub trace_13 : List Line
+unfoldable pub trace_13 : List TraceLine
 trace_13 =
     (0, event.New (created.Task (task 0)) (codes "main") 15) ∷
     (0, event.Ready (who 0) 15 Tail None) ∷
@@ -388,7 +388,7 @@ trace_13 =
     (23, event.End ended.Completed) ∷
     []
 
-unfoldable pub trace_14a : List Line
+unfoldable pub trace_14a : List TraceLine
 trace_14a =
     (0, event.New (created.Task (task 0)) (codes "main") 15) ∷
     (0, event.Ready (who 0) 15 Tail None) ∷
@@ -405,7 +405,7 @@ trace_14a =
     (11, event.End ended.Stuck) ∷
     []
 
-unfoldable pub trace_14b : List Line
+unfoldable pub trace_14b : List TraceLine
 trace_14b =
     (0, event.New (created.Task (task 0)) (codes "main") 15) ∷
     (0, event.Ready (who 0) 15 Tail None) ∷
@@ -424,7 +424,7 @@ trace_14b =
     (500, event.End ended.Stuck) ∷
     []
 
-unfoldable pub trace_15a : List Line
+unfoldable pub trace_15a : List TraceLine
 trace_15a =
     (0, event.New (created.Task (task 0)) (codes "main") 15) ∷
     (0, event.Ready (who 0) 15 Tail None) ∷
@@ -432,7 +432,7 @@ trace_15a =
     (1, event.End ended.Bound) ∷
     []
 
-unfoldable pub trace_15b : List Line
+unfoldable pub trace_15b : List TraceLine
 trace_15b =
     (0, event.New (created.Task (task 0)) (codes "main") 15) ∷
     (0, event.Ready (who 0) 15 Tail None) ∷
@@ -441,7 +441,7 @@ trace_15b =
     (8, event.End ended.Bound) ∷
     []
 
-unfoldable pub trace_15c : List Line
+unfoldable pub trace_15c : List TraceLine
 trace_15c =
     (0, event.New (created.Task (task 0)) (codes "main") 15) ∷
     (0, event.Ready (who 0) 15 Tail None) ∷
@@ -451,7 +451,7 @@ trace_15c =
     (9, event.End ended.Completed) ∷
     []
 
-unfoldable pub trace_15d : List Line
+unfoldable pub trace_15d : List TraceLine
 trace_15d =
     (0, event.New (created.Task (task 0)) (codes "main") 15) ∷
     (0, event.Ready (who 0) 15 Tail None) ∷

@@ -10,10 +10,10 @@ use Rattle.trace_text.specs.declared.events.EntryName.TheVariants.{OfObject}
 use Rattle.trace_text.specs.declared.events.Finished.TheVariants as finished
 use Rattle.trace_text.specs.declared.events.Ended.TheVariants as ended
 use Rattle.trace_text.specs.declared.events.Event.TheVariants as event
-use Rattle.trace_text.specs.Queue.{Line}
+use Rattle.trace_text.specs.Queue.{TraceLine}
 use Rattle.trace_rows.specs.Numbers.{task, object, call, region, who}
 
-unfoldable pub trace_23 : List Line
+unfoldable pub trace_23 : List TraceLine
 trace_23 =
     (0, event.New (created.Task (task 0)) (codes "main") 15) ∷
     (0, event.Ready (who 0) 15 Tail None) ∷

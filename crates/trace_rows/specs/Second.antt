@@ -10,10 +10,10 @@ use Rattle.trace_text.specs.declared.events.EntryName.TheVariants.{OfTask, OfObj
 use Rattle.trace_text.specs.declared.events.Finished.TheVariants as finished
 use Rattle.trace_text.specs.declared.events.Ended.TheVariants as ended
 use Rattle.trace_text.specs.declared.events.Event.TheVariants as event
-use Rattle.trace_text.specs.Queue.{Line}
+use Rattle.trace_text.specs.Queue.{TraceLine}
 use Rattle.trace_rows.specs.Numbers.{task, object, call, region, who}
 
-unfoldable pub trace_16 : List Line
+unfoldable pub trace_16 : List TraceLine
 trace_16 =
     (0, event.New (created.Task (task 0)) (codes "main") 15) ∷
     (0, event.Ready (who 0) 15 Tail None) ∷
@@ -33,7 +33,7 @@ trace_16 =
     (31, event.End ended.Completed) ∷
     []
 
-unfoldable pub trace_19 : List Line
+unfoldable pub trace_19 : List TraceLine
 trace_19 =
     (0, event.New (created.Task (task 0)) (codes "main") 15) ∷
     (0, event.Ready (who 0) 15 Tail None) ∷
@@ -43,7 +43,7 @@ trace_19 =
     (3000, event.End (ended.Exception (codes "storage_error"))) ∷
     []
 
-unfoldable pub trace_20a : List Line
+unfoldable pub trace_20a : List TraceLine
 trace_20a =
     (0, event.New (created.Task (task 0)) (codes "main") 15) ∷
     (0, event.Ready (who 0) 15 Tail None) ∷
@@ -53,7 +53,7 @@ trace_20a =
     (7, event.End (ended.Exception (codes "constraint_error"))) ∷
     []
 
-unfoldable pub trace_20b : List Line
+unfoldable pub trace_20b : List TraceLine
 trace_20b =
     (0, event.New (created.Task (task 0)) (codes "main") 15) ∷
     (0, event.Ready (who 0) 15 Tail None) ∷
@@ -63,7 +63,7 @@ trace_20b =
     (9, event.End ended.Completed) ∷
     []
 
-unfoldable pub trace_20c : List Line
+unfoldable pub trace_20c : List TraceLine
 trace_20c =
     (0, event.New (created.Task (task 0)) (codes "main") 15) ∷
     (0, event.Ready (who 0) 15 Tail None) ∷
@@ -73,7 +73,7 @@ trace_20c =
     (8, event.End ended.Completed) ∷
     []
 
-unfoldable pub trace_adjust_1 : List Line
+unfoldable pub trace_adjust_1 : List TraceLine
 trace_adjust_1 =
     (0, event.New (created.Task (task 0)) (codes "main") 15) ∷
     (0, event.Ready (who 0) 15 Tail None) ∷
@@ -90,7 +90,7 @@ trace_adjust_1 =
     (40, event.End ended.Completed) ∷
     []
 
-unfoldable pub trace_adjust_2 : List Line
+unfoldable pub trace_adjust_2 : List TraceLine
 trace_adjust_2 =
     (0, event.New (created.Task (task 0)) (codes "main") 15) ∷
     (0, event.Ready (who 0) 15 Tail None) ∷
@@ -107,7 +107,7 @@ trace_adjust_2 =
     (37, event.End ended.Completed) ∷
     []
 
-unfoldable pub trace_budgets_1 : List Line
+unfoldable pub trace_budgets_1 : List TraceLine
 trace_budgets_1 =
     (0, event.New (created.Task (task 0)) (codes "main") 15) ∷
     (0, event.Ready (who 0) 15 Tail None) ∷
@@ -128,7 +128,7 @@ trace_budgets_1 =
     (13, event.End ended.Stuck) ∷
     []
 
-unfoldable pub trace_controlled_1 : List Line
+unfoldable pub trace_controlled_1 : List TraceLine
 trace_controlled_1 =
     (0, event.New (created.Task (task 0)) (codes "main") 15) ∷
     (0, event.Ready (who 0) 15 Tail None) ∷
@@ -146,7 +146,7 @@ trace_controlled_1 =
     (22, event.End (ended.Exception (codes "program_error"))) ∷
     []
 
-unfoldable pub trace_policies_1 : List Line
+unfoldable pub trace_policies_1 : List TraceLine
 trace_policies_1 =
     (0, event.New (created.Task (task 0)) (codes "main") 15) ∷
     (0, event.Ready (who 0) 15 Tail None) ∷
@@ -175,7 +175,7 @@ trace_policies_1 =
     (28, event.End ended.Completed) ∷
     []
 
-unfoldable pub trace_representation : List Line
+unfoldable pub trace_representation : List TraceLine
 trace_representation =
     (0, event.New (created.Task (task 0)) (codes "main") 15) ∷
     (0, event.Ready (who 0) 15 Tail None) ∷
@@ -188,7 +188,7 @@ trace_representation =
     (900000006, event.End ended.Completed) ∷
     []
 
-unfoldable pub trace_requeue_1 : List Line
+unfoldable pub trace_requeue_1 : List TraceLine
 trace_requeue_1 =
     (0, event.New (created.Task (task 0)) (codes "main") 15) ∷
     (0, event.Ready (who 0) 15 Tail None) ∷
@@ -219,7 +219,7 @@ trace_requeue_1 =
     (26, event.End ended.Completed) ∷
     []
 
-unfoldable pub trace_requeue_2 : List Line
+unfoldable pub trace_requeue_2 : List TraceLine
 trace_requeue_2 =
     (0, event.New (created.Task (task 0)) (codes "main") 15) ∷
     (0, event.Ready (who 0) 15 Tail None) ∷
@@ -243,7 +243,7 @@ trace_requeue_2 =
     (21, event.End ended.Completed) ∷
     []
 
-unfoldable pub trace_requeue_3 : List Line
+unfoldable pub trace_requeue_3 : List TraceLine
 trace_requeue_3 =
     (0, event.New (created.Task (task 0)) (codes "main") 15) ∷
     (0, event.Ready (who 0) 15 Tail None) ∷
@@ -261,7 +261,7 @@ trace_requeue_3 =
     (9, event.End ended.Stuck) ∷
     []
 
-unfoldable pub trace_wide_1 : List Line
+unfoldable pub trace_wide_1 : List TraceLine
 trace_wide_1 =
     (0, event.New (created.Task (task 0)) (codes "main") 15) ∷
     (0, event.Ready (who 0) 15 Tail None) ∷
@@ -277,7 +277,7 @@ trace_wide_1 =
     (70, event.End ended.Bound) ∷
     []
 
-unfoldable pub trace_wide_2 : List Line
+unfoldable pub trace_wide_2 : List TraceLine
 trace_wide_2 =
     (0, event.New (created.Task (task 0)) (codes "main") 48) ∷
     (0, event.Ready (who 0) 48 Tail None) ∷

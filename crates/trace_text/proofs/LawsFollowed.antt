@@ -6,10 +6,10 @@ use Rattle.trace_text.specs.declared.lines.TheConstants.{LAST_TICK}
 use Rattle.trace_text.specs.declared.events.Event.{Event}
 use Rattle.trace_text.specs.declared.events.Who.{Who}
 use Rattle.trace_text.specs.declared.events.Who.TheVariants as subject
-use Rattle.trace_text.specs.Queue.{Line, seen_from, up_to, last_from, RisesFrom, AtEachTick, AtEachLine, follows_ticks, follows_lines, see, nothing_seen, head_of, who_of, who_eq, somebody_eq}
+use Rattle.trace_text.specs.Queue.{TraceLine, seen_from, up_to, last_from, RisesFrom, AtEachTick, AtEachLine, follows_ticks, follows_lines, see, nothing_seen, head_of, who_of, who_eq, somebody_eq}
 use Rattle.trace_text.specs.Laws.{DispatchOk, HandlersOk, Formed, AreTicksBounded, follows_dispatch, follows_handlers, follows_form, follows_order, see_releases, no_releases, is_in_order, is_agent_right, see_shape, no_shape, is_formed_next, KeepsLaws, follows_laws, follows_ceilings, follows_exclusion, follows_leaving, see_levels, no_levels, is_below_ceiling, actions_after, is_exclusive, remember, is_rightly_left}
 
-pub last_from-ge : (tick : ℕ) (lines : List Line) → RisesFrom tick lines → tick ≤ last_from tick lines
+pub last_from-ge : (tick : ℕ) (lines : List TraceLine) → RisesFrom tick lines → tick ≤ last_from tick lines
 last_from-ge tick [] rises = omega arith
 last_from-ge tick (line ∷ lines) rises = omega (arith, rises.0, last_from-ge line.0 lines rises.1)
 
@@ -25,7 +25,7 @@ leb_no : (a b : ℕ) → b < a → leb a b ≡ false
 leb_no a b h = grind (arith, nat_tests)
 
 pub ticks_hold : {S : Type 0} (see : S → Event → S) (right : S → Bool) (Right : S → Type 0) → ((s : S) → right s ≡ true → Right s)
-    → (tick : ℕ) (s : S) (lines : List Line) → follows_ticks see right tick s lines ≡ true → (n : ℕ) → tick ≤ n → n < last_from tick lines → Right (seen_from see s (up_to n lines))
+    → (tick : ℕ) (s : S) (lines : List TraceLine) → follows_ticks see right tick s lines ≡ true → (n : ℕ) → tick ≤ n → n < last_from tick lines → Right (seen_from see s (up_to n lines))
 ticks_hold see right Right tells tick s [] e n low high = absurd (omega arith)
 ticks_hold see right Right tells tick s (line ∷ lines) e n low high =
     let parts = both (leb line.0 tick || right s) (follows_ticks see right line.0 (see s line.1) lines) e in
@@ -35,7 +35,7 @@ ticks_hold see right Right tells tick s (line ∷ lines) e n low high =
     ]
 
 pub ticks_followed : {S : Type 0} (see : S → Event → S) (right : S → Bool) (Right : S → Type 0) → ((s : S) → Right s → right s ≡ true)
-    → (tick : ℕ) (s : S) (lines : List Line) → RisesFrom tick lines → ((n : ℕ) → tick ≤ n → n < last_from tick lines → Right (seen_from see s (up_to n lines))) → follows_ticks see right tick s lines ≡ true
+    → (tick : ℕ) (s : S) (lines : List TraceLine) → RisesFrom tick lines → ((n : ℕ) → tick ≤ n → n < last_from tick lines → Right (seen_from see s (up_to n lines))) → follows_ticks see right tick s lines ≡ true
 ticks_followed see right Right tests tick s [] rises h = refl
 ticks_followed {S} see right Right tests tick s (line ∷ lines) rises h =
     let later : follows_ticks see right line.0 (see s line.1) lines ≡ true = ticks_followed see right Right tests line.0 (see s line.1) lines rises.1
@@ -47,8 +47,8 @@ ticks_followed {S} see right Right tests tick s (line ∷ lines) rises h =
       | inr at ↦ rw (le-leb line.0 tick at) later
     ]
 
-pub lines_hold : {S : Type 0} (see : S → Event → S) (lawful : S → Event → Bool) (s : S) (lines : List Line) → follows_lines see lawful s lines ≡ true
-    → (front : List Line) (line : Line) (back : List Line) → lines ≡ front ++ line ∷ back → lawful (seen_from see s front) line.1 ≡ true
+pub lines_hold : {S : Type 0} (see : S → Event → S) (lawful : S → Event → Bool) (s : S) (lines : List TraceLine) → follows_lines see lawful s lines ≡ true
+    → (front : List TraceLine) (line : TraceLine) (back : List TraceLine) → lines ≡ front ++ line ∷ back → lawful (seen_from see s front) line.1 ≡ true
 lines_hold see lawful s [] e [] line back same = cc
 lines_hold see lawful s [] e (first ∷ front) line back same = cc
 lines_hold see lawful s (one ∷ lines) e [] line back same =
@@ -60,8 +60,8 @@ lines_hold see lawful s (one ∷ lines) e (first ∷ front) line back same =
     subst (λ l. lawful (seen_from see (see s l.1) front) line.1 ≡ true) heads
     (lines_hold see lawful (see s one.1) lines (both (lawful s one.1) (follows_lines see lawful (see s one.1) lines) e).1 front line back rest)
 
-pub lines_followed : {S : Type 0} (see : S → Event → S) (lawful : S → Event → Bool) (s : S) (lines : List Line)
-    → ((front : List Line) (line : Line) (back : List Line) → lines ≡ front ++ line ∷ back → lawful (seen_from see s front) line.1 ≡ true) → follows_lines see lawful s lines ≡ true
+pub lines_followed : {S : Type 0} (see : S → Event → S) (lawful : S → Event → Bool) (s : S) (lines : List TraceLine)
+    → ((front : List TraceLine) (line : TraceLine) (back : List TraceLine) → lines ≡ front ++ line ∷ back → lawful (seen_from see s front) line.1 ≡ true) → follows_lines see lawful s lines ≡ true
 lines_followed see lawful s [] h = refl
 lines_followed see lawful s (line ∷ lines) h =
     rw (h [] line lines refl, lines_followed see lawful (see s line.1) lines (λ front other back e. h (line ∷ front) other back (ap (λ ls. line ∷ ls) e))) refl
@@ -91,31 +91,31 @@ is_somebody a b e = subst (λ o. somebody_eq a o ≡ true) e (somebody_same a)
 
 -- the laws at each tick, from the first tick on
 pub tells_ticks : {S : Type 0} (see : S → Event → S) (right : S → Bool) (Right : S → Type 0) (s : S) → ((s : S) → right s ≡ true → Right s) → ((s : S) → Right s → right s ≡ true)
-    → (lines : List Line) → RisesFrom 0 lines → (follows_ticks see right 0 s lines ≡ true → AtEachTick see s Right lines) × (AtEachTick see s Right lines → follows_ticks see right 0 s lines ≡ true)
+    → (lines : List TraceLine) → RisesFrom 0 lines → (follows_ticks see right 0 s lines ≡ true → AtEachTick see s Right lines) × (AtEachTick see s Right lines → follows_ticks see right 0 s lines ≡ true)
 tells_ticks see right Right s tells tests lines rises =
     (λ e tick low. ticks_hold see right Right tells 0 s lines e tick (omega arith) low, λ h. ticks_followed see right Right tests 0 s lines rises (λ tick low high. h tick high))
 
-pub tells_lines : {S : Type 0} (see : S → Event → S) (lawful : S → Event → Bool) (s : S) (lines : List Line)
+pub tells_lines : {S : Type 0} (see : S → Event → S) (lawful : S → Event → Bool) (s : S) (lines : List TraceLine)
     → (follows_lines see lawful s lines ≡ true → AtEachLine see s (λ s event. IsTrue (lawful s event)) lines) × (AtEachLine see s (λ s event. IsTrue (lawful s event)) lines → follows_lines see lawful s lines ≡ true)
 tells_lines see lawful s lines = (lines_hold see lawful s lines, lines_followed see lawful s lines)
 
-pub ticks_rise : (tick : ℕ) (lines : List Line) → follows_order tick lines ≡ true → RisesFrom tick lines
+pub ticks_rise : (tick : ℕ) (lines : List TraceLine) → follows_order tick lines ≡ true → RisesFrom tick lines
 ticks_rise tick [] e = tt
 ticks_rise tick (line ∷ lines) e =
     let parts = both (leb tick line.0 && leb line.0 LAST_TICK) (follows_order line.0 lines) e in
     (leb-true tick line.0 (both (leb tick line.0) (leb line.0 LAST_TICK) parts.0).0, ticks_rise line.0 lines parts.1)
 
-pub ticks_bounded : (tick : ℕ) (lines : List Line) → follows_order tick lines ≡ true → AreTicksBounded lines
+pub ticks_bounded : (tick : ℕ) (lines : List TraceLine) → follows_order tick lines ≡ true → AreTicksBounded lines
 ticks_bounded tick [] e = tt
 ticks_bounded tick (line ∷ lines) e =
     let parts = both (leb tick line.0 && leb line.0 LAST_TICK) (follows_order line.0 lines) e in
     ((both (leb tick line.0) (leb line.0 LAST_TICK) parts.0).1, ticks_bounded line.0 lines parts.1)
 
-pub order_followed : (tick : ℕ) (lines : List Line) → RisesFrom tick lines → AreTicksBounded lines → follows_order tick lines ≡ true
+pub order_followed : (tick : ℕ) (lines : List TraceLine) → RisesFrom tick lines → AreTicksBounded lines → follows_order tick lines ≡ true
 order_followed tick [] r b = refl
 order_followed tick (line ∷ lines) r b = rw (le-leb tick line.0 r.0, b.0) (order_followed line.0 lines r.1 b.1)
 
-pub tells_form : (lines : List Line) → (follows_form lines ≡ true → Formed lines) × (Formed lines → follows_form lines ≡ true)
+pub tells_form : (lines : List TraceLine) → (follows_form lines ≡ true → Formed lines) × (Formed lines → follows_form lines ≡ true)
 tells_form lines =
     let tells = tells_lines see_shape is_formed_next no_shape lines in (
       λ e. let parts = both (follows_order 0 lines) (follows_lines see_shape is_formed_next no_shape lines) e in
@@ -123,11 +123,11 @@ tells_form lines =
       λ h. rw (order_followed 0 lines h.rises h.bounded) (tells.1 h.lines_formed),
     )
 
-pub tells_dispatch : (lines : List Line) → RisesFrom 0 lines → (follows_dispatch lines ≡ true → DispatchOk lines) × (DispatchOk lines → follows_dispatch lines ≡ true)
+pub tells_dispatch : (lines : List TraceLine) → RisesFrom 0 lines → (follows_dispatch lines ≡ true → DispatchOk lines) × (DispatchOk lines → follows_dispatch lines ≡ true)
 tells_dispatch = tells_ticks see (λ sight. somebody_eq sight.runner (who_of (head_of sight.queue))) (λ sight. sight.runner ≡ who_of (head_of sight.queue)) nothing_seen
     (λ sight. somebody_is sight.runner (who_of (head_of sight.queue))) (λ sight. is_somebody sight.runner (who_of (head_of sight.queue)))
 
-pub tells_handlers : (lines : List Line) → RisesFrom 0 lines → (follows_handlers lines ≡ true → HandlersOk lines) × (HandlersOk lines → follows_handlers lines ≡ true)
+pub tells_handlers : (lines : List TraceLine) → RisesFrom 0 lines → (follows_handlers lines ≡ true → HandlersOk lines) × (HandlersOk lines → follows_handlers lines ≡ true)
 tells_handlers lines rises =
     let order = tells_lines see_releases is_in_order no_releases lines in
     let agent = tells_ticks see_releases is_agent_right (λ state. IsTrue (is_agent_right state)) no_releases (λ state e. e) (λ state e. e) lines rises in (
@@ -136,7 +136,7 @@ tells_handlers lines rises =
       λ h. rw (order.1 h.in_order) (agent.1 h.agent),
     )
 
-pub tells_laws : (lines : List Line) → RisesFrom 0 lines → follows_laws lines ≡ true → KeepsLaws lines
+pub tells_laws : (lines : List TraceLine) → RisesFrom 0 lines → follows_laws lines ≡ true → KeepsLaws lines
 tells_laws lines rises e =
     let a = both (follows_dispatch lines && follows_ceilings lines && follows_exclusion lines && follows_handlers lines) (follows_leaving lines) e in
     let b = both (follows_dispatch lines && follows_ceilings lines && follows_exclusion lines) (follows_handlers lines) a.0 in

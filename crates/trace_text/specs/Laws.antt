@@ -11,14 +11,14 @@ use Rattle.trace_text.specs.declared.events.Mode.{Mode}
 use Rattle.trace_text.specs.declared.events.Mode.TheVariants as mode
 use Rattle.trace_text.specs.declared.events.Event.{Event}
 use Rattle.trace_text.specs.declared.events.Event.TheVariants.{New, Ready, Block, Run, Idle, Base, Deadline, Quantum, Done, Raise, Put, Call, Start, Finish, Cancel, Gone, Enter, Exit, Held, Abort, Trigger, Leave, Init, Final, Left, Replace, Release, Serve, Served, Interrupt, Port, Mask, Unmask, Masked, End}
-use Rattle.trace_text.specs.Queue.{Line, Sight, see, nothing_seen, follows_ticks, follows_lines, AtEachTick, AtEachLine, RisesFrom, queue_after, entry_of, head_of, who_of, who_eq, somebody_eq}
+use Rattle.trace_text.specs.Queue.{TraceLine, Sight, see, nothing_seen, follows_ticks, follows_lines, AtEachTick, AtEachLine, RisesFrom, queue_after, entry_of, head_of, who_of, who_eq, somebody_eq}
 
 -- DISPATCHING. At each tick the runner is the one in the queue of the highest level, then of the earliest deadline,
 -- then of the smallest place, and nobody exactly where the queue is empty (D.2.1, D.2.3, D.2.6).
-abbrev pub DispatchOk : List Line → Type 0
+abbrev pub DispatchOk : List TraceLine → Type 0
 DispatchOk = AtEachTick see nothing_seen (λ sight. sight.runner ≡ who_of (head_of sight.queue))
 
-abbrev pub follows_dispatch : List Line → Bool
+abbrev pub follows_dispatch : List TraceLine → Bool
 follows_dispatch = follows_ticks see (λ sight. somebody_eq sight.runner (who_of (head_of sight.queue))) 0 nothing_seen
 
 -- CEILINGS. At each `enter` the subject's level in the queue is at most the ceiling of the object's `new` line, and
@@ -69,10 +69,10 @@ abbrev pub is_below_ceiling : Levels → Event → Bool
 is_below_ceiling sight (Enter who object m) = is_entry_below (entry_of who sight.entries) (base_of who sight.bases) (level_of object.0 sight.ceilings)
 is_below_ceiling sight _ = true
 
-abbrev pub CeilingOk : List Line → Type 0
+abbrev pub CeilingOk : List TraceLine → Type 0
 CeilingOk = AtEachLine see_levels no_levels (λ sight event. IsTrue (is_below_ceiling sight event))
 
-abbrev pub follows_ceilings : List Line → Bool
+abbrev pub follows_ceilings : List TraceLine → Bool
 follows_ceilings = follows_lines see_levels is_below_ceiling no_levels
 
 -- EXCLUSION. `enter` opens an action, `exit` closes one of the same subject that is open. No write is open beside
@@ -101,10 +101,10 @@ is_exclusive actions (Exit who object) = list_any (λ action. object.0 == action
 is_exclusive actions (Held who object m) = list_any (λ action. object.0 == action.object && not (who_eq who action.who) && (is_write m || is_write action.mode)) actions
 is_exclusive actions _ = true
 
-abbrev pub ExclusiveOk : List Line → Type 0
+abbrev pub ExclusiveOk : List TraceLine → Type 0
 ExclusiveOk = AtEachLine actions_after [] (λ actions event. IsTrue (is_exclusive actions event))
 
-abbrev pub follows_exclusion : List Line → Bool
+abbrev pub follows_exclusion : List TraceLine → Bool
 follows_exclusion = follows_lines actions_after is_exclusive []
 
 -- HANDLERS. `release`, `serve` and `served` lines each bear the numbers 1, 2, 3 and so on. No release is served before
@@ -152,11 +152,11 @@ is_agent_right state =
     is_same (is_some_entry (entry_of subject.Agent state.sight.queue)) (nat_lt state.served state.released)
     && (not (somebody_eq state.sight.runner (Some subject.Agent)) || length state.serving == 1)
 
-pub record HandlersOk (lines : List Line) : Type 0 where
+pub record HandlersOk (lines : List TraceLine) : Type 0 where
   pub in_order : AtEachLine see_releases no_releases (λ state event. IsTrue (is_in_order state event)) lines
   pub agent : AtEachTick see_releases no_releases (λ state. IsTrue (is_agent_right state)) lines
 
-abbrev pub follows_handlers : List Line → Bool
+abbrev pub follows_handlers : List TraceLine → Bool
 follows_handlers lines = follows_lines see_releases is_in_order no_releases lines && follows_ticks see_releases is_agent_right 0 no_releases lines
 
 -- LEAVING. Each region has at most one `leave` and behind it at most one `left`. The `init` lines of a region stand before
@@ -222,10 +222,10 @@ is_rightly_left past _ = true
 abbrev pub remember : List Event → Event → List Event
 remember past event = event ∷ past
 
-abbrev pub LeftOk : List Line → Type 0
+abbrev pub LeftOk : List TraceLine → Type 0
 LeftOk = AtEachLine remember [] (λ past event. IsTrue (is_rightly_left past event))
 
-abbrev pub follows_leaving : List Line → Bool
+abbrev pub follows_leaving : List TraceLine → Bool
 follows_leaving = follows_lines remember is_rightly_left []
 
 -- WHAT A TRACE IS. Ticks do not fall and are at most 1,000,000,000. No subject has two `new` lines; every other line of a
@@ -300,29 +300,29 @@ abbrev pub is_formed_next : Shape → Event → Bool
 is_formed_next shape event = not shape.is_ended && is_subject_formed shape event
 
 -- no tick is above the greatest
-abbrev pub AreTicksBounded : List Line → Type 0
+abbrev pub AreTicksBounded : List TraceLine → Type 0
 AreTicksBounded [] = Unit {0}
 AreTicksBounded (line ∷ lines) = IsTrue (nat_le line.0 LAST_TICK) × AreTicksBounded lines
 
-pub record Formed (lines : List Line) : Type 0 where
+pub record Formed (lines : List TraceLine) : Type 0 where
   pub rises : RisesFrom 0 lines
   pub bounded : AreTicksBounded lines
   pub lines_formed : AtEachLine see_shape no_shape (λ shape event. IsTrue (is_formed_next shape event)) lines
 
-abbrev pub follows_order : ℕ → List Line → Bool
+abbrev pub follows_order : ℕ → List TraceLine → Bool
 follows_order tick [] = true
 follows_order tick (line ∷ lines) = nat_le tick line.0 && nat_le line.0 LAST_TICK && follows_order line.0 lines
 
-abbrev pub follows_form : List Line → Bool
+abbrev pub follows_form : List TraceLine → Bool
 follows_form lines = follows_order 0 lines && follows_lines see_shape is_formed_next no_shape lines
 
 -- the five laws
-pub record KeepsLaws (lines : List Line) : Type 0 where
+pub record KeepsLaws (lines : List TraceLine) : Type 0 where
   pub dispatch : DispatchOk lines
   pub ceilings : CeilingOk lines
   pub exclusion : ExclusiveOk lines
   pub handlers : HandlersOk lines
   pub leaving : LeftOk lines
 
-abbrev pub follows_laws : List Line → Bool
+abbrev pub follows_laws : List TraceLine → Bool
 follows_laws lines = follows_dispatch lines && follows_ceilings lines && follows_exclusion lines && follows_handlers lines && follows_leaving lines

@@ -9,44 +9,44 @@ use Rattle.trace_text.specs.declared.events.Event.{Event}
 use Rattle.trace_text.specs.declared.events.Event.TheVariants.{Ready, Block, Run, Idle, Done}
 
 -- a line: its tick, and what it says
-abbrev pub Line : Type 0
-Line = ℕ × Event
+abbrev pub TraceLine : Type 0
+TraceLine = ℕ × Event
 
 -- What a list of lines shows to one that keeps a state of its own along the lines.
-abbrev pub seen_from : {S : Type 0} → (S → Event → S) → S → List Line → S
+abbrev pub seen_from : {S : Type 0} → (S → Event → S) → S → List TraceLine → S
 seen_from see s [] = s
 seen_from see s (line ∷ lines) = seen_from see (see s line.1) lines
 
 -- the lines up to a tick
-abbrev pub up_to : ℕ → List Line → List Line
+abbrev pub up_to : ℕ → List TraceLine → List TraceLine
 up_to tick [] = []
 up_to tick (line ∷ lines) = if nat_le line.0 tick then line ∷ up_to tick lines else []
 
 -- the last line's tick, or the given one where there is none
-abbrev pub last_from : ℕ → List Line → ℕ
+abbrev pub last_from : ℕ → List TraceLine → ℕ
 last_from tick [] = tick
 last_from tick (line ∷ lines) = last_from line.0 lines
 
 -- ticks do not fall
-abbrev pub RisesFrom : ℕ → List Line → Type 0
+abbrev pub RisesFrom : ℕ → List TraceLine → Type 0
 RisesFrom tick [] = Unit {0}
 RisesFrom tick (line ∷ lines) = (tick ≤ line.0) × RisesFrom line.0 lines
 
 -- At each tick, which is after all lines up to it, for the ticks below the last line's.
-abbrev pub AtEachTick : {S : Type 0} → (S → Event → S) → S → (S → Type 0) → List Line → Type 0
+abbrev pub AtEachTick : {S : Type 0} → (S → Event → S) → S → (S → Type 0) → List TraceLine → Type 0
 AtEachTick see s Right lines = (tick : ℕ) → tick < last_from 0 lines → Right (seen_from see s (up_to tick lines))
 
 -- at each line, with what the lines before it show
-abbrev pub AtEachLine : {S : Type 0} → (S → Event → S) → S → (S → Event → Type 0) → List Line → Type 0
-AtEachLine see s Lawful lines = (front : List Line) (line : Line) (back : List Line) → lines ≡ front ++ line ∷ back → Lawful (seen_from see s front) line.1
+abbrev pub AtEachLine : {S : Type 0} → (S → Event → S) → S → (S → Event → Type 0) → List TraceLine → Type 0
+AtEachLine see s Lawful lines = (front : List TraceLine) (line : TraceLine) (back : List TraceLine) → lines ≡ front ++ line ∷ back → Lawful (seen_from see s front) line.1
 
 -- The same by a test that follows the lines, and asks whenever the tick changes.
-abbrev pub follows_ticks : {S : Type 0} → (S → Event → S) → (S → Bool) → ℕ → S → List Line → Bool
+abbrev pub follows_ticks : {S : Type 0} → (S → Event → S) → (S → Bool) → ℕ → S → List TraceLine → Bool
 follows_ticks see right tick s [] = true
 follows_ticks see right tick s (line ∷ lines) = (nat_le line.0 tick || right s) && follows_ticks see right line.0 (see s line.1) lines
 
 -- The same by a test that follows the lines, and asks at each.
-abbrev pub follows_lines : {S : Type 0} → (S → Event → S) → (S → Event → Bool) → S → List Line → Bool
+abbrev pub follows_lines : {S : Type 0} → (S → Event → S) → (S → Event → Bool) → S → List TraceLine → Bool
 follows_lines see lawful s [] = true
 follows_lines see lawful s (line ∷ lines) = lawful s line.1 && follows_lines see lawful (see s line.1) lines
 

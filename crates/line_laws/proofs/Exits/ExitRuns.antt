@@ -12,7 +12,7 @@ use Rattle.profile_machine.specs.Words.{option_or_else}
 use Rattle.profile_machine.specs.Tasks.{nobody, is_who}
 use Rattle.machine_laws.proofs.FinestMoves.{natures}
 use Rattle.line_laws.proofs.Exits.OpenCounts.{count}
-use Rattle.trace_text.specs.Queue.{Line, follows_lines}
+use Rattle.trace_text.specs.Queue.{TraceLine, follows_lines}
 use Rattle.trace_text.specs.Laws.{actions_after, is_exclusive, ExclusiveOk}
 use Rattle.trace_text.proofs.LawsFollowed.{lines_hold}
 use Rattle.profile_machine.specs.declared.image.Image.{Image}
@@ -61,7 +61,7 @@ tock-led p s w h =
 
 -- ---- line by line
 
-follows-then : (n : ℕ) (s : List shown.Action) (events : List Event) (rest : List Line) → RightOf s events → follows_lines actions_after exits_rightly (actions_behind s events) rest ≡ true → follows_lines actions_after exits_rightly s (at_tick n events ++ rest) ≡ true
+follows-then : (n : ℕ) (s : List shown.Action) (events : List Event) (rest : List TraceLine) → RightOf s events → follows_lines actions_after exits_rightly (actions_behind s events) rest ≡ true → follows_lines actions_after exits_rightly s (at_tick n events ++ rest) ≡ true
 follows-then n s [] rest a b = b
 follows-then n s (x ∷ xs) rest a b = both (exits_rightly s x) (follows_lines actions_after exits_rightly (actions_after s x) (at_tick n xs ++ rest)) a.0 (follows-then n (actions_after s x) xs rest a.1 b)
 

@@ -6,7 +6,7 @@ use Rattle.trace_text.specs.declared.events.Event.{Event}
 use Rattle.trace_text.specs.declared.events.Event.TheVariants as line
 use Rattle.trace_text.specs.declared.events.Ended.{Ended}
 use Rattle.trace_text.specs.declared.events.Ended.TheVariants as why
-use Rattle.trace_text.specs.Queue.{Line, follows_ticks}
+use Rattle.trace_text.specs.Queue.{TraceLine, follows_ticks}
 use Rattle.profile_machine.specs.declared.image.Image.{Image}
 use Rattle.profile_machine.specs.declared.run_data.Item.{Item}
 use Rattle.profile_machine.specs.declared.world.World.{World}
@@ -29,7 +29,7 @@ or_left true b e = refl
 or_left false b e = absurd cc
 
 module _ {S : Type 0} (see : S → Event → S) (lawful : S → Event → Bool) (right : S → Bool) where
-  ticks-then : (tick now : ℕ) (s : S) (events : List Event) (rest : List Line) → (leb now tick || right s) ≡ true
+  ticks-then : (tick now : ℕ) (s : S) (events : List Event) (rest : List TraceLine) → (leb now tick || right s) ≡ true
       → ((t : ℕ) → follows_ticks see right t (seen_behind see lawful s events) rest ≡ true) → follows_ticks see right tick s (at_tick now events ++ rest) ≡ true
   ticks-then tick now s [] rest e k = k tick
   ticks-then tick now s (x ∷ xs) rest e k =

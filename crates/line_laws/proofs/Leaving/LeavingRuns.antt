@@ -5,7 +5,7 @@ use Rattle.trace_text.specs.declared.events.Event.{Event}
 use Rattle.trace_text.specs.declared.events.Event.TheVariants as written
 use Rattle.trace_text.specs.declared.events.Ended.{Ended}
 use Rattle.trace_text.specs.declared.events.Ended.TheVariants as why
-use Rattle.trace_text.specs.Queue.{Line, AtEachLine, follows_lines}
+use Rattle.trace_text.specs.Queue.{TraceLine, AtEachLine, follows_lines}
 use Rattle.trace_text.specs.Laws.{remember}
 use Rattle.trace_text.proofs.LawsFollowed.{lines_hold}
 use Rattle.profile_machine.specs.declared.image.Image.{Image}
@@ -96,7 +96,7 @@ module _ (W : List Told → Type 0) (first : W []) (next : (s : List Told) (e : 
   both true b p q = q
   both false b p q = p
 
-  follows-then : (n : ℕ) (s : List Event) (events : List Event) (rest : List Line) → Follow remember law s events → follows_lines remember law (seen_behind remember law s events) rest ≡ true → follows_lines remember law s (at_tick n events ++ rest) ≡ true
+  follows-then : (n : ℕ) (s : List Event) (events : List Event) (rest : List TraceLine) → Follow remember law s events → follows_lines remember law (seen_behind remember law s events) rest ≡ true → follows_lines remember law s (at_tick n events ++ rest) ≡ true
   follows-then n s [] rest a b = b
   follows-then n s (x ∷ xs) rest a b = both (law s x) (follows_lines remember law (remember s x) (at_tick n xs ++ rest)) a.0 (follows-then n (remember s x) xs rest a.1 b)
 

@@ -7,7 +7,7 @@ use Rattle.trace_text.specs.declared.events.Event.{Event}
 use Rattle.trace_text.specs.declared.events.Event.TheVariants as line
 use Rattle.trace_text.specs.declared.events.Ended.{Ended}
 use Rattle.trace_text.specs.declared.events.Ended.TheVariants as why
-use Rattle.trace_text.specs.Queue.{Line, RisesFrom, up_to}
+use Rattle.trace_text.specs.Queue.{TraceLine, RisesFrom, up_to}
 use Rattle.profile_machine.specs.declared.image.Image.{Image}
 use Rattle.profile_machine.specs.declared.run_data.Item.{Item}
 use Rattle.profile_machine.specs.declared.world.World.{World}
@@ -25,11 +25,11 @@ at_tick-append : (n : ℕ) (xs ys : List Event) → at_tick n (xs ++ ys) ≡ at_
 at_tick-append n [] ys = refl
 at_tick-append n (x ∷ xs) ys = ap (λ rest. (n, x) ∷ rest) (at_tick-append n xs ys)
 
-rises-sooner : (n : ℕ) (rest : List Line) → RisesFrom (suc n) rest → RisesFrom n rest
+rises-sooner : (n : ℕ) (rest : List TraceLine) → RisesFrom (suc n) rest → RisesFrom n rest
 rises-sooner n [] h = tt
 rises-sooner n (x ∷ xs) h = (omega (arith, h.0), h.1)
 
-rises-then : (n : ℕ) (events : List Event) (rest : List Line) → RisesFrom (suc n) rest → RisesFrom n (at_tick n events ++ rest)
+rises-then : (n : ℕ) (events : List Event) (rest : List TraceLine) → RisesFrom (suc n) rest → RisesFrom n (at_tick n events ++ rest)
 rises-then n [] rest h = rises-sooner n rest h
 rises-then n (x ∷ xs) rest h = (omega arith, rises-then n xs rest h)
 
@@ -131,15 +131,15 @@ longer_runs_go_on p script bound more =
 
 -- ---- the lines before the bound
 
-up_to-front : (tick : ℕ) (front xs : List Line) → up_to tick xs ≡ [] → up_to tick (front ++ xs) ≡ up_to tick front
+up_to-front : (tick : ℕ) (front xs : List TraceLine) → up_to tick xs ≡ [] → up_to tick (front ++ xs) ≡ up_to tick front
 up_to-front tick [] xs e = e
-up_to-front tick (x ∷ front) xs e = ap (λ (rest : List Line). if nat_le x.0 tick then x ∷ rest else []) (up_to-front tick front xs e)
+up_to-front tick (x ∷ front) xs e = ap (λ (rest : List TraceLine). if nat_le x.0 tick then x ∷ rest else []) (up_to-front tick front xs e)
 
-up_to-later : (tick later : ℕ) (rest : List Line) → tick < later → RisesFrom later rest → up_to tick rest ≡ []
+up_to-later : (tick later : ℕ) (rest : List TraceLine) → tick < later → RisesFrom later rest → up_to tick rest ≡ []
 up_to-later tick later [] a h = refl
 up_to-later tick later (x ∷ xs) a h = let beyond : leb x.0 tick ≡ false = grind (arith, h.0) in rw beyond refl
 
-cut-same : (bound tick : ℕ) (short long : List Line) → tick < bound → AreCutAt bound short long → up_to tick long ≡ up_to tick short
+cut-same : (bound tick : ℕ) (short long : List TraceLine) → tick < bound → AreCutAt bound short long → up_to tick long ≡ up_to tick short
 cut-same bound tick short long a c =
     let at_bound : RisesFrom bound ((bound, line.End why.Bound) ∷ []) = (omega arith, tt) in
     ap (up_to tick) c.long_is ∙ up_to-front tick c.front c.rest (up_to-later tick bound c.rest a c.later)

@@ -6,7 +6,7 @@ use Rattle.trace_text.specs.declared.events.Event.{Event}
 use Rattle.trace_text.specs.declared.events.Event.TheVariants as line
 use Rattle.trace_text.specs.declared.events.Ended.{Ended}
 use Rattle.trace_text.specs.declared.events.Ended.TheVariants as why
-use Rattle.trace_text.specs.Queue.{Line, AtEachLine, follows_lines}
+use Rattle.trace_text.specs.Queue.{TraceLine, AtEachLine, follows_lines}
 use Rattle.trace_text.proofs.LawsFollowed.{lines_hold}
 use Rattle.profile_machine.specs.declared.image.Image.{Image}
 use Rattle.profile_machine.specs.declared.run_data.Item.{Item}
@@ -47,7 +47,7 @@ module _ {S : Type 0} (see : S → Event → S) (lawful : S → Event → Bool) 
   Follow-all test f s [] a = tt
   Follow-all test f s (x ∷ xs) a = (f s x a.0, Follow-all test f (see s x) xs a.1)
 
-  follows-then : (n : ℕ) (s : S) (events : List Event) (rest : List Line) → Follow s events → follows_lines see lawful (seen_behind s events) rest ≡ true → follows_lines see lawful s (at_tick n events ++ rest) ≡ true
+  follows-then : (n : ℕ) (s : S) (events : List Event) (rest : List TraceLine) → Follow s events → follows_lines see lawful (seen_behind s events) rest ≡ true → follows_lines see lawful s (at_tick n events ++ rest) ≡ true
   follows-then n s [] rest a b = b
   follows-then n s (x ∷ xs) rest a b = both (lawful s x) (follows_lines see lawful (see s x) (at_tick n xs ++ rest)) a.0 (follows-then n (see s x) xs rest a.1 b)
 

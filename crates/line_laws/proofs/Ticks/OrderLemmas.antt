@@ -6,7 +6,7 @@ use Rattle.trace_text.specs.declared.events.Ended.{Ended}
 use Rattle.trace_text.specs.declared.events.Ended.TheVariants as why
 use Rattle.trace_text.specs.declared.events.Who.{Who}
 use Rattle.trace_text.specs.declared.events.Who.TheVariants as who
-use Rattle.trace_text.specs.Queue.{Line, RisesFrom}
+use Rattle.trace_text.specs.Queue.{TraceLine, RisesFrom}
 use Rattle.profile_machine.specs.declared.image.Image.{Image}
 use Rattle.profile_machine.specs.declared.run_data.Item.{Item}
 use Rattle.profile_machine.specs.declared.world.World.{World}
@@ -25,7 +25,7 @@ use Rattle.machine_laws.proofs.Kept.Run.{before_tick, tock-parts}
 use Rattle.line_laws.specs.TickLaws.{is_run, is_serve, may_follow, stands_rightly, follows_tick_order}
 use Rattle.line_laws.proofs.Ticks.LineByLine.{both}
 
-Ordered : List Line → Type 0
+Ordered : List TraceLine → Type 0
 Ordered lines = follows_tick_order lines ≡ true
 
 -- ---- one line before others
@@ -38,12 +38,12 @@ or_left : (a b : Bool) → a ≡ true → (a || b) ≡ true
 or_left true b e = refl
 or_left false b e = cc
 
-pair-ordered : (x y : Line) (rest : List Line) → stands_rightly x y ≡ true → Ordered (y ∷ rest) → Ordered (x ∷ y ∷ rest)
+pair-ordered : (x y : TraceLine) (rest : List TraceLine) → stands_rightly x y ≡ true → Ordered (y ∷ rest) → Ordered (x ∷ y ∷ rest)
 unfolding Ordered
 pair-ordered x y rest e h = both (stands_rightly x y) (follows_tick_order (y ∷ rest)) e h
 
 -- a line of an effect may stand before any
-effect-ordered : (n : ℕ) (x : Event) (rest : List Line) → is_of_effect x ≡ true → Ordered rest → Ordered ((n, x) ∷ rest)
+effect-ordered : (n : ℕ) (x : Event) (rest : List TraceLine) → is_of_effect x ≡ true → Ordered rest → Ordered ((n, x) ∷ rest)
 unfolding Ordered
 effect-ordered n x [] e h = refl
 effect-ordered n x (y ∷ ys) e h =
@@ -53,7 +53,7 @@ effect-ordered n x (y ∷ ys) e h =
 other_tick : (n m : ℕ) → suc n ≤ m → eqb n m ≡ false
 other_tick n m a = grind arith
 
-later-ordered : (n : ℕ) (x : Event) (rest : List Line) → RisesFrom (suc n) rest → Ordered rest → Ordered ((n, x) ∷ rest)
+later-ordered : (n : ℕ) (x : Event) (rest : List TraceLine) → RisesFrom (suc n) rest → Ordered rest → Ordered ((n, x) ∷ rest)
 unfolding Ordered
 later-ordered n x [] r h = refl
 later-ordered n x (y ∷ ys) r h =
@@ -65,7 +65,7 @@ end-ordered n reason = refl
 
 -- ---- the lines of an instant, and of a tock
 
-effects-ordered : (n : ℕ) (events : List Event) (rest : List Line) → AllAre is_of_effect events → Ordered rest → Ordered (at_tick n events ++ rest)
+effects-ordered : (n : ℕ) (events : List Event) (rest : List TraceLine) → AllAre is_of_effect events → Ordered rest → Ordered (at_tick n events ++ rest)
 effects-ordered n [] rest a h = h
 effects-ordered n (x ∷ xs) rest a h = effect-ordered n x (at_tick n xs ++ rest) a.0 (effects-ordered n xs rest a.1 h)
 
@@ -86,13 +86,13 @@ unfolding AtMostServe
 serve-one (who.Task t) w = tt
 serve-one who.Agent w = serve_if_free-one w.serving w.agent.frames w.releases w
 
-serve-ordered : (n : ℕ) (lines : List Event) (rest : List Line) → AtMostServe lines → RisesFrom (suc n) rest → Ordered rest → Ordered (at_tick n lines ++ rest)
+serve-ordered : (n : ℕ) (lines : List Event) (rest : List TraceLine) → AtMostServe lines → RisesFrom (suc n) rest → Ordered rest → Ordered (at_tick n lines ++ rest)
 unfolding AtMostServe
 serve-ordered n [] rest a r h = h
 serve-ordered n (x ∷ []) rest a r h = later-ordered n x rest r h
 serve-ordered n (x ∷ y ∷ more) rest a r h = absurd a
 
-run-ordered : (same : Bool) (name : Who) (w : World) (n : ℕ) (lines : List Event) (rest : List Line) → AtMostServe lines → RisesFrom (suc n) rest → Ordered rest → Ordered (at_tick n ((cond same rests (say (line.Run name)) w).1 ++ lines) ++ rest)
+run-ordered : (same : Bool) (name : Who) (w : World) (n : ℕ) (lines : List Event) (rest : List TraceLine) → AtMostServe lines → RisesFrom (suc n) rest → Ordered rest → Ordered (at_tick n ((cond same rests (say (line.Run name)) w).1 ++ lines) ++ rest)
 unfolding AtMostServe
 run-ordered true name w n lines rest a r h = serve-ordered n lines rest a r h
 run-ordered false name w n [] rest a r h = later-ordered n (line.Run name) rest r h
@@ -100,17 +100,17 @@ run-ordered false name w n (x ∷ []) rest a r h =
     pair-ordered (n, line.Run name) (n, x) rest (or_right (not (eqb n n)) (is_serve x) a) (later-ordered n x rest r h)
 run-ordered false name w n (x ∷ y ∷ more) rest a r h = absurd a
 
-idle-ordered : (ran : Option Who) (w : World) (n : ℕ) (rest : List Line) → RisesFrom (suc n) rest → Ordered rest → Ordered (at_tick n (says_idle ran w).1 ++ rest)
+idle-ordered : (ran : Option Who) (w : World) (n : ℕ) (rest : List TraceLine) → RisesFrom (suc n) rest → Ordered rest → Ordered (at_tick n (says_idle ran w).1 ++ rest)
 idle-ordered None w n rest r h = h
 idle-ordered (Some name) w n rest r h = later-ordered n line.Idle rest r h
 
-before_tick-ordered : (p : Image) (chosen : Option Who) (w : World) (n : ℕ) (rest : List Line) → RisesFrom (suc n) rest → Ordered rest → Ordered (at_tick n (before_tick p chosen w).1 ++ rest)
+before_tick-ordered : (p : Image) (chosen : Option Who) (w : World) (n : ℕ) (rest : List TraceLine) → RisesFrom (suc n) rest → Ordered rest → Ordered (at_tick n (before_tick p chosen w).1 ++ rest)
 before_tick-ordered p None w n rest r h = idle-ordered w.ran w n rest r h
 before_tick-ordered p (Some name) w n rest r h =
     let first = says_run name w.ran w in
     run-ordered (same_option same_who w.ran (Some name)) name w n ((serve name first.0).1 ++ []) rest (serve-one name first.0) r h
 
-tock-ordered : (p : Image) (w : World) (n : ℕ) (rest : List Line) → RisesFrom (suc n) rest → Ordered rest → Ordered (at_tick n (tock p w).1 ++ rest)
+tock-ordered : (p : Image) (w : World) (n : ℕ) (rest : List TraceLine) → RisesFrom (suc n) rest → Ordered rest → Ordered (at_tick n (tock p w).1 ++ rest)
 tock-ordered p w n rest r h = subst (λ (a : World × List Event). Ordered (at_tick n a.1 ++ rest)) (sym (tock-parts p w)) (before_tick-ordered p (choose w) w n rest r h)
 
 -- ---- what is left of a run

@@ -185,7 +185,7 @@ B = {
  "is_some": (1, lambda o: o.n == "Some"), "is_none": (1, lambda o: o.n == "None"),
  "unwrap_or": (2, lambda o, x: x if o.n == "None" else o.a[0]), "option_or": (2, lambda o, p: p if o.n == "None" else o),
  "option_map": (2, lambda f, o: o if o.n == "None" else SOME(ap(f, o.a[0]))),
- "option_and_then": (2, lambda f, o: o if o.n == "None" else ap(f, o.a[0])),
+ "option_and_then": (2, lambda f, o: o if o.n == "None" else ap(f, o.a[0])), "then_some": (2, lambda c, x: SOME(x) if c else NONE),
  "cond": (3, lambda c, a, b: a if c else b), "bytes_eq": (2, lambda a, b: a == b),
  "decimal": (1, lambda n: tuple(str(n).encode())), "signed_decimal": (1, lambda n: tuple(str(n).encode())),
  "is_ascii_digit": (1, _digit), "is_ascii_alphabetic": (1, _letter), "is_ascii_alphanumeric": (1, lambda b: _letter(b) or _digit(b)),

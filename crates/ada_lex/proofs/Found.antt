@@ -3,6 +3,7 @@ use Rattle.std.proofs.Common.{◌≡◌, ℕ, zero, suc, ◌-◌, ◌<◌, ◌�
 use Rattle.std.proofs.lemmas.Bool.{false≢true, eqb-true}
 use Rattle.std.specs.Prelude.{IfOk}
 use Rattle.std.specs.Char.{is_ascii_digit, is_ascii_alphabetic}
+use Rattle.ann_base.specs.Results.{◌>>=◌}
 use Rattle.ann_base.specs.declared.faults.OrMemory.{OrMemory}
 use Rattle.ann_base.specs.Answers.{AnswersAs}
 use Rattle.ada_lex.specs.declared.scan.Run.TheVariants.{Line}
@@ -13,7 +14,7 @@ use Rattle.ada_lex.specs.declared.tokens.Token.{Token}
 use Rattle.ada_lex.specs.declared.tokens.LexFault.{LexFault}
 use Rattle.ada_lex.specs.declared.tokens.LexFault.TheVariants as faults
 use Rattle.ada_lex.specs.Shapes.{begins_with, is_separator, gap_length, run_length, delimiter_length}
-use Rattle.ada_lex.specs.Reading.{◌>>=◌, behind, behind_all, made, kind_of, token_at, piece_at, piece_unless, with_front, tokens_from, tokens_of, start}
+use Rattle.ada_lex.specs.Reading.{behind, behind_all, made, kind_of, token_at, piece_at, piece_unless, with_front, tokens_from, tokens_of, start}
 use Rattle.ada_lex.specs.Lexed.{gap_state, IsToken, LexedFrom, Lexed}
 use Rattle.ada_lex.proofs.Loops.{piece_is}
 use Rattle.ada_lex.proofs.Pieces.{token_some}
@@ -213,7 +214,7 @@ piece_cases (suc m) kind spot bytes found n e =
     inl (m, refl, sym (ap (λ (p : List Token × ℕ). p.0) pair), sym (ap (λ (p : List Token × ℕ). p.1) pair))
 piece_cases zero kind spot bytes found n e = by_result (token_at kind spot.place bytes) refl e
   where
-    by_result : (r : Result ℕ LexFault) → token_at kind spot.place bytes ≡ r → (◌>>=◌ {B = List Token × ℕ} r (λ k. Ok (made kind spot k ∷ [], k))) ≡ Ok (found, n) → Pieces 0 kind spot bytes found n
+    by_result : (r : Result ℕ LexFault) → token_at kind spot.place bytes ≡ r → (◌>>=◌ {Y = List Token × ℕ} r (λ k. Ok (made kind spot k ∷ [], k))) ≡ Ok (found, n) → Pieces 0 kind spot bytes found n
     by_result (Err f) p q = absurd cc
     by_result (Ok k) p q =
         let pair : (made kind spot k ∷ [], k) ≡ (found, n) = cc in

@@ -1,5 +1,5 @@
 -- Small words on places, texts, options and lists.
-use Rattle.std.specs.Prelude.{ℕ, Bool, cond, ◌&&◌, ◌||◌, List, [], ◌∷◌, Option, Some, None, eqb, ltb, true, false}
+use Rattle.std.specs.Prelude.{ℕ, Bool, cond, ◌&&◌, ◌||◌, List, [], ◌∷◌, Option, Some, None, eqb, ltb, true, false, option_and_then}
 use Rattle.std.specs.Str.{bytes_eq}
 use Rattle.ann_base.specs.declared.places.Place.{Place}
 use Rattle.ada_tree.specs.declared.names.OneOrMore.{OneOrMore}
@@ -14,9 +14,9 @@ stands_before a b = ltb a.line b.line || (eqb a.line b.line && ltb a.column b.co
 
 -- ---- options and lists
 
+-- the library's word, which takes the function first
 abbrev pub and_then : {X Y : Type 0} → Option X → (X → Option Y) → Option Y
-and_then None f = None
-and_then (Some x) f = f x
+and_then o f = option_and_then f o
 
 abbrev pub all_of : {X : Type 0} → OneOrMore X → List X
 all_of xs = xs.first ∷ xs.others

@@ -1,4 +1,5 @@
 pub mod Answers
 pub mod Lists
 pub mod Outside
+pub mod Results
 pub mod Slots

@@ -1,8 +1,11 @@
 -- Lists that are made part by part, where each part may be an exception.
+use Rattle.std.specs.Prelude.{option_to_list}
+use Rattle.std.specs.Bool.{then_some}
 use Rattle.std.proofs.Common.{◌≡◌, ℕ, ℤ, ◌-◌, ◌<◌, ◌≤◌, suc, Bool, true, false, List, [], ◌∷◌, ◌++◌, Option, Some, None, Ok, Err, length, drop, get_or, refl, ap, sym, ◌∙◌}
 use Rattle.std.proofs.Math.Seq.{drop-cons}
 use Rattle.std.proofs.lemmas.List.{append_assoc, append-nil, drop_all}
 use Rattle.std.specs.List.{slice_get}
+use Rattle.ann_base.specs.Results.{◌>>=◌}
 use Rattle.ann_base.specs.Answers.{Answers}
 use Rattle.ann_base.specs.declared.exceptions.Raised.{Raised}
 use Rattle.ann_base.specs.declared.faults.OrMemory.{OrMemory}
@@ -12,11 +15,10 @@ use Rattle.profile_machine.specs.declared.statements.SelectAlternative.{SelectAl
 use Rattle.profile_machine.specs.declared.statements.SelectKind.{SelectKind}
 use Rattle.profile_machine.specs.declared.statements.SelectKind.TheVariants as select
 use Rattle.profile_machine.specs.declared.world.calls.DelayMoment.{DelayMoment}
-use Rattle.profile_machine.specs.Operators.{Valued, ◌>>=◌}
+use Rattle.profile_machine.specs.Operators.{Valued}
 use Rattle.profile_machine.specs.Rendezvous.{is_open, with_open, open_alternatives, open_accepts, delay_moment, open_delays, earlier, least_delay}
 use Rattle.profile_machine.specs.Values.{Seen}
-use Rattle.profile_machine.specs.Words.{some_where}
-use Rattle.machine_accepts.specs.Parts.{with_before, item_in, open_kind, accept_in, delay_in}
+use Rattle.machine_accepts.specs.Parts.{with_before, open_kind, accept_in, delay_in}
 use Rattle.machine_accepts.proofs.QueueLemmas.{dropped-before, not-dropped-before}
 
 joined : {X : Type 0} (xs : List X) (x : X) (ys : List X) → xs ++ (x ∷ ys) ≡ (xs ++ x ∷ []) ++ ys
@@ -39,7 +41,7 @@ refused answer.Memory r all h k = tt
 
 -- ---- alternatives
 
-alternative-ok : (r : Valued Bool) (kind : SelectKind) (k : Option SelectKind) (kinds : List SelectKind) (rest : Valued (List SelectKind)) → (r >>= λ b. Ok (some_where b kind)) ≡ Ok k → with_before kinds (r >>= λ b. rest >>= with_open b kind) ≡ with_before (kinds ++ item_in k) rest
+alternative-ok : (r : Valued Bool) (kind : SelectKind) (k : Option SelectKind) (kinds : List SelectKind) (rest : Valued (List SelectKind)) → (r >>= λ b. Ok (then_some b kind)) ≡ Ok k → with_before kinds (r >>= λ b. rest >>= with_open b kind) ≡ with_before (kinds ++ option_to_list k) rest
 alternative-ok (Ok true) kind (Some x) kinds (Ok xs) e = let h : kind ≡ x = cc in ap Ok (ap (λ z. kinds ++ (z ∷ xs)) h ∙ joined kinds x xs)
 alternative-ok (Ok true) kind (Some x) kinds (Err f) e = refl
 alternative-ok (Ok true) kind None kinds rest e = cc
@@ -48,11 +50,11 @@ alternative-ok (Ok false) kind None kinds (Err f) e = refl
 alternative-ok (Ok false) kind (Some x) kinds rest e = cc
 alternative-ok (Err f) kind k kinds rest e = cc
 
-alternative-err : (r : Valued Bool) (kind : SelectKind) (x : Raised) (kinds : List SelectKind) (rest : Valued (List SelectKind)) → (r >>= λ b. Ok (some_where b kind)) ≡ Err x → with_before kinds (r >>= λ b. rest >>= with_open b kind) ≡ Err x
+alternative-err : (r : Valued Bool) (kind : SelectKind) (x : Raised) (kinds : List SelectKind) (rest : Valued (List SelectKind)) → (r >>= λ b. Ok (then_some b kind)) ≡ Err x → with_before kinds (r >>= λ b. rest >>= with_open b kind) ≡ Err x
 alternative-err (Ok b) kind x kinds rest e = cc
 alternative-err (Err f) kind x kinds rest e = cc
 
-pub alternatives-more : (q : Seen) (alternatives : List SelectAlternative) (i : ℕ) (d : SelectAlternative) (k : Option SelectKind) (kinds : List SelectKind) → i < length alternatives → open_kind q (get_or alternatives i d) ≡ Ok k → with_before kinds (open_alternatives q (drop i alternatives)) ≡ with_before (kinds ++ item_in k) (open_alternatives q (drop (suc i) alternatives))
+pub alternatives-more : (q : Seen) (alternatives : List SelectAlternative) (i : ℕ) (d : SelectAlternative) (k : Option SelectKind) (kinds : List SelectKind) → i < length alternatives → open_kind q (get_or alternatives i d) ≡ Ok k → with_before kinds (open_alternatives q (drop i alternatives)) ≡ with_before (kinds ++ option_to_list k) (open_alternatives q (drop (suc i) alternatives))
 alternatives-more q alternatives i d k kinds l e =
     ap (λ zs. with_before kinds (open_alternatives q zs)) (drop-cons alternatives i d l)
     ∙ alternative-ok (is_open q (get_or alternatives i d).guard) (get_or alternatives i d).kind k kinds (open_alternatives q (drop (suc i) alternatives)) e
@@ -69,7 +71,7 @@ pub ruleset alternative_laws = (alternatives-more, alternatives-fail, alternativ
 
 -- ---- accepts
 
-pub accepts-more : (k : SelectKind) (kinds : List SelectKind) (accepts : List StatementNo) → accepts ++ open_accepts (k ∷ kinds) ≡ (accepts ++ item_in (accept_in k)) ++ open_accepts kinds
+pub accepts-more : (k : SelectKind) (kinds : List SelectKind) (accepts : List StatementNo) → accepts ++ open_accepts (k ∷ kinds) ≡ (accepts ++ option_to_list (accept_in k)) ++ open_accepts kinds
 accepts-more (select.Accept s) kinds accepts = joined accepts s (open_accepts kinds)
 accepts-more (select.Delay s) kinds accepts = unjoined accepts (open_accepts kinds)
 accepts-more select.Terminate kinds accepts = unjoined accepts (open_accepts kinds)
@@ -81,7 +83,7 @@ pub ruleset accept_laws = (accepts-more, accepts-end)
 
 -- ---- delays
 
-delay-ok : (r : Valued ℤ) (f : ℤ → DelayMoment) (d : Option DelayMoment) (delays : List DelayMoment) (rest : Valued (List DelayMoment)) → (r >>= λ m. Ok (Some (f m))) ≡ Ok d → with_before delays (r >>= λ m. rest >>= λ xs. Ok (f m ∷ xs)) ≡ with_before (delays ++ item_in d) rest
+delay-ok : (r : Valued ℤ) (f : ℤ → DelayMoment) (d : Option DelayMoment) (delays : List DelayMoment) (rest : Valued (List DelayMoment)) → (r >>= λ m. Ok (Some (f m))) ≡ Ok d → with_before delays (r >>= λ m. rest >>= λ xs. Ok (f m ∷ xs)) ≡ with_before (delays ++ option_to_list d) rest
 delay-ok (Ok m) f (Some x) delays (Ok xs) e = let h : f m ≡ x = cc in ap Ok (ap (λ z. delays ++ (z ∷ xs)) h ∙ joined delays x xs)
 delay-ok (Ok m) f (Some x) delays (Err g) e = refl
 delay-ok (Ok m) f None delays rest e = cc
@@ -94,11 +96,11 @@ delay-err (Err g) f x delays rest e = cc
 before-none : {X : Type 0} (xs : List X) (rest : Valued (List X)) → with_before xs rest ≡ with_before (xs ++ []) rest
 before-none xs rest = ap (λ zs. with_before zs rest) (sym (append-nil xs))
 
-kept-before : {X : Type 0} (xs : List X) (d : Option X) (rest : Valued (List X)) → None ≡ d → with_before xs rest ≡ with_before (xs ++ item_in d) rest
+kept-before : {X : Type 0} (xs : List X) (d : Option X) (rest : Valued (List X)) → None ≡ d → with_before xs rest ≡ with_before (xs ++ option_to_list d) rest
 kept-before xs None rest e = before-none xs rest
 kept-before xs (Some x) rest e = cc
 
-pub delays-more : (q : Seen) (k : SelectKind) (kinds : List SelectKind) (d : Option DelayMoment) (delays : List DelayMoment) → delay_in q k ≡ Ok d → with_before delays (open_delays q (k ∷ kinds)) ≡ with_before (delays ++ item_in d) (open_delays q kinds)
+pub delays-more : (q : Seen) (k : SelectKind) (kinds : List SelectKind) (d : Option DelayMoment) (delays : List DelayMoment) → delay_in q k ≡ Ok d → with_before delays (open_delays q (k ∷ kinds)) ≡ with_before (delays ++ option_to_list d) (open_delays q kinds)
 delays-more q (select.Accept s) kinds d delays e = let h : None ≡ d = cc in kept-before delays d (open_delays q kinds) h
 delays-more q (select.Delay s) kinds d delays e = delay-ok (delay_moment q s) (λ m. record { delay = s; at = m }) d delays (open_delays q kinds) e
 delays-more q select.Terminate kinds d delays e = let h : None ≡ d = cc in kept-before delays d (open_delays q kinds) h

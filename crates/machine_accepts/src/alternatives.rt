@@ -1,8 +1,8 @@
 //! The open alternatives of a selective accept (ISO/IEC 8652:2012, 9.7.1).
-ghost use Rattle.std.specs.Prelude.{◌≡◌, ◌++◌, IfOk, OnOk};
+ghost use Rattle.std.specs.Prelude.{◌≡◌, ◌++◌, IfOk, OnOk, option_to_list};
 ghost use Rattle.ann_base.specs.Answers.{Answers};
 ghost use Rattle.profile_machine.specs.Rendezvous.{is_open, open_alternatives, open_accepts, has_terminate, delay_moment_in, delay_moment, open_delays, earlier, least_delay, is_closed};
-ghost use Rattle.machine_accepts.specs.Parts.{item_in, open_kind, accept_in, delay_in};
+ghost use Rattle.machine_accepts.specs.Parts.{open_kind, accept_in, delay_in};
 
 use ann_base::{Moment, NoMemory, OrMemory, Raised};
 use machine_program::form_of;
@@ -23,7 +23,7 @@ fn is_open(q: &Seen<'_>, guard: Option<ExprNo>) -> Result<bool, OrMemory<Raised>
 
 // An item that may be there is added at the end.
 fn push_some<T: Copy>(items: &mut List<T>, item: Option<T>) -> Result<(), NoMemory>
-    ensures { OnOk result (items.new ≡ items.old ++ item_in item) }
+    ensures { OnOk result (items.new ≡ items.old ++ option_to_list item) }
 {
     match item {
         Some(item) => {

@@ -2,7 +2,7 @@
 ghost use Rattle.std.specs.Prelude.{◌≡◌, IfOk, OnOk};
 ghost use Rattle.profile_machine.specs.Calls.{next_call, place_of_entry};
 ghost use Rattle.profile_machine.specs.Rendezvous.{own_queue, open_accepts, queue_of_accept, queues_of_accepts, accept_chosen, wait_at_select, appoint_delay, select_delay, select_wait, select_otherwise, select_by_call, select_open, selective_accept};
-ghost use Rattle.profile_machine.specs.Words.{first_of_list};
+ghost use Rattle.world_tables.specs.Lists.{first_of};
 ghost use Rattle.machine_frames.specs.Did.{Did};
 
 use crate::accepting::{accept_call, first_accept};
@@ -26,7 +26,7 @@ use world_tables::List;
 // The head of the queue of an entry of the one with this name.
 #[tactic(auto, using(crate::proofs::QueueLemmas::queue_laws))]
 fn own_head(p: &Program, world: &World, name: Who, e: EntryNo) -> Option<CallNo>
-    ensures { result ≡ first_of_list (own_queue world.now name (place_of_entry p.now e)) }
+    ensures { result ≡ first_of (own_queue world.now name (place_of_entry p.now e)) }
 {
     let Who::Task(t) = name else {
         return None;
@@ -35,7 +35,7 @@ fn own_head(p: &Program, world: &World, name: Who, e: EntryNo) -> Option<CallNo>
 }
 
 fn head_of_accept(p: &Program, world: &World, name: Who, form: &StatementForm) -> Option<CallNo>
-    ensures { result ≡ first_of_list (queue_of_accept p.now world.now name form.now) }
+    ensures { result ≡ first_of (queue_of_accept p.now world.now name form.now) }
 {
     match form {
         StatementForm::Accept { entry, .. } => own_head(p, world, name, *entry),

@@ -14,16 +14,16 @@ use Rattle.profile_machine.specs.declared.world.World.{World}
 use Rattle.profile_machine.specs.declared.world.objects.Object.{Object}
 use Rattle.profile_machine.specs.Calls.{next_by, next_call}
 use Rattle.profile_machine.specs.Protected.{is_open_entry, open_queues}
-use Rattle.profile_machine.specs.Words.{first_of_list}
+use Rattle.world_tables.specs.Lists.{first_of}
 use Rattle.machine_barriers.specs.Heads.{next_with, next_or}
 
-next-cons : (policy : Queuing) (w : World) (queue : List CallNo) (queues : List (List CallNo)) → next_by policy w (queue ∷ queues) ≡ next_with policy w (first_of_list queue) (next_by policy w queues)
+next-cons : (policy : Queuing) (w : World) (queue : List CallNo) (queues : List (List CallNo)) → next_by policy w (queue ∷ queues) ≡ next_with policy w (first_of queue) (next_by policy w queues)
 next-cons queuing.Fifo w [] queues = refl
 next-cons queuing.Fifo w (c ∷ cs) queues = refl
 next-cons queuing.Priority w [] queues = refl
 next-cons queuing.Priority w (c ∷ cs) queues = refl
 
-next-where : {X : Type 0} (b : Bool) (f : X → List CallNo) (x : X) (xs : List X) (policy : Queuing) (w : World) → next_by policy w (map f (cond b (x ∷ xs) xs)) ≡ cond b (next_with policy w (first_of_list (f x)) (next_by policy w (map f xs))) (next_by policy w (map f xs))
+next-where : {X : Type 0} (b : Bool) (f : X → List CallNo) (x : X) (xs : List X) (policy : Queuing) (w : World) → next_by policy w (map f (cond b (x ∷ xs) xs)) ≡ cond b (next_with policy w (first_of (f x)) (next_by policy w (map f xs))) (next_by policy w (map f xs))
 next-where true f x xs policy w = next-cons policy w (f x) (map f xs)
 next-where false f x xs policy w = refl
 

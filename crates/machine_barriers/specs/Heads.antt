@@ -11,7 +11,7 @@ use Rattle.profile_machine.specs.declared.world.objects.Object.{Object}
 use Rattle.profile_machine.specs.Calls.{better_of, place_of_entry}
 use Rattle.profile_machine.specs.Protected.{is_open_entry}
 use Rattle.profile_machine.specs.Values.{queue_at}
-use Rattle.profile_machine.specs.Words.{first_of_list}
+use Rattle.world_tables.specs.Lists.{first_of}
 
 -- of the head of a queue and of the best of the queues that stand behind it
 abbrev pub next_with : Queuing → World → Option CallNo → Option CallNo → Option CallNo
@@ -22,4 +22,4 @@ next_with queuing.Priority w (Some c) behind = Some (better_of w c behind)
 -- the same where the queue is that of an entry: it counts where the barrier is open
 abbrev pub next_or : Image → World → Who → Object → EntryNo → Option CallNo → Option CallNo
 next_or p w name o e behind =
-    cond (is_open_entry p w name o e) (next_with p.policies.queuing w (first_of_list (queue_at o.queues (place_of_entry p e))) behind) behind
+    cond (is_open_entry p w name o e) (next_with p.policies.queuing w (first_of (queue_at o.queues (place_of_entry p e))) behind) behind

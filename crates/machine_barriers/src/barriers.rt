@@ -4,7 +4,7 @@ ghost use Rattle.std.specs.Prelude.{◌≡◌, IfOk};
 ghost use Rattle.profile_machine.specs.Calls.{better_of, next_call};
 ghost use Rattle.profile_machine.specs.Protected.{seen_by_barrier, is_barrier_open, is_open_entry, is_open_body, open_queues, served_next};
 ghost use Rattle.profile_machine.specs.Values.{object_of, queue_at};
-ghost use Rattle.profile_machine.specs.Words.{first_of_list};
+ghost use Rattle.world_tables.specs.Lists.{first_of};
 ghost use Rattle.machine_barriers.specs.Heads.{next_with, next_or};
 
 use ann_base::{CallNo, NoMemory, ObjectNo, OrMemory};
@@ -82,7 +82,7 @@ pub fn is_barrier_open(
 // The head of the queue of an entry.
 #[tactic(auto, using(crate::proofs::HeadLemmas::head_laws))]
 fn head_at(queues: &List<List<CallNo>>, place: u32) -> Option<CallNo>
-    ensures { result ≡ first_of_list (queue_at queues.now place) }
+    ensures { result ≡ first_of (queue_at queues.now place) }
 {
     Some(*queues.get(place as usize)?.front()?)
 }

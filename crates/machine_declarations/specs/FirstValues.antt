@@ -1,5 +1,6 @@
 -- What the cells of objects get that are declared, found before any of them is written.
 use Rattle.std.specs.Prelude.{ℕ, List, [], ◌∷◌, ◌++◌, Ok}
+use Rattle.ann_base.specs.Results.{◌>>=◌}
 use Rattle.profile_machine.specs.declared.image.Image.{Image}
 use Rattle.profile_machine.specs.declared.numbers.DeclNo.{DeclNo}
 use Rattle.profile_machine.specs.declared.declarations.Initial.{Initial}
@@ -8,7 +9,7 @@ use Rattle.profile_machine.specs.declared.world.World.{World}
 use Rattle.profile_machine.specs.declared.world.scopes.Located.{Located}
 use Rattle.profile_machine.specs.declared.world.scopes.Variable.{Variable}
 use Rattle.profile_machine.specs.Program.{declaration_of}
-use Rattle.profile_machine.specs.Operators.{Valued, ◌>>=◌, checked}
+use Rattle.profile_machine.specs.Operators.{Valued, checked}
 use Rattle.profile_machine.specs.Scopes.{write_cell}
 use Rattle.profile_machine.specs.Values.{Seen, value, object_cell, component_at}
 use Rattle.profile_machine.specs.Statements.{copy_cells}

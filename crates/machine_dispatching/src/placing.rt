@@ -1,9 +1,9 @@
 //! Placing on the ready queues (ISO/IEC 8652:2012, D.2.1, D.2.3, D.2.5, D.2.6).
 ghost use Rattle.std.specs.Prelude.{◌≡◌, OnOk};
+ghost use Rattle.std.specs.Bool.{then_some};
 ghost use Rattle.profile_machine.specs.Dispatching.{level_kept_by, keep_level, deadline_shown, granted, grant_quantum, says_ready, to_tail, to_head, ready};
 ghost use Rattle.profile_machine.specs.Program.{edf_low, is_edf_level};
 ghost use Rattle.profile_machine.specs.Tasks.{task_of, edit_task};
-ghost use Rattle.profile_machine.specs.Words.{some_where};
 ghost use Rattle.machine_frames.specs.Did.{Did};
 
 use crate::levels::{active, active_of, deadline_of, greatest_inherited};
@@ -43,7 +43,7 @@ pub fn keep_level(p: &Program, world: &mut World, name: Who)
 }
 
 fn deadline_at(p: &Program, level: Level, deadline: Moment) -> Option<Moment>
-    ensures { result ≡ some_where (is_edf_level p.now level) deadline }
+    ensures { result ≡ then_some (is_edf_level p.now level) deadline }
 {
     if is_edf_level(p, level) {
         Some(deadline)

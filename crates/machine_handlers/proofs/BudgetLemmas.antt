@@ -1,5 +1,5 @@
 -- What is done to a group budget is told by what is named.
-use Rattle.std.proofs.Common.{◌≡◌, ℤ, pos, int_le, not, ◌&&◌, List, Option, refl}
+use Rattle.std.proofs.Common.{◌≡◌, ℤ, pos, int_le, not, ◌&&◌, List, Option, refl, is_some}
 use Rattle.trace_text.specs.declared.events.Who.{Who}
 use Rattle.profile_machine.specs.declared.image.Image.{Image}
 use Rattle.profile_machine.specs.declared.numbers.DeclNo.{DeclNo}
@@ -14,7 +14,7 @@ use Rattle.profile_machine.specs.declared.world.lines.Part.TheVariants.{Own}
 use Rattle.profile_machine.specs.declared.world.lines.Said.{Said}
 use Rattle.profile_machine.specs.Frames.{given}
 use Rattle.profile_machine.specs.Values.{seen_by, number_of_thing, moment, variable}
-use Rattle.profile_machine.specs.Handlers.{loaded, raised_by, with_handler, fill_budget, replenish, add_to_budget, set_budget, cancel_budget, handler_named, is_given, is_interrupt_handler, has_room_for_release}
+use Rattle.profile_machine.specs.Handlers.{loaded, raised_by, with_handler, fill_budget, replenish, add_to_budget, set_budget, cancel_budget, handler_named, is_interrupt_handler, has_room_for_release}
 use Rattle.machine_handlers.specs.declared.budgets.Filling.{Filling}
 use Rattle.machine_handlers.specs.declared.budgets.BudgetSet.{BudgetSet}
 use Rattle.machine_handlers.specs.Settings.{amount_named, budget_setting, thing_named}
@@ -46,7 +46,7 @@ set_budget-is p name s d handler w said =
     let then = λ (x : BudgetSet). budget_changes p name s x.budget (with_handler x.handler) in
     bound name w said (number_of_thing q d) _ _ then (λ b.
     bound name w said (handler_named q handler) _ _ then (λ h.
-    refused name w said (is_given h && not (has_room_for_release w)) exception.Storage _ _ then
+    refused name w said (is_some h && not (has_room_for_release w)) exception.Storage _ _ then
     (refused name w said (not (is_interrupt_handler p w h)) exception.Program _ _ then refl)))
 
 pub cancel_budget-is : (p : Image) (name : Who) (s : StatementNo) (d : DeclNo) (target : VariableName) (w : World) (said : List Said) → cancel_budget p name s d target w said ≡ given Own name (thing_named (seen_by p w name) d target) (budget_is_cancelled p name s) w said

@@ -1,5 +1,6 @@
 -- Values that are given one after another, and exceptions in their place, as one value.
 use Rattle.std.proofs.Common.{◌≡◌, Bool, true, false, List, Ok, Err, refl}
+use Rattle.ann_base.specs.Results.{◌>>=◌}
 use Rattle.ann_base.specs.declared.exceptions.Raised.{Raised}
 use Rattle.trace_text.specs.declared.events.Who.{Who}
 use Rattle.profile_machine.specs.declared.world.World.{World}
@@ -7,7 +8,7 @@ use Rattle.profile_machine.specs.declared.world.lines.Part.TheVariants.{Own}
 use Rattle.profile_machine.specs.declared.world.lines.Said.{Said}
 use Rattle.profile_machine.specs.Steps.{Step}
 use Rattle.profile_machine.specs.Frames.{given, raise_if}
-use Rattle.profile_machine.specs.Operators.{Valued, ◌>>=◌}
+use Rattle.profile_machine.specs.Operators.{Valued}
 use Rattle.machine_handlers.specs.Settings.{refuse_if}
 
 module _ (name : Who) (w : World) (said : List Said) where

@@ -1,5 +1,5 @@
 -- What is done once a setting is known, in the machine's own words.
-use Rattle.std.specs.Prelude.{ℕ, Bool, not, Option, None}
+use Rattle.std.specs.Prelude.{ℕ, Bool, not, Option, None, is_some}
 use Rattle.ann_base.specs.declared.exceptions.Raised.TheVariants as exception
 use Rattle.trace_text.specs.declared.events.Who.{Who}
 use Rattle.profile_machine.specs.declared.image.Image.{Image}
@@ -11,7 +11,7 @@ use Rattle.profile_machine.specs.Frames.{goes, raise_if}
 use Rattle.profile_machine.specs.Tasks.{edit_task}
 use Rattle.profile_machine.specs.Appointments.{is_appointed}
 use Rattle.profile_machine.specs.Values.{is_event, budget_of}
-use Rattle.profile_machine.specs.Handlers.{answer, cancel_event_setting, event_set_to, clear_timer, timer_set_to, is_set_timer, member_of, edit_budget, with_handler, is_given}
+use Rattle.profile_machine.specs.Handlers.{answer, cancel_event_setting, event_set_to, clear_timer, timer_set_to, is_set_timer, member_of, edit_budget, with_handler}
 use Rattle.machine_handlers.specs.declared.settings.Set.{Set}
 use Rattle.machine_handlers.specs.declared.settings.Named.{Named}
 
@@ -39,4 +39,4 @@ budget_changes p name s b f = goes name (next_of p s) ▷ changes (edit_budget b
 
 abbrev pub budget_is_cancelled : Image → Who → StatementNo → Named → Step
 budget_is_cancelled p name s x =
-    looks (λ w. goes name (next_of p s) ▷ changes (edit_budget x.number (with_handler None)) ▷ answer p name x.target (is_given (budget_of w x.number).handler))
+    looks (λ w. goes name (next_of p s) ▷ changes (edit_budget x.number (with_handler None)) ▷ answer p name x.target (is_some (budget_of w x.number).handler))

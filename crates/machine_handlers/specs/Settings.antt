@@ -1,5 +1,6 @@
 -- What a setting names, as one value: the handler, and the value once there is room for a release.
-use Rattle.std.specs.Prelude.{ℕ, ℤ, pos, int_le, Bool, true, false, not, ◌&&◌, Option, Ok, Err}
+use Rattle.std.specs.Prelude.{ℕ, ℤ, pos, int_le, Bool, true, false, not, ◌&&◌, Option, Ok, Err, is_some}
+use Rattle.ann_base.specs.Results.{◌>>=◌}
 use Rattle.ann_base.specs.declared.exceptions.Raised.{Raised}
 use Rattle.ann_base.specs.declared.exceptions.Raised.TheVariants as exception
 use Rattle.profile_machine.specs.declared.numbers.DeclNo.{DeclNo}
@@ -8,9 +9,9 @@ use Rattle.profile_machine.specs.declared.statements.HandlerName.{HandlerName}
 use Rattle.profile_machine.specs.declared.statements.Setting.{Setting}
 use Rattle.profile_machine.specs.declared.expressions.VariableName.{VariableName}
 use Rattle.profile_machine.specs.declared.world.appointments.HandlerOf.{HandlerOf}
-use Rattle.profile_machine.specs.Operators.{Valued, ◌>>=◌}
+use Rattle.profile_machine.specs.Operators.{Valued}
 use Rattle.profile_machine.specs.Values.{Seen, number_of_thing, variable, moment}
-use Rattle.profile_machine.specs.Handlers.{handler_named, set_value, has_room_for_release, is_interrupt_handler, is_given, clock_of_timer, named_live}
+use Rattle.profile_machine.specs.Handlers.{handler_named, set_value, has_room_for_release, is_interrupt_handler, clock_of_timer, named_live}
 use Rattle.machine_handlers.specs.declared.members.Member.{Member}
 use Rattle.machine_handlers.specs.declared.budgets.Filling.{Filling}
 use Rattle.machine_handlers.specs.declared.budgets.BudgetSet.{BudgetSet}
@@ -33,7 +34,7 @@ of_interrupt q h r = refuse_if (not (is_interrupt_handler q.program q.world h)) 
 
 abbrev pub set_with : Seen → ℕ → ℤ → Setting → Option HandlerName → Valued Set
 set_with q n base set handler =
-    handler_named q handler >>= λ h. with_room_for q (is_given h)
+    handler_named q handler >>= λ h. with_room_for q (is_some h)
     (set_value q base set >>= λ v. of_interrupt q h (Ok (record { number = n; handler = h; value = v })))
 
 abbrev pub event_setting : Seen → DeclNo → Setting → Option HandlerName → Valued Set
@@ -68,5 +69,5 @@ amount_named q d e =
 -- a budget with its handler
 abbrev pub budget_setting : Seen → DeclNo → Option HandlerName → Valued BudgetSet
 budget_setting q d handler =
-    number_of_thing q d >>= λ b. handler_named q handler >>= λ h. with_room_for q (is_given h)
+    number_of_thing q d >>= λ b. handler_named q handler >>= λ h. with_room_for q (is_some h)
     (of_interrupt q h (Ok (record { budget = b; handler = h })))

@@ -1,5 +1,6 @@
 -- What is still to be done of a step, once a value of it is given.
 use Rattle.std.specs.Prelude.{ℕ, ℤ, Option}
+use Rattle.ann_base.specs.Results.{◌>>=◌}
 use Rattle.ann_base.specs.declared.identities.TaskNo.{TaskNo}
 use Rattle.trace_text.specs.declared.events.Who.{Who}
 use Rattle.trace_text.specs.declared.events.Who.TheVariants as who
@@ -15,7 +16,7 @@ use Rattle.profile_machine.specs.Program.{next_of, interrupt_priority}
 use Rattle.profile_machine.specs.Steps.{Step, changes, ◌▷◌}
 use Rattle.profile_machine.specs.Tasks.{found_task}
 use Rattle.profile_machine.specs.Frames.{goes, given}
-use Rattle.profile_machine.specs.Operators.{Valued, ◌>>=◌}
+use Rattle.profile_machine.specs.Operators.{Valued}
 use Rattle.profile_machine.specs.Values.{Seen, value, moment, optional_task, whole_in, live_task}
 use Rattle.profile_machine.specs.Statements.{sees}
 use Rattle.profile_machine.specs.Priorities.{set_base_of, must_be_task, priority_in_range, quantum_of, set_or_defer_deadline, delay_with_deadline}

@@ -1,12 +1,13 @@
 -- Texts that are put together, one behind the other.
 use Rattle.std.proofs.Common.{◌≡◌, ℕ, ◌+◌, ◌<◌, List, [], ◌∷◌, ◌++◌, Ok, Err, drop, length, get_or, refl, ap, sym, ◌∙◌, append_assoc}
 use Rattle.std.proofs.lemmas.List.{drop_more}
+use Rattle.ann_base.specs.Results.{◌>>=◌}
 use Rattle.ann_base.specs.Answers.{Answers, AnswersAs}
 use Rattle.ann_base.specs.declared.exceptions.Raised.{Raised}
 use Rattle.ann_base.specs.declared.faults.OrMemory.{OrMemory}
 use Rattle.ann_base.specs.declared.faults.OrMemory.TheVariants as answer
 use Rattle.profile_machine.specs.declared.statements.Piece.{Piece}
-use Rattle.profile_machine.specs.Operators.{Valued, ◌>>=◌}
+use Rattle.profile_machine.specs.Operators.{Valued}
 use Rattle.profile_machine.specs.Values.{Seen}
 use Rattle.profile_machine.specs.Statements.{piece_text, text_of_pieces}
 use Rattle.machine_statements.specs.Texts.{text_behind}

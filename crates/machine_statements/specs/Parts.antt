@@ -1,5 +1,6 @@
 -- The steps of assignments, loops, delays and bodies, in the machine's own words.
 use Rattle.std.specs.Prelude.{ℤ, Bool, Option, option_and_then}
+use Rattle.ann_base.specs.Results.{◌>>=◌}
 use Rattle.trace_text.specs.declared.events.Who.{Who}
 use Rattle.profile_machine.specs.declared.image.Image.{Image}
 use Rattle.profile_machine.specs.declared.numbers.DeclNo.{DeclNo}
@@ -14,7 +15,7 @@ use Rattle.profile_machine.specs.Program.{next_of, scope_of, subprogram_of}
 use Rattle.profile_machine.specs.Scopes.{home}
 use Rattle.profile_machine.specs.Steps.{Step, ◌▷◌}
 use Rattle.profile_machine.specs.Frames.{goes}
-use Rattle.profile_machine.specs.Operators.{Valued, ◌>>=◌, same_value}
+use Rattle.profile_machine.specs.Operators.{Valued, same_value}
 use Rattle.profile_machine.specs.Values.{Seen, value, variable, read}
 use Rattle.profile_machine.specs.CallEnds.{store}
 use Rattle.profile_machine.specs.Statements.{loop_cell, is_past, delay_to}

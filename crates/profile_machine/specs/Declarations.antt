@@ -1,5 +1,6 @@
 -- The declaration of an object (3.3.1, 7.6, 9.4, D.14, D.15).
 use Rattle.std.specs.Prelude.{ℕ, suc, not, List, [], ◌∷◌, ◌++◌, Option, Some, None, Ok, Err, leb, length, take, drop}
+use Rattle.ann_base.specs.Results.{◌>>=◌}
 use Rattle.ann_base.specs.declared.identities.TaskNo.{TaskNo}
 use Rattle.ann_base.specs.declared.exceptions.Raised.TheVariants as exception
 use Rattle.profile_machine.specs.declared.world.lines.Line.TheVariants as line
@@ -28,7 +29,7 @@ use Rattle.profile_machine.specs.declared.world.lines.Part.TheVariants.{Own}
 use Rattle.profile_machine.specs.Steps.{Step, says, changes, looks, ◌▷◌}
 use Rattle.profile_machine.specs.Frames.{goes, given}
 use Rattle.profile_machine.specs.Scopes.{write_cell, edit_cells, scope_in_use, put_cells}
-use Rattle.profile_machine.specs.Operators.{Valued, ◌>>=◌, unless}
+use Rattle.profile_machine.specs.Operators.{Valued, unless}
 use Rattle.profile_machine.specs.Values.{Seen, value, object_cell, home_of, component_at, protected_cells, controlled_cells, no_budget, first_cell, task_in}
 use Rattle.profile_machine.specs.Statements.{sees, copy_cells}
 use Rattle.profile_machine.specs.CallEnds.{store}

@@ -1,5 +1,6 @@
 -- Active priorities, places, and the choice of who runs (D.1, D.2).
 use Rattle.std.specs.Prelude.{ℕ, ℤ, Bool, true, cond, not, ◌&&◌, List, [], ◌∷◌, ◌++◌, Option, Some, None, eqb, ltb, leb, int_lt, filter, map, max, slice_index_or}
+use Rattle.std.specs.Bool.{then_some}
 use Rattle.profile_machine.specs.declared.world.tasks.Rival.{Rival}
 use Rattle.profile_machine.specs.declared.world.lines.Line.TheVariants as line
 use Rattle.trace_text.specs.declared.events.Who.{Who}
@@ -16,7 +17,7 @@ use Rattle.profile_machine.specs.declared.world.objects.Action.{Action}
 use Rattle.profile_machine.specs.declared.world.tasks.Placed.{Placed}
 use Rattle.profile_machine.specs.declared.world.tasks.Waiting.TheVariants as waits_for
 use Rattle.profile_machine.specs.declared.world.tasks.State.TheVariants.{Runnable, Blocked}
-use Rattle.profile_machine.specs.Words.{greatest_of, some_where}
+use Rattle.profile_machine.specs.Words.{greatest_of}
 use Rattle.profile_machine.specs.Program.{is_edf_level, is_robin_level, edf_low}
 use Rattle.profile_machine.specs.declared.world.lines.Part.{Part}
 use Rattle.profile_machine.specs.Steps.{Step, says, changes, looks, ◌▷◌}
@@ -94,7 +95,7 @@ keep_level p name w = edit_task name (λ t. record t { kept_level = level_kept_b
 -- ---- placing (D.2.1, D.2.3, D.2.5, D.2.6)
 
 abbrev pub deadline_shown : Image → Task → Option ℤ
-deadline_shown p t = some_where (is_edf_level p (active p t)) t.deadline
+deadline_shown p t = then_some (is_edf_level p (active p t)) t.deadline
 
 -- the `ready` line, which places
 unfoldable pub says_ready : Image → Part → Who → QueueEnd → Step

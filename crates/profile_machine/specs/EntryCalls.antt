@@ -1,5 +1,6 @@
 -- Entry calls, plain, conditional, timed and triggering (9.5.3, 9.7.2 to 9.7.4).
 use Rattle.std.specs.Prelude.{ℕ, suc, ◌+◌, ℤ, pos, int_lt, Bool, true, false, ◌&&◌, ◌||◌, List, [], ◌∷◌, Option, Some, None, Ok, Err, length, option_and_then}
+use Rattle.ann_base.specs.Results.{◌>>=◌}
 use Rattle.ann_base.specs.declared.identities.CallNo.{CallNo}
 use Rattle.ann_base.specs.declared.identities.ObjectNo.{ObjectNo}
 use Rattle.ann_base.specs.declared.identities.TaskNo.{TaskNo}
@@ -42,7 +43,7 @@ use Rattle.profile_machine.specs.Tasks.{waiting_of, number_of}
 use Rattle.profile_machine.specs.Dispatching.{active_of, block}
 use Rattle.profile_machine.specs.Frames.{frames_of, goes, leaves, raises, given, raise_if, with_room, has_room, in_protected, is_deferred}
 use Rattle.profile_machine.specs.Scopes.{home, scope_in_use}
-use Rattle.profile_machine.specs.Operators.{Valued, ◌>>=◌, checked}
+use Rattle.profile_machine.specs.Operators.{Valued, checked}
 use Rattle.profile_machine.specs.Values.{Seen, value, variable, read, thing, thing_number, task_in, or_misfit, moment, own_object}
 use Rattle.profile_machine.specs.Appointments.{appoint}
 use Rattle.profile_machine.specs.Calls.{call_drawn, forget_call, says_call, enqueue, is_full, edit_call}

@@ -1,5 +1,5 @@
 -- Open constructs: opening them, leaving them, and going on (clauses 5, 6, 7.6.1, 11).
-use Rattle.std.specs.Prelude.{ℕ, ◌+◌, Bool, true, false, cond, ◌&&◌, List, [], ◌∷◌, Option, Some, None, leb, length, option_and_then, sum_by, Result, Ok, Err}
+use Rattle.std.specs.Prelude.{ℕ, ◌+◌, Bool, true, false, cond, ◌&&◌, List, [], ◌∷◌, Option, Some, None, leb, length, option_and_then, sum_by, Result, Ok, Err, unwrap_or}
 use Rattle.ann_base.specs.declared.exceptions.Raised.{Raised}
 use Rattle.ann_base.specs.declared.exceptions.Raised.TheVariants as exception
 use Rattle.profile_machine.specs.declared.world.lines.Line.TheVariants as line
@@ -17,7 +17,8 @@ use Rattle.profile_machine.specs.declared.world.marks.Mark.{Mark}
 use Rattle.profile_machine.specs.declared.world.marks.Purpose.{Purpose}
 use Rattle.profile_machine.specs.declared.world.marks.Purpose.TheVariants as opened_for
 use Rattle.profile_machine.specs.declared.world.marks.Mark.TheVariants.{Scope, Handled, InProtected, InAccept, Abortable, InInitialize, InFinalize, InAssign}
-use Rattle.profile_machine.specs.Words.{same_statement, same_option, first_of_list, option_or_else}
+use Rattle.profile_machine.specs.Words.{same_statement, same_option}
+use Rattle.world_tables.specs.Lists.{first_of}
 use Rattle.profile_machine.specs.Program.{form_of, next_of}
 use Rattle.profile_machine.specs.declared.world.lines.Part.{Part}
 use Rattle.profile_machine.specs.declared.world.lines.Part.TheVariants.{Own}
@@ -30,7 +31,7 @@ abbrev pub frames_of : World → Who → List Frame
 frames_of w name = (task_of w name).frames
 
 abbrev pub top_of : World → Who → Option Frame
-top_of w name = first_of_list (frames_of w name)
+top_of w name = first_of (frames_of w name)
 
 abbrev pub new_frame : Mark → Option StatementNo → Frame
 new_frame mark onward = record { mark = mark; onward = onward; left_as = None; struck = false }
@@ -70,7 +71,7 @@ abbrev pub with_mark : Mark → Frame → Frame
 with_mark mark f = record f { mark = mark }
 
 abbrev pub leaving_of : Frame → Leaving
-leaving_of f = option_or_else f.left_as how.End
+leaving_of f = unwrap_or f.left_as how.End
 
 -- the marks are left from the top: what stands above the top mark is dropped
 unfoldable pub leaves : Who → Leaving → Step

@@ -1,5 +1,6 @@
 -- Handlers: releases and the agent that runs them, timing events, timers and group budgets (C.3, D.14, D.15).
-use Rattle.std.specs.Prelude.{ℕ, suc, ◌+◌, ◌-◌, ℤ, pos, negsuc, ◌+ℤ◌, int_le, int_lt, Bool, true, false, cond, not, ◌&&◌, List, [], ◌∷◌, ◌++◌, Option, Some, None, Ok, eqb, leb, length, filter, is_none, option_map}
+use Rattle.std.specs.Prelude.{ℕ, suc, ◌+◌, ◌-◌, ℤ, pos, negsuc, ◌+ℤ◌, int_le, int_lt, Bool, true, false, cond, not, ◌&&◌, List, [], ◌∷◌, ◌++◌, Option, Some, None, Ok, eqb, leb, length, filter, is_none, option_map, is_some}
+use Rattle.ann_base.specs.Results.{◌>>=◌}
 use Rattle.ann_base.specs.declared.identities.TaskNo.{TaskNo}
 use Rattle.ann_base.specs.declared.exceptions.Raised.TheVariants as exception
 use Rattle.profile_machine.specs.declared.world.objects.Entering.{Entering}
@@ -44,7 +45,7 @@ use Rattle.profile_machine.specs.Tasks.{task_of, edit_task}
 use Rattle.profile_machine.specs.Dispatching.{ready}
 use Rattle.profile_machine.specs.Frames.{goes, given, raise_if, has_room}
 use Rattle.profile_machine.specs.Scopes.{open_scope}
-use Rattle.profile_machine.specs.Operators.{Valued, ◌>>=◌, held_moment}
+use Rattle.profile_machine.specs.Operators.{Valued, held_moment}
 use Rattle.profile_machine.specs.Values.{Seen, value, variable, moment, number_of_thing, object_number, object_of, live_task, timer_of, budget_of, is_event, task_in}
 use Rattle.profile_machine.specs.Appointments.{appoint, drop_appointment, is_appointed}
 use Rattle.profile_machine.specs.CallEnds.{store}
@@ -147,14 +148,10 @@ abbrev pub is_interrupt_handler : Image → World → Option HandlerOf → Bool
 is_interrupt_handler p w None = true
 is_interrupt_handler p w (Some h) = leb (interrupt_priority p) (ceiling_of (object_of w h.object))
 
-abbrev pub is_given : {X : Type 0} → Option X → Bool
-is_given None = false
-is_given (Some x) = true
-
 -- with the handler, and the value once there is room for a release
 abbrev pub setting_of : Image → Who → Seen → ℤ → Setting → Option HandlerName → (Option HandlerOf → ℤ → Step) → Step
 setting_of p name q base set handler step =
-    given Own name (handler_named q handler) (λ h. with_room_for_release name (is_given h)
+    given Own name (handler_named q handler) (λ h. with_room_for_release name (is_some h)
     (given Own name (set_value q base set) (λ v. raise_if name (not (is_interrupt_handler p q.world h)) exception.Program (step h v))))
 
 -- a variable gets whether something was set
@@ -219,7 +216,7 @@ set_timer p name s d set handler =
     (λ h v. goes name (next_of p s) ▷ changes (clear_timer k) ▷ timer_set_to p k clock h v))))
 
 abbrev pub is_set_timer : World → ℕ → Bool
-is_set_timer w k = is_given (timer_of w k).setting
+is_set_timer w k = is_some (timer_of w k).setting
 
 unfoldable pub cancel_timer : Image → Who → StatementNo → DeclNo → VariableName → Step
 cancel_timer p name s d target =
@@ -283,14 +280,14 @@ with_handler h b = record b { handler = h }
 unfoldable pub set_budget : Image → Who → StatementNo → DeclNo → Option HandlerName → Step
 set_budget p name s d handler =
     sees p name (λ q. given Own name (number_of_thing q d) (λ b. given Own name (handler_named q handler) (λ h.
-    with_room_for_release name (is_given h)
+    with_room_for_release name (is_some h)
     (raise_if name (not (is_interrupt_handler p q.world h)) exception.Program
     (goes name (next_of p s) ▷ changes (edit_budget b (with_handler h)))))))
 
 unfoldable pub cancel_budget : Image → Who → StatementNo → DeclNo → VariableName → Step
 cancel_budget p name s d target =
     sees p name (λ q. given Own name (number_of_thing q d) (λ b. given Own name (variable q target) (λ v.
-    goes name (next_of p s) ▷ changes (edit_budget b (with_handler None)) ▷ answer p name v (is_given (budget_of q.world b).handler))))
+    goes name (next_of p s) ▷ changes (edit_budget b (with_handler None)) ▷ answer p name v (is_some (budget_of q.world b).handler))))
 
 -- ---- one tick is charged (D.14, D.2.5)
 

@@ -1,5 +1,6 @@
 -- Values, ranges and operators (3.5, 4.5).
 use Rattle.std.specs.Prelude.{ℕ, suc, ℤ, pos, negsuc, ◌+ℤ◌, ◌-ℤ◌, ◌*ℤ◌, neg_ℤ, nat_abs, int_lt, int_le, int_div, int_rem, Bool, true, false, cond, not, ◌&&◌, ◌||◌, List, [], ◌∷◌, Result, Ok, Err, eqb, ltb, leb, decimal, codes, slice_index_or}
+use Rattle.ann_base.specs.Results.{◌>>=◌}
 use Rattle.ann_base.specs.declared.exceptions.Raised.{Raised}
 use Rattle.ann_base.specs.declared.exceptions.Raised.TheVariants as exception
 use Rattle.profile_machine.specs.declared.values.Value.{Value}
@@ -17,12 +18,6 @@ use Rattle.profile_machine.specs.Tasks.{time_last}
 
 abbrev pub Valued : Type 0 → Type 0
 Valued X = Result X Raised
-
--- with the value, if it is none but an exception
-infixl 15 ◌>>=◌
-abbrev pub ◌>>=◌ : {X Y : Type 0} → Valued X → (X → Valued Y) → Valued Y
-(Ok x) >>= f = f x
-(Err e) >>= f = Err e
 
 -- the value where the test holds, else the exception
 abbrev pub unless : {X : Type 0} → Bool → Raised → X → Valued X

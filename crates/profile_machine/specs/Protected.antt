@@ -1,5 +1,5 @@
 -- Protected actions, entry bodies and ceilings (9.5.1, 9.5.2, 9.5.3, D.3).
-use Rattle.std.specs.Prelude.{ℕ, ◌+◌, Bool, true, false, cond, not, ◌&&◌, ◌||◌, List, ◌∷◌, Option, Some, None, Ok, Err, ltb, filter, map, option_and_then}
+use Rattle.std.specs.Prelude.{ℕ, ◌+◌, Bool, true, false, cond, not, ◌&&◌, ◌||◌, List, ◌∷◌, Option, Some, None, Ok, Err, ltb, filter, map, option_and_then, unwrap_or}
 use Rattle.std.specs.List.{list_all}
 use Rattle.ann_base.specs.declared.exceptions.Raised.TheVariants as exception
 use Rattle.ann_base.specs.declared.identities.ObjectNo.{ObjectNo}
@@ -37,7 +37,7 @@ use Rattle.profile_machine.specs.declared.world.calls.Call.{Call}
 use Rattle.profile_machine.specs.declared.world.tasks.Cause.TheVariants as inherited_by
 use Rattle.profile_machine.specs.declared.world.marks.Purpose.TheVariants as opened_for
 use Rattle.profile_machine.specs.declared.world.marks.Mark.TheVariants.{Scope, Handled, InProtected, InAccept, Abortable, InInitialize, InFinalize, InAssign}
-use Rattle.profile_machine.specs.Words.{same_who, without, option_or_else}
+use Rattle.profile_machine.specs.Words.{same_who, without}
 use Rattle.ann_base.specs.Lists.{is_empty}
 use Rattle.profile_machine.specs.Program.{next_of, scope_of, marks_of, subprogram_of, protected_unit_of, entry_of, has_edf}
 use Rattle.profile_machine.specs.declared.world.lines.Part.{Part}
@@ -160,7 +160,7 @@ begin_own_operation p name s f (Some o) h to =
     looks (λ w. begin_body p name s f (body_of_object p w (subprogram_of p f).scope o h.subject h.values) h to)
 
 abbrev pub unit_of_operation : Subprogram → ProtectedUnitNo
-unit_of_operation s = option_or_else s.unit (record { 0 = 0 })
+unit_of_operation s = unwrap_or s.unit (record { 0 = 0 })
 
 unfoldable pub call_own_operation : Image → Who → StatementNo → SubprogramNo → List Actual → Destination → Step
 call_own_operation p name s f actuals to =

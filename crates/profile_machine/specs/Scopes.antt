@@ -1,5 +1,6 @@
 -- Scopes in use: where a name's cells are, how a scope begins and ends (3.1, 7.6.1, 8.2).
 use Rattle.std.specs.Prelude.{ℕ, suc, zero, pos, Bool, true, false, not, ◌&&◌, List, [], ◌∷◌, ◌++◌, Option, Some, None, eqb, length, find, option_map, slice_index_or, slice_set}
+use Rattle.std.specs.Bool.{then_some}
 use Rattle.std.specs.List.{list_all}
 use Rattle.ann_base.specs.declared.identities.RegionNo.{RegionNo}
 use Rattle.trace_text.specs.declared.events.Who.{Who}
@@ -18,7 +19,7 @@ use Rattle.profile_machine.specs.declared.world.scopes.Beginning.{Beginning}
 use Rattle.profile_machine.specs.declared.world.objects.Object.{Object}
 use Rattle.profile_machine.specs.declared.world.Drawn.{Drawn}
 use Rattle.profile_machine.specs.declared.world.marks.Mark.TheVariants.{Scope, Handled, InProtected, InAccept, Abortable, InInitialize, InFinalize, InAssign}
-use Rattle.profile_machine.specs.Words.{same_id, same_scope, without, edit_where, some_where}
+use Rattle.profile_machine.specs.Words.{same_id, same_scope, without, edit_where}
 use Rattle.ann_base.specs.Lists.{is_empty}
 use Rattle.profile_machine.specs.Program.{scope_of, initial_cells}
 use Rattle.profile_machine.specs.Frames.{push, new_frame, frames_of}
@@ -117,7 +118,7 @@ draw_region true w = record w { drawn = region_drawn w.drawn }
 draw_region false w = w
 
 abbrev pub region_of_next : Bool → World → Option RegionNo
-region_of_next kept w = some_where kept (record { 0 = suc w.drawn.regions })
+region_of_next kept w = then_some kept (record { 0 = suc w.drawn.regions })
 
 abbrev pub new_scope_mark : ScopeId → Option RegionNo → Purpose → Mark
 new_scope_mark id region purpose = Scope (record { within = id; region = region; being_left = false; handles = None; finalize_raised = false; purpose = purpose })

@@ -1,5 +1,6 @@
 -- Calls of subprograms: parameters, results, returns (clause 6).
 use Rattle.std.specs.Prelude.{ℕ, suc, ◌-◌, pos, Bool, true, false, List, [], ◌∷◌, Option, Some, None, Ok, length, option_and_then, slice_index_or}
+use Rattle.ann_base.specs.Results.{◌>>=◌}
 use Rattle.ann_base.specs.declared.exceptions.Raised.TheVariants as exception
 use Rattle.ann_base.specs.declared.identities.CallNo.{CallNo}
 use Rattle.trace_text.specs.declared.events.Who.{Who}
@@ -36,7 +37,7 @@ use Rattle.profile_machine.specs.Frames.{frames_of, goes, leaves, given, raise_i
 use Rattle.profile_machine.specs.declared.world.scopes.Beginning.{Beginning}
 use Rattle.profile_machine.specs.declared.world.scopes.Handed.{Handed}
 use Rattle.profile_machine.specs.Scopes.{home, write_cell, open_scope}
-use Rattle.profile_machine.specs.Operators.{Valued, ◌>>=◌, checked}
+use Rattle.profile_machine.specs.Operators.{Valued, checked}
 use Rattle.profile_machine.specs.Values.{Seen, value, variable, object_cell, or_misfit, read, thing, located}
 use Rattle.profile_machine.specs.CallEnds.{store}
 use Rattle.profile_machine.specs.Calls.{edit_call}

@@ -1,6 +1,7 @@
 -- The creation, activation, completion and abort of tasks (9.1 to 9.3, 9.8, 7.6.1).
-use Rattle.std.specs.Prelude.{ℕ, suc, ◌-◌, ℤ, pos, ◌+ℤ◌, Bool, true, false, cond, not, ◌&&◌, ◌||◌, List, [], ◌∷◌, ◌++◌, Option, Some, None, Ok, eqb, leb, length, filter, is_some, option_and_then}
+use Rattle.std.specs.Prelude.{ℕ, suc, ◌-◌, ℤ, pos, ◌+ℤ◌, Bool, true, false, cond, not, ◌&&◌, ◌||◌, List, [], ◌∷◌, ◌++◌, Option, Some, None, Ok, eqb, leb, length, filter, is_some, option_and_then, unwrap_or}
 use Rattle.std.specs.List.{list_any}
+use Rattle.ann_base.specs.Results.{◌>>=◌}
 use Rattle.ann_base.specs.declared.identities.TaskNo.{TaskNo}
 use Rattle.ann_base.specs.declared.identities.RegionNo.{RegionNo}
 use Rattle.ann_base.specs.declared.exceptions.Raised.{Raised}
@@ -35,7 +36,7 @@ use Rattle.profile_machine.specs.declared.world.marks.Purpose.TheVariants as ope
 use Rattle.profile_machine.specs.declared.world.tasks.Waiting.TheVariants as waits_for
 use Rattle.profile_machine.specs.declared.world.tasks.State.TheVariants.{Made}
 use Rattle.profile_machine.specs.declared.world.tasks.Task as world
-use Rattle.profile_machine.specs.Words.{same_who, same_region, is_the, option_or_else}
+use Rattle.profile_machine.specs.Words.{same_who, same_region, is_the}
 use Rattle.profile_machine.specs.Program.{declaration_of, next_of, scope_of, task_unit_of}
 use Rattle.profile_machine.specs.declared.world.lines.Part.{Part}
 use Rattle.profile_machine.specs.declared.world.lines.Part.TheVariants.{Own, OfOther, ThePlacing, TheBlock}
@@ -44,7 +45,7 @@ use Rattle.profile_machine.specs.Tasks.{task_of, edit_task, new_task, is_made, i
 use Rattle.profile_machine.specs.Dispatching.{active_of, ready, block, to_head, says_block}
 use Rattle.profile_machine.specs.Frames.{frames_of, edit_top, pop, goes, raises, given, raise_if, has_room, pass_on, in_protected, is_deferred}
 use Rattle.profile_machine.specs.Scopes.{home, open_scope, plainly, end_scope, cells_of, scope_in_use}
-use Rattle.profile_machine.specs.Operators.{Valued, ◌>>=◌, held_moment}
+use Rattle.profile_machine.specs.Operators.{Valued, held_moment}
 use Rattle.profile_machine.specs.Values.{Seen, moment, thing, task_in}
 use Rattle.profile_machine.specs.Inheritance.{inherit, falls}
 use Rattle.profile_machine.specs.Unwinding.{strike_outermost, unwind, any_struck}
@@ -75,7 +76,7 @@ outer_of_task q u = option_and_then (λ outer. home q.world outer q.within) (sco
 abbrev pub created_task : Seen → DeclNo → TaskUnitNo → ℕ → Option ℤ → ℕ → world.Task
 created_task q d u declarative_part span n =
     let unit = task_unit_of q.program u in
-    record (new_task (who.Task (record { 0 = n })) (option_or_else unit.priority (task_of q.world q.who).base) Made)
+    record (new_task (who.Task (record { 0 = n })) (unwrap_or unit.priority (task_of q.world q.who).base) Made)
     { declared = Some d; unit = Some u; outer = outer_of_task q unit; relative_deadline = span; master = Some (top_region q.world q.who); declarative_part = declarative_part; queues = no_calls unit.entries }
 
 abbrev pub task_drawn : Drawn → Drawn
@@ -124,7 +125,7 @@ abbrev pub is_to_activate : RegionNo → ℕ → world.Task → Bool
 is_to_activate r declarative_part t = is_made t && is_the same_region t.master r && eqb t.declarative_part declarative_part
 
 abbrev pub unit_of_task : Image → world.Task → TaskUnit
-unit_of_task p t = task_unit_of p (option_or_else t.unit (record { 0 = 0 }))
+unit_of_task p t = task_unit_of p (unwrap_or t.unit (record { 0 = 0 }))
 
 -- without a Relative_Deadline the deadline stays what it was
 abbrev pub deadline_at : ℕ → Option ℤ → ℤ → ℤ

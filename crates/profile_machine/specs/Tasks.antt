@@ -1,5 +1,5 @@
 -- The tasks of a world and the agent: looking at one, and changing one.
-use Rattle.std.specs.Prelude.{ℕ, ℤ, pos, Bool, true, false, List, [], Option, Some, None, find}
+use Rattle.std.specs.Prelude.{ℕ, ℤ, pos, Bool, true, false, List, [], Option, Some, None, find, unwrap_or}
 use Rattle.ann_base.specs.declared.identities.TaskNo.{TaskNo}
 use Rattle.trace_text.specs.declared.events.Who.{Who}
 use Rattle.trace_text.specs.declared.events.Who.TheVariants as who
@@ -9,7 +9,7 @@ use Rattle.profile_machine.specs.declared.world.tasks.State.{State}
 use Rattle.profile_machine.specs.declared.world.tasks.Waiting.{Waiting}
 use Rattle.profile_machine.specs.declared.world.marks.Frame.{Frame}
 use Rattle.profile_machine.specs.declared.world.tasks.State.TheVariants.{Made, Runnable, Blocked}
-use Rattle.profile_machine.specs.Words.{same_who, option_or_else, set_where}
+use Rattle.profile_machine.specs.Words.{same_who, set_where}
 
 -- the last moment of Time (D.8), as -2^62 and 2^62 - 1 are the ends of all times (own)
 abbrev pub time_last : ℤ
@@ -37,7 +37,7 @@ task_at w (who.Task t) = found_task (who.Task t) w.tasks
 task_at w who.Agent = Some w.agent
 
 abbrev pub task_of : World → Who → Task
-task_of w name = option_or_else (task_at w name) nobody
+task_of w name = unwrap_or (task_at w name) nobody
 
 abbrev pub number_of : Who → Option TaskNo
 number_of (who.Task t) = Some t

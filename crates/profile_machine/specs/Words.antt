@@ -66,21 +66,7 @@ abbrev pub has : {X : Type 0} → (X → X → Bool) → List X → X → Bool
 has same [] x = false
 has same (y ∷ ys) x = same y x || has same ys x
 
--- ---- choices
-
-abbrev pub option_or_else : {X : Type 0} → Option X → X → X
-option_or_else None x = x
-option_or_else (Some y) x = y
-
-abbrev pub some_where : {X : Type 0} → Bool → X → Option X
-some_where true x = Some x
-some_where false x = None
-
 -- ---- lists
-
-abbrev pub first_of_list : {X : Type 0} → List X → Option X
-first_of_list [] = None
-first_of_list (x ∷ xs) = Some x
 
 -- the items for which the test does not hold
 abbrev pub without : {X : Type 0} → (X → Bool) → List X → List X

@@ -1,6 +1,6 @@
 -- Each statement that sets or cancels a budget's handler does what it asks for.
 use Rattle.std.proofs.Common.{◌≡◌, ℕ, Bool, true, false, cond, not, ◌&&◌, eqb, ltb, List, [], Option, None, refl, sym, ap, subst, ◌∙◌, append-nil, arith}
-use Rattle.std.specs.Prelude.{Ok}
+use Rattle.std.specs.Prelude.{Ok, is_some}
 use Rattle.ann_base.specs.declared.exceptions.Raised.TheVariants as exception
 use Rattle.trace_text.specs.declared.events.Who.{Who}
 use Rattle.profile_machine.specs.declared.image.Image.{Image}
@@ -18,7 +18,7 @@ use Rattle.profile_machine.specs.Words.{edit_at}
 use Rattle.profile_machine.specs.Steps.{changes, ◌▷◌}
 use Rattle.profile_machine.specs.Frames.{goes, given, raise_if}
 use Rattle.profile_machine.specs.Values.{seen_by, number_of_thing, variable, no_budget}
-use Rattle.profile_machine.specs.Handlers.{handler_named, is_given, with_room_for_release, is_interrupt_handler, edit_budget, with_handler, set_budget, cancel_budget, answer}
+use Rattle.profile_machine.specs.Handlers.{handler_named, with_room_for_release, is_interrupt_handler, edit_budget, with_handler, set_budget, cancel_budget, answer}
 use Rattle.profile_machine.specs.Values.{budget_of}
 use Rattle.machine_laws.proofs.Kept.Combinators.{Kept, From}
 use Rattle.release_laws.specs.Asked.{OfBudget, request_of, or_nothing}
@@ -71,7 +71,7 @@ pub set_budget-does : (p : Image) (name : Who) (s : StatementNo) (d : DeclNo) (h
     → Does (or_nothing (request_of p (seen_by p w name) (form.SetBudget d handler))) w (set_budget p name s d handler)
 unfolding set_budget
 set_budget-does p name s d handler w =
-    sees-does _ p name (λ q. given Own name (number_of_thing q d) (λ n. given Own name (handler_named q handler) (λ h. with_room_for_release name (is_given h) (raise_if name (not (is_interrupt_handler p q.world h)) exception.Program (goes name (next_of p s) ▷ changes (edit_budget n (with_handler h))))))) w
+    sees-does _ p name (λ q. given Own name (number_of_thing q d) (λ n. given Own name (handler_named q handler) (λ h. with_room_for_release name (is_some h) (raise_if name (not (is_interrupt_handler p q.world h)) exception.Program (goes name (next_of p s) ▷ changes (edit_budget n (with_handler h))))))) w
     (given-does name w (number_of_thing (seen_by p w name) d) _ _ (λ n e.
     given-does name w (handler_named (seen_by p w name) handler) _ _ (λ h f.
     with_room-does p name w h _ _
@@ -82,8 +82,8 @@ pub cancel_budget-does : (p : Image) (name : Who) (s : StatementNo) (d : DeclNo)
     → Does (or_nothing (request_of p (seen_by p w name) (form.CancelBudget d target))) w (cancel_budget p name s d target)
 unfolding cancel_budget
 cancel_budget-does p name s d target w =
-    sees-does _ p name (λ q. given Own name (number_of_thing q d) (λ n. given Own name (variable q target) (λ x. goes name (next_of p s) ▷ changes (edit_budget n (with_handler None)) ▷ answer p name x (is_given (budget_of q.world n).handler)))) w
+    sees-does _ p name (λ q. given Own name (number_of_thing q d) (λ n. given Own name (variable q target) (λ x. goes name (next_of p s) ▷ changes (edit_budget n (with_handler None)) ▷ answer p name x (is_some (budget_of q.world n).handler)))) w
     (given-does name w (number_of_thing (seen_by p w name) d) _ _ (λ n e.
     given-does name w (variable (seen_by p w name) target) _ _ (λ x f.
-    gone-does (OfBudget n None) name (next_of p s) w (changes (edit_budget n (with_handler None)) ▷ answer p name x (is_given (budget_of w n).handler))
-    (λ v k. answered-from p name x (is_given (budget_of w n).handler) (OfBudget n None) w v (edit_budget n (with_handler None)) (budget-effect n None w v k) refl))))
+    gone-does (OfBudget n None) name (next_of p s) w (changes (edit_budget n (with_handler None)) ▷ answer p name x (is_some (budget_of w n).handler))
+    (λ v k. answered-from p name x (is_some (budget_of w n).handler) (OfBudget n None) w v (edit_budget n (with_handler None)) (budget-effect n None w v k) refl))))

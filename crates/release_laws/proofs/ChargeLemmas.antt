@@ -1,5 +1,5 @@
 -- A tock charges the task that runs, and nobody else.
-use Rattle.std.proofs.Common.{◌≡◌, ℕ, suc, Bool, true, false, cond, ◌&&◌, eqb, List, [], ◌∷◌, Option, Some, None, is_some, option_map, refl, sym, ap, subst, ◌∙◌, eq-eqb, arith}
+use Rattle.std.proofs.Common.{◌≡◌, ℕ, suc, Bool, true, false, cond, ◌&&◌, eqb, List, [], ◌∷◌, Option, Some, None, is_some, option_map, refl, sym, ap, subst, ◌∙◌, eq-eqb, arith, unwrap_or}
 use Rattle.ann_base.specs.declared.identities.TaskNo.{TaskNo}
 use Rattle.trace_text.specs.declared.events.Event.{Event}
 use Rattle.trace_text.specs.declared.events.Who.{Who}
@@ -7,7 +7,7 @@ use Rattle.trace_text.specs.declared.events.Who.TheVariants as who
 use Rattle.profile_machine.specs.declared.image.Image.{Image}
 use Rattle.profile_machine.specs.declared.world.World.{World}
 use Rattle.profile_machine.specs.declared.world.tasks.Task.{Task}
-use Rattle.profile_machine.specs.Words.{same_who, same_task, same_option, is_the, option_or_else, set_where}
+use Rattle.profile_machine.specs.Words.{same_who, same_task, same_option, is_the, set_where}
 use Rattle.profile_machine.specs.Tasks.{nobody, is_who, found_task, task_at, task_of, edit_task_found, with_ticks}
 use Rattle.profile_machine.specs.Program.{is_robin_level}
 use Rattle.profile_machine.specs.Dispatching.{choose}
@@ -62,7 +62,7 @@ some-seen : {X Y : Type 0} (see : X → Y) (found : Option X) → is_some (optio
 some-seen see None = refl
 some-seen see (Some x) = refl
 
-group-of-seen : (found : Option Task) → option_or_else (option_map (λ (t : Task). t.budget) found) nobody.budget ≡ (option_or_else found nobody).budget
+group-of-seen : (found : Option Task) → unwrap_or (option_map (λ (t : Task). t.budget) found) nobody.budget ≡ (unwrap_or found nobody).budget
 group-of-seen None = refl
 group-of-seen (Some t) = refl
 
@@ -72,7 +72,7 @@ same-there a b u e =
 
 same-group : (a b : World) (u : TaskNo) → group_seen b u ≡ group_seen a u → (task_of b (who.Task u)).budget ≡ (task_of a (who.Task u)).budget
 same-group a b u e =
-    sym (group-of-seen (found_task (who.Task u) b.tasks)) ∙ ap (λ seen. option_or_else seen nobody.budget) e ∙ group-of-seen (found_task (who.Task u) a.tasks)
+    sym (group-of-seen (found_task (who.Task u) b.tasks)) ∙ ap (λ seen. unwrap_or seen nobody.budget) e ∙ group-of-seen (found_task (who.Task u) a.tasks)
 
 -- ---- the clock that rises
 

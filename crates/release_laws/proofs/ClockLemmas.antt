@@ -1,16 +1,16 @@
 -- The clocks of tasks in a list of tasks, where one is edited, comes or goes.
-use Rattle.std.proofs.Common.{◌≡◌, ℕ, ◌≤◌, Bool, true, false, cond, not, eqb, List, [], ◌∷◌, ◌++◌, Option, Some, None, refl, sym, ap, subst, ◌∙◌, le_refl, arith}
+use Rattle.std.proofs.Common.{◌≡◌, ℕ, ◌≤◌, Bool, true, false, cond, not, eqb, List, [], ◌∷◌, ◌++◌, Option, Some, None, refl, sym, ap, subst, ◌∙◌, le_refl, arith, unwrap_or}
 use Rattle.std.proofs.lemmas.Bool.{false≢true}
 use Rattle.ann_base.specs.declared.identities.TaskNo.{TaskNo}
 use Rattle.trace_text.specs.declared.events.Who.{Who}
 use Rattle.trace_text.specs.declared.events.Who.TheVariants as who
 use Rattle.profile_machine.specs.declared.world.tasks.Task.{Task}
-use Rattle.profile_machine.specs.Words.{same_who, option_or_else, set_where, without}
+use Rattle.profile_machine.specs.Words.{same_who, set_where, without}
 use Rattle.profile_machine.specs.Tasks.{nobody, is_who, found_task}
 
 -- what a clock shows of a task that may be there
 abbrev pub shown : Option Task → ℕ
-shown found = (option_or_else found nobody).cpu_ticks
+shown found = (unwrap_or found nobody).cpu_ticks
 
 abbrev pub clock_in : List Task → TaskNo → ℕ
 clock_in tasks t = shown (found_task (who.Task t) tasks)

@@ -1,6 +1,7 @@
 -- What the effect of an action does to all that is released later: what it asks for, and nothing else.
 use Rattle.std.proofs.Common.{◌≡◌, ℕ, ℤ, Bool, true, false, cond, not, ◌&&◌, eqb, List, [], ◌∷◌, ◌++◌, map, Option, Some, None, refl, ap, ◌∙◌, append_assoc, arith}
-use Rattle.std.specs.Prelude.{int_lt, pos, Ok, Err}
+use Rattle.std.specs.Prelude.{int_lt, pos, Ok, Err, is_some}
+use Rattle.ann_base.specs.Results.{◌>>=◌}
 use Rattle.ann_base.specs.declared.identities.TaskNo.{TaskNo}
 use Rattle.ann_base.specs.declared.exceptions.Raised.{Raised}
 use Rattle.ann_base.specs.declared.exceptions.Raised.TheVariants as exception
@@ -18,9 +19,9 @@ use Rattle.profile_machine.specs.declared.world.tasks.Task.{Task}
 use Rattle.profile_machine.specs.Steps.{Step, Done, done, looks, goes_on_with, ◌▷◌}
 use Rattle.profile_machine.specs.Tasks.{task_at, edit_task_found, edit_task, with_frames}
 use Rattle.profile_machine.specs.Frames.{goes, edit_first, goes_on, given, raise_if, raises}
-use Rattle.profile_machine.specs.Operators.{Valued, ◌>>=◌}
+use Rattle.profile_machine.specs.Operators.{Valued}
 use Rattle.profile_machine.specs.Values.{seen_by}
-use Rattle.profile_machine.specs.Handlers.{without_number, handler_named, is_given, has_room_for_release, with_room_for_release, is_interrupt_handler, set_value, setting_of}
+use Rattle.profile_machine.specs.Handlers.{without_number, handler_named, has_room_for_release, with_room_for_release, is_interrupt_handler, set_value, setting_of}
 use Rattle.profile_machine.specs.Releases.{named_handler}
 use Rattle.machine_laws.proofs.Moves.{StepRelation}
 use Rattle.machine_laws.proofs.Kept.Combinators.{Keeps, Kept, From}
@@ -127,10 +128,10 @@ pub looks-does : (r : Request) (w : World) (f : World → Step) → Does r w (f 
 unfolding From
 looks-does r w f k said = k said
 
-pub with_room-does : (p : Image) (name : Who) (w : World) (h : Option HandlerOf) (x : Valued Request) (step : Step) → Does (or_nothing x) w step → Does (or_nothing (with_room (seen_by p w name) h x)) w (with_room_for_release name (is_given h) step)
+pub with_room-does : (p : Image) (name : Who) (w : World) (h : Option HandlerOf) (x : Valued Request) (step : Step) → Does (or_nothing x) w step → Does (or_nothing (with_room (seen_by p w name) h x)) w (with_room_for_release name (is_some h) step)
 with_room-does p name w h x step k =
-    looks-does (or_nothing (with_room (seen_by p w name) h x)) w (λ v. raise_if name (is_given h && not (has_room_for_release v)) exception.Storage step)
-    (raise_if-does name w (is_given h && not (has_room_for_release w)) exception.Storage x step k)
+    looks-does (or_nothing (with_room (seen_by p w name) h x)) w (λ v. raise_if name (is_some h && not (has_room_for_release v)) exception.Storage step)
+    (raise_if-does name w (is_some h && not (has_room_for_release w)) exception.Storage x step k)
 
 pub setting_of-does : (p : Image) (name : Who) (w : World) (base : ℤ) (set : Setting) (handler : Option HandlerName) (request : Option HandlerOf → ℤ → Request) (step : Option HandlerOf → ℤ → Step)
     → ((h : Option HandlerOf) (v : ℤ) → Does (request h v) w (step h v)) → Does (or_nothing (setting_asked p (seen_by p w name) base set handler request)) w (setting_of p name (seen_by p w name) base set handler step)

@@ -2,6 +2,7 @@
 use Rattle.std.proofs.Common.{◌≡◌, ℕ, ℤ, Bool, true, false, cond, ◌&&◌, List, [], ◌∷◌, ◌++◌, ◌≤◌, Option, Some, None, refl, sym, ap, subst, ◌∙◌, append-nil}
 use Rattle.std.specs.Prelude.{int_lt, pos, Ok, Err}
 use Rattle.std.proofs.lemmas.Bool.{false≢true}
+use Rattle.ann_base.specs.Results.{◌>>=◌}
 use Rattle.ann_base.specs.declared.identities.TaskNo.{TaskNo}
 use Rattle.ann_base.specs.declared.exceptions.Raised.TheVariants as exception
 use Rattle.trace_text.specs.declared.events.Who.{Who}
@@ -21,7 +22,7 @@ use Rattle.profile_machine.specs.Program.{next_of}
 use Rattle.profile_machine.specs.Steps.{changes, ◌▷◌}
 use Rattle.profile_machine.specs.Tasks.{found_task}
 use Rattle.profile_machine.specs.Frames.{goes, given}
-use Rattle.profile_machine.specs.Operators.{Valued, ◌>>=◌}
+use Rattle.profile_machine.specs.Operators.{Valued}
 use Rattle.profile_machine.specs.Values.{seen_by, number_of_thing, variable, timer_of}
 use Rattle.profile_machine.specs.Handlers.{without_number, setting_of, clear_timer, with_timer_set, timer_set_beyond, timer_set_to, clock_of_timer, set_timer, cancel_timer, is_set_timer, release, answer}
 use Rattle.machine_laws.proofs.Kept.Combinators.{Kept, From}

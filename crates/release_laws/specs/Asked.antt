@@ -1,6 +1,7 @@
 -- What the effect of an action asks for: that a handler be released, now or later, or no longer. It is read off the statement
 -- that ends and the values of its operands. What the machine keeps of settings is not looked at (C.3, D.14, D.15).
-use Rattle.std.specs.Prelude.{ℕ, ℤ, pos, Bool, true, false, cond, not, ◌&&◌, Option, Some, None, Ok, Err}
+use Rattle.std.specs.Prelude.{ℕ, ℤ, pos, Bool, true, false, cond, not, ◌&&◌, Option, Some, None, Ok, Err, is_some}
+use Rattle.ann_base.specs.Results.{◌>>=◌}
 use Rattle.ann_base.specs.declared.exceptions.Raised.{Raised}
 use Rattle.ann_base.specs.declared.exceptions.Raised.TheVariants as exception
 use Rattle.ann_base.specs.declared.identities.TaskNo.{TaskNo}
@@ -16,9 +17,9 @@ use Rattle.profile_machine.specs.declared.world.appointments.HandlerOf.{HandlerO
 use Rattle.profile_machine.specs.Program.{form_of}
 use Rattle.profile_machine.specs.Tasks.{task_of, edit_task, with_ticks}
 use Rattle.profile_machine.specs.Frames.{onward_of}
-use Rattle.profile_machine.specs.Operators.{Valued, ◌>>=◌}
+use Rattle.profile_machine.specs.Operators.{Valued}
 use Rattle.profile_machine.specs.Values.{Seen, seen_by, number_of_thing, variable, timer_of}
-use Rattle.profile_machine.specs.Handlers.{is_given, has_room_for_release, is_interrupt_handler, handler_named, set_value, clock_of_timer}
+use Rattle.profile_machine.specs.Handlers.{has_room_for_release, is_interrupt_handler, handler_named, set_value, clock_of_timer}
 use Rattle.profile_machine.specs.Instant.{is_over}
 
 -- Of an event, a timer or a budget, by number: its handler, or that it is to have none; and the moment, or the task of the timer
@@ -36,7 +37,7 @@ raised_if false e x = x
 
 -- a handler has room for its release, and an object of the priority of interrupts (own)
 abbrev pub with_room : {X : Type 0} → Seen → Option HandlerOf → Valued X → Valued X
-with_room q h = raised_if (is_given h && not (has_room_for_release q.world)) exception.Storage
+with_room q h = raised_if (is_some h && not (has_room_for_release q.world)) exception.Storage
 
 abbrev pub with_ceiling : {X : Type 0} → Image → Seen → Option HandlerOf → Valued X → Valued X
 with_ceiling p q h = raised_if (not (is_interrupt_handler p q.world h)) exception.Program

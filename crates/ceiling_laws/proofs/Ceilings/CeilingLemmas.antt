@@ -1,5 +1,6 @@
 -- Who is let into a protected object is not above its ceiling, and the law of ceilings says so of its `enter` line.
 use Rattle.std.proofs.Common.{◌≡◌, ℕ, ℤ, ◌+◌, ◌≤◌, Bool, true, false, cond, not, ◌&&◌, ◌||◌, leb, ltb, nat_le, max, List, [], ◌∷◌, Option, Some, None, refl, sym, ap, ◌∙◌, arith}
+use Rattle.std.specs.Bool.{then_some}
 use Rattle.std.specs.List.{list_all}
 use Rattle.std.proofs.lemmas.Bool.{le-leb, leb-true}
 use Rattle.std.proofs.Math.Nat.{le-max_right}
@@ -19,7 +20,7 @@ use Rattle.profile_machine.specs.declared.world.appointments.Release.{Release}
 use Rattle.profile_machine.specs.declared.world.objects.Object.{Object}
 use Rattle.profile_machine.specs.declared.world.objects.Entering.{Entering}
 use Rattle.profile_machine.specs.declared.world.objects.Entering.TheVariants as entering_is
-use Rattle.profile_machine.specs.Words.{some_where, greatest_of, without}
+use Rattle.profile_machine.specs.Words.{greatest_of, without}
 use Rattle.profile_machine.specs.Program.{is_in_range, range_of, policy_of_range, is_edf_policy, is_edf_level, edf_low_of, has_edf_range, has_edf, interrupt_priority}
 use Rattle.profile_machine.specs.Steps.{Step}
 use Rattle.profile_machine.specs.Tasks.{task_of}
@@ -156,7 +157,7 @@ agent_has_no_deadline p t low is =
 at_most : (level ceiling : ℕ) → level ≤ ceiling → nat_le level ceiling ≡ true
 at_most level ceiling h = le-leb level ceiling h
 
-entry-below : (b : Bool) (level ceiling : ℕ) (deadline : ℤ) (base : Option ℕ) → nat_le level ceiling ≡ true → (b ≡ true → is_at_most base ceiling ≡ true) → (nat_le level ceiling && is_base_below (some_where b deadline) base ceiling) ≡ true
+entry-below : (b : Bool) (level ceiling : ℕ) (deadline : ℤ) (base : Option ℕ) → nat_le level ceiling ≡ true → (b ≡ true → is_at_most base ceiling ≡ true) → (nat_le level ceiling && is_base_below (then_some b deadline) base ceiling) ≡ true
 entry-below true level ceiling deadline base h k = both (nat_le level ceiling) (is_at_most base ceiling) h (k refl)
 entry-below false level ceiling deadline base h k = both (nat_le level ceiling) true h refl
 

@@ -1,5 +1,6 @@
 -- Whose active priority or deadline is changed is placed anew.
 use Rattle.std.proofs.Common.{◌≡◌, ℕ, ℤ, ◌≤◌, Bool, true, false, cond, not, ◌&&◌, eqb, ltb, slice_index_or, max, List, [], ◌∷◌, ◌++◌, map, None, refl, sym, ap, subst, ◌∙◌, arith, append_assoc, append-nil, le_refl, le_trans}
+use Rattle.std.specs.Bool.{then_some}
 use Rattle.std.proofs.Math.Nat.{le-max_left, le-max_right, max-le}
 use Rattle.trace_text.specs.declared.events.QueueEnd.TheVariants.{Head, Tail}
 use Rattle.trace_text.specs.declared.events.Who.{Who}
@@ -15,7 +16,7 @@ use Rattle.profile_machine.specs.declared.world.tasks.Cause.{Cause}
 use Rattle.profile_machine.specs.declared.world.tasks.Inherited.{Inherited}
 use Rattle.profile_machine.specs.declared.world.tasks.State.{State}
 use Rattle.profile_machine.specs.declared.world.tasks.State.TheVariants.{Runnable}
-use Rattle.profile_machine.specs.Words.{some_where, greatest_of, without}
+use Rattle.profile_machine.specs.Words.{greatest_of, without}
 use Rattle.profile_machine.specs.Program.{is_edf_level, is_robin_level, edf_low}
 use Rattle.profile_machine.specs.Steps.{when}
 use Rattle.profile_machine.specs.Tasks.{task_of, edit_task, with_state}
@@ -87,14 +88,14 @@ placing_is_followed p part name w said = (
 
 same-entry : (p : Image) (name : Who) (a b : World) → active_of p b name ≡ active_of p a name → (task_of b name).deadline ≡ (task_of a name).deadline → entry_in p b name ≡ entry_in p a name
 same-entry p name a b levels deadlines =
-    ap (λ (n : ℕ). record { who = name; level = n; deadline = some_where (is_edf_level p n) (task_of b name).deadline }) levels
-    ∙ ap (λ (d : ℤ). record { who = name; level = active_of p a name; deadline = some_where (is_edf_level p (active_of p a name)) d }) deadlines
+    ap (λ (n : ℕ). record { who = name; level = n; deadline = then_some (is_edf_level p n) (task_of b name).deadline }) levels
+    ∙ ap (λ (d : ℤ). record { who = name; level = active_of p a name; deadline = then_some (is_edf_level p (active_of p a name)) d }) deadlines
 
 off_deadlines : (p : Image) (name : Who) (a b : World) → active_of p b name ≡ active_of p a name → is_edf_level p (active_of p b name) ≡ false → entry_in p b name ≡ entry_in p a name
 off_deadlines p name a b levels off =
-    ap (λ (t : Bool). record { who = name; level = active_of p b name; deadline = some_where t (task_of b name).deadline }) off
+    ap (λ (t : Bool). record { who = name; level = active_of p b name; deadline = then_some t (task_of b name).deadline }) off
     ∙ ap (λ (n : ℕ). record { who = name; level = n; deadline = None }) levels
-    ∙ sym (ap (λ (t : Bool). record { who = name; level = active_of p a name; deadline = some_where t (task_of a name).deadline }) (subst (λ n. is_edf_level p n ≡ false) levels off))
+    ∙ sym (ap (λ (t : Bool). record { who = name; level = active_of p a name; deadline = then_some t (task_of a name).deadline }) (subst (λ n. is_edf_level p n ≡ false) levels off))
 
 -- ---- priorities that are inherited and lost
 

@@ -1,6 +1,6 @@
 -- From the choice of somebody to the effect of its action nobody's priorities and deadline change, no object and no place.
 use Rattle.std.proofs.Common.{◌≡◌, ℕ, ◌-◌, ℤ, Bool, true, false, cond, List, [], ◌∷◌, Option, Some, None, refl, sym, ap, subst, ◌∙◌}
-use Rattle.std.specs.Prelude.{find}
+use Rattle.std.specs.Prelude.{find, unwrap_or}
 use Rattle.std.proofs.lemmas.Bool.{eqb-true}
 use Rattle.ann_base.specs.declared.identities.TaskNo.{TaskNo}
 use Rattle.trace_text.specs.declared.events.Event.{Event}
@@ -12,7 +12,7 @@ use Rattle.profile_machine.specs.declared.world.World.{World}
 use Rattle.profile_machine.specs.declared.world.tasks.Task.{Task}
 use Rattle.profile_machine.specs.declared.world.marks.Frame.{Frame}
 use Rattle.profile_machine.specs.declared.world.appointments.Release.{Release}
-use Rattle.profile_machine.specs.Words.{same_who, same_option, set_where, option_or_else}
+use Rattle.profile_machine.specs.Words.{same_who, same_option, set_where}
 use Rattle.profile_machine.specs.Program.{is_robin_level}
 use Rattle.profile_machine.specs.Steps.{rests}
 use Rattle.profile_machine.specs.Tasks.{is_who, nobody, task_at, task_of, edit_task_found, edit_task, with_ticks}
@@ -32,7 +32,7 @@ use Rattle.ceiling_laws.specs.CeilingLaws.{TocksKeepLevels, WhoActsIsFirst}
 -- ---- what is seen of a task that was edited stands to what was seen before as the edit makes it stand
 
 abbrev seen : {X : Type 0} → (Task → X) → Option Task → X
-seen g found = g (option_or_else found nobody)
+seen g found = g (unwrap_or found nobody)
 
 module _ {X : Type 0} (R : X → X → Type 0) (self : (x : X) → R x x) (g : Task → X) where
   head-seen : (c d : Bool) (y z : Task) (rest : Option Task) → d ≡ c → R (g y) (g z) → R (seen g (cond d (Some y) rest)) (seen g (cond c (Some z) rest))
@@ -106,7 +106,7 @@ edit_found-other : (n : Who) (f : Task → Task) (w : World) (other : Who) → s
 edit_found-other n f w other apart named None is = refl
 edit_found-other (who.Task k) f w (who.Task m) apart named (Some x) is =
     let out : is_who (who.Task m) (f x) ≡ false = ap (same_who (who.Task m)) (named x) ∙ same-as (who.Task k) x.who (who.Task m) (found-is (who.Task k) w.tasks x is) ∙ apart in
-    ap (λ found. option_or_else found nobody) (set-other (who.Task k) (who.Task m) (f x) w.tasks apart out)
+    ap (λ found. unwrap_or found nobody) (set-other (who.Task k) (who.Task m) (f x) w.tasks apart out)
 edit_found-other (who.Task k) f w who.Agent apart named (Some x) is = refl
 edit_found-other who.Agent f w (who.Task m) apart named (Some x) is = refl
 edit_found-other who.Agent f w who.Agent apart named (Some x) is = never apart

@@ -15,7 +15,7 @@ use Rattle.profile_machine.specs.Program.{edf_low, is_robin_level}
 use Rattle.profile_machine.specs.Scopes.{end_scope}
 use Rattle.profile_machine.specs.Steps.{changes, says}
 use Rattle.profile_machine.specs.Tasks.{edit_task, edit_task_found, is_who, nobody, task_at, task_of, with_state}
-use Rattle.profile_machine.specs.Words.{greatest_of, option_or_else, same_who}
+use Rattle.profile_machine.specs.Words.{greatest_of, same_who}
 use Rattle.profile_machine.specs.declared.image.Image.{Image}
 use Rattle.profile_machine.specs.declared.world.World.{World}
 use Rattle.profile_machine.specs.declared.world.lines.Line.{Line}
@@ -25,7 +25,7 @@ use Rattle.profile_machine.specs.declared.world.lines.Said.{Said}
 use Rattle.profile_machine.specs.declared.world.tasks.State.TheVariants.{Runnable}
 use Rattle.profile_machine.specs.declared.world.tasks.Task.{Task}
 use Rattle.std.proofs.Common.{[], ap, cond, inl, inr, map, refl, subst, sym, ◌&&◌, ◌++◌, ◌∙◌, ◌∷◌, ◌≡◌, ◌⊎◌}
-use Rattle.std.specs.Prelude.{Bool, List, None, Option, Some, eqb, false, find, slice_index_or, true, ℕ}
+use Rattle.std.specs.Prelude.{Bool, List, None, Option, Some, eqb, false, find, slice_index_or, true, ℕ, unwrap_or}
 use Rattle.trace_text.specs.declared.events.QueueEnd.{QueueEnd}
 use Rattle.trace_text.specs.declared.events.QueueEnd.TheVariants.{Head, Tail}
 use Rattle.trace_text.specs.declared.events.Who.{Who}
@@ -53,7 +53,7 @@ active_in p c = greatest_of (map (λ i. i.level) c.inherited) (kept_level_or_bas
 -- ---- somebody is edited
 
 pub core-plain : (a b : World) (n : Who) → b.tasks ≡ a.tasks → b.agent ≡ a.agent → core (task_of b n) ≡ core (task_of a n)
-core-plain a b (who.Task t) tasks agent = ap (λ ts. core (option_or_else (find (is_who (who.Task t)) ts) nobody)) tasks
+core-plain a b (who.Task t) tasks agent = ap (λ ts. core (unwrap_or (find (is_who (who.Task t)) ts) nobody)) tasks
 core-plain a b who.Agent tasks agent = ap core agent
 
 named-apart : (m k : Who) (x y : Task) → is_who m x ≡ true → y.who ≡ x.who → same_who k m ≡ false → is_who k y ≡ false
@@ -62,7 +62,7 @@ named-apart m k x y is same apart = ap (same_who k) (same ∙ sym (who-is m x.wh
 other_found : (name : Who) (f : Task → Task) (w : World) (n : Who) (found : Option Task) → task_at w name ≡ found → ((t : Task) → (f t).who ≡ t.who) → same_who n name ≡ false → core (task_of (edit_task_found name f w found) n) ≡ core (task_of w n)
 other_found name f w n None is named apart = refl
 other_found (who.Task m) f w (who.Task k) (Some x) is named apart =
-    ap (λ found. core (option_or_else found nobody))
+    ap (λ found. core (unwrap_or found nobody))
     (set-other (who.Task m) (who.Task k) (f x) w.tasks apart (named-apart (who.Task m) (who.Task k) x (f x) (found_is_who (who.Task m) x w.tasks is) (named x) apart))
 other_found (who.Task m) f w who.Agent (Some x) is named apart = refl
 other_found who.Agent f w (who.Task k) (Some x) is named apart = refl
@@ -88,13 +88,13 @@ Missed name before behind = IsAbsent name before × (behind ≡ core nobody)
 
 own_found : (name : Who) (f : Task → Task) (w : World) (found : Option Task) → task_at w name ≡ found → ((t : Task) → (f t).who ≡ t.who)
     → Edited name f (core (task_of w name)) (core (task_of (edit_task_found name f w found) name)) ⊎ Missed name (core (task_of w name)) (core (task_of (edit_task_found name f w found) name))
-own_found (who.Task t) f w None is named = let gone : core (task_of w (who.Task t)) ≡ core nobody = ap (λ (r : Option Task). core (option_or_else r nobody)) is in inr ((refl, gone), gone)
+own_found (who.Task t) f w None is named = let gone : core (task_of w (who.Task t)) ≡ core nobody = ap (λ (r : Option Task). core (unwrap_or r nobody)) is in inr ((refl, gone), gone)
 own_found (who.Task t) f w (Some x) is named =
     inl (record {
       task = x;
       named = λ task. found_is_who (who.Task t) x w.tasks is;
-      was = ap (λ (r : Option Task). core (option_or_else r nobody)) is;
-      is = ap (λ (r : Option Task). core (option_or_else r nobody)) (set_where-found (who.Task t) x (f x) w.tasks is (named x));
+      was = ap (λ (r : Option Task). core (unwrap_or r nobody)) is;
+      is = ap (λ (r : Option Task). core (unwrap_or r nobody)) (set_where-found (who.Task t) x (f x) w.tasks is (named x));
     })
 own_found who.Agent f w None is named = absurd cc
 own_found who.Agent f w (Some x) is named = let one : w.agent ≡ x = cc in inl (record { task = x; named = λ task. absurd cc; was = ap core one; is = refl })

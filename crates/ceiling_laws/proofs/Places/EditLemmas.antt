@@ -8,14 +8,14 @@ use Rattle.profile_machine.specs.Dispatching.{active, active_of, kept_level_or_b
 use Rattle.profile_machine.specs.Inheritance.{inherit}
 use Rattle.profile_machine.specs.Program.{edf_low}
 use Rattle.profile_machine.specs.Tasks.{edit_task, edit_task_found, is_who, nobody, task_at, task_of}
-use Rattle.profile_machine.specs.Words.{greatest_of, option_or_else, same_who}
+use Rattle.profile_machine.specs.Words.{greatest_of, same_who}
 use Rattle.profile_machine.specs.declared.image.Image.{Image}
 use Rattle.profile_machine.specs.declared.world.World.{World}
 use Rattle.profile_machine.specs.declared.world.tasks.Cause.{Cause}
 use Rattle.profile_machine.specs.declared.world.tasks.Task.{Task}
 use Rattle.std.proofs.Common.{◌∷◌, None, Option, Some, ap, false, le_refl, map, refl, subst, sym, true, ℕ, ◌∙◌, ◌≡◌, ◌≤◌}
 use Rattle.std.proofs.Math.Nat.{le-max_right}
-use Rattle.std.specs.Prelude.{find}
+use Rattle.std.specs.Prelude.{find, unwrap_or}
 use Rattle.trace_text.specs.declared.events.Who.{Who}
 use Rattle.trace_text.specs.declared.events.Who.TheVariants as who
 
@@ -27,7 +27,7 @@ pub active-same : (p : Image) (a b : World) (n : Who) → Same a b → active_of
 active-same p a b n same = ap (active_core p) (core-same a b n same)
 
 pub active-plain : (p : Image) (a b : World) (n : Who) → b.tasks ≡ a.tasks → b.agent ≡ a.agent → active_of p b n ≡ active_of p a n
-active-plain p a b (who.Task t) tasks agent = ap (λ ts. active p (option_or_else (find (is_who (who.Task t)) ts) nobody)) tasks
+active-plain p a b (who.Task t) tasks agent = ap (λ ts. active p (unwrap_or (find (is_who (who.Task t)) ts) nobody)) tasks
 active-plain p a b who.Agent tasks agent = ap (active p) agent
 
 named-apart : (m k : Who) (x y : Task) → is_who m x ≡ true → y.who ≡ x.who → same_who k m ≡ false → is_who k y ≡ false
@@ -38,7 +38,7 @@ named-apart m k x y is same apart = ap (same_who k) (same ∙ sym (who-is m x.wh
 others-found : (p : Image) (name : Who) (f : Task → Task) (w : World) (n : Who) (found : Option Task) → task_at w name ≡ found → ((t : Task) → (f t).who ≡ t.who) → same_who n name ≡ false → active_of p (edit_task_found name f w found) n ≡ active_of p w n
 others-found p name f w n None is named apart = refl
 others-found p (who.Task m) f w (who.Task k) (Some x) is named apart =
-    ap (λ found. active p (option_or_else found nobody))
+    ap (λ found. active p (unwrap_or found nobody))
     (set-other (who.Task m) (who.Task k) (f x) w.tasks apart (named-apart (who.Task m) (who.Task k) x (f x) (found_is_who (who.Task m) x w.tasks is) (named x) apart))
 others-found p (who.Task m) f w who.Agent (Some x) is named apart = refl
 others-found p who.Agent f w (who.Task k) (Some x) is named apart = refl
@@ -51,10 +51,10 @@ edit-others p name f w n named apart = others-found p name f w n (task_at w name
 same-level : (a b : ℕ) → b ≡ a → a ≤ b
 same-level a b e = subst (λ n. a ≤ n) (sym e) (le_refl a)
 
-risen : (p : Image) (f : Task → Task) (before behind : Option Task) (x : Task) → before ≡ Some x → behind ≡ Some (f x) → active p x ≤ active p (f x) → active p (option_or_else before nobody) ≤ active p (option_or_else behind nobody)
+risen : (p : Image) (f : Task → Task) (before behind : Option Task) (x : Task) → before ≡ Some x → behind ≡ Some (f x) → active p x ≤ active p (f x) → active p (unwrap_or before nobody) ≤ active p (unwrap_or behind nobody)
 risen p f before behind x e k up =
-    subst (λ (r : Option Task). active p (option_or_else r nobody) ≤ active p (option_or_else behind nobody)) (sym e)
-    (subst (λ (r : Option Task). active p x ≤ active p (option_or_else r nobody)) (sym k) up)
+    subst (λ (r : Option Task). active p (unwrap_or r nobody) ≤ active p (unwrap_or behind nobody)) (sym e)
+    (subst (λ (r : Option Task). active p x ≤ active p (unwrap_or r nobody)) (sym k) up)
 
 rises-found : (p : Image) (m : Who) (f : Task → Task) (w : World) (x : Task) → task_at w m ≡ Some x → ((t : Task) → (f t).who ≡ t.who) → ((t : Task) → active p t ≤ active p (f t)) → active_of p w m ≤ active_of p (edit_task_found m f w (Some x)) m
 rises-found p (who.Task t) f w x is named up = risen p f (find (is_who (who.Task t)) w.tasks) (find (is_who (who.Task t)) (edit_task_found (who.Task t) f w (Some x)).tasks) x is (set_where-found (who.Task t) x (f x) w.tasks is (named x)) (up x)
@@ -78,9 +78,9 @@ inherit-rises p name cause level w n =
 state-found : (m : Who) (f : Task → Task) (w : World) (found : Option Task) → task_at w m ≡ found → ((t : Task) → (f t).who ≡ t.who) → ((t : Task) → (f t).state ≡ t.state) → (task_of (edit_task_found m f w found) m).state ≡ (task_of w m).state
 state-found m f w None is named same = refl
 state-found (who.Task t) f w (Some x) is named same =
-    ap (λ (r : Option Task). (option_or_else r nobody).state) (set_where-found (who.Task t) x (f x) w.tasks is (named x)) ∙ same x
-    ∙ sym (ap (λ (r : Option Task). (option_or_else r nobody).state) is)
-state-found who.Agent f w (Some x) is named same = same x ∙ sym (ap (λ (r : Option Task). (option_or_else r nobody).state) is)
+    ap (λ (r : Option Task). (unwrap_or r nobody).state) (set_where-found (who.Task t) x (f x) w.tasks is (named x)) ∙ same x
+    ∙ sym (ap (λ (r : Option Task). (unwrap_or r nobody).state) is)
+state-found who.Agent f w (Some x) is named same = same x ∙ sym (ap (λ (r : Option Task). (unwrap_or r nobody).state) is)
 
 -- a change that leaves states leaves that of whom it changes
 pub edit-state : (name : Who) (f : Task → Task) (w : World) → ((t : Task) → (f t).who ≡ t.who) → ((t : Task) → (f t).state ≡ t.state) → (task_of (edit_task name f w) name).state ≡ (task_of w name).state

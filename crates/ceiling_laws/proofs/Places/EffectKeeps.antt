@@ -35,7 +35,7 @@ use Rattle.profile_machine.specs.Rendezvous.{begin_accept, finish_without_room, 
 use Rattle.profile_machine.specs.Steps.{changes, for_some, is_part_before, looks, says, ◌▷◌}
 use Rattle.profile_machine.specs.Tasking.{add_task, create_task, says_created, says_done}
 use Rattle.profile_machine.specs.Tasks.{edit_task, is_made, is_made_state, is_runnable_state, is_who, nobody, task_of, waiting_in, waiting_of, with_frames, with_state}
-use Rattle.profile_machine.specs.Words.{option_or_else, same_who, without}
+use Rattle.profile_machine.specs.Words.{same_who, without}
 use Rattle.profile_machine.specs.declared.image.Image.{Image}
 use Rattle.profile_machine.specs.declared.numbers.DeclNo.{DeclNo}
 use Rattle.profile_machine.specs.declared.numbers.ProtectedUnitNo.{ProtectedUnitNo}
@@ -59,7 +59,7 @@ use Rattle.profile_machine.specs.declared.world.tasks.Waiting.{Waiting}
 use Rattle.profile_machine.specs.declared.world.tasks.Waiting.TheVariants as waits_for
 use Rattle.std.proofs.Common.{ap, arith, cond, inl, inr, le_refl, refl, subst, sym, ◌++◌, ◌∙◌, ◌∷◌, ◌≡◌, ◌⊎◌}
 use Rattle.std.proofs.lemmas.Bool.{le-leb}
-use Rattle.std.specs.Prelude.{Bool, List, None, Option, Some, [], false, find, leb, suc, true, ℕ, ℤ, ◌-◌}
+use Rattle.std.specs.Prelude.{Bool, List, None, Option, Some, [], false, find, leb, suc, true, ℕ, ℤ, ◌-◌, unwrap_or}
 use Rattle.trace_text.specs.Laws.{Levels}
 use Rattle.trace_text.specs.declared.events.Created.TheVariants as created
 use Rattle.trace_text.specs.declared.events.Waits.{Waits}
@@ -79,11 +79,11 @@ made-unblocked (Blocked waiting) made = absurd cc
 -- ---- somebody is no longer there
 
 forget-other : (name : Who) (w : World) (n : Who) → same_who n name ≡ false → core (task_of (forget_task name w) n) ≡ core (task_of w n)
-forget-other name w (who.Task k) apart = ap (λ (r : Option Task). core (option_or_else r nobody)) (kept-others name (who.Task k) w.tasks apart)
+forget-other name w (who.Task k) apart = ap (λ (r : Option Task). core (unwrap_or r nobody)) (kept-others name (who.Task k) w.tasks apart)
 forget-other name w who.Agent apart = refl
 
 forget-task : (name : Who) (w : World) → is_agent name ≡ false → core (task_of (forget_task name w) name) ≡ core nobody
-forget-task (who.Task k) w task = ap (λ (r : Option Task). core (option_or_else r nobody)) (none-left (who.Task k) w.tasks)
+forget-task (who.Task k) w task = ap (λ (r : Option Task). core (unwrap_or r nobody)) (none-left (who.Task k) w.tasks)
 forget-task who.Agent w task = absurd cc
 
 forget-agent : (name : Who) (w : World) → is_agent name ≡ true → core (task_of (forget_task name w) name) ≡ core (task_of w name)
@@ -130,11 +130,11 @@ find-behind test t [] = refl
 find-behind test t (x ∷ xs) = behind_if (test x) x (find test xs) (find test (xs ++ t ∷ [])) (cond (test t) (Some t) None) (find-behind test t xs)
 
 added_by : (t : Task) (n : Who) (found behind : Option Task) (b : Bool) → same_who n t.who ≡ b → behind ≡ or_found found (cond b (Some t) None)
-    → (core (option_or_else behind nobody) ≡ core (option_or_else found nobody)) ⊎ AddedAs t n (core (option_or_else found nobody)) (core (option_or_else behind nobody))
+    → (core (unwrap_or behind nobody) ≡ core (unwrap_or found nobody)) ⊎ AddedAs t n (core (unwrap_or found nobody)) (core (unwrap_or behind nobody))
 unfolding or_found
-added_by t n (Some x) behind b is e = inl (ap (λ (r : Option Task). core (option_or_else r nobody)) e)
-added_by t n None behind true is e = inr (record { named = is; was = refl; is = ap (λ (r : Option Task). core (option_or_else r nobody)) e })
-added_by t n None behind false is e = inl (ap (λ (r : Option Task). core (option_or_else r nobody)) e)
+added_by t n (Some x) behind b is e = inl (ap (λ (r : Option Task). core (unwrap_or r nobody)) e)
+added_by t n None behind true is e = inr (record { named = is; was = refl; is = ap (λ (r : Option Task). core (unwrap_or r nobody)) e })
+added_by t n None behind false is e = inl (ap (λ (r : Option Task). core (unwrap_or r nobody)) e)
 
 add-found : (t : Task) (w : World) (n : Who) → (core (task_of (add_task t w) n) ≡ core (task_of w n)) ⊎ AddedAs t n (core (task_of w n)) (core (task_of (add_task t w) n))
 add-found t w (who.Task k) = added_by t (who.Task k) (find (is_who (who.Task k)) w.tasks) (find (is_who (who.Task k)) (w.tasks ++ t ∷ [])) (is_who (who.Task k) t) refl (find-behind (is_who (who.Task k)) t w.tasks)

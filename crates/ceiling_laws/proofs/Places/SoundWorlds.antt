@@ -12,7 +12,7 @@ use Rattle.profile_machine.specs.Masters.{forget_task}
 use Rattle.profile_machine.specs.Tasking.{add_task}
 use Rattle.profile_machine.specs.Tasks.{edit_task, edit_task_found, is_who, nobody, task_at, task_of}
 use Rattle.profile_machine.specs.WellFormed.{number_in}
-use Rattle.profile_machine.specs.Words.{option_or_else, same_task, same_who, without}
+use Rattle.profile_machine.specs.Words.{same_task, same_who, without}
 use Rattle.profile_machine.specs.declared.world.World.{World}
 use Rattle.profile_machine.specs.declared.world.appointments.Appointment.{Appointment}
 use Rattle.profile_machine.specs.declared.world.appointments.Due.TheVariants as due_for
@@ -22,7 +22,7 @@ use Rattle.profile_machine.specs.declared.world.tasks.Task.{Task}
 use Rattle.std.proofs.Common.{ap, arith, cond, inl, inr, le_refl, le_trans, map, refl, subst, sym, ◌++◌, ◌||◌, ◌∙◌, ◌∷◌, ◌≡◌, ◌≤◌, ◌⊎◌}
 use Rattle.std.proofs.lemmas.Bool.{le-leb}
 use Rattle.std.specs.List.{list_any}
-use Rattle.std.specs.Prelude.{Bool, List, None, Option, Some, [], eqb, false, find, int_lt, leb, not, suc, true, ℕ, ℤ}
+use Rattle.std.specs.Prelude.{Bool, List, None, Option, Some, [], eqb, false, find, int_lt, leb, not, suc, true, ℕ, ℤ, unwrap_or}
 use Rattle.trace_text.specs.declared.events.Who.{Who}
 use Rattle.trace_text.specs.declared.events.Who.TheVariants as who
 
@@ -259,7 +259,7 @@ sound-appoint t moment w own h = record {
 abbrev pub IsAbsent : Who → Core → Type 0
 IsAbsent name c = (is_agent name ≡ false) × (c ≡ core nobody)
 
-found-known : (n : Who) (w : World) (found : Option Task) → find (is_who n) w.tasks ≡ found → is_agent n ≡ false → Sound w → IsAbsent n (core (option_or_else found nobody)) ⊎ (is_fresh w.drawn.tasks n ≡ false)
+found-known : (n : Who) (w : World) (found : Option Task) → find (is_who n) w.tasks ≡ found → is_agent n ≡ false → Sound w → IsAbsent n (core (unwrap_or found nobody)) ⊎ (is_fresh w.drawn.tasks n ≡ false)
 found-known n w None is task h = inl (task, refl)
 found-known n w (Some x) is task h =
     let known = found-each (Known 0 w.drawn.tasks w.tasks) (is_who n) w.tasks x (each-known 0 w.drawn.tasks w.tasks h.names) is in
@@ -276,7 +276,7 @@ pub record IsThere (w : World) (t : Task) : Type 0 where
   pub no_agent : is_agent t.who ≡ false
 
 pub found_as : (n : Who) (w : World) (t : Task) → is_agent n ≡ false → find (is_who n) w.tasks ≡ Some t → task_of w n ≡ t
-found_as (who.Task k) w t task found = ap (λ x. option_or_else x nobody) found
+found_as (who.Task k) w t task found = ap (λ x. unwrap_or x nobody) found
 found_as who.Agent w t task found = absurd cc
 
 pub all_there : (w : World) → Sound w → EachTask (IsThere w) w.tasks

@@ -36,7 +36,6 @@ use Rattle.profile_machine.specs.Run.{blank_world, environment, opening, opens, 
 use Rattle.profile_machine.specs.Scopes.{open_scope, plainly}
 use Rattle.profile_machine.specs.Steps.{Move, changes, is_part_before, placed_by, rests, says, settles, ◌▶◌}
 use Rattle.profile_machine.specs.Tasks.{is_runnable, nobody, task_at, task_of}
-use Rattle.profile_machine.specs.Words.{option_or_else}
 use Rattle.profile_machine.specs.declared.image.Image.{Image}
 use Rattle.profile_machine.specs.declared.run_data.Item.{Item}
 use Rattle.profile_machine.specs.declared.world.World.{World}
@@ -47,7 +46,7 @@ use Rattle.profile_machine.specs.declared.world.lines.Said.{Said}
 use Rattle.profile_machine.specs.declared.world.marks.Purpose.TheVariants as opened_for
 use Rattle.profile_machine.specs.declared.world.tasks.Task.{Task}
 use Rattle.std.proofs.Common.{ap, cond, inl, inr, le_refl, refl, subst, sym, ◌++◌, ◌∙◌, ◌∷◌, ◌≡◌, ◌≤◌, ◌⊎◌}
-use Rattle.std.specs.Prelude.{Bool, List, None, Option, Some, [], false, true, ℕ, ℤ}
+use Rattle.std.specs.Prelude.{Bool, List, None, Option, Some, [], false, true, ℕ, ℤ, unwrap_or}
 use Rattle.line_laws.proofs.Ticks.LineByLine.{Follow}
 use Rattle.trace_text.specs.Laws.{Levels, no_levels, see_levels}
 use Rattle.trace_text.specs.Queue.{entry_of}
@@ -123,7 +122,7 @@ module _ (p : Image) where
   shown-drawn sight n d entry c found h =
       by_test (is_fresh d n) (λ fresh. absurd (let clash : Some entry.level ≡ None = sym (ap level_in found) ∙ h.fresh fresh in cc)) (λ apart. apart)
 
-  there-apart : {P : Type 0} (n : Who) (w : World) (found : Option Task) → task_at w n ≡ found → is_over (option_or_else found nobody).ticks_left ≡ true → IsAbsent n (core (option_or_else found nobody)) → P
+  there-apart : {P : Type 0} (n : Who) (w : World) (found : Option Task) → task_at w n ≡ found → is_over (unwrap_or found nobody).ticks_left ≡ true → IsAbsent n (core (unwrap_or found nobody)) → P
   there-apart n w None is acts absent = absurd cc
   there-apart (who.Task t) w (Some x) is acts absent = not-absent (who.Task t) x (λ u. u) (λ task. found_is_who (who.Task t) x w.tasks is) refl absent
   there-apart who.Agent w (Some x) is acts absent = absurd (let clash : true ≡ false = absent.0 in cc)
@@ -313,7 +312,7 @@ pub runs_place_at_most_active : RunsPlaceAtMostActive
 runs_place_at_most_active p script bound lines w told = λ n. ((told-stands p script bound lines w told).1 n).low
 
 -- who is there is not absent
-shown-ready : (sight : Levels) (n : Who) (w : World) (found : Option Task) (x : Task) → task_at w n ≡ found → found ≡ Some x → is_runnable x ≡ false → (runs_in (core (option_or_else found nobody)) ≡ true) ⊎ ((level_shown n sight ≡ None) ⊎ IsAbsent n (core (option_or_else found nobody))) → level_shown n sight ≡ None
+shown-ready : (sight : Levels) (n : Who) (w : World) (found : Option Task) (x : Task) → task_at w n ≡ found → found ≡ Some x → is_runnable x ≡ false → (runs_in (core (unwrap_or found nobody)) ≡ true) ⊎ ((level_shown n sight ≡ None) ⊎ IsAbsent n (core (unwrap_or found nobody))) → level_shown n sight ≡ None
 shown-ready sight n w None x is e idle h = absurd cc
 shown-ready sight n w (Some y) x is e idle (inl runs) = clash_of (is_runnable y) runs (let one : y ≡ x = cc in ap (λ (t : Task). is_runnable t) one ∙ idle)
 shown-ready sight n w (Some y) x is e idle (inr (inl hidden)) = hidden

@@ -28,7 +28,7 @@ use Rattle.profile_machine.specs.Run.{tock}
 use Rattle.profile_machine.specs.Scopes.{end_scope}
 use Rattle.profile_machine.specs.Steps.{placed_by, ◌▶◌}
 use Rattle.profile_machine.specs.Tasks.{edit_task, edit_task_found, is_runnable, is_runnable_state, is_who, nobody, task_at, task_of, waiting_in, waiting_of, with_state}
-use Rattle.profile_machine.specs.Words.{option_or_else, same_who}
+use Rattle.profile_machine.specs.Words.{same_who}
 use Rattle.profile_machine.specs.declared.image.Image.{Image}
 use Rattle.profile_machine.specs.declared.world.World.{World}
 use Rattle.profile_machine.specs.declared.world.lines.Line.{Line}
@@ -43,7 +43,7 @@ use Rattle.profile_machine.specs.declared.world.tasks.State.TheVariants.{Blocked
 use Rattle.profile_machine.specs.declared.world.tasks.Task.{Task}
 use Rattle.profile_machine.specs.declared.world.tasks.Waiting.{Waiting}
 use Rattle.std.proofs.Common.{Bool, List, None, Option, Some, [], ap, cond, false, refl, subst, sym, true, ℕ, ℤ, ◌&&◌, ◌++◌, ◌∙◌, ◌∷◌, ◌≡◌}
-use Rattle.std.specs.Prelude.{eqb, find, slice_index_or}
+use Rattle.std.specs.Prelude.{eqb, find, slice_index_or, unwrap_or}
 use Rattle.line_laws.proofs.Ticks.LineByLine.{Follow, seen_behind}
 use Rattle.trace_text.specs.Laws.{Levels, see_levels}
 use Rattle.trace_text.specs.Queue.{entry_of}
@@ -61,7 +61,7 @@ named-apart m k x y is same apart = ap (same_who k) (same ∙ sym (who-is m x.wh
 other-found : (name : Who) (f : Task → Task) (w : World) (n : Who) (found : Option Task) → task_at w name ≡ found → ((t : Task) → (f t).who ≡ t.who) → same_who n name ≡ false → waiting_of (edit_task_found name f w found) n ≡ waiting_of w n
 other-found name f w n None is named apart = refl
 other-found (who.Task m) f w (who.Task k) (Some x) is named apart =
-    ap (λ (r : Option Task). waiting_in (option_or_else r nobody).state)
+    ap (λ (r : Option Task). waiting_in (unwrap_or r nobody).state)
     (set-other (who.Task m) (who.Task k) (f x) w.tasks apart (named-apart (who.Task m) (who.Task k) x (f x) (found_is_who (who.Task m) x w.tasks is) (named x) apart))
 other-found (who.Task m) f w who.Agent (Some x) is named apart = refl
 other-found who.Agent f w (who.Task k) (Some x) is named apart = refl
@@ -78,8 +78,8 @@ still-waits name f w n named same =
     (λ apart. other-waits name f w n named apart)
 
 awake-found : (m : Who) (w : World) (found : Option Task) → task_at w m ≡ found → waiting_of (edit_task_found m (with_state Runnable) w found) m ≡ None
-awake-found m w None is = ap (λ (r : Option Task). waiting_in (option_or_else r nobody).state) is
-awake-found (who.Task t) w (Some x) is = ap (λ (r : Option Task). waiting_in (option_or_else r nobody).state) (set_where-found (who.Task t) x (with_state Runnable x) w.tasks is refl)
+awake-found m w None is = ap (λ (r : Option Task). waiting_in (unwrap_or r nobody).state) is
+awake-found (who.Task t) w (Some x) is = ap (λ (r : Option Task). waiting_in (unwrap_or r nobody).state) (set_where-found (who.Task t) x (with_state Runnable x) w.tasks is refl)
 awake-found who.Agent w (Some x) is = refl
 
 granted-who : (test : Bool) (n : ℕ) (t : Task) → (cond test (record t { quantum = n }) t).who ≡ t.who
@@ -133,7 +133,7 @@ module _ (p : Image) (s : Levels) where
   out-same a b said same h = λ n waiting e. h n waiting (sym (same n) ∙ e)
 
   pub ended-waits : (w : World) (a : World) (n : Who) → a.tasks ≡ w.tasks → a.agent ≡ w.agent → waiting_of a n ≡ waiting_of w n
-  ended-waits w a (who.Task t) tasks agent = ap (λ ts. waiting_in (option_or_else (find (is_who (who.Task t)) ts) nobody).state) tasks
+  ended-waits w a (who.Task t) tasks agent = ap (λ ts. waiting_in (unwrap_or (find (is_who (who.Task t)) ts) nobody).state) tasks
   ended-waits w a who.Agent tasks agent = ap (λ (t : Task). waiting_in t.state) agent
 
   pub out_quiet : Silences (Out s)

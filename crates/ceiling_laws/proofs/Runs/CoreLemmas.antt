@@ -4,13 +4,13 @@ use Rattle.ceiling_laws.specs.Cores.{Core, Same, ceiling_in, core}
 use Rattle.ceiling_laws.specs.RunLaws.{AreCeilingsShown}
 use Rattle.profile_machine.specs.Tasks.{is_who, nobody, task_of}
 use Rattle.profile_machine.specs.Values.{is_object}
-use Rattle.profile_machine.specs.Words.{option_or_else, same_object, same_who}
+use Rattle.profile_machine.specs.Words.{same_object, same_who}
 use Rattle.profile_machine.specs.declared.world.World.{World}
 use Rattle.profile_machine.specs.declared.world.objects.Object.{Object}
 use Rattle.profile_machine.specs.declared.world.tasks.Task.{Task}
 use Rattle.std.proofs.Common.{Bool, List, None, Option, Some, [], ap, cond, false, map, refl, subst, sym, true, ℕ, ◌∙◌, ◌∷◌, ◌≡◌}
 use Rattle.std.proofs.lemmas.Bool.{eqb-true}
-use Rattle.std.specs.Prelude.{filter, find, option_map}
+use Rattle.std.specs.Prelude.{filter, find, option_map, unwrap_or}
 use Rattle.trace_text.specs.Laws.{level_of}
 use Rattle.trace_text.specs.declared.events.Who.{Who}
 use Rattle.trace_text.specs.declared.events.Who.TheVariants as who
@@ -19,11 +19,11 @@ abbrev core_in : Who → List Core → Core
 core_in n [] = core nobody
 core_in n (c ∷ cs) = cond (same_who n c.who) c (core_in n cs)
 
-core-test : (b : Bool) (t : Task) (rest : Option Task) (cs : Core) → core (option_or_else rest nobody) ≡ cs → core (option_or_else (cond b (Some t) rest) nobody) ≡ cond b (core t) cs
+core-test : (b : Bool) (t : Task) (rest : Option Task) (cs : Core) → core (unwrap_or rest nobody) ≡ cs → core (unwrap_or (cond b (Some t) rest) nobody) ≡ cond b (core t) cs
 core-test true t rest cs e = refl
 core-test false t rest cs e = e
 
-core-found : (n : Who) (ts : List Task) → core (option_or_else (find (is_who n) ts) nobody) ≡ core_in n (map core ts)
+core-found : (n : Who) (ts : List Task) → core (unwrap_or (find (is_who n) ts) nobody) ≡ core_in n (map core ts)
 core-found n [] = refl
 core-found n (t ∷ ts) = core-test (is_who n t) t (find (is_who n) ts) (core_in n (map core ts)) (core-found n ts)
 

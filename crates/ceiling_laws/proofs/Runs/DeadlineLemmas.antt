@@ -27,7 +27,7 @@ use Rattle.profile_machine.specs.Scopes.{plainly}
 use Rattle.profile_machine.specs.Steps.{Step, changes, in_order, is_part_before, put_in_order, says, ◌▷◌}
 use Rattle.profile_machine.specs.Tasking.{add_task, create_task, says_created}
 use Rattle.profile_machine.specs.Tasks.{edit_task, task_at, task_of}
-use Rattle.profile_machine.specs.Words.{greatest_of, some_where}
+use Rattle.profile_machine.specs.Words.{greatest_of}
 use Rattle.profile_machine.specs.declared.image.DispatchingRange.{DispatchingRange}
 use Rattle.profile_machine.specs.declared.image.Image.{Image}
 use Rattle.profile_machine.specs.declared.numbers.DeclNo.{DeclNo}
@@ -47,6 +47,7 @@ use Rattle.profile_machine.specs.declared.world.scopes.Located.{Located}
 use Rattle.profile_machine.specs.declared.world.scopes.ScopeId.{ScopeId}
 use Rattle.profile_machine.specs.declared.world.tasks.Task.{Task}
 use Rattle.std.proofs.Common.{ap, arith, map, refl, subst, sym, ◌∙◌, ◌≡◌, ◌≤◌}
+use Rattle.std.specs.Bool.{then_some}
 use Rattle.std.proofs.Math.Nat.{le-max_right}
 use Rattle.std.proofs.lemmas.Bool.{eqb-true, leb-true}
 use Rattle.std.specs.List.{list_all}
@@ -161,7 +162,7 @@ unfolding right_event
 apart-right p (line.Ready name level end deadline) e = absurd cc
 apart-right p _ e = refl
 
-some-right : (p : Image) (name : Who) (b : Bool) (deadline : ℤ) → (b ≡ true → may_have p name ≡ true) → told_rightly p name (some_where b deadline) ≡ true
+some-right : (p : Image) (name : Who) (b : Bool) (deadline : ℤ) → (b ≡ true → may_have p name ≡ true) → told_rightly p name (then_some b deadline) ≡ true
 unfolding told_rightly
 some-right p name true deadline h = h refl
 some-right p name false deadline h = refl

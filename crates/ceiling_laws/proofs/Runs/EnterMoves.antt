@@ -28,7 +28,7 @@ use Rattle.profile_machine.specs.Steps.{Done, Move, changes, done, in_order, res
 use Rattle.profile_machine.specs.Tasking.{add_task, create_task, says_created}
 use Rattle.profile_machine.specs.Tasks.{edit_task, found_task, nobody, task_of}
 use Rattle.profile_machine.specs.Values.{object_of}
-use Rattle.profile_machine.specs.Words.{greatest_of, option_or_else, without}
+use Rattle.profile_machine.specs.Words.{greatest_of, without}
 use Rattle.profile_machine.specs.declared.image.Image.{Image}
 use Rattle.profile_machine.specs.declared.numbers.DeclNo.{DeclNo}
 use Rattle.profile_machine.specs.declared.numbers.ProtectedUnitNo.{ProtectedUnitNo}
@@ -50,7 +50,7 @@ use Rattle.profile_machine.specs.declared.world.scopes.ScopeId.{ScopeId}
 use Rattle.profile_machine.specs.declared.world.tasks.Task.{Task}
 use Rattle.std.proofs.Common.{Bool, List, None, Option, Some, [], ap, arith, cond, false, inl, inr, le_trans, ltb, map, nat_le, refl, subst, sym, true, ◌&&◌, ◌||◌, ◌∙◌, ◌∷◌, ◌≡◌, ◌≤◌}
 use Rattle.std.proofs.lemmas.Bool.{le-leb}
-use Rattle.std.specs.Prelude.{not, ℕ, ℤ, ◌-◌}
+use Rattle.std.specs.Prelude.{not, ℕ, ℤ, ◌-◌, unwrap_or}
 use Rattle.line_laws.proofs.Ticks.LineByLine.{Follow-all, Follow-append, seen_behind}
 use Rattle.trace_text.specs.Laws.{Levels, base_of, is_at_most, is_base_below, is_below_ceiling, is_entry_below, level_of, see_levels}
 use Rattle.trace_text.specs.declared.events.Created.TheVariants as created
@@ -141,7 +141,7 @@ OneEnters sight w said = Entered sight said
 
 -- a change of neither tasks nor the agent
 seen_plainly : (name : Who) (a b : World) → b.tasks ≡ a.tasks → b.agent ≡ a.agent → core (task_of b name) ≡ core (task_of a name)
-seen_plainly (who.Task t) a b tasks agent = ap (λ ts. core (option_or_else (found_task (who.Task t) ts) nobody)) tasks
+seen_plainly (who.Task t) a b tasks agent = ap (λ ts. core (unwrap_or (found_task (who.Task t) ts) nobody)) tasks
 seen_plainly who.Agent a b tasks agent = ap core agent
 
 first_quiet : (v : World) (name : Who) (sight : Levels) → Silences (AtFirst v name sight)

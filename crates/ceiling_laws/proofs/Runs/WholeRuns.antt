@@ -10,13 +10,12 @@ use Rattle.profile_machine.specs.Dispatching.{active_of}
 use Rattle.profile_machine.specs.Instant.{instant, is_over}
 use Rattle.profile_machine.specs.Run.{Ran, at_tick, opening, run_from, run_of, stop, stopped, then_runs, tock}
 use Rattle.profile_machine.specs.Tasks.{nobody, task_at, task_of}
-use Rattle.profile_machine.specs.Words.{option_or_else}
 use Rattle.profile_machine.specs.declared.image.Image.{Image}
 use Rattle.profile_machine.specs.declared.run_data.Item.{Item}
 use Rattle.profile_machine.specs.declared.world.World.{World}
 use Rattle.profile_machine.specs.declared.world.tasks.Task.{Task}
 use Rattle.std.proofs.Common.{ap, refl, subst, sym, ◌∙◌, ◌≡◌}
-use Rattle.std.specs.Prelude.{Bool, List, None, Option, Some, [], false, suc, true, zero, ℕ, ℤ, ◌&&◌, ◌++◌, ◌∷◌, ◌≤◌}
+use Rattle.std.specs.Prelude.{Bool, List, None, Option, Some, [], false, suc, true, zero, ℕ, ℤ, ◌&&◌, ◌++◌, ◌∷◌, ◌≤◌, unwrap_or}
 use Rattle.trace_text.proofs.LawsFollowed.{lines_hold}
 use Rattle.trace_text.specs.Laws.{Levels, is_below_ceiling, no_levels, see_levels}
 use Rattle.trace_text.specs.Queue.{entry_of, follows_lines}
@@ -66,7 +65,7 @@ kept-then n sight (x ∷ xs) rest h k =
 
 -- ---- who acts
 
-task-there : (found : Option Task) → is_over (option_or_else found nobody).ticks_left ≡ true → found ≡ Some (option_or_else found nobody)
+task-there : (found : Option Task) → is_over (unwrap_or found nobody).ticks_left ≡ true → found ≡ Some (unwrap_or found nobody)
 task-there None e = absurd cc
 task-there (Some x) e = refl
 

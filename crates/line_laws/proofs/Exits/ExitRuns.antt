@@ -1,6 +1,6 @@
 -- Runs in which nobody acts that waits for an entry call: each `exit` line closes an action that is open.
 use Rattle.std.proofs.Common.{◌≡◌, ℕ, ℤ, zero, suc, Bool, true, false, ◌+◌, ◌≤◌, cond, List, [], ◌∷◌, ◌++◌, Option, Some, None, refl, sym, ap, subst, arith}
-use Rattle.std.specs.Prelude.{IsTrue}
+use Rattle.std.specs.Prelude.{IsTrue, unwrap_or}
 use Rattle.trace_text.specs.declared.events.Action as shown
 use Rattle.trace_text.specs.declared.events.Event.{Event}
 use Rattle.trace_text.specs.declared.events.Event.TheVariants as written
@@ -8,7 +8,6 @@ use Rattle.trace_text.specs.declared.events.Ended.{Ended}
 use Rattle.trace_text.specs.declared.events.Ended.TheVariants as why
 use Rattle.trace_text.specs.declared.events.Who.TheVariants as who
 use Rattle.profile_machine.specs.declared.world.tasks.Task.{Task}
-use Rattle.profile_machine.specs.Words.{option_or_else}
 use Rattle.profile_machine.specs.Tasks.{nobody, is_who}
 use Rattle.machine_laws.proofs.FinestMoves.{natures}
 use Rattle.line_laws.proofs.Exits.OpenCounts.{count}
@@ -37,7 +36,7 @@ use Rattle.line_laws.proofs.Exits.ExitMoves.{telling, tock_moves}
 abbrev LedOn : List shown.Action → List Event → World → Type 0
 LedOn s lines w = RightOf s lines × Tied (actions_behind s lines) no_credit w
 
-none-open : (o : ℕ) (b : Bool) (t : Task) → t.frames ≡ [] → count o (natures (option_or_else (cond b (Some t) None) nobody).frames) + 0 ≤ 0
+none-open : (o : ℕ) (b : Bool) (t : Task) → t.frames ≡ [] → count o (natures (unwrap_or (cond b (Some t) None) nobody).frames) + 0 ≤ 0
 none-open o true t e = let none = ap (λ fs. count o (natures fs)) e in let zero_open : count o (natures t.frames) ≡ 0 = none in omega (arith, zero_open)
 none-open o false t e = omega arith
 

@@ -6,7 +6,7 @@ use Rattle.trace_text.specs.declared.events.Who.TheVariants as who
 use Rattle.profile_machine.specs.declared.world.World.{World}
 use Rattle.profile_machine.specs.declared.world.marks.Frame.{Frame}
 use Rattle.profile_machine.specs.declared.world.tasks.Task.{Task}
-use Rattle.profile_machine.specs.Words.{first_of_list}
+use Rattle.world_tables.specs.Lists.{first_of}
 use Rattle.profile_machine.specs.Frames.{frames_of}
 use Rattle.profile_machine.specs.Instant.{is_over}
 use Rattle.profile_machine.specs.Serving.{not_left}
@@ -33,7 +33,7 @@ stays_held = record {
 pub held-on_top : (name : Who) (o : ObjectNo) (w : World) → Holds name o w → top_action w name ≡ Some o
 held-on_top name o w h = sym (ap (λ (t : Task). action_first (natures t.frames)) (one_of-is w name)) ∙ h.0
 
-on_top : (frames : List Frame) (f : Frame) → first_of_list frames ≡ Some f → action_first (natures frames) ≡ action_in f.mark
+on_top : (frames : List Frame) (f : Frame) → first_of frames ≡ Some f → action_first (natures frames) ≡ action_in f.mark
 on_top [] f e = absurd cc
 on_top (g ∷ gs) f e = let is : g ≡ f = cc in ap (λ (x : Frame). action_in x.mark) is
 

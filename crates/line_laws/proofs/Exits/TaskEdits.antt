@@ -1,19 +1,19 @@
 -- A task, or the agent, as it stands in a world: what holds of it where somebody is edited.
 use Rattle.std.proofs.Common.{◌≡◌, ℕ, Bool, true, false, cond, List, [], ◌∷◌, ◌++◌, Option, Some, None, refl, sym, ap, subst, ◌∙◌, eq-eqb}
 use Rattle.std.proofs.lemmas.Bool.{eqb-true, false≢true}
-use Rattle.std.specs.Prelude.{find, not}
+use Rattle.std.specs.Prelude.{find, not, unwrap_or}
 use Rattle.ann_base.specs.declared.identities.TaskNo.{TaskNo}
 use Rattle.trace_text.specs.declared.events.Who.{Who}
 use Rattle.trace_text.specs.declared.events.Who.TheVariants as who
 use Rattle.profile_machine.specs.declared.world.World.{World}
 use Rattle.profile_machine.specs.declared.world.tasks.Task.{Task}
-use Rattle.profile_machine.specs.Words.{same_who, set_where, without, option_or_else}
+use Rattle.profile_machine.specs.Words.{same_who, set_where, without}
 use Rattle.line_laws.proofs.Exclusion.ObjectLists.{by_test}
 use Rattle.profile_machine.specs.Tasks.{is_who, nobody, task_at, task_of, edit_task_found, edit_task}
 
 -- who has this name among these tasks, or the agent
 abbrev pub one_of : List Task → Task → Who → Task
-one_of tasks agent (who.Task n) = option_or_else (find (is_who (who.Task n)) tasks) nobody
+one_of tasks agent (who.Task n) = unwrap_or (find (is_who (who.Task n)) tasks) nobody
 one_of tasks agent who.Agent = agent
 
 pub one_of-is : (w : World) (name : Who) → one_of w.tasks w.agent name ≡ task_of w name
@@ -48,7 +48,7 @@ some-same x y e = cc
 -- ---- what holds of the one that is found, or of nobody
 
 abbrev pub seen : (Task → Type 0) → Option Task → Type 0
-seen P found = P (option_or_else found nobody)
+seen P found = P (unwrap_or found nobody)
 
 pub tail-step : (P : Task → Type 0) (c : Bool) (z : Task) (rest other : Option Task) → (seen P rest → seen P other) → seen P (cond c (Some z) rest) → seen P (cond c (Some z) other)
 tail-step P true z rest other k h = h
@@ -58,7 +58,7 @@ tail-step P false z rest other k h = k h
 module _ (P R : Task → Type 0) (m k : TaskNo) (x y : Task) (named : y.who ≡ x.who) (same : same_who (who.Task m) (who.Task k) ≡ true → P x → R y) (apart : same_who (who.Task m) (who.Task k) ≡ false → (t : Task) → P t → R t) where
   head-step : (c : Bool) (rest : Option Task) → is_who (who.Task m) x ≡ c → is_who (who.Task k) x ≡ true → seen P (cond c (Some x) rest) → seen R (cond (is_who (who.Task m) y) (Some y) rest)
   head-step true rest e f h = subst (λ b. seen R (cond b (Some y) rest)) (sym (ap (same_who (who.Task m)) named ∙ e)) (same (both-same m k x.who e f) h)
-  head-step false rest e f h = subst (λ b. seen R (cond b (Some y) rest)) (sym (ap (same_who (who.Task m)) named ∙ e)) (apart (other-name m k x.who e f) (option_or_else rest nobody) h)
+  head-step false rest e f h = subst (λ b. seen R (cond b (Some y) rest)) (sym (ap (same_who (who.Task m)) named ∙ e)) (apart (other-name m k x.who e f) (unwrap_or rest nobody) h)
 
   rest-step : (c : Bool) (z : Task) (rest other : Option Task) → is_who (who.Task m) z ≡ c → is_who (who.Task k) z ≡ false → (seen P rest → seen R other) → seen P (cond c (Some z) rest) → seen R (cond c (Some z) other)
   rest-step true z rest other e f onward h = apart (other-one m k z.who e f) z h
@@ -82,7 +82,7 @@ none-found : (P R : Task → Type 0) (me n : Who) (w : World) (b : Bool) → sam
 none-found P R me n w false is apart blank e h = apart refl (one_of w.tasks w.agent me) h
 none-found P R me n w true is apart blank e h =
     let same : me ≡ n = same_who-path me n is in
-    let absent : one_of w.tasks w.agent me ≡ nobody = one_of-is w me ∙ ap (task_of w) same ∙ ap (λ found. option_or_else found nobody) e in
+    let absent : one_of w.tasks w.agent me ≡ nobody = one_of-is w me ∙ ap (task_of w) same ∙ ap (λ found. unwrap_or found nobody) e in
     subst R (sym absent) (blank (subst P absent h))
 
 edited-found : (P R : Task → Type 0) (me n : Who) (f : Task → Task) (w : World) → ((t : Task) → (f t).who ≡ t.who) → (same_who me n ≡ true → (t : Task) → P t → R (f t)) → (same_who me n ≡ false → (t : Task) → P t → R t) → (P nobody → R nobody)

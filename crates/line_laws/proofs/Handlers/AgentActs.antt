@@ -23,7 +23,7 @@ use Rattle.profile_machine.specs.declared.world.tasks.Waiting.TheVariants as wai
 use Rattle.profile_machine.specs.declared.world.lines.Line.TheVariants as said
 use Rattle.profile_machine.specs.declared.world.lines.Part.TheVariants.{Own}
 use Rattle.profile_machine.specs.declared.world.lines.Said.{Said}
-use Rattle.profile_machine.specs.Words.{first_of_list}
+use Rattle.world_tables.specs.Lists.{first_of}
 use Rattle.ann_base.specs.Lists.{is_empty}
 use Rattle.profile_machine.specs.Program.{form_of, marks_of, subprogram_of}
 use Rattle.profile_machine.specs.Steps.{Step, says, changes, looks, when, ◌▷◌}
@@ -188,13 +188,13 @@ marked-rooted : (serving : Option Release) (n : Nature) (ns : List Nature) → M
 marked-rooted None n ns h = absurd cc
 marked-rooted (Some r) n ns h = (r, refl, h)
 
-top-from : (p : Image) (fs : List Frame) (w : World) → w.agent.frames ≡ fs → Attending w → From Acted w (act_top p who.Agent (first_of_list fs))
+top-from : (p : Image) (fs : List Frame) (w : World) → w.agent.frames ≡ fs → Attending w → From Acted w (act_top p who.Agent (first_of fs))
 unfolding act_top
 top-from p [] w e h = looks_by Acted (λ v. act_without p who.Agent v.serving) w (without-from p w.serving w refl (ap natures e) h)
 top-from p (f ∷ fs) w e h =
     let found = marked-rooted w.serving (nature f.mark) (natures fs) (subst (λ q. Marked w.serving (natures q)) e h.marks) in
     let busy = busy_of Rooted w found.0 h found.1 (subst (λ q. Rooted (natures q)) (sym e) found.2) in
-    act_frame-from p f f.onward w busy (ap first_of_list e)
+    act_frame-from p f f.onward w busy (ap first_of e)
 
 pub act-from : (p : Image) (w : World) → Attending w → From Acted w (act p who.Agent)
 unfolding act
@@ -227,7 +227,7 @@ sequence_above-from p w good =
 sequence-from : (p : Image) (fs : List Frame) (serving : Option Release) (w : World) → w.agent.frames ≡ fs → w.serving ≡ serving → agent_runs w ≡ true → Attending w → From Opened w (open_sequence p Own who.Agent)
 unfolding open_sequence
 sequence-from p [] serving w e is runs h =
-    looks_by Opened (λ v. open_at p Own who.Agent (onward_of v who.Agent)) w (opens_at-none p w runs h (ap natures e) (onward_of w who.Agent) (ap (λ q. option_and_then (λ f. f.onward) (first_of_list q)) e))
+    looks_by Opened (λ v. open_at p Own who.Agent (onward_of v who.Agent)) w (opens_at-none p w runs h (ap natures e) (onward_of w who.Agent) (ap (λ q. option_and_then (λ f. f.onward) (first_of q)) e))
 sequence-from p (f ∷ fs) serving w e is runs h =
     let found = marked-rooted w.serving (nature f.mark) (natures fs) (subst (λ q. Marked w.serving (natures q)) e h.marks) in
     let busy = busy_of Rooted w found.0 h found.1 (subst (λ q. Rooted (natures q)) (sym e) found.2) in

@@ -6,7 +6,8 @@ use Rattle.std.proofs.lemmas.Bool.{false≢true, eqb-true}
 use Rattle.ann_base.specs.declared.identities.RegionNo.{RegionNo}
 use Rattle.profile_machine.specs.declared.world.marks.Frame.{Frame}
 use Rattle.profile_machine.specs.declared.world.tasks.Task.{Task}
-use Rattle.profile_machine.specs.Words.{is_the, same_region, first_of_list}
+use Rattle.profile_machine.specs.Words.{is_the, same_region}
+use Rattle.world_tables.specs.Lists.{first_of}
 use Rattle.profile_machine.specs.Frames.{is_protected, any_protected}
 use Rattle.machine_laws.proofs.FineMoves.{Nature, natures}
 use Rattle.line_laws.proofs.Handlers.AgentWorlds.{Colour, RegionFree, MarksFree, TasksFree, RegionOwned, MarksOwned}
@@ -74,7 +75,7 @@ rooted-inside (f ∷ []) h = inside-action (is_protected f.mark) false h.0
 rooted-inside (f ∷ g ∷ fs) h = inside-test (is_protected f.mark) (any_protected (g ∷ fs)) (rooted-inside (g ∷ fs) h.2)
 
 -- what has a top
-pub has_top : (fs : List Frame) (f : Frame) → first_of_list fs ≡ Some f → (rest : List Frame) × (fs ≡ f ∷ rest)
+pub has_top : (fs : List Frame) (f : Frame) → first_of fs ≡ Some f → (rest : List Frame) × (fs ≡ f ∷ rest)
 has_top [] f e = cc
 has_top (g ∷ fs) f e = (fs, cc)
 

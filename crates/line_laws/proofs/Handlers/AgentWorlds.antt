@@ -1,7 +1,7 @@
 -- What sets the agent apart from tasks: its state, and its regions, which are coloured. No task has one of these, nor depends
 -- on it, and no release ends with a mark of a task.
 use Rattle.std.proofs.Common.{◌≡◌, ℕ, suc, ◌≤◌, Bool, true, false, cond, List, [], ◌∷◌, ◌++◌, Option, Some, None, option_and_then, refl, subst, arith}
-use Rattle.std.specs.Prelude.{filter, find}
+use Rattle.std.specs.Prelude.{filter, find, unwrap_or}
 use Rattle.ann_base.specs.declared.identities.RegionNo.{RegionNo}
 use Rattle.trace_text.specs.declared.events.Who.{Who}
 use Rattle.trace_text.specs.declared.events.Who.TheVariants as who
@@ -11,7 +11,8 @@ use Rattle.profile_machine.specs.declared.world.tasks.State.{State}
 use Rattle.profile_machine.specs.declared.world.tasks.State.TheVariants.{Runnable, Blocked}
 use Rattle.profile_machine.specs.declared.world.tasks.Task.{Task}
 use Rattle.profile_machine.specs.declared.world.tasks.Waiting.TheVariants as waits_for
-use Rattle.profile_machine.specs.Words.{set_where, option_or_else, first_of_list}
+use Rattle.profile_machine.specs.Words.{set_where}
+use Rattle.world_tables.specs.Lists.{first_of}
 use Rattle.profile_machine.specs.Tasks.{nobody, is_who, found_task}
 use Rattle.profile_machine.specs.Frames.{frames_of, top_of}
 use Rattle.profile_machine.specs.Masters.{region_of_mark}
@@ -132,7 +133,7 @@ module _ (colour : Colour) (drawn : ℕ) where
 
 -- ---- the marks of a task, and the region in which it creates others
 
-found-marks : (colour : Colour) (drawn : ℕ) (found : Option Task) → ((t : Task) → found ≡ Some t → TaskFree colour drawn t) → MarksFree colour drawn (natures (option_or_else found nobody).frames)
+found-marks : (colour : Colour) (drawn : ℕ) (found : Option Task) → ((t : Task) → found ≡ Some t → TaskFree colour drawn t) → MarksFree colour drawn (natures (unwrap_or found nobody).frames)
 found-marks colour drawn None h = tt
 found-marks colour drawn (Some t) h = (h t refl).marks
 
@@ -148,7 +149,7 @@ region_of : Option Frame → Option RegionNo
 region_of None = None
 region_of (Some f) = region_of_mark f.mark
 
-first-region : (colour : Colour) (drawn : ℕ) (frames : List Frame) → MarksFree colour drawn (natures frames) → RegionFree colour drawn (region_of (first_of_list frames))
+first-region : (colour : Colour) (drawn : ℕ) (frames : List Frame) → MarksFree colour drawn (natures frames) → RegionFree colour drawn (region_of (first_of frames))
 unfolding region_of
 first-region colour drawn [] h = tt
 first-region colour drawn (f ∷ fs) h = h.1

@@ -20,7 +20,8 @@ use Rattle.profile_machine.specs.declared.world.lines.Line.{Line}
 use Rattle.profile_machine.specs.declared.world.lines.Line.TheVariants as said
 use Rattle.profile_machine.specs.declared.world.lines.Part.{Part}
 use Rattle.profile_machine.specs.declared.world.lines.Said.{Said}
-use Rattle.profile_machine.specs.Words.{same_who, first_of_list}
+use Rattle.profile_machine.specs.Words.{same_who}
+use Rattle.world_tables.specs.Lists.{first_of}
 use Rattle.profile_machine.specs.Tasks.{task_at, task_of, edit_task_found, edit_task, with_state, with_frames, waiting_in, waiting_of}
 use Rattle.profile_machine.specs.Dispatching.{keep_level, without_kept_level, level_kept_by, granted}
 use Rattle.profile_machine.specs.Frames.{top_of, push, pop, without_first, edit_first, goes_on}
@@ -158,8 +159,8 @@ marks-base acts loose name g w inv good tied = record {
   inv = edited-inv name (λ t. with_frames (g t.frames) t) w (λ t. refl) good inv;
 }
 
-top-frames : (name : Who) (w : World) (t : Task) → task_of w name ≡ t → Free name w → top_leaving (first_of_list t.frames) ≡ false
-top-frames name w t e free = subst (λ (x : Task). top_leaving (first_of_list x.frames) ≡ false) e free
+top-frames : (name : Who) (w : World) (t : Task) → task_of w name ≡ t → Free name w → top_leaving (first_of t.frames) ≡ false
+top-frames name w t e free = subst (λ (x : Task). top_leaving (first_of x.frames) ≡ false) e free
 
 -- who is free goes on
 pub goes-core : (acts : Who → Bool) (loose : Bool) (name : Who) (onward : Option StatementNo) (w : World) → Inv w → Free name w → ((s : List Told) → Tied s w → Tied s (gone_on name onward w)) → Core acts loose w [] (gone_on name onward w)
@@ -198,13 +199,13 @@ popped-free name f w inv top plain =
     let good = good-of name w q.task inv q.found in
     let sound : Sound (f ∷ q.below) = subst Sound q.shape good.sound in
     let is = of_self name (λ t. with_frames (without_first t.frames) t) w q.task q.found (λ u. refl) in
-    subst (λ (x : Task). top_leaving (first_of_list x.frames) ≡ false) (sym is) (subst (λ fs. top_leaving (first_of_list (without_first fs)) ≡ false) (sym q.shape) (below-top f q.below plain sound))
+    subst (λ (x : Task). top_leaving (first_of x.frames) ≡ false) (sym is) (subst (λ fs. top_leaving (first_of (without_first fs)) ≡ false) (sym q.shape) (below-top f q.below plain sound))
 
 pub pop-free : (name : Who) (f : Frame) (w : World) (n : Who) → Inv w → top_of w name ≡ Some f → is_special f.mark ≡ false → Free n w → Free n (pop name w)
 pop-free name f w n inv top plain h =
     by_test (same_who n name)
     (λ e. subst (λ k. Free k (pop name w)) (sym (who_path n name e)) (popped-free name f w inv top plain))
-    (λ e. subst (λ (x : Task). top_leaving (first_of_list x.frames) ≡ false) (sym (of_other n name (λ t. with_frames (without_first t.frames) t) w (λ u. refl) e)) h)
+    (λ e. subst (λ (x : Task). top_leaving (first_of x.frames) ≡ false) (sym (of_other n name (λ t. with_frames (without_first t.frames) t) w (λ u. refl) e)) h)
 
 -- who has something to go on with is free
 pub onward-free : (name : Who) (f : Frame) (s : StatementNo) (w : World) → Inv w → top_of w name ≡ Some f → f.onward ≡ Some s → Free name w

@@ -1,7 +1,7 @@
 -- What every world keeps of its marks: what is being left does not go on, above it stands only what lets nothing below go on, and
 -- who waits for a meeting is free; and a call of its own is its own.
 use Rattle.std.proofs.Common.{◌≡◌, ℕ, ◌≤◌, Bool, true, false, cond, List, [], ◌∷◌, ◌++◌, Option, Some, None, is_some, refl, sym, ap, subst, ◌∙◌}
-use Rattle.std.specs.Prelude.{find, filter}
+use Rattle.std.specs.Prelude.{find, filter, unwrap_or}
 use Rattle.ann_base.specs.declared.identities.CallNo.{CallNo}
 use Rattle.trace_text.specs.declared.events.Who.{Who}
 use Rattle.trace_text.specs.declared.events.Who.TheVariants as who
@@ -12,7 +12,8 @@ use Rattle.profile_machine.specs.declared.world.tasks.State.{State}
 use Rattle.profile_machine.specs.declared.world.marks.Frame.{Frame}
 use Rattle.profile_machine.specs.declared.world.marks.Mark.{Mark}
 use Rattle.profile_machine.specs.declared.numbers.StatementNo.{StatementNo}
-use Rattle.profile_machine.specs.Words.{set_where, first_of_list, option_or_else}
+use Rattle.profile_machine.specs.Words.{set_where}
+use Rattle.world_tables.specs.Lists.{first_of}
 use Rattle.profile_machine.specs.Tasks.{task_at, task_of, edit_task_found, edit_task, is_who, waiting_in, nobody}
 use Rattle.profile_machine.specs.Frames.{without_first, edit_first, goes_on}
 use Rattle.profile_machine.specs.Calls.{is_call}
@@ -43,7 +44,7 @@ waits_as who.Agent state = false
 
 pub record Good (calls : List Call) (drawn : ℕ) (name : Who) (frames : List Frame) (state : State) : Type 0 where
   pub sound : Sound frames
-  pub free : waits_as name state ≡ true → top_leaving (first_of_list frames) ≡ false
+  pub free : waits_as name state ≡ true → top_leaving (first_of frames) ≡ false
   pub own : OwnCalls calls drawn name frames
 
 -- ---- all of them
@@ -84,7 +85,7 @@ pub good-nobody : (calls : List Call) (drawn : ℕ) (name : Who) → Good calls 
 good-nobody calls drawn (who.Task n) = record { sound = tt; free = λ e. absurd cc; own = tt }
 good-nobody calls drawn who.Agent = record { sound = tt; free = λ e. absurd cc; own = tt }
 
-good-option : (name : Who) (w : World) (found : Option Task) → Inv w → task_at w name ≡ found → let t = option_or_else found nobody in Good w.calls w.drawn.calls name t.frames t.state
+good-option : (name : Who) (w : World) (found : Option Task) → Inv w → task_at w name ≡ found → let t = unwrap_or found nobody in Good w.calls w.drawn.calls name t.frames t.state
 good-option name w None h e = good-nobody w.calls w.drawn.calls name
 good-option name w (Some t) h e = good-of name w t h e
 
@@ -95,10 +96,10 @@ good-task name w h = good-option name w (task_at w name) h refl
 edited-found : (name : Who) (f : Task → Task) (w : World) (found : Option Task) → task_at w name ≡ found → ((t : Task) → (f t).who ≡ t.who)
     → ((t : Task) → task_of w name ≡ t → Good w.calls w.drawn.calls name t.frames t.state → Good w.calls w.drawn.calls name (f t).frames (f t).state) → Inv w → Inv (edit_task_found name f w found)
 edited-found name f w None e same k h = h
-edited-found who.Agent f w (Some t) e same k h = (h.0, k t (ap (λ o. option_or_else o nobody) e) (good-of who.Agent w t h e))
+edited-found who.Agent f w (Some t) e same k h = (h.0, k t (ap (λ o. unwrap_or o nobody) e) (good-of who.Agent w t h e))
 edited-found (who.Task n) f w (Some t) e same k h =
     let named : who.Task n ≡ t.who = who_path (who.Task n) t.who (found-holds (is_who (who.Task n)) w.tasks t e) in
-    let made = k t (ap (λ o. option_or_else o nobody) e) (good-of (who.Task n) w t h e) in
+    let made = k t (ap (λ o. unwrap_or o nobody) e) (good-of (who.Task n) w t h e) in
     (good-set w.calls w.drawn.calls (is_who (who.Task n)) (f t) w.tasks (subst (λ m. Good w.calls w.drawn.calls m (f t).frames (f t).state) (named ∙ sym (same t)) made) h.0, h.1)
 
 pub edited-inv : (name : Who) (f : Task → Task) (w : World) → ((t : Task) → (f t).who ≡ t.who)
@@ -122,7 +123,7 @@ alike-sound [] (f ∷ fs) a h = absurd a
 alike-sound (g ∷ gs) [] a h = absurd a
 alike-sound (g ∷ gs) (f ∷ fs) a h = ((λ e. a.1 (h.0 (sym (ap (λ n. n.leaving) a.0) ∙ e))), alike-below f.mark g.mark gs fs a.0 a.2 h.1, alike-sound gs fs a.2 h.2)
 
-pub alike-top : (gs fs : List Frame) → Alike gs fs → top_leaving (first_of_list gs) ≡ top_leaving (first_of_list fs)
+pub alike-top : (gs fs : List Frame) → Alike gs fs → top_leaving (first_of gs) ≡ top_leaving (first_of fs)
 alike-top [] [] a = refl
 alike-top [] (f ∷ fs) a = absurd a
 alike-top (g ∷ gs) [] a = absurd a
@@ -138,11 +139,11 @@ pub alike-good : (calls : List Call) (drawn : ℕ) (name : Who) (gs fs : List Fr
 alike-good calls drawn name gs fs state a h = record { sound = alike-sound gs fs a h.sound; free = λ e. alike-top gs fs a ∙ h.free e; own = alike-own calls drawn name gs fs a h.own }
 
 -- who is free goes on
-gone-sound : (onward : Option StatementNo) (fs : List Frame) → top_leaving (first_of_list fs) ≡ false → Sound fs → Sound (edit_first (goes_on onward) fs)
+gone-sound : (onward : Option StatementNo) (fs : List Frame) → top_leaving (first_of fs) ≡ false → Sound fs → Sound (edit_first (goes_on onward) fs)
 gone-sound onward [] free h = tt
 gone-sound onward (f ∷ fs) free h = ((λ e. absurd (let never : true ≡ false = sym e ∙ free in cc)), h.1, h.2)
 
-pub gone-top : (onward : Option StatementNo) (fs : List Frame) → top_leaving (first_of_list (edit_first (goes_on onward) fs)) ≡ top_leaving (first_of_list fs)
+pub gone-top : (onward : Option StatementNo) (fs : List Frame) → top_leaving (first_of (edit_first (goes_on onward) fs)) ≡ top_leaving (first_of fs)
 gone-top onward [] = refl
 gone-top onward (f ∷ fs) = refl
 
@@ -150,11 +151,11 @@ gone-own : (calls : List Call) (drawn : ℕ) (name : Who) (onward : Option State
 gone-own calls drawn name onward [] h = tt
 gone-own calls drawn name onward (f ∷ fs) h = h
 
-pub gone-good : (calls : List Call) (drawn : ℕ) (name : Who) (onward : Option StatementNo) (fs : List Frame) (state : State) → top_leaving (first_of_list fs) ≡ false → Good calls drawn name fs state → Good calls drawn name (edit_first (goes_on onward) fs) state
+pub gone-good : (calls : List Call) (drawn : ℕ) (name : Who) (onward : Option StatementNo) (fs : List Frame) (state : State) → top_leaving (first_of fs) ≡ false → Good calls drawn name fs state → Good calls drawn name (edit_first (goes_on onward) fs) state
 gone-good calls drawn name onward fs state free h = record { sound = gone-sound onward fs free h.sound; free = λ e. gone-top onward fs ∙ free; own = gone-own calls drawn name onward fs h.own }
 
 -- a mark is opened above what is free, or is special
-below-free : (mark : Mark) (fs : List Frame) → top_leaving (first_of_list fs) ≡ false → Below mark fs
+below-free : (mark : Mark) (fs : List Frame) → top_leaving (first_of fs) ≡ false → Below mark fs
 below-free mark [] free = tt
 below-free mark (g ∷ gs) free = λ e. free
 
@@ -168,7 +169,7 @@ Opens calls drawn name f fs = Below f.mark fs × (being_left_in f.mark ≡ false
 pub opened-good : (calls : List Call) (drawn : ℕ) (name : Who) (f : Frame) (fs : List Frame) (state : State) → Opens calls drawn name f fs → Good calls drawn name fs state → Good calls drawn name (f ∷ fs) state
 opened-good calls drawn name f fs state o h = record { sound = ((λ e. absurd (let never : true ≡ false = sym e ∙ o.1 in cc)), o.0, h.sound); free = λ e. o.1; own = (o.2, h.own) }
 
-pub free-opens : (mark : Mark) (fs : List Frame) → top_leaving (first_of_list fs) ≡ false → Below mark fs
+pub free-opens : (mark : Mark) (fs : List Frame) → top_leaving (first_of fs) ≡ false → Below mark fs
 free-opens mark fs free = below-free mark fs free
 
 pub special-opens : (mark : Mark) (fs : List Frame) → is_special mark ≡ true → Below mark fs
@@ -179,7 +180,7 @@ pub popped-good : (calls : List Call) (drawn : ℕ) (name : Who) (fs : List Fram
 popped-good calls drawn name [] state awake h = h
 popped-good calls drawn name (f ∷ fs) state awake h = record { sound = h.sound.2; free = λ e. absurd (let never : true ≡ false = sym e ∙ awake in cc); own = h.own.1 }
 
-pub below-top : (f : Frame) (fs : List Frame) → is_special f.mark ≡ false → Sound (f ∷ fs) → top_leaving (first_of_list fs) ≡ false
+pub below-top : (f : Frame) (fs : List Frame) → is_special f.mark ≡ false → Sound (f ∷ fs) → top_leaving (first_of fs) ≡ false
 below-top f [] plain h = refl
 below-top f (g ∷ gs) plain h = h.1 plain
 
@@ -191,7 +192,7 @@ going-free f fs s e h = by (being_left_in f.mark) refl where
   by true is = absurd (let none : is_some f.onward ≡ false = h.0 is in let some : is_some f.onward ≡ true = ap is_some e in let never : true ≡ false = sym some ∙ none in cc)
 
 -- who waits, or does not
-pub state-good : (calls : List Call) (drawn : ℕ) (name : Who) (fs : List Frame) (state next : State) → (waits_as name next ≡ true → top_leaving (first_of_list fs) ≡ false) → Good calls drawn name fs state → Good calls drawn name fs next
+pub state-good : (calls : List Call) (drawn : ℕ) (name : Who) (fs : List Frame) (state next : State) → (waits_as name next ≡ true → top_leaving (first_of fs) ≡ false) → Good calls drawn name fs state → Good calls drawn name fs next
 state-good calls drawn name fs state next k h = record { sound = h.sound; free = k; own = h.own }
 
 -- ---- calls

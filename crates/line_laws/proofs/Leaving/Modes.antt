@@ -1,6 +1,6 @@
 -- Who acts in an effect is at first not known to be free; it may be free to go on; or it stays awake below the mark on top.
 use Rattle.std.proofs.Common.{◌≡◌, eq-eqb, cond, Bool, true, false, List, [], ◌∷◌, ◌++◌, Option, Some, None, refl, sym, ap, subst, ◌∙◌}
-use Rattle.std.specs.Prelude.{find}
+use Rattle.std.specs.Prelude.{find, unwrap_or}
 use Rattle.trace_text.specs.declared.events.Who.{Who}
 use Rattle.trace_text.specs.declared.events.Who.TheVariants as who
 use Rattle.profile_machine.specs.declared.numbers.StatementNo.{StatementNo}
@@ -8,7 +8,8 @@ use Rattle.profile_machine.specs.declared.world.World.{World}
 use Rattle.profile_machine.specs.declared.world.tasks.Task.{Task}
 use Rattle.profile_machine.specs.declared.world.tasks.State.TheVariants.{Runnable, Blocked}
 use Rattle.profile_machine.specs.declared.world.marks.Frame.{Frame}
-use Rattle.profile_machine.specs.Words.{same_who, first_of_list, option_or_else}
+use Rattle.profile_machine.specs.Words.{same_who}
+use Rattle.world_tables.specs.Lists.{first_of}
 use Rattle.profile_machine.specs.Tasks.{task_of, edit_task, with_state, with_frames, waiting_in, is_who, found_task, nobody}
 use Rattle.profile_machine.specs.Frames.{edit_first, goes_on, without_first}
 use Rattle.profile_machine.specs.Tasking.{add_task}
@@ -101,7 +102,7 @@ extra-going a = record {
   readies = λ name w x. state-free name Runnable w a x;
   blocks = λ name waiting w may x. state-free name (Blocked waiting) w a x;
   blocks_apart = λ name waiting w stops apart x. state-free name (Blocked waiting) w a x;
-  adds = λ t w frames still x. of_added FreeTask a t w (ap (λ fs. top_leaving (first_of_list fs)) frames) x;
+  adds = λ t w frames still x. of_added FreeTask a t w (ap (λ fs. top_leaving (first_of fs)) frames) x;
   forgets = λ name w stops x. of_forgotten FreeTask a name w refl x;
 }
 
@@ -123,7 +124,7 @@ going a = fine (acting a) true (extra-going a) (known-going a) (ends-good (actin
 
 pub record Top (n : Nature) (t : Task) : Type 0 where
   pub frame : Frame
-  pub first : first_of_list t.frames ≡ Some frame
+  pub first : first_of t.frames ≡ Some frame
   pub is : nature frame.mark ≡ n
 
 pub record Steady (a : Who) (n : Nature) (w : World) : Type 0 where
@@ -136,13 +137,13 @@ Apart a n = n ≡ a → ⊥
 differs : (a name : Who) → Apart a name → same_who a name ≡ false
 differs a name k = by_test (same_who a name) (λ e. absurd (k (sym (who_path a name e)))) (λ f. f)
 
-alike-first : (n : Nature) (gs fs : List Frame) (f : Frame) → Alike gs fs → first_of_list fs ≡ Some f → nature f.mark ≡ n → (g : Frame) × (first_of_list gs ≡ Some g) × (nature g.mark ≡ n)
+alike-first : (n : Nature) (gs fs : List Frame) (f : Frame) → Alike gs fs → first_of fs ≡ Some f → nature f.mark ≡ n → (g : Frame) × (first_of gs ≡ Some g) × (nature g.mark ≡ n)
 alike-first n [] [] f a e is = absurd cc
 alike-first n [] (x ∷ xs) f a e is = absurd a
 alike-first n (g ∷ gs) [] f a e is = absurd a
 alike-first n (g ∷ gs) (x ∷ xs) f a e is = let same : x ≡ f = cc in (g, refl, a.0 ∙ ap (λ (y : Frame). nature y.mark) same ∙ is)
 
-gone-first : (n : Nature) (onward : Option StatementNo) (fs : List Frame) (f : Frame) → first_of_list fs ≡ Some f → nature f.mark ≡ n → (g : Frame) × (first_of_list (edit_first (goes_on onward) fs) ≡ Some g) × (nature g.mark ≡ n)
+gone-first : (n : Nature) (onward : Option StatementNo) (fs : List Frame) (f : Frame) → first_of fs ≡ Some f → nature f.mark ≡ n → (g : Frame) × (first_of (edit_first (goes_on onward) fs) ≡ Some g) × (nature g.mark ≡ n)
 gone-first n onward [] f e is = absurd cc
 gone-first n onward (x ∷ xs) f e is = let same : x ≡ f = cc in (goes_on onward x, refl, ap (λ (y : Frame). nature y.mark) same ∙ is)
 
@@ -160,9 +161,9 @@ found-added test t u (z ∷ zs) e = step (test z) e (λ k. found-added test t u 
 added-top : (a : Who) (n : Nature) (t : Task) (w : World) → Top n (task_of w a) → Top n (task_of (add_task t w) a)
 added-top who.Agent n t w h = h
 added-top (who.Task m) n t w h = by (found_task (who.Task m) w.tasks) refl h where
-  by : (found : Option Task) → found_task (who.Task m) w.tasks ≡ found → Top n (option_or_else (found_task (who.Task m) w.tasks) nobody) → Top n (option_or_else (found_task (who.Task m) (w.tasks ++ t ∷ [])) nobody)
-  by None e k = absurd (let q : Top n nobody = subst (λ (o : Option Task). Top n (option_or_else o nobody)) e k in let none : None ≡ Some q.frame = q.first in cc)
-  by (Some u) e k = subst (λ (o : Option Task). Top n (option_or_else o nobody)) (e ∙ sym (found-added (is_who (who.Task m)) t u w.tasks e)) k
+  by : (found : Option Task) → found_task (who.Task m) w.tasks ≡ found → Top n (unwrap_or (found_task (who.Task m) w.tasks) nobody) → Top n (unwrap_or (found_task (who.Task m) (w.tasks ++ t ∷ [])) nobody)
+  by None e k = absurd (let q : Top n nobody = subst (λ (o : Option Task). Top n (unwrap_or o nobody)) e k in let none : None ≡ Some q.frame = q.first in cc)
+  by (Some u) e k = subst (λ (o : Option Task). Top n (unwrap_or o nobody)) (e ∙ sym (found-added (is_who (who.Task m)) t u w.tasks e)) k
 
 added-awake : (a : Who) (t : Task) (w : World) → waiting_in t.state ≡ None → Awake a w → Awake a (add_task t w)
 added-awake (who.Task m) t w still h = of_added (λ u. waits (waiting_in u.state) ≡ false) (who.Task m) t w (ap waits still) h

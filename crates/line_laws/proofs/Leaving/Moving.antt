@@ -24,7 +24,7 @@ use Rattle.profile_machine.specs.declared.world.lines.Said.{Said}
 use Rattle.profile_machine.specs.Steps.{placed_by}
 use Rattle.trace_text.specs.declared.events.QueueEnd.TheVariants.{Tail}
 use Rattle.profile_machine.specs.declared.world.calls.Call.{Call}
-use Rattle.profile_machine.specs.Words.{first_of_list}
+use Rattle.world_tables.specs.Lists.{first_of}
 use Rattle.profile_machine.specs.Tasks.{task_of, edit_task, with_state, with_frames, waiting_in}
 use Rattle.profile_machine.specs.Dispatching.{active, deadline_shown, word_of, keep_level, level_kept_by, granted, without_kept_level}
 use Rattle.profile_machine.specs.Program.{scope_of, edf_low, is_robin_level}
@@ -81,7 +81,7 @@ new-good : (calls : List Call) (drawn : ℕ) (t : Task) → t.frames ≡ [] → 
 new-good calls drawn t none still = good-same calls drawn t.who [] t.frames t.state t.state none refl (record { sound = tt; free = λ e. refl; own = tt })
 
 new-free : (t : Task) → t.frames ≡ [] → FreeTask t
-new-free t none = ap (λ fs. top_leaving (first_of_list fs)) none
+new-free t none = ap (λ fs. top_leaving (first_of fs)) none
 
 Quiet-end : (n : Who) (xs : List Said) (x : Said) → Quiet n xs → readies n x.line ≡ false → Quiet n (xs ++ x ∷ [])
 Quiet-end n [] x h e = (e, tt)

@@ -22,7 +22,7 @@ use Rattle.profile_machine.specs.declared.world.marks.Mark.TheVariants.{InProtec
 use Rattle.profile_machine.specs.declared.world.marks.ProtectedMark.{ProtectedMark}
 use Rattle.profile_machine.specs.declared.world.tasks.Cause.TheVariants as inherited_by
 use Rattle.profile_machine.specs.Steps.{Step, nothing, changes, says, for_some, ◌▷◌}
-use Rattle.profile_machine.specs.Words.{first_of_list}
+use Rattle.world_tables.specs.Lists.{first_of}
 use Rattle.profile_machine.specs.Values.{object_of}
 use Rattle.profile_machine.specs.Tasks.{task_of}
 use Rattle.profile_machine.specs.Frames.{top_of, pop, edit_top}
@@ -56,7 +56,7 @@ use Rattle.machine_laws.proofs.Kept.Combinators.{From, Keeps}
 
 -- ---- the object is released
 
-own_on_top : (calls : List Call) (drawn : ℕ) (name : Who) (fs : List Frame) (f : Frame) (c : CallNo) → first_of_list fs ≡ Some f → OwnCalls calls drawn name fs → own_call_of f.mark ≡ Some c → CallerIn calls drawn c name
+own_on_top : (calls : List Call) (drawn : ℕ) (name : Who) (fs : List Frame) (f : Frame) (c : CallNo) → first_of fs ≡ Some f → OwnCalls calls drawn name fs → own_call_of f.mark ≡ Some c → CallerIn calls drawn c name
 own_on_top calls drawn name [] f c first h e = absurd cc
 own_on_top calls drawn name (g ∷ gs) f c first h e = let same : g ≡ f = cc in h.0 c (ap (λ (x : Frame). own_call_of x.mark) same ∙ e)
 

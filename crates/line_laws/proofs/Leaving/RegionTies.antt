@@ -2,7 +2,7 @@
 -- are registered, in their order.
 use Rattle.std.proofs.Common.{◌≡◌, ℕ, suc, ◌<◌, ◌≤◌, Bool, true, false, cond, not, eqb, ◌||◌, List, [], ◌∷◌, ◌++◌, map, Option, Some, None, refl, sym, ap, subst, ◌∙◌, eq-eqb, arith}
 use Rattle.std.proofs.lemmas.Bool.{eqb-true}
-use Rattle.std.specs.Prelude.{find}
+use Rattle.std.specs.Prelude.{find, unwrap_or}
 use Rattle.ann_base.specs.declared.identities.RegionNo.{RegionNo}
 use Rattle.trace_text.specs.declared.events.Who.{Who}
 use Rattle.trace_text.specs.declared.events.Who.TheVariants as who
@@ -15,7 +15,8 @@ use Rattle.profile_machine.specs.declared.world.marks.Mark.TheVariants.{Scope, H
 use Rattle.profile_machine.specs.declared.world.marks.ScopeMark.{ScopeMark}
 use Rattle.profile_machine.specs.declared.world.scopes.Located.{Located}
 use Rattle.profile_machine.specs.declared.world.appointments.Registered.{Registered}
-use Rattle.profile_machine.specs.Words.{without, first_of_list, option_or_else}
+use Rattle.profile_machine.specs.Words.{without}
+use Rattle.world_tables.specs.Lists.{first_of}
 use Rattle.profile_machine.specs.Cost.{of_region}
 use Rattle.profile_machine.specs.Tasks.{task_at, edit_task_found, edit_task, with_frames, nobody}
 use Rattle.profile_machine.specs.Frames.{top_of, edit_first, edit_top, push, pop, without_first, with_mark}
@@ -120,11 +121,11 @@ pub record Topped (name : Who) (w : World) (f : Frame) : Type 0 where
   pub found : task_at w name ≡ Some task
   pub shape : task.frames ≡ f ∷ below
 
-first-is : (fs : List Frame) (f : Frame) → first_of_list fs ≡ Some f → (below : List Frame) × (fs ≡ f ∷ below)
+first-is : (fs : List Frame) (f : Frame) → first_of fs ≡ Some f → (below : List Frame) × (fs ≡ f ∷ below)
 first-is [] f e = absurd cc
 first-is (g ∷ fs) f e = (fs, let same : g ≡ f = cc in ap (λ x. x ∷ fs) same)
 
-topped-found : (name : Who) (w : World) (f : Frame) (found : Option Task) → task_at w name ≡ found → first_of_list (option_or_else found nobody).frames ≡ Some f → Topped name w f
+topped-found : (name : Who) (w : World) (f : Frame) (found : Option Task) → task_at w name ≡ found → first_of (unwrap_or found nobody).frames ≡ Some f → Topped name w f
 topped-found name w f None is e = absurd cc
 topped-found name w f (Some t) is e = let q = first-is t.frames f e in record { task = t; below = q.0; found = is; shape = q.1 }
 

@@ -22,7 +22,7 @@ use Rattle.profile_machine.specs.declared.world.marks.ScopeMark.{ScopeMark}
 use Rattle.profile_machine.specs.declared.world.scopes.ScopeId.{ScopeId}
 use Rattle.profile_machine.specs.declared.world.tasks.Task.{Task}
 use Rattle.profile_machine.specs.Steps.{Step, changes, says, looks, when, for_some, for_each, ◌▷◌}
-use Rattle.profile_machine.specs.Words.{first_of_list}
+use Rattle.world_tables.specs.Lists.{first_of}
 use Rattle.profile_machine.specs.Tasks.{with_frames}
 use Rattle.profile_machine.specs.Frames.{top_of, pop, edit_top, edit_first, without_first}
 use Rattle.profile_machine.specs.Scopes.{end_scope, cells_of, scope_in_use}
@@ -69,7 +69,7 @@ begun-below mark (g ∷ gs) h = λ e. h (sym (begun_mark mark).0 ∙ e)
 abbrev begun_frame : Frame → Frame
 begun_frame x = with_mark (edit_scope_mark being_left_mark x.mark) x
 
-begun-good : (calls : List Call) (drawn : ℕ) (name : Who) (f : Frame) (fs : List Frame) (state : State) → first_of_list fs ≡ Some f → f.onward ≡ None → waits_as name state ≡ false → Good calls drawn name fs state → Good calls drawn name (edit_first begun_frame fs) state
+begun-good : (calls : List Call) (drawn : ℕ) (name : Who) (f : Frame) (fs : List Frame) (state : State) → first_of fs ≡ Some f → f.onward ≡ None → waits_as name state ≡ false → Good calls drawn name fs state → Good calls drawn name (edit_first begun_frame fs) state
 begun-good calls drawn name f [] state first stops awake h = absurd cc
 begun-good calls drawn name f (g ∷ gs) state first stops awake h =
     let same : g ≡ f = cc in
@@ -95,7 +95,7 @@ begun-base a f m r leaving w inv awake top stops is region left =
       called = λ n c k. edited-called a h first n c (edited-called a g w n c k);
       claims = λ t. claim-quiet (acting a) true t w (own (line.Leave a r (leaves_as leaving)) ∷ []) (edit_top a (left_so_frame leaving) first) (edited-state a h first t (λ u. refl) (λ u. refl) ∙ edited-state a g w t (λ u. refl) (λ u. refl)) (refl, tt);
       inv = edited-inv a h first (λ u. refl) (λ t e k. alike-good first.calls first.drawn.calls a (edit_first (left_so_frame leaving) t.frames) t.frames t.state (left_so-alike leaving t.frames) k)
-          (edited-inv a g w (λ u. refl) (λ t e k. begun-good w.calls w.drawn.calls a f t.frames t.state (subst (λ (x : Task). first_of_list x.frames ≡ Some f) e top) stops (awake-as a w t e awake) k) inv);
+          (edited-inv a g w (λ u. refl) (λ t e k. begun-good w.calls w.drawn.calls a f t.frames t.state (subst (λ (x : Task). first_of x.frames ≡ Some f) e top) stops (awake-as a w t e awake) k) inv);
     }
 
 pub leave_region-from : (p : Image) (a : Who) (f : Frame) (m : ScopeMark) (leaving : Leaving) (r : RegionNo) (w : World) → Inv w → Awake a w → top_of w a ≡ Some f → f.onward ≡ None → f.mark ≡ Scope m → m.region ≡ Some r → m.being_left ≡ false → From (Does a) w (leave_region p a m leaving r)

@@ -1,6 +1,6 @@
 -- Looking at a task of a world in which one was edited.
 use Rattle.std.proofs.Common.{◌≡◌, ℕ, Bool, true, false, cond, not, eqb, List, [], ◌∷◌, ◌++◌, Option, Some, None, refl, sym, ap, subst, ◌∙◌, eq-eqb}
-use Rattle.std.specs.Prelude.{find}
+use Rattle.std.specs.Prelude.{find, unwrap_or}
 use Rattle.std.proofs.lemmas.Bool.{eqb-true}
 use Rattle.ann_base.specs.declared.identities.TaskNo.{TaskNo}
 use Rattle.trace_text.specs.declared.events.Who.{Who}
@@ -8,7 +8,8 @@ use Rattle.trace_text.specs.declared.events.Who.TheVariants as who
 use Rattle.profile_machine.specs.declared.world.World.{World}
 use Rattle.profile_machine.specs.declared.world.tasks.Task.{Task}
 use Rattle.profile_machine.specs.declared.world.marks.Frame.{Frame}
-use Rattle.profile_machine.specs.Words.{set_where, same_who, option_or_else, without, first_of_list}
+use Rattle.profile_machine.specs.Words.{set_where, same_who, without}
+use Rattle.world_tables.specs.Lists.{first_of}
 use Rattle.profile_machine.specs.Tasks.{nobody, is_who, found_task, task_at, task_of, edit_task_found, edit_task, waiting_in, with_frames}
 use Rattle.profile_machine.specs.Frames.{push}
 use Rattle.profile_machine.specs.Masters.{forget_task}
@@ -17,7 +18,7 @@ use Rattle.line_laws.proofs.Leaving.FineMoves.{Awake, waits, Free, top_leaving}
 use Rattle.machine_laws.proofs.FinestMoves.{being_left_in}
 
 abbrev pub Of : (Task → Type 0) → Option Task → Type 0
-Of Pr found = Pr (option_or_else found nobody)
+Of Pr found = Pr (unwrap_or found nobody)
 
 -- ---- in a list
 
@@ -106,7 +107,7 @@ other-found who.Agent who.Agent f w (Some t) e same apart = absurd cc
 other-found (who.Task n) (who.Task m) f w (Some t) e same apart =
     let is : is_who (who.Task m) t ≡ true = found-holds (is_who (who.Task m)) w.tasks t e in
     let nor = differs n m t apart is in
-    ap (λ (o : Option Task). option_or_else o nobody) (other-list (is_who (who.Task m)) (is_who (who.Task n)) w.tasks t (f t) e (ap (same_who (who.Task n)) (same t) ∙ nor) nor)
+    ap (λ (o : Option Task). unwrap_or o nobody) (other-list (is_who (who.Task m)) (is_who (who.Task n)) w.tasks t (f t) e (ap (same_who (who.Task n)) (same t) ∙ nor) nor)
 
 pub of_other : (n name : Who) (f : Task → Task) (w : World) → ((t : Task) → (f t).who ≡ t.who) → same_who n name ≡ false → task_of (edit_task name f w) n ≡ task_of w n
 of_other n name f w same apart = other-found n name f w (task_at w name) refl same apart
@@ -126,7 +127,7 @@ awake-state (who.Task n) w e = e
 awake-state who.Agent w e = refl
 
 abbrev pub FreeTask : Task → Type 0
-FreeTask t = top_leaving (first_of_list t.frames) ≡ false
+FreeTask t = top_leaving (first_of t.frames) ≡ false
 
 pub free-edited : (n name : Who) (f : Task → Task) (w : World) → ((t : Task) → (f t).who ≡ t.who) → ((t : Task) → FreeTask t → FreeTask (f t)) → Free n w → Free n (edit_task name f w)
 free-edited n name f w same k h = of_edited FreeTask n name f w same k h
@@ -197,13 +198,13 @@ self-found : (name : Who) (f : Task → Task) (w : World) (t : Task) → task_at
 self-found who.Agent f w t e same = refl
 self-found (who.Task m) f w t e same =
     let is : is_who (who.Task m) t ≡ true = found-holds (is_who (who.Task m)) w.tasks t e in
-    ap (λ (o : Option Task). option_or_else o nobody) (own-list (is_who (who.Task m)) w.tasks t (f t) e (ap (same_who (who.Task m)) (same t) ∙ is))
+    ap (λ (o : Option Task). unwrap_or o nobody) (own-list (is_who (who.Task m)) w.tasks t (f t) e (ap (same_who (who.Task m)) (same t) ∙ is))
 
 pub of_self : (name : Who) (f : Task → Task) (w : World) (t : Task) → task_at w name ≡ Some t → ((u : Task) → (f u).who ≡ u.who) → task_of (edit_task name f w) name ≡ f t
 of_self name f w t e same = ap (λ (found : Option Task). task_of (edit_task_found name f w found) name) e ∙ self-found name f w t e same
 
 pub of_same : (n : Who) (w v : World) → v.tasks ≡ w.tasks → v.agent ≡ w.agent → task_of v n ≡ task_of w n
-of_same (who.Task n) w v a b = ap (λ ts. option_or_else (found_task (who.Task n) ts) nobody) a
+of_same (who.Task n) w v a b = ap (λ ts. unwrap_or (found_task (who.Task n) ts) nobody) a
 of_same who.Agent w v a b = b
 
 pub awake-same : (n : Who) (w v : World) → v.tasks ≡ w.tasks → v.agent ≡ w.agent → Awake n w → Awake n v

@@ -1,5 +1,6 @@
 -- Base priorities and deadlines that are set: each step keeps a relation that its parts keep.
 use Rattle.std.specs.Prelude.{ℕ, ℤ, ◌&&◌, Option, Some, None, Ok, ◌||◌, Err}
+use Rattle.ann_base.specs.Results.{◌>>=◌}
 use Rattle.ann_base.specs.declared.exceptions.Raised.TheVariants as exception
 use Rattle.trace_text.specs.declared.events.Who.{Who}
 use Rattle.trace_text.specs.declared.events.Who.TheVariants as who
@@ -34,7 +35,7 @@ use Rattle.machine_laws.proofs.Kept.Calls.{edit_call-alters, with_call-keeps, ed
 use Rattle.machine_laws.proofs.Kept.Statements.{delay_to-keeps}
 use Rattle.std.proofs.Common.{◌≡◌, refl, subst}
 use Rattle.machine_laws.proofs.Kept.Masters.{found-other}
-use Rattle.profile_machine.specs.Operators.{Valued, ◌>>=◌}
+use Rattle.profile_machine.specs.Operators.{Valued}
 use Rattle.profile_machine.specs.declared.world.World.{World}
 use Rattle.ann_base.specs.declared.identities.TaskNo.{TaskNo}
 use Rattle.profile_machine.specs.Tasks.{found_task, is_who}

@@ -1,5 +1,6 @@
 -- Calls of subprograms: each step keeps a relation that its parts keep.
 use Rattle.std.specs.Prelude.{List, [], ◌∷◌, Option, Some, None, Ok}
+use Rattle.ann_base.specs.Results.{◌>>=◌}
 use Rattle.ann_base.specs.declared.identities.CallNo.{CallNo}
 use Rattle.trace_text.specs.declared.events.Who.{Who}
 use Rattle.profile_machine.specs.declared.world.scopes.Handed.{Handed}
@@ -22,7 +23,7 @@ use Rattle.profile_machine.specs.Steps.{Step}
 use Rattle.profile_machine.specs.Frames.{leaves}
 use Rattle.profile_machine.specs.declared.world.scopes.Beginning.{Beginning}
 use Rattle.profile_machine.specs.Scopes.{home, write_cell}
-use Rattle.profile_machine.specs.Operators.{◌>>=◌, checked}
+use Rattle.profile_machine.specs.Operators.{checked}
 use Rattle.profile_machine.specs.Values.{Seen, or_misfit}
 use Rattle.profile_machine.specs.CallEnds.{store}
 use Rattle.profile_machine.specs.Subprograms.{begin_body, handing, call_subprogram, result_place, result_kept, return_result, return_value, drop_sending, return, cell_in, copy_parameters, last_cell, store_result, end_subprogram}

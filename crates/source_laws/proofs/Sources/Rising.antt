@@ -1,6 +1,7 @@
 -- The tokens of a source stand at places that rise, so each stands at a place of its own.
 use Rattle.std.proofs.Common.{◌≡◌, ◌⊎◌, inl, inr, ℕ, zero, suc, ◌+◌, ◌-◌, ◌≤◌, ◌<◌, Bool, true, false, cond, List, [], ◌∷◌, length, Result, Ok, Err, refl, sym, ap, subst, ◌∙◌, arith}
 use Rattle.std.specs.Prelude.{map, nat_lt, ◌==◌}
+use Rattle.ann_base.specs.Results.{◌>>=◌}
 use Rattle.ann_base.specs.declared.places.Place.{Place}
 use Rattle.ada_lex.specs.declared.tokens.Token.{Token}
 use Rattle.ada_lex.specs.declared.tokens.Kind.{Kind}
@@ -8,7 +9,7 @@ use Rattle.ada_lex.specs.declared.tokens.LexFault.{LexFault}
 use Rattle.ada_lex.specs.declared.lexing.TheConstants.{MAX_SOURCE}
 use Rattle.ada_lex.specs.declared.tokens.LexFault.TheVariants as faults
 use Rattle.ada_lex.specs.Shapes.{gap_length}
-use Rattle.ada_lex.specs.Reading.{◌>>=◌, behind, made, start, kind_of, token_at, piece_unless, piece_at, with_front, tokens_from, tokens_of}
+use Rattle.ada_lex.specs.Reading.{behind, made, start, kind_of, token_at, piece_unless, piece_at, with_front, tokens_from, tokens_of}
 use Rattle.ada_regions.specs.Words.{same_place}
 use Rattle.source_laws.proofs.Names.Denoting.{same_place-path}
 use Rattle.source_laws.proofs.Sources.Counting.{one_if, count}

@@ -10,7 +10,8 @@ use Rattle.profile_machine.specs.declared.world.tasks.Task.{Task}
 use Rattle.profile_machine.specs.declared.world.tasks.Waiting.{Waiting}
 use Rattle.profile_machine.specs.declared.world.tasks.State.{State}
 use Rattle.profile_machine.specs.declared.world.tasks.State.TheVariants.{Made, Runnable, Blocked}
-use Rattle.profile_machine.specs.Words.{first_of_list, same_region, is_the}
+use Rattle.profile_machine.specs.Words.{same_region, is_the}
+use Rattle.world_tables.specs.Lists.{first_of}
 use Rattle.profile_machine.specs.Tasks.{edit_task, with_state, with_frames, task_of, is_runnable_state, waiting_in, waiting_of}
 use Rattle.profile_machine.specs.Frames.{top_of, in_protected, edit_first, goes_on, is_protected}
 use Rattle.profile_machine.specs.Masters.{has_dependents}
@@ -64,7 +65,7 @@ awake-edited name n f w named state h = edited (λ t. is_runnable_state t.state 
 low-top : (f : Frame) (ns fs : List Nature) → (nature f.mark).action ≡ None → guards fs ≡ false → ns ≡ nature f.mark ∷ fs → guards ns ≡ false
 low-top f ns fs none low e = ap guards e ∙ guards-plain (nature f.mark) fs none ∙ low
 
-top-frames : (fs : List Frame) (f : Frame) → first_of_list fs ≡ Some f → (rest : List Frame) × (fs ≡ f ∷ rest)
+top-frames : (fs : List Frame) (f : Frame) → first_of fs ≡ Some f → (rest : List Frame) × (fs ≡ f ∷ rest)
 top-frames [] f e = absurd cc
 top-frames (g ∷ gs) f e = let same : g ≡ f = cc in (gs, ap (λ x. x ∷ gs) same)
 

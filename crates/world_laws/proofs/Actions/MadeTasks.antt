@@ -1,6 +1,6 @@
 -- A task in the list is the one of its name; and one that is only made has no action open.
 use Rattle.std.proofs.Common.{◌≡◌, ◌⊎◌, inl, inr, ℕ, suc, ◌≤◌, Bool, true, false, cond, List, [], ◌∷◌, Some, refl, sym, ap, subst, ◌∙◌, arith}
-use Rattle.std.specs.Prelude.{find, filter}
+use Rattle.std.specs.Prelude.{find, filter, unwrap_or}
 use Rattle.std.proofs.lemmas.Bool.{false≢true}
 use Rattle.ann_base.specs.declared.identities.TaskNo.{TaskNo}
 use Rattle.trace_text.specs.declared.events.Who.{Who}
@@ -9,7 +9,7 @@ use Rattle.profile_machine.specs.declared.world.World.{World}
 use Rattle.profile_machine.specs.declared.world.tasks.Task.{Task}
 use Rattle.profile_machine.specs.declared.world.tasks.State.{State}
 use Rattle.profile_machine.specs.declared.world.tasks.State.TheVariants.{Made, Runnable, Blocked}
-use Rattle.profile_machine.specs.Words.{same_who, option_or_else}
+use Rattle.profile_machine.specs.Words.{same_who}
 use Rattle.profile_machine.specs.Tasks.{is_who, nobody, is_made, is_made_state, is_runnable_state}
 use Rattle.profile_machine.specs.WellFormed.{number_in}
 use Rattle.machine_laws.proofs.ListLemmas.{Rises}
@@ -45,7 +45,7 @@ listed-member t (x ∷ xs) h (inr m) = listed-member t xs h.1 m
 pub member-self : (t : Task) (w : World) → Sound w → Member t w.tasks → one_of w.tasks w.agent t.who ≡ t
 member-self t w h m =
     let n = listed-member t w.tasks h.2.0 m in
-    ap (one_of w.tasks w.agent) n.1 ∙ ap (λ i. option_or_else (find (is_who i) w.tasks) nobody) (sym n.1) ∙ ap (λ found. option_or_else found nobody) (found-member t 0 w.drawn.tasks w.tasks h.1 m)
+    ap (one_of w.tasks w.agent) n.1 ∙ ap (λ i. unwrap_or (find (is_who i) w.tasks) nobody) (sym n.1) ∙ ap (λ found. unwrap_or found nobody) (found-member t 0 w.drawn.tasks w.tasks h.1 m)
 
 made-asleep : (state : State) → is_made_state state ≡ true → is_runnable_state state ≡ false
 made-asleep Made e = refl

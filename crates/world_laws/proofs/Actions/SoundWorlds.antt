@@ -1,6 +1,6 @@
 -- What else changes in a world: tasks that come and go, objects, and calls.
 use Rattle.std.proofs.Common.{◌≡◌, ℕ, suc, ◌≤◌, ◌<◌, Bool, true, false, cond, not, ◌||◌, ◌⊎◌, inl, inr, List, [], ◌∷◌, ◌++◌, Option, Some, None, refl, sym, ap, subst, ◌∙◌, eq-eqb, arith}
-use Rattle.std.specs.Prelude.{find, option_and_then, is_some}
+use Rattle.std.specs.Prelude.{find, option_and_then, is_some, unwrap_or}
 use Rattle.std.proofs.lemmas.Bool.{eqb-true, false≢true}
 use Rattle.ann_base.specs.declared.identities.CallNo.{CallNo}
 use Rattle.ann_base.specs.declared.identities.ObjectNo.{ObjectNo}
@@ -21,7 +21,8 @@ use Rattle.profile_machine.specs.declared.world.objects.Object.{Object}
 use Rattle.profile_machine.specs.declared.world.marks.Frame.{Frame}
 use Rattle.profile_machine.specs.declared.world.scopes.Located.{Located}
 use Rattle.profile_machine.specs.declared.world.scopes.ScopeId.{ScopeId}
-use Rattle.profile_machine.specs.Words.{same_who, same_region, is_the, without, option_or_else, first_of_list, edit_where}
+use Rattle.profile_machine.specs.Words.{same_who, same_region, is_the, without, edit_where}
+use Rattle.world_tables.specs.Lists.{first_of}
 use Rattle.profile_machine.specs.Values.{is_object}
 use Rattle.profile_machine.specs.Tasks.{is_who, nobody, task_of}
 use Rattle.profile_machine.specs.Scopes.{end_scope, goes_with}
@@ -47,7 +48,7 @@ use Rattle.line_laws.proofs.Leaving.CallLemmas.{edited-caller, added-caller, gon
 -- ---- tasks that come and go, of one that is found or of nobody
 
 abbrev seen : (Task → Type 0) → Option Task → Type 0
-seen P found = P (option_or_else found nobody)
+seen P found = P (unwrap_or found nobody)
 
 tail-step : (P Q : Task → Type 0) (c : Bool) (z : Task) (rest other : Option Task) → ((t : Task) → P t → Q t) → (seen P rest → seen Q other) → seen P (cond c (Some z) rest) → seen Q (cond c (Some z) other)
 tail-step P Q true z rest other on k h = on z h
@@ -129,7 +130,7 @@ region_of_mark-is (InInitialize l) = refl
 region_of_mark-is (InFinalize o) = refl
 region_of_mark-is (InAssign m) = refl
 
-first_region-is : (fs : List Frame) → option_and_then (λ f. region_of_mark f.mark) (first_of_list fs) ≡ first_region (natures fs)
+first_region-is : (fs : List Frame) → option_and_then (λ f. region_of_mark f.mark) (first_of fs) ≡ first_region (natures fs)
 first_region-is [] = refl
 first_region-is (f ∷ fs) = region_of_mark-is f.mark
 

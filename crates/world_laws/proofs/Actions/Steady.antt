@@ -3,6 +3,7 @@ use Rattle.std.specs.Prelude.{slice_index_or, is_none}
 use Rattle.std.proofs.Common.{◌≡◌, ℕ, ℤ, Bool, true, false, cond, not, eqb, ◌&&◌, List, [], ◌∷◌, Option, Some, None, Ok, Err, refl, subst, sym, ap, ◌∙◌}
 use Rattle.std.proofs.lemmas.Bool.{false≢true}
 use Rattle.profile_machine.specs.declared.world.marks.Mark.TheVariants.{InProtected, Handled, Abortable}
+use Rattle.ann_base.specs.Results.{◌>>=◌}
 use Rattle.ann_base.specs.declared.exceptions.Raised.{Raised}
 use Rattle.ann_base.specs.declared.exceptions.Raised.TheVariants as exception
 use Rattle.ann_base.specs.declared.identities.CallNo.{CallNo}
@@ -46,7 +47,7 @@ use Rattle.profile_machine.specs.Tasks.{task_of, edit_task, with_frames, with_st
 use Rattle.profile_machine.specs.Dispatching.{active, deadline_shown, level_kept_by, keep_level, granted, grant_quantum, says_ready, to_tail, ready}
 use Rattle.profile_machine.specs.Frames.{frames_of, top_of, edit_first, edit_top, goes_on, goes, push, pop, without_first, new_frame, left_so, leaving_of, with_mark, leaves, raises, has_room, open_handled, open_at, open_sequence, onward_of, exit_loop, stands_in, pass_on}
 use Rattle.profile_machine.specs.Appointments.{drop_delay, appoint}
-use Rattle.profile_machine.specs.Operators.{Valued, ◌>>=◌, checked}
+use Rattle.profile_machine.specs.Operators.{Valued, checked}
 use Rattle.profile_machine.specs.Scopes.{write_cell}
 use Rattle.profile_machine.specs.Calls.{edit_call, forget_call, with_call, says_call, edit_queue, take_call, put_call, place_of_entry, enqueued, enqueue, unqueued, is_cancellable, attempt_on, attempt, call_of}
 use Rattle.profile_machine.specs.Unwinding.{struck_frame, may_unwind, leave_by_abort, stop_waiting, wake_and_leave, unwind_blocked, unwind_in, unwind}

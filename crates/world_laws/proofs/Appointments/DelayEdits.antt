@@ -1,7 +1,7 @@
 -- What each change of a world leaves of its delays, of its tasks' numbers and of the calls of their own.
 use Rattle.std.proofs.Common.{◌≡◌, ℕ, suc, ◌≤◌, Bool, true, false, cond, not, ◌||◌, List, [], ◌∷◌, ◌++◌, Option, Some, None, refl, sym, ap, subst, ◌∙◌, arith}
 use Rattle.std.specs.List.{list_any}
-use Rattle.std.specs.Prelude.{ℤ, find, int_lt}
+use Rattle.std.specs.Prelude.{ℤ, find, int_lt, unwrap_or}
 use Rattle.ann_base.specs.declared.identities.CallNo.{CallNo}
 use Rattle.ann_base.specs.declared.identities.TaskNo.{TaskNo}
 use Rattle.trace_text.specs.declared.events.Who.{Who}
@@ -19,7 +19,7 @@ use Rattle.profile_machine.specs.Masters.{forget_task}
 use Rattle.profile_machine.specs.Tasking.{add_task}
 use Rattle.profile_machine.specs.Tasks.{task_at, task_of, is_who, nobody, edit_task_found, edit_task, waiting_in, waiting_of, with_state, with_frames}
 use Rattle.profile_machine.specs.WellFormed.{number_in, waits_for_delay}
-use Rattle.profile_machine.specs.Words.{same_who, option_or_else, without}
+use Rattle.profile_machine.specs.Words.{same_who, without}
 use Rattle.machine_laws.proofs.ListLemmas.{Rises, Rises-set_where, Rises-without, Rises-behind}
 use Rattle.world_laws.proofs.Appointments.Delays.{delayed, Idle, Awaited, nature, natures, Caller, OwnIn, Owned, task_number, Numbered, Later, own-on, is_false, EachTask}
 use Rattle.world_laws.proofs.Appointments.TaskLemmas.{other-gone, of_forgotten}
@@ -114,7 +114,7 @@ popped-owned name w h = edited-owned name (λ t. with_frames (without_first t.fr
 
 -- ---- a new task, and one that is gone
 
-found-waits : (found : Option Task) → waits_for_delay (waiting_in (option_or_else found nobody).state) ≡ true → (u : Task) × (found ≡ Some u)
+found-waits : (found : Option Task) → waits_for_delay (waiting_in (unwrap_or found nobody).state) ≡ true → (u : Task) × (found ≡ Some u)
 found-waits None e = absurd cc
 found-waits (Some u) e = (u, refl)
 
@@ -129,7 +129,7 @@ pub added-steady : (t : Task) (w : World) → Awaited w → Steady w (add_task t
 added-steady t w h = record {
   later = record { delays = λ k d. d; callers = λ c n k. k };
   states = λ k d. let q = found-waits (find (is_who (who.Task k)) w.tasks) (h k d) in
-      ap (λ (o : Option Task). waiting_in (option_or_else o nobody).state) (added-found (is_who (who.Task k)) t q.0 w.tasks q.1 ∙ sym q.1);
+      ap (λ (o : Option Task). waiting_in (unwrap_or o nobody).state) (added-found (is_who (who.Task k)) t q.0 w.tasks q.1 ∙ sym q.1);
 }
 
 pub added-numbered : (t : Task) (w : World) → t.who ≡ who.Task (record { 0 = w.drawn.tasks }) → Numbered w → Numbered (add_task t w)
@@ -218,7 +218,7 @@ asleep-idle (who.Task t) w h e = is_false (delayed t w) (λ d. sym (h t d) ∙ e
 asleep-idle who.Agent w h e = tt
 
 named-idle : (name : Who) (t : Task) (w : World) → Awaited w → t.who ≡ name → find (is_who name) w.tasks ≡ Some t → waits_for_delay (waiting_in t.state) ≡ false → Idle name w
-named-idle (who.Task n) t w h is found e = asleep-idle (who.Task n) w h (ap (λ (o : Option Task). waits_for_delay (waiting_in (option_or_else o nobody).state)) found ∙ e)
+named-idle (who.Task n) t w h is found e = asleep-idle (who.Task n) w h (ap (λ (o : Option Task). waits_for_delay (waiting_in (unwrap_or o nobody).state)) found ∙ e)
 named-idle who.Agent t w h is found e = tt
 
 pub each-asleep : (w : World) (xs : List Task) → Awaited w → EachTask (Found w.tasks) xs → EachTask (λ t. waits_for_delay (waiting_in t.state) ≡ false → Idle t.who w) xs

@@ -1,6 +1,6 @@
 -- Effects, instants and tocks: nobody for whom the end of a delay is appointed is placed behind them, so whom a tock chooses has none.
 use Rattle.std.proofs.Common.{arith, ◌≡◌, inl, inr, Bool, true, false, List, [], ◌∷◌, ◌++◌, Option, Some, None, refl, sym, ap, subst, ◌∙◌, append-nil, cond, eq-eqb}
-use Rattle.std.specs.Prelude.{◌||◌, ◌&&◌, ℤ, ℕ, filter}
+use Rattle.std.specs.Prelude.{◌||◌, ◌&&◌, ℤ, ℕ, filter, unwrap_or}
 use Rattle.ann_base.specs.declared.identities.TaskNo.{TaskNo}
 use Rattle.trace_text.specs.declared.events.Created.TheVariants as created
 use Rattle.trace_text.specs.declared.events.Event.{Event}
@@ -29,7 +29,7 @@ use Rattle.profile_machine.specs.Scopes.{plainly}
 use Rattle.profile_machine.specs.Steps.{◌▶◌, when, settles, settled, rests, placed_by, nothing, looks, for_each, changes, Move, Done, done}
 use Rattle.profile_machine.specs.Tasking.{unwind_all, take_terminates, block_at_terminate}
 use Rattle.profile_machine.specs.Tasks.{with_ticks, waiting_of, task_of, nobody, edit_task}
-use Rattle.profile_machine.specs.Words.{same_who, same_option, option_or_else}
+use Rattle.profile_machine.specs.Words.{same_who, same_option}
 use Rattle.machine_laws.proofs.Kept.Run.{before_tick, tock-parts}
 use Rattle.machine_laws.proofs.Moves.{StepRelation, lines_of}
 use Rattle.machine_laws.proofs.PlaceLemmas.{openings_place_by_lines, instants_place_by_lines, tocks_place_nobody}
@@ -265,7 +265,7 @@ blank-good p script = record { awaited = λ t d. absurd cc; numbered = (omega ar
   blank-owned : (p : Image) (script : List (ℤ × Item)) (name : Who) → OwnIn [] 0 name (natures (task_of (blank_world p script) name).frames)
   blank-owned p script who.Agent = tt
   blank-owned p script (who.Task t) = blank-first p (same_who (who.Task t) (who.Task (record { 0 = 0 }))) t where
-    blank-first : (p : Image) (b : Bool) (t : TaskNo) → OwnIn [] 0 (who.Task t) (natures (option_or_else (cond b (Some (environment_task p)) None) nobody).frames)
+    blank-first : (p : Image) (b : Bool) (t : TaskNo) → OwnIn [] 0 (who.Task t) (natures (unwrap_or (cond b (Some (environment_task p)) None) nobody).frames)
     blank-first p true t = tt
     blank-first p false t = tt
 

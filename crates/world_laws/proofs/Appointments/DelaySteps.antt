@@ -1,7 +1,7 @@
 -- The actions that let the end of a delay be appointed: delays and selects.
 use Rattle.std.proofs.Common.{◌≡◌, Bool, true, false, List, [], ◌∷◌, Option, Some, None, refl, sym, ap, subst, ◌∙◌, append-nil}
 use Rattle.std.proofs.lemmas.Bool.{true≢false}
-use Rattle.std.specs.Prelude.{ℤ, int_lt, int_le, pos, ◌+ℤ◌}
+use Rattle.std.specs.Prelude.{ℤ, int_lt, int_le, pos, ◌+ℤ◌, unwrap_or}
 use Rattle.ann_base.specs.declared.exceptions.Raised.TheVariants as exception
 use Rattle.ann_base.specs.declared.identities.CallNo.{CallNo}
 use Rattle.trace_text.specs.declared.events.Who.{Who}
@@ -33,7 +33,7 @@ use Rattle.profile_machine.specs.Statements.{wait_until, relative_moment, delay_
 use Rattle.profile_machine.specs.Steps.{changes, ◌▷◌, says, nothing, Step}
 use Rattle.profile_machine.specs.Tasks.{with_frames, task_at, nobody, edit_task}
 use Rattle.profile_machine.specs.Values.{moment, seen_by}
-use Rattle.profile_machine.specs.Words.{option_or_else, first_of_list}
+use Rattle.world_tables.specs.Lists.{first_of}
 use Rattle.machine_laws.proofs.Moves.{StepRelation}
 use Rattle.world_laws.proofs.Appointments.ActingEnds.{wait_until-ends, select_waits-ends, raise_if-ends, present-edited, plain, looks_at-ends, given-ends, excused, acting, Present, IsActor, Ends, Acting}
 use Rattle.world_laws.proofs.Appointments.DelayMoves.{nobody_excused, follows_then, fine, MovedOn, Moved, Lasting, GoodAs}
@@ -173,7 +173,7 @@ module _ (p : Image) (a : Who) where
   statement-ends s form false w is good here = plain a _ w good (act_plain-keeps (acting a) p a s form refl is)
 
   -- the frame on top of who is there
-  found-frames : (found : Option Task) (f : Frame) → first_of_list (option_or_else found nobody).frames ≡ Some f → (u : Task) × (found ≡ Some u)
+  found-frames : (found : Option Task) (f : Frame) → first_of (unwrap_or found nobody).frames ≡ Some f → (u : Task) × (found ≡ Some u)
   found-frames None f e = absurd (let never : None ≡ Some f = e in cc)
   found-frames (Some u) f e = (u, refl)
 
@@ -182,7 +182,7 @@ module _ (p : Image) (a : Who) where
 
   top-owned : (w : World) (f : Frame) → Good w → top_of w a ≡ Some f → (c : CallNo) → nature f.mark ≡ Some c → Caller c a w
   top-owned w f good e c is = first_owned (frames_of w a) f (good.owned a) e c is where
-    first_owned : (fs : List Frame) (g : Frame) → OwnIn w.calls w.drawn.calls a (natures fs) → first_of_list fs ≡ Some g → (k : CallNo) → nature g.mark ≡ Some k → CallerIn w.calls w.drawn.calls k a
+    first_owned : (fs : List Frame) (g : Frame) → OwnIn w.calls w.drawn.calls a (natures fs) → first_of fs ≡ Some g → (k : CallNo) → nature g.mark ≡ Some k → CallerIn w.calls w.drawn.calls k a
     first_owned [] g h e k is = absurd cc
     first_owned (x ∷ fs) g h e k is = let same : x ≡ g = cc in h.0 k (ap (λ (y : Frame). nature y.mark) same ∙ is)
 

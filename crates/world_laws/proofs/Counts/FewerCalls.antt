@@ -1,6 +1,7 @@
 -- How calls end takes calls out of queues and forgets some, and neither queues one nor sends one elsewhere.
 use Rattle.std.proofs.Common.{◌≡◌, ℕ, ℤ, ◌≤◌, Bool, true, false, cond, List, [], ◌∷◌, Option, Some, None, refl, sym, ap, subst, ◌∙◌, arith, option_map}
 use Rattle.std.specs.Prelude.{find, Ok, Err}
+use Rattle.ann_base.specs.Results.{◌>>=◌}
 use Rattle.ann_base.specs.declared.exceptions.Raised.{Raised}
 use Rattle.ann_base.specs.declared.exceptions.Raised.TheVariants as exception
 use Rattle.ann_base.specs.declared.identities.CallNo.{CallNo}
@@ -42,7 +43,7 @@ use Rattle.profile_machine.specs.declared.world.tasks.Waiting.{Waiting}
 use Rattle.profile_machine.specs.declared.world.tasks.Waiting.TheVariants as waits_for
 use Rattle.profile_machine.specs.Words.{has, same_call, edit_at, without}
 use Rattle.profile_machine.specs.Program.{declaration_of, form_of, next_of}
-use Rattle.profile_machine.specs.Operators.{Valued, ◌>>=◌, checked}
+use Rattle.profile_machine.specs.Operators.{Valued, checked}
 use Rattle.profile_machine.specs.Steps.{Step, Done, done, goes_on_with, nothing, changes, says, looks, when, for_some, ◌▷◌}
 use Rattle.profile_machine.specs.Tasks.{task_at, task_of, edit_task_found, edit_task, waiting_of, with_ticks, with_state}
 use Rattle.profile_machine.specs.Dispatching.{keep_level, grant_quantum, says_ready, to_tail, ready}

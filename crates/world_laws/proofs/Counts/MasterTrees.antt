@@ -1,7 +1,7 @@
 -- A task's master is older than each region of its own: so its masters, each of an owner's, have ever smaller numbers, and there
 -- are no more of them than tasks.
 use Rattle.std.proofs.Common.{◌≡◌, ℕ, zero, suc, ◌+◌, ◌<◌, ◌≤◌, Bool, true, false, cond, not, ◌||◌, length, List, [], ◌∷◌, ◌++◌, Option, Some, None, option_and_then, refl, sym, ap, subst, arith, ltb}
-use Rattle.std.specs.Prelude.{filter, find}
+use Rattle.std.specs.Prelude.{filter, find, unwrap_or}
 use Rattle.std.specs.List.{list_any}
 use Rattle.std.proofs.lemmas.Bool.{eqb-true, ltb-true, lt-ltb, le-ltb, false≢true}
 use Rattle.ann_base.specs.declared.identities.RegionNo.{RegionNo}
@@ -13,7 +13,8 @@ use Rattle.profile_machine.specs.declared.world.World.{World}
 use Rattle.profile_machine.specs.declared.world.marks.Frame.{Frame}
 use Rattle.profile_machine.specs.declared.world.tasks.Task.{Task}
 use Rattle.profile_machine.specs.declared.world.tasks.State.TheVariants.{Runnable, Blocked}
-use Rattle.profile_machine.specs.Words.{set_where, option_or_else, first_of_list, same_region, is_the}
+use Rattle.profile_machine.specs.Words.{set_where, same_region, is_the}
+use Rattle.world_tables.specs.Lists.{first_of}
 use Rattle.profile_machine.specs.Tasks.{nobody, task_at, task_of, is_who, found_task, edit_task_found, edit_task, with_state, with_frames}
 use Rattle.profile_machine.specs.Frames.{top_of, edit_first, edit_top, push, goes_on, new_frame, without_first}
 use Rattle.profile_machine.specs.Masters.{region_of_mark, has_region, owns, owner_of, masters_beyond, masters_from}
@@ -168,11 +169,11 @@ region-within : (old drawn : ℕ) (r : Option RegionNo) → RegionGrown old draw
 region-within old drawn None h = tt
 region-within old drawn (Some r) h = (omega arith, h.1)
 
-first-within : (old drawn : ℕ) (fs : List Frame) → MarksGrown old drawn (natures fs) → RegionGrown 0 drawn (option_and_then (λ f. region_of_mark f.mark) (first_of_list fs))
+first-within : (old drawn : ℕ) (fs : List Frame) → MarksGrown old drawn (natures fs) → RegionGrown 0 drawn (option_and_then (λ f. region_of_mark f.mark) (first_of fs))
 first-within old drawn [] h = tt
 first-within old drawn (f ∷ fs) h = region-within old drawn (region_of_mark f.mark) h.0
 
-found-within : (drawn : ℕ) (found : Option Task) → ((t : Task) → found ≡ Some t → TaskBranches drawn t) → RegionGrown 0 drawn (option_and_then (λ f. region_of_mark f.mark) (first_of_list (option_or_else found nobody).frames))
+found-within : (drawn : ℕ) (found : Option Task) → ((t : Task) → found ≡ Some t → TaskBranches drawn t) → RegionGrown 0 drawn (option_and_then (λ f. region_of_mark f.mark) (first_of (unwrap_or found nobody).frames))
 found-within drawn None h = tt
 found-within drawn (Some t) h = let branches = h t refl in first-within (age t.master) drawn t.frames branches.1
 

@@ -1,7 +1,7 @@
 -- Each change that steps are made of keeps what is known of marks.
 use Rattle.std.proofs.Common.{◌≡◌, inl, ℕ, suc, ◌<◌, ◌≤◌, Bool, true, false, cond, not, eqb, ◌&&◌, ◌||◌, List, [], ◌∷◌, Option, Some, None, refl, sym, ap, subst, ◌∙◌, arith, eq-eqb}
 use Rattle.std.proofs.lemmas.Bool.{eqb-true, false≢true}
-use Rattle.std.specs.Prelude.{find, is_some, is_none, leb, ℤ, int_lt}
+use Rattle.std.specs.Prelude.{find, is_some, is_none, leb, ℤ, int_lt, unwrap_or}
 use Rattle.std.specs.List.{list_any}
 use Rattle.ann_base.specs.declared.identities.ObjectNo.{ObjectNo}
 use Rattle.ann_base.specs.declared.identities.RegionNo.{RegionNo}
@@ -26,7 +26,8 @@ use Rattle.profile_machine.specs.declared.world.marks.ScopeMark.{ScopeMark}
 use Rattle.profile_machine.specs.declared.world.scopes.Beginning.{Beginning}
 use Rattle.profile_machine.specs.declared.world.scopes.Located.{Located}
 use Rattle.profile_machine.specs.declared.world.tasks.Task.{Task}
-use Rattle.profile_machine.specs.Words.{same_who, first_of_list, option_or_else, without}
+use Rattle.profile_machine.specs.Words.{same_who, without}
+use Rattle.world_tables.specs.Lists.{first_of}
 use Rattle.profile_machine.specs.Program.{scope_of}
 use Rattle.profile_machine.specs.Tasks.{nobody, is_who, found_task, with_frames}
 use Rattle.profile_machine.specs.Frames.{frames_of, new_frame, edit_first, edit_top, goes_on, push, pop, with_mark}
@@ -122,7 +123,7 @@ named-drawn : (w : World) (t : TaskNo) (u : Task) (name : Who) → u.who ≡ nam
 named-drawn w t u (who.Task k) is same low = subst (λ n. n < w.drawn.tasks) (sym (eqb-true t.0 k.0 same)) low
 named-drawn w t u who.Agent is same low = absurd low
 
-trigger-here : (w : World) (t : TaskNo) (depth : ℕ) (good : GoodMarks w) (found : Option Task) → found_task (who.Task t) w.tasks ≡ found → StandsAt depth (option_or_else found nobody).frames → HasBegun (who.Task t) (option_or_else found nobody) → (t.0 < w.drawn.tasks) × AwaitsAt depth (option_or_else found nobody)
+trigger-here : (w : World) (t : TaskNo) (depth : ℕ) (good : GoodMarks w) (found : Option Task) → found_task (who.Task t) w.tasks ≡ found → StandsAt depth (unwrap_or found nobody).frames → HasBegun (who.Task t) (unwrap_or found nobody) → (t.0 < w.drawn.tasks) × AwaitsAt depth (unwrap_or found nobody)
 trigger-here w t depth good None e h begun = absurd (false≢true h.0)
 trigger-here w t depth good (Some u) e h begun =
     let is = found-test (is_who (who.Task t)) u w.tasks e in
@@ -391,7 +392,7 @@ no_action (InAssign m) o e = refl
 
 exit-leads : (name : Who) (o : ObjectNo) (w : World) (frames : List Frame) → GoodMarks w → frames_of w name ≡ frames → action_first (natures frames) ≡ Some o → Calm name w → LeadsTo w [] (pop name w)
 exit-leads name o w [] good is action calm = cc
-exit-leads name o w (f ∷ fs) good is action calm = pop-leads name f w good (ap first_of_list is) (inl (no_action f.mark o action), calm)
+exit-leads name o w (f ∷ fs) good is action calm = pop-leads name f w good (ap first_of is) (inl (no_action f.mark o action), calm)
 
 more-drawn : (w v : World) (name : Who) → Still w v → DrawnTo w.drawn.tasks name → DrawnTo v.drawn.tasks name
 more-drawn w v (who.Task n) s low = let more = s.more in omega (arith, more, low)

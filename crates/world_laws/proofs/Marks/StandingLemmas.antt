@@ -5,7 +5,7 @@ use Rattle.profile_machine.specs.declared.world.marks.AbortableMark.{AbortableMa
 use Rattle.profile_machine.specs.declared.world.marks.Frame.{Frame}
 use Rattle.profile_machine.specs.declared.world.marks.Mark.{Mark}
 use Rattle.profile_machine.specs.declared.world.marks.Mark.TheVariants.{Scope, Handled, InProtected, InAccept, Abortable, InInitialize, InFinalize, InAssign}
-use Rattle.profile_machine.specs.Words.{first_of_list}
+use Rattle.world_tables.specs.Lists.{first_of}
 use Rattle.profile_machine.specs.Frames.{edit_first}
 use Rattle.profile_machine.specs.Unwinding.{struck_frame, edit_last}
 use Rattle.profile_machine.specs.CallEnds.{edit_depth, edit_abortable}
@@ -117,7 +117,7 @@ own_top-case : (b : Bool) (d : ℕ) (x : Frame) (xs : List Frame) → eqb (lengt
 own_top-case true d x xs here own awaits clear = false≢true (sym (own-awaits x.mark own) ∙ awaits)
 own_top-case false d x xs here own awaits clear = false≢true (sym (no_clear (is_own_scope x.mark) (is_clear_above d (own_scopes xs)) own) ∙ clear)
 
-pub own_top-stands : (d : ℕ) (f : Frame) (fs : List Frame) → first_of_list fs ≡ Some f → is_own_scope f.mark ≡ true → StandsAt d fs → ⊥
+pub own_top-stands : (d : ℕ) (f : Frame) (fs : List Frame) → first_of fs ≡ Some f → is_own_scope f.mark ≡ true → StandsAt d fs → ⊥
 own_top-stands d f [] top own h = false≢true h.0
 own_top-stands d f (x ∷ xs) top own h =
     let same : f ≡ x = cc in

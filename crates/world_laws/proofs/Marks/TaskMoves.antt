@@ -1,7 +1,7 @@
 -- Edits of a task, and tasks that come and go, keep what is known of marks.
 use Rattle.std.proofs.Common.{◌≡◌, ◌⊎◌, inl, inr, ℕ, suc, ◌<◌, Bool, true, false, cond, eqb, ◌&&◌, ◌||◌, List, [], ◌∷◌, ◌++◌, Option, Some, None, refl, sym, ap, subst, ◌∙◌, length, arith, eq-eqb}
 use Rattle.std.proofs.lemmas.Bool.{eqb-true, false≢true}
-use Rattle.std.specs.Prelude.{◌-◌, find}
+use Rattle.std.specs.Prelude.{◌-◌, find, unwrap_or}
 use Rattle.ann_base.specs.declared.identities.CallNo.{CallNo}
 use Rattle.ann_base.specs.declared.identities.TaskNo.{TaskNo}
 use Rattle.trace_text.specs.declared.events.Who.{Who}
@@ -14,7 +14,8 @@ use Rattle.profile_machine.specs.declared.world.tasks.Task.{Task}
 use Rattle.profile_machine.specs.declared.world.tasks.State.TheVariants.{Runnable, Blocked}
 use Rattle.profile_machine.specs.declared.world.tasks.Waiting.{Waiting}
 use Rattle.profile_machine.specs.declared.world.tasks.Waiting.TheVariants as waits_for
-use Rattle.profile_machine.specs.Words.{same_who, same_call, first_of_list, option_or_else}
+use Rattle.profile_machine.specs.Words.{same_who, same_call}
+use Rattle.world_tables.specs.Lists.{first_of}
 use Rattle.profile_machine.specs.Tasks.{nobody, is_who, is_made, is_made_state, task_at, task_of, found_task, edit_task_found, edit_task, with_state, with_frames, waiting_in}
 use Rattle.profile_machine.specs.Frames.{frames_of, top_of, new_frame, edit_first, edit_top, push, pop, without_first}
 use Rattle.profile_machine.specs.Appointments.{is_trigger_of, is_appointed}
@@ -187,12 +188,12 @@ blocked-leads name waiting w good no_end = edit-leads name (with_state (Blocked 
 }) good
 
 here-of : (w : World) (name : Who) (t : Task) → task_at w name ≡ Some t → task_of w name ≡ t
-here-of w name t e = ap (λ o. option_or_else o nobody) e
+here-of w name t e = ap (λ o. unwrap_or o nobody) e
 
-top-here : (w : World) (name : Who) (t : Task) (f : Frame) → task_at w name ≡ Some t → top_of w name ≡ Some f → first_of_list t.frames ≡ Some f
-top-here w name t f e top = subst (λ (u : Task). first_of_list u.frames ≡ Some f) (here-of w name t e) top
+top-here : (w : World) (name : Who) (t : Task) (f : Frame) → task_at w name ≡ Some t → top_of w name ≡ Some f → first_of t.frames ≡ Some f
+top-here w name t f e top = subst (λ (u : Task). first_of u.frames ≡ Some f) (here-of w name t e) top
 
-top-waits : (c d : CallNo) (f : Frame) (fs : List Frame) → first_of_list fs ≡ Some f → awaits_trigger f.mark ≡ false → is_abortable_of c f.mark ≡ true → is_triggered f.mark ≡ false → same_call d c ≡ true → (top_awaits fs ≡ false) × (triggered_part d fs ≡ false)
+top-waits : (c d : CallNo) (f : Frame) (fs : List Frame) → first_of fs ≡ Some f → awaits_trigger f.mark ≡ false → is_abortable_of c f.mark ≡ true → is_triggered f.mark ≡ false → same_call d c ≡ true → (top_awaits fs ≡ false) × (triggered_part d fs ≡ false)
 top-waits c d f [] top no_trigger of_call untriggered same = cc
 top-waits c d f (x ∷ xs) top no_trigger of_call untriggered same =
     let one : f ≡ x = cc in
@@ -268,7 +269,7 @@ own_scope-leads name f w good none plain no_final no_trigger untriggered = edit-
   abnormal = λ t e. e;
 }) good
 
-below-top : (registered : List Registered) (drawn n : ℕ) (g : Frame) (fs : List Frame) → first_of_list fs ≡ Some g → finalizes_here registered drawn n g.mark ≡ true → below_finalizes registered drawn n fs ≡ true
+below-top : (registered : List Registered) (drawn n : ℕ) (g : Frame) (fs : List Frame) → first_of fs ≡ Some g → finalizes_here registered drawn n g.mark ≡ true → below_finalizes registered drawn n fs ≡ true
 below-top registered drawn n g [] top here = cc
 below-top registered drawn n g (x ∷ xs) top here = let one : g ≡ x = cc in subst (λ (y : Frame). finalizes_here registered drawn n y.mark ≡ true) one here
 
@@ -293,7 +294,7 @@ popped-step false d x xs here ends h clear = (h, clear-below d x xs here clear)
 one-less : (n : ℕ) → suc n - 1 ≡ n
 one-less n = omega arith
 
-popped-awaits : (d : ℕ) (f : Frame) (fs : List Frame) → first_of_list fs ≡ Some f → ((awaits_trigger f.mark ≡ false) ⊎ (eqb d (length fs - 1) ≡ false)) → StandsAt d fs → StandsAt d (without_first fs)
+popped-awaits : (d : ℕ) (f : Frame) (fs : List Frame) → first_of fs ≡ Some f → ((awaits_trigger f.mark ≡ false) ⊎ (eqb d (length fs - 1) ≡ false)) → StandsAt d fs → StandsAt d (without_first fs)
 popped-awaits d f [] top ends h = cc
 popped-awaits d f (x ∷ xs) top ends h =
     let one : f ≡ x = cc in
@@ -319,7 +320,7 @@ pop-leads name f w good top ends = edit-leads name (λ t. with_frames (without_f
   marks = λ t e h. record { struck = popped-struck t.abnormal t.frames h.struck; finalizes = popped-finalizes w.registered w.drawn.controlled t.frames h.finalizes };
   waits = λ k is t e h. calm-waits name w k t (without_first t.frames) ends.1 is e;
   awaits = λ n d is same t frames h.
-      popped-awaits d f t.frames (ap first_of_list frames ∙ top) (subst (λ fs. (awaits_trigger f.mark ≡ false) ⊎ (eqb d (length fs - 1) ≡ false)) (sym frames) (ends-at n d name f w same is ends.0)) h;
+      popped-awaits d f t.frames (ap first_of frames ∙ top) (subst (λ fs. (awaits_trigger f.mark ≡ false) ⊎ (eqb d (length fs - 1) ≡ false)) (sym frames) (ends-at n d name f w same is ends.0)) h;
   begun = λ t e. e;
   abnormal = λ t e. e;
 }) good
@@ -330,7 +331,7 @@ pub strike-leads : (n : TaskNo) (w : World) → GoodMarks w → Marked w n → L
 strike-leads n w good marked = edit-leads (who.Task n) (λ t. with_frames (edit_last struck_frame t.frames) t) w (record {
   named = λ t. refl;
   marks = λ t e h.
-      let abnormal : t.abnormal ≡ true = subst (λ (u : Task). is_who (who.Task n) u ≡ true → u.abnormal ≡ true) (ap (λ o. option_or_else o nobody) e) marked.1 (found-test (is_who (who.Task n)) t w.tasks e) in
+      let abnormal : t.abnormal ≡ true = subst (λ (u : Task). is_who (who.Task n) u ≡ true → u.abnormal ≡ true) (ap (λ o. unwrap_or o nobody) e) marked.1 (found-test (is_who (who.Task n)) t w.tasks e) in
       record {
         struck = subst (λ b. StruckRightly b (edit_last struck_frame t.frames)) (sym abnormal) (last-struck t.frames (subst (λ b. StruckRightly b t.frames) abnormal h.struck));
         finalizes = same_marks-finalizes w.registered w.drawn.controlled (edit_last struck_frame t.frames) t.frames (last-marks t.frames) h.finalizes;
@@ -391,8 +392,8 @@ edited-there n g w P R named edit known u e =
     let S : Task → Type 0 = λ t. is_who (who.Task n) t ≡ true → R t in
     let first : Q (one_of w.tasks w.agent (who.Task n)) = known-one (found_task (who.Task n) w.tasks) refl in
     let behind : S (one_of v.tasks v.agent (who.Task n)) = edited_to Q S (who.Task n) (who.Task n) g w named (λ same t q is. edit t (q (sym (ap (same_who (who.Task n)) (named t)) ∙ is))) (λ apart. absurd (false≢true (sym apart ∙ same_self (who.Task n)))) (λ q is. no_name n is) first in
-    subst S (ap (λ o. option_or_else o nobody) e) behind (found-test (is_who (who.Task n)) u v.tasks e) where
-      known-one : (found : Option Task) → found_task (who.Task n) w.tasks ≡ found → is_who (who.Task n) (option_or_else found nobody) ≡ true → P (option_or_else found nobody)
+    subst S (ap (λ o. unwrap_or o nobody) e) behind (found-test (is_who (who.Task n)) u v.tasks e) where
+      known-one : (found : Option Task) → found_task (who.Task n) w.tasks ≡ found → is_who (who.Task n) (unwrap_or found nobody) ≡ true → P (unwrap_or found nobody)
       known-one None is named_so = no_name n named_so
       known-one (Some t) is named_so = known t is
 
@@ -457,7 +458,7 @@ found-added test x [] e = ap (λ b. cond b (Some x) None) e
 found-added test x (z ∷ zs) e = found_added-step (test z) test z x zs (found-added test x zs e)
 
 added-other : (n : TaskNo) (t : Task) (w : World) → t.who ≡ who.Task (record { 0 = w.drawn.tasks }) → n.0 < w.drawn.tasks → one_of (w.tasks ++ t ∷ []) w.agent (who.Task n) ≡ one_of w.tasks w.agent (who.Task n)
-added-other n t w is low = ap (λ o. option_or_else o nobody) (found-added (is_who (who.Task n)) t w.tasks (by_test (is_who (who.Task n) t) (λ e. new-name n t w.drawn.tasks is low e) (λ e. e)))
+added-other n t w is low = ap (λ o. unwrap_or o nobody) (found-added (is_who (who.Task n)) t w.tasks (by_test (is_who (who.Task n) t) (λ e. new-name n t w.drawn.tasks is low e) (λ e. e)))
 
 pub added-leads : (t : Task) (w : World) → GoodMarks w → t.who ≡ who.Task (record { 0 = w.drawn.tasks }) → t.frames ≡ [] → LeadsTo w [] (add_task t w)
 added-leads t w good is none = (
@@ -491,7 +492,7 @@ forgotten-leads name w good none = (
     triggers = λ n d a.
         let k = good.triggers n d a in
         let apart : same_who (who.Task n) name ≡ false = by_test (same_who (who.Task n) name) (λ same. armed-not n d name w none same a) (λ e. e) in
-        (k.0, subst (AwaitsAt d) (sym (ap (λ o. option_or_else o nobody) (left-other (who.Task n) name w.tasks apart))) k.1);
+        (k.0, subst (AwaitsAt d) (sym (ap (λ o. unwrap_or o nobody) (left-other (who.Task n) name w.tasks apart))) k.1);
     single = distinct-filter _ w.tasks good.single;
     objects = good.objects;
   },

@@ -9,7 +9,8 @@ use Rattle.profile_machine.specs.declared.world.World.{World}
 use Rattle.profile_machine.specs.declared.world.marks.Frame.{Frame}
 use Rattle.profile_machine.specs.declared.world.tasks.Task.{Task}
 use Rattle.profile_machine.specs.declared.world.tasks.State.TheVariants.{Runnable}
-use Rattle.profile_machine.specs.Words.{same_who, first_of_list}
+use Rattle.profile_machine.specs.Words.{same_who}
+use Rattle.world_tables.specs.Lists.{first_of}
 use Rattle.profile_machine.specs.Program.{is_robin_level, edf_low}
 use Rattle.profile_machine.specs.Tasks.{nobody, is_made_state, task_of, edit_task, with_state, with_frames}
 use Rattle.profile_machine.specs.Dispatching.{active, level_kept_by, keep_level, granted, grant_quantum}
@@ -32,7 +33,7 @@ at_same P R name f w named edit blank h =
 
 -- ---- marks
 
-first-edited : (f : Frame → Frame) (x : Frame) (fs : List Frame) → first_of_list fs ≡ Some x → first_of_list (edit_first f fs) ≡ Some (f x)
+first-edited : (f : Frame → Frame) (x : Frame) (fs : List Frame) → first_of fs ≡ Some x → first_of (edit_first f fs) ≡ Some (f x)
 first-edited f x [] e = cc
 first-edited f x (y ∷ ys) e = ap (option_map f) e
 
@@ -41,15 +42,15 @@ none-first f x e = cc
 
 pub top_edited : (name : Who) (f : Frame → Frame) (x : Frame) (w : World) → top_of w name ≡ Some x → top_of (edit_top name f w) name ≡ Some (f x)
 top_edited name f x w e =
-    at_same (λ t. first_of_list t.frames ≡ Some x) (λ t. first_of_list t.frames ≡ Some (f x)) name (λ t. with_frames (edit_first f t.frames) t) w (λ t. refl)
+    at_same (λ t. first_of t.frames ≡ Some x) (λ t. first_of t.frames ≡ Some (f x)) name (λ t. with_frames (edit_first f t.frames) t) w (λ t. refl)
     (λ t h. first-edited f x t.frames h) (λ h. none-first f x h) e
 
 pub frames_same : (name : Who) (f : Task → Task) (w : World) → ((t : Task) → (f t).who ≡ t.who) → ((t : Task) → (f t).frames ≡ t.frames) → frames_of (edit_task name f w) name ≡ frames_of w name
 frames_same name f w named same =
     at_same (λ t. t.frames ≡ frames_of w name) (λ t. t.frames ≡ frames_of w name) name f w named (λ t h. same t ∙ h) (λ h. h) refl
 
-nothing_first : {P : Type 0} (fs : List Frame) (g : Frame) → [] ≡ fs → first_of_list fs ≡ Some g → P
-nothing_first fs g e h = absurd (let none : None ≡ Some g = ap first_of_list e ∙ h in cc)
+nothing_first : {P : Type 0} (fs : List Frame) (g : Frame) → [] ≡ fs → first_of fs ≡ Some g → P
+nothing_first fs g e h = absurd (let none : None ≡ Some g = ap first_of e ∙ h in cc)
 
 -- who has a mark is there, so a mark that is opened stands above it
 pub frames_pushed : (name : Who) (f g : Frame) (w : World) → top_of w name ≡ Some g → frames_of (push name f w) name ≡ f ∷ frames_of w name

@@ -21,7 +21,8 @@ use Rattle.profile_machine.specs.declared.world.appointments.Due.{Due}
 use Rattle.profile_machine.specs.declared.world.appointments.Due.TheVariants as due_for
 use Rattle.profile_machine.specs.declared.world.lines.Part.TheVariants.{Own}
 use Rattle.profile_machine.specs.declared.world.lines.Said.{Said}
-use Rattle.profile_machine.specs.Words.{same_call, same_bool, is_the, first_of_list, option_or_else}
+use Rattle.profile_machine.specs.Words.{same_call, same_bool, is_the}
+use Rattle.world_tables.specs.Lists.{first_of}
 use Rattle.profile_machine.specs.declared.world.lines.Line.TheVariants as line
 use Rattle.profile_machine.specs.Steps.{Step, says, changes, ◌▷◌}
 use Rattle.profile_machine.specs.Tasks.{nobody, is_who, is_made, task_at, task_of, found_task, edit_task, with_frames, waiting_in, waiting_of}
@@ -32,7 +33,7 @@ use Rattle.profile_machine.specs.CallEnds.{is_abortable_of, depth_of_abortable, 
 use Rattle.profile_machine.specs.Act.{drop_trigger, below}
 use Rattle.profile_machine.specs.Instant.{is_the_same_due}
 use Rattle.profile_machine.specs.WellFormed.{awaits_trigger, awaits_trigger_at}
-use Rattle.std.specs.Prelude.{find, int_le, pos}
+use Rattle.std.specs.Prelude.{find, int_le, pos, unwrap_or}
 use Rattle.line_laws.proofs.Exclusion.ObjectLists.{by_test}
 use Rattle.line_laws.proofs.Exits.TaskEdits.{one_of, one_of-is, edited}
 use Rattle.line_laws.proofs.Exits.Steady.{FreeIn}
@@ -45,7 +46,7 @@ use Rattle.machine_laws.proofs.Kept.Combinators.{world_behind}
 
 -- ---- somebody
 
-waits-found : (w : World) → GoodMarks w → (n : TaskNo) (found : Option Task) → found_task (who.Task n) w.tasks ≡ found → WaitsOf (option_or_else found nobody)
+waits-found : (w : World) → GoodMarks w → (n : TaskNo) (found : Option Task) → found_task (who.Task n) w.tasks ≡ found → WaitsOf (unwrap_or found nobody)
 waits-found w good n None e = λ c is. absurd (false≢true is)
 waits-found w good n (Some t) e = all-found WaitsOf (is_who (who.Task n)) t w.tasks good.waits e
 
@@ -67,9 +68,9 @@ same_tops name f x w a b = ap (λ (y : Frame). y.mark) (some-frame x f (sym b �
 edited-top_calm : (name n : Who) (f : Frame) (g : Task → Task) (w : World) → ((t : Task) → (g t).who ≡ t.who) → ((t : Task) → (g t).frames ≡ t.frames) → ((t : Task) → (g t).state ≡ t.state) → TopCalm name f w → TopCalm name f (edit_task n g w)
 edited-top_calm name n f g w named frames state h =
     let v = edit_task n g w in
-    let P : Task → Type 0 = λ t. (first_of_list t.frames ≡ Some f) × FreeIn name t.state in
+    let P : Task → Type 0 = λ t. (first_of t.frames ≡ Some f) × FreeIn name t.state in
     subst P (one_of-is v name)
-    (edited P name n g w named (λ same t k. (ap first_of_list (frames t) ∙ k.0, subst (FreeIn name) (sym (state t)) k.1)) (subst P (sym (one_of-is w name)) h))
+    (edited P name n g w named (λ same t k. (ap first_of (frames t) ∙ k.0, subst (FreeIn name) (sym (state t)) k.1)) (subst P (sym (one_of-is w name)) h))
 
 queued-top_calm : (name : Who) (f : Frame) (owner : Owner) (place : ℕ) (g : List CallNo → List CallNo) (w : World) → TopCalm name f w → TopCalm name f (edit_queue owner place g w)
 queued-top_calm name f (owned_by.Task t) place g w h = edited-top_calm name (who.Task t) f _ w (λ u. refl) (λ u. refl) (λ u. refl) h
@@ -109,7 +110,7 @@ found-same_call c d calls e = found-test (is_call c) d calls e
 
 -- ---- behind the end of a wait
 
-top-quiet : (fs : List Frame) (f : Frame) → first_of_list fs ≡ Some f → top_awaits fs ≡ false → awaits_trigger f.mark ≡ false
+top-quiet : (fs : List Frame) (f : Frame) → first_of fs ≡ Some f → top_awaits fs ≡ false → awaits_trigger f.mark ≡ false
 top-quiet [] f e h = cc
 top-quiet (x ∷ xs) f e h = let same : x ≡ f = cc in subst (λ (y : Frame). awaits_trigger y.mark ≡ false) same h
 
@@ -128,14 +129,14 @@ waited-calm name depth b v h = calm_edited name _ v (λ t. refl) (λ t. refl) h
 -- an appointed trigger is one of a part that awaits it
 appointed-awaits : (w : World) → GoodMarks w → (t : TaskNo) (depth : ℕ) (u : Task) → task_at w (who.Task t) ≡ Some u → is_appointed (is_trigger_of t depth) w ≡ true → awaits_trigger_at depth u.frames ≡ true
 appointed-awaits w good t depth u found is =
-    let same : one_of w.tasks w.agent (who.Task t) ≡ u = ap (λ o. option_or_else o nobody) found in
+    let same : one_of w.tasks w.agent (who.Task t) ≡ u = ap (λ o. unwrap_or o nobody) found in
     subst (λ (x : Task). awaits_trigger_at depth x.frames ≡ true) same (good.triggers t depth is).1.0.0
 
 -- for who is only made no trigger is appointed
 made-case : (w : World) → GoodMarks w → (name : Who) (t : Task) → find (is_who name) w.tasks ≡ Some t → is_made t ≡ true → Unarmed name w
 made-case w good who.Agent t found made = tt
 made-case w good (who.Task n) t found made = λ d.
-    by_test (is_appointed (is_trigger_of n d) w) (λ e. absurd (false≢true (sym (good.triggers n d e).1.1 ∙ ap (λ o. is_made (option_or_else o nobody)) found ∙ made))) (λ e. e)
+    by_test (is_appointed (is_trigger_of n d) w) (λ e. absurd (false≢true (sym (good.triggers n d e).1.1 ∙ ap (λ o. is_made (unwrap_or o nobody)) found ∙ made))) (λ e. e)
 
 pub made-unarmed : (w : World) → GoodMarks w → AllTasks (λ t. is_made t ≡ true → Unarmed t.who w) w.tasks
 made-unarmed w good = all-map (λ t. find (is_who t.who) w.tasks ≡ Some t) (λ t. is_made t ≡ true → Unarmed t.who w) w.tasks (λ t found made. made-case w good t.who t found made) (distinct-found w.tasks good.single)
@@ -165,7 +166,7 @@ other_call c d waiting mark apart waits of_call =
 
 pub call-can_trigger : (w : World) → GoodMarks w → (c : Call) (depth : ℕ) → waits_for_end c.number (waiting_of w (who.Task c.caller)) ≡ false → abortable_depth w c ≡ Some depth → CanTrigger c.caller depth w
 call-can_trigger w good c depth apart found u is =
-    let here : task_of w (who.Task c.caller) ≡ u = ap (λ o. option_or_else o nobody) is in
+    let here : task_of w (who.Task c.caller) ≡ u = ap (λ o. unwrap_or o nobody) is in
     let of_call = of_call-found c.number depth u.frames (subst (λ (x : Task). depth_of_abortable c.number x.frames ≡ Some depth) here found) in
     record {
       frame = of_call.frame;

@@ -1,11 +1,11 @@
 -- What is read of a world's tasks where it is known only what decides their places.
 use Rattle.world_laws.proofs.Places.Cores.{Core, Same, core}
 use Rattle.profile_machine.specs.Tasks.{is_who, nobody, task_of}
-use Rattle.profile_machine.specs.Words.{option_or_else, same_who}
+use Rattle.profile_machine.specs.Words.{same_who}
 use Rattle.profile_machine.specs.declared.world.World.{World}
 use Rattle.profile_machine.specs.declared.world.tasks.Task.{Task}
 use Rattle.std.proofs.Common.{Bool, List, Option, Some, [], ap, cond, false, map, refl, sym, true, ◌∙◌, ◌∷◌, ◌≡◌}
-use Rattle.std.specs.Prelude.{find}
+use Rattle.std.specs.Prelude.{find, unwrap_or}
 use Rattle.trace_text.specs.declared.events.Who.{Who}
 use Rattle.trace_text.specs.declared.events.Who.TheVariants as who
 
@@ -13,11 +13,11 @@ abbrev core_in : Who → List Core → Core
 core_in n [] = core nobody
 core_in n (c ∷ cs) = cond (same_who n c.who) c (core_in n cs)
 
-core-test : (b : Bool) (t : Task) (rest : Option Task) (cs : Core) → core (option_or_else rest nobody) ≡ cs → core (option_or_else (cond b (Some t) rest) nobody) ≡ cond b (core t) cs
+core-test : (b : Bool) (t : Task) (rest : Option Task) (cs : Core) → core (unwrap_or rest nobody) ≡ cs → core (unwrap_or (cond b (Some t) rest) nobody) ≡ cond b (core t) cs
 core-test true t rest cs e = refl
 core-test false t rest cs e = e
 
-core-found : (n : Who) (ts : List Task) → core (option_or_else (find (is_who n) ts) nobody) ≡ core_in n (map core ts)
+core-found : (n : Who) (ts : List Task) → core (unwrap_or (find (is_who n) ts) nobody) ≡ core_in n (map core ts)
 core-found n [] = refl
 core-found n (t ∷ ts) = core-test (is_who n t) t (find (is_who n) ts) (core_in n (map core ts)) (core-found n ts)
 

@@ -14,7 +14,7 @@ use Rattle.profile_machine.specs.Masters.{forget_task}
 use Rattle.profile_machine.specs.Steps.{changes, says}
 use Rattle.profile_machine.specs.Tasking.{add_task, says_done}
 use Rattle.profile_machine.specs.Tasks.{is_who, nobody, task_of}
-use Rattle.profile_machine.specs.Words.{option_or_else, same_who}
+use Rattle.profile_machine.specs.Words.{same_who}
 use Rattle.profile_machine.specs.declared.world.World.{World}
 use Rattle.profile_machine.specs.declared.world.lines.Line.TheVariants as line
 use Rattle.profile_machine.specs.declared.world.lines.Part.{Part}
@@ -22,7 +22,7 @@ use Rattle.profile_machine.specs.declared.world.lines.Part.TheVariants.{TheBlock
 use Rattle.profile_machine.specs.declared.world.tasks.Task.{Task}
 use Rattle.std.proofs.Common.{ap, arith, cond, inl, inr, le_refl, refl, subst, sym, ◌++◌, ◌∙◌, ◌∷◌, ◌≡◌, ◌⊎◌}
 use Rattle.std.proofs.lemmas.Bool.{le-leb}
-use Rattle.std.specs.Prelude.{Bool, List, None, Option, Some, [], false, find, leb, suc, true, ℕ}
+use Rattle.std.specs.Prelude.{Bool, List, None, Option, Some, [], false, find, leb, suc, true, ℕ, unwrap_or}
 use Rattle.trace_text.specs.declared.events.Waits.{Waits}
 use Rattle.trace_text.specs.declared.events.Who.{Who}
 use Rattle.trace_text.specs.declared.events.Who.TheVariants as who
@@ -30,11 +30,11 @@ use Rattle.trace_text.specs.declared.events.Who.TheVariants as who
 -- ---- somebody is no longer there
 
 forget-other : (name : Who) (w : World) (n : Who) → same_who n name ≡ false → core (task_of (forget_task name w) n) ≡ core (task_of w n)
-forget-other name w (who.Task k) apart = ap (λ (r : Option Task). core (option_or_else r nobody)) (kept-others name (who.Task k) w.tasks apart)
+forget-other name w (who.Task k) apart = ap (λ (r : Option Task). core (unwrap_or r nobody)) (kept-others name (who.Task k) w.tasks apart)
 forget-other name w who.Agent apart = refl
 
 forget-task : (name : Who) (w : World) → is_agent name ≡ false → core (task_of (forget_task name w) name) ≡ core nobody
-forget-task (who.Task k) w task = ap (λ (r : Option Task). core (option_or_else r nobody)) (none-left (who.Task k) w.tasks)
+forget-task (who.Task k) w task = ap (λ (r : Option Task). core (unwrap_or r nobody)) (none-left (who.Task k) w.tasks)
 forget-task who.Agent w task = absurd cc
 
 forget-agent : (name : Who) (w : World) → is_agent name ≡ true → core (task_of (forget_task name w) name) ≡ core (task_of w name)
@@ -81,11 +81,11 @@ find-behind test t [] = refl
 find-behind test t (x ∷ xs) = behind_if (test x) x (find test xs) (find test (xs ++ t ∷ [])) (cond (test t) (Some t) None) (find-behind test t xs)
 
 added_by : (t : Task) (n : Who) (found behind : Option Task) (b : Bool) → same_who n t.who ≡ b → behind ≡ or_found found (cond b (Some t) None)
-    → (core (option_or_else behind nobody) ≡ core (option_or_else found nobody)) ⊎ AddedAs t n (core (option_or_else found nobody)) (core (option_or_else behind nobody))
+    → (core (unwrap_or behind nobody) ≡ core (unwrap_or found nobody)) ⊎ AddedAs t n (core (unwrap_or found nobody)) (core (unwrap_or behind nobody))
 unfolding or_found
-added_by t n (Some x) behind b is e = inl (ap (λ (r : Option Task). core (option_or_else r nobody)) e)
-added_by t n None behind true is e = inr (record { named = is; was = refl; is = ap (λ (r : Option Task). core (option_or_else r nobody)) e })
-added_by t n None behind false is e = inl (ap (λ (r : Option Task). core (option_or_else r nobody)) e)
+added_by t n (Some x) behind b is e = inl (ap (λ (r : Option Task). core (unwrap_or r nobody)) e)
+added_by t n None behind true is e = inr (record { named = is; was = refl; is = ap (λ (r : Option Task). core (unwrap_or r nobody)) e })
+added_by t n None behind false is e = inl (ap (λ (r : Option Task). core (unwrap_or r nobody)) e)
 
 pub add-found : (t : Task) (w : World) (n : Who) → (core (task_of (add_task t w) n) ≡ core (task_of w n)) ⊎ AddedAs t n (core (task_of w n)) (core (task_of (add_task t w) n))
 add-found t w (who.Task k) = added_by t (who.Task k) (find (is_who (who.Task k)) w.tasks) (find (is_who (who.Task k)) (w.tasks ++ t ∷ [])) (is_who (who.Task k) t) refl (find-behind (is_who (who.Task k)) t w.tasks)

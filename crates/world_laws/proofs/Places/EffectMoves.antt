@@ -23,7 +23,7 @@ use Rattle.profile_machine.specs.Scopes.{end_scope}
 use Rattle.profile_machine.specs.Steps.{Step, changes, when}
 use Rattle.profile_machine.specs.Tasking.{fall_from}
 use Rattle.profile_machine.specs.Tasks.{edit_task, is_made_state, is_runnable_state, nobody, task_of, waiting_in}
-use Rattle.profile_machine.specs.Words.{same_who, some_where, without}
+use Rattle.profile_machine.specs.Words.{same_who, without}
 use Rattle.profile_machine.specs.declared.image.Image.{Image}
 use Rattle.profile_machine.specs.declared.world.World.{World}
 use Rattle.profile_machine.specs.declared.world.lines.Line.TheVariants as line
@@ -38,6 +38,7 @@ use Rattle.profile_machine.specs.declared.world.tasks.State as tasks
 use Rattle.profile_machine.specs.declared.world.tasks.State.TheVariants.{Blocked, Made, Runnable}
 use Rattle.profile_machine.specs.declared.world.tasks.Task.{Task}
 use Rattle.std.proofs.Common.{ap, arith, inl, inr, le_antisymm, le_refl, le_trans, ltb, refl, subst, sym, ◌&&◌, ◌∙◌, ◌∷◌, ◌≡◌, ◌≤◌, ◌⊎◌}
+use Rattle.std.specs.Bool.{then_some}
 use Rattle.std.specs.Prelude.{Bool, List, None, Option, Some, false, not, true, ℕ, ℤ}
 use Rattle.trace_text.specs.declared.events.Who.{Who}
 use Rattle.trace_text.specs.declared.events.Who.TheVariants as who
@@ -420,11 +421,11 @@ module _ (p : Image) (s : List Placed) (a : Who) where
   -- its deadline is set, and where it is ready on an EDF level it is placed anew
   pub at_level : (place : Option Spot) (c e : Core) → active_in p e ≡ active_in p c → IsAt p place c → AtLevel p s a place e
   at_level None c e same h = tt
-  at_level (Some x) c e same h = (h.0 ∙ sym same, λ none. h.1 ∙ ap (λ b. some_where b c.deadline) (ap (is_edf_level p) (sym same) ∙ none))
+  at_level (Some x) c e same h = (h.0 ∙ sym same, λ none. h.1 ∙ ap (λ b. then_some b c.deadline) (ap (is_edf_level p) (sym same) ∙ none))
 
   pub level_at : (place : Option Spot) (c : Core) → is_edf_level p (active_in p c) ≡ false → AtLevel p s a place c → IsAt p place c
   level_at None c none h = tt
-  level_at (Some x) c none h = (h.0, h.1 none ∙ sym (ap (λ b. some_where b c.deadline) none))
+  level_at (Some x) c none h = (h.0, h.1 none ∙ sym (ap (λ b. then_some b c.deadline) none))
 
   pub dated_turns : (name : Who) (deadline : ℤ) → Turns (Later p s a) (Undated p s a name) name (λ t. record t { deadline = deadline })
   dated_turns name deadline = record {

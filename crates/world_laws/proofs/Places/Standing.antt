@@ -12,7 +12,7 @@ use Rattle.profile_machine.specs.Priorities.{placing_of}
 use Rattle.profile_machine.specs.Steps.{is_numbered_before, is_part_before}
 use Rattle.profile_machine.specs.Tasks.{is_made_state, is_runnable_state, nobody, task_of, waiting_in, waiting_of}
 use Rattle.profile_machine.specs.Program.{is_edf_level}
-use Rattle.profile_machine.specs.Words.{same_who, some_where}
+use Rattle.profile_machine.specs.Words.{same_who}
 use Rattle.profile_machine.specs.declared.image.Image.{Image}
 use Rattle.profile_machine.specs.declared.world.World.{World}
 use Rattle.profile_machine.specs.declared.world.lines.Part.{Part}
@@ -22,6 +22,7 @@ use Rattle.profile_machine.specs.declared.world.tasks.Task.{Task}
 use Rattle.profile_machine.specs.declared.world.tasks.State as tasks
 use Rattle.profile_machine.specs.declared.world.tasks.State.TheVariants.{Blocked, Made, Runnable}
 use Rattle.std.proofs.Common.{ap, arith, cond, inl, inr, ltb, refl, subst, sym, ◌∙◌, ◌≡◌, ◌⊎◌}
+use Rattle.std.specs.Bool.{then_some}
 use Rattle.std.specs.List.{list_any}
 use Rattle.std.specs.Prelude.{Bool, List, None, Option, Some, false, is_some, true, ℕ, ◌≤◌}
 use Rattle.trace_text.specs.declared.events.Who.{Who}
@@ -48,7 +49,7 @@ at-still p (Some s) c e level deadline h = at-moved p s c e level deadline h
 
 -- of a level and a deadline that are the same
 pub deadline-kept : (p : Image) (c e : Core) → active_in p e ≡ active_in p c → e.deadline ≡ c.deadline → deadline_in p e ≡ deadline_in p c
-deadline-kept p c e level deadline = ap (λ a. some_where (is_edf_level p a) e.deadline) level ∙ ap (some_where (is_edf_level p (active_in p c))) deadline
+deadline-kept p c e level deadline = ap (λ a. then_some (is_edf_level p a) e.deadline) level ∙ ap (then_some (is_edf_level p (active_in p c))) deadline
 
 -- a line of this part is not hidden
 abbrev pub FreeFor : Part → Last → Type 0

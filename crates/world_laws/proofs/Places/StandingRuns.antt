@@ -41,7 +41,8 @@ use Rattle.profile_machine.specs.Scopes.{open_scope, plainly}
 use Rattle.profile_machine.specs.Steps.{Move, changes, is_part_before, placed_by, places_after, places_after_all, rests, says, settles, ◌▶◌}
 use Rattle.profile_machine.specs.Tasks.{is_runnable, nobody, task_at, task_of}
 use Rattle.profile_machine.specs.Frames.{frames_of}
-use Rattle.profile_machine.specs.Words.{first_of_list, option_or_else, same_who}
+use Rattle.profile_machine.specs.Words.{same_who}
+use Rattle.world_tables.specs.Lists.{first_of}
 use Rattle.profile_machine.specs.declared.image.Image.{Image}
 use Rattle.profile_machine.specs.declared.run_data.Item.{Item}
 use Rattle.profile_machine.specs.declared.world.World.{World}
@@ -58,7 +59,7 @@ use Rattle.profile_machine.specs.declared.world.marks.ProtectedMark.{ProtectedMa
 use Rattle.profile_machine.specs.declared.world.tasks.Placed.{Placed}
 use Rattle.profile_machine.specs.declared.world.tasks.Task.{Task}
 use Rattle.std.proofs.Common.{ap, cond, inl, inr, le_refl, refl, subst, sym, ◌++◌, ◌∙◌, ◌∷◌, ◌≡◌, ◌⊎◌}
-use Rattle.std.specs.Prelude.{Bool, List, None, Option, Some, [], false, is_some, true, ℕ, ℤ}
+use Rattle.std.specs.Prelude.{Bool, List, None, Option, Some, [], false, is_some, true, ℕ, ℤ, unwrap_or}
 use Rattle.line_laws.proofs.Ticks.LineByLine.{Follow, seen_behind}
 use Rattle.trace_text.specs.declared.events.Created.TheVariants as created
 use Rattle.trace_text.specs.declared.events.Event.{Event}
@@ -151,7 +152,7 @@ module _ (p : Image) where
   shown-drawn sight n d spot c found h =
       by_test (is_fresh d n) (λ fresh. absurd (let clash : Some spot ≡ None = sym found ∙ h.fresh fresh in cc)) (λ apart. apart)
 
-  there-apart : {P : Type 0} (n : Who) (w : World) (found : Option Task) → task_at w n ≡ found → is_over (option_or_else found nobody).ticks_left ≡ true → IsAbsent n (core (option_or_else found nobody)) → P
+  there-apart : {P : Type 0} (n : Who) (w : World) (found : Option Task) → task_at w n ≡ found → is_over (unwrap_or found nobody).ticks_left ≡ true → IsAbsent n (core (unwrap_or found nobody)) → P
   there-apart n w None is acts absent = absurd cc
   there-apart (who.Task t) w (Some x) is acts absent = not-absent (who.Task t) x (λ u. u) (λ task. found_is_who (who.Task t) x w.tasks is) refl absent
   there-apart who.Agent w (Some x) is acts absent = absurd (let clash : true ≡ false = absent.0 in cc)
@@ -275,7 +276,7 @@ module _ (p : Image) where
 
   blank-idle : {P : Type 0} (script : List (ℤ × Item)) (n : Who) → same_who n environment ≡ false → runs_in (core (task_of (blank_world p script) n)) ≡ true → P
   blank-idle script (who.Task k) apart runs =
-      nobody-runs (sym (ap (λ b. runs_in (core (option_or_else (cond b (Some (environment_task p)) None) nobody))) apart) ∙ runs)
+      nobody-runs (sym (ap (λ b. runs_in (core (unwrap_or (cond b (Some (environment_task p)) None) nobody))) apart) ∙ runs)
   blank-idle script who.Agent apart runs = absurd (let clash : false ≡ true = runs in cc)
 
   opening_starts : (script : List (ℤ × Item)) → Holds Opening (blank_world p script) []
@@ -389,12 +390,12 @@ comes-inside : (p : Image) (script : List (ℤ × Item)) (bound : ℕ) (w : Worl
 comes-inside p script bound w comes = marked-inside w.serving w.agent.frames (comes-attends p script bound w comes).marks
 
 -- who entered with a call of its own made it, and no release ends with an action of a task
-own_top : (calls : List Call) (last : ℕ) (name : Who) (frames : List Frame) (f : Frame) (m : ProtectedMark) (c : CallNo) → first_of_list frames ≡ Some f → f.mark ≡ InProtected m → m.own_call ≡ Some c → OwnIn calls last name (own.natures frames) → CallerIn calls last c name
+own_top : (calls : List Call) (last : ℕ) (name : Who) (frames : List Frame) (f : Frame) (m : ProtectedMark) (c : CallNo) → first_of frames ≡ Some f → f.mark ≡ InProtected m → m.own_call ≡ Some c → OwnIn calls last name (own.natures frames) → CallerIn calls last c name
 own_top calls last name frames f m c top mark e h =
     let found = has_top frames f top in
     (subst (λ fs. OwnIn calls last name (own.natures fs)) found.1 h).0 c (ap own.nature mark ∙ e)
 
-no_release : (w : World) (name : Who) (f : Frame) (m : ProtectedMark) (r : ℕ) → Attending w → first_of_list (frames_of w name) ≡ Some f → f.mark ≡ InProtected m → m.release ≡ Some r → who.Agent ≡ name
+no_release : (w : World) (name : Who) (f : Frame) (m : ProtectedMark) (r : ℕ) → Attending w → first_of (frames_of w name) ≡ Some f → f.mark ≡ InProtected m → m.release ≡ Some r → who.Agent ≡ name
 no_release w who.Agent f m r h top mark e = refl
 no_release w (who.Task n) f m r h top mark e =
     let found = has_top (frames_of w (who.Task n)) f top in

@@ -1,6 +1,6 @@
 -- The tasks of a good world, one by one: each is found by its name.
 use Rattle.std.proofs.Common.{◌≡◌, ℕ, suc, ◌≤◌, ◌<◌, Bool, true, false, cond, eqb, List, [], ◌∷◌, Some, None, refl, sym, ap, ◌∙◌, arith}
-use Rattle.std.specs.Prelude.{filter, find}
+use Rattle.std.specs.Prelude.{filter, find, unwrap_or}
 use Rattle.std.specs.List.{list_all}
 use Rattle.std.proofs.lemmas.Bool.{and_parts, eqb-true, eq-eqb, true≢false}
 use Rattle.ann_base.specs.declared.identities.CallNo.{CallNo}
@@ -11,7 +11,7 @@ use Rattle.profile_machine.specs.declared.world.World.{World}
 use Rattle.profile_machine.specs.declared.world.tasks.State.{State}
 use Rattle.profile_machine.specs.declared.world.tasks.State.TheVariants.{Made, Runnable, Blocked}
 use Rattle.profile_machine.specs.declared.world.tasks.Task.{Task}
-use Rattle.profile_machine.specs.Words.{same_who, option_or_else}
+use Rattle.profile_machine.specs.Words.{same_who}
 use Rattle.profile_machine.specs.Tasks.{is_who, is_made, is_made_state, nobody, task_of, waiting_in}
 use Rattle.profile_machine.specs.WellFormed.{number_in}
 use Rattle.machine_laws.proofs.ListLemmas.{Rises}
@@ -71,7 +71,7 @@ found-each low top (t ∷ ts) h named =
     )
 
 at-name : (w : World) (t : Task) (name : Who) → is_task name ≡ true → find (is_who name) w.tasks ≡ Some t → task_of w name ≡ t
-at-name w t (who.Task n) named is = ap (λ x. option_or_else x nobody) is
+at-name w t (who.Task n) named is = ap (λ x. unwrap_or x nobody) is
 at-name w t who.Agent named is = absurd (true≢false (sym named))
 
 -- each is found by its name, which is that of a task

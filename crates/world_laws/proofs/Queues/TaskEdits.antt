@@ -1,12 +1,12 @@
 -- A task, or the agent, as it stands in a world: what holds of it where somebody is edited.
 use Rattle.std.proofs.Common.{◌≡◌, Bool, true, false, cond, List, [], ◌∷◌, ◌++◌, Option, Some, None, refl, sym, ap, subst, ◌∙◌}
 use Rattle.std.proofs.lemmas.Bool.{false≢true}
-use Rattle.std.specs.Prelude.{find, not}
+use Rattle.std.specs.Prelude.{find, not, unwrap_or}
 use Rattle.ann_base.specs.declared.identities.TaskNo.{TaskNo}
 use Rattle.trace_text.specs.declared.events.Who.{Who}
 use Rattle.trace_text.specs.declared.events.Who.TheVariants as who
 use Rattle.profile_machine.specs.declared.world.tasks.Task.{Task}
-use Rattle.profile_machine.specs.Words.{same_who, set_where, without, option_or_else}
+use Rattle.profile_machine.specs.Words.{same_who, set_where, without}
 use Rattle.profile_machine.specs.Tasks.{is_who, nobody}
 use Rattle.line_laws.proofs.Exits.TaskEdits.{apart-names, both-same, none-left, one_of, other-name, same_who-path, seen, some-none, some-same, tail-step}
 
@@ -26,7 +26,7 @@ other-one m k name e f =
 module _ (P R : Task → Type 0) (m k : TaskNo) (x y : Task) (named : y.who ≡ x.who) (same : same_who (who.Task m) (who.Task k) ≡ true → P x → R y) (apart : same_who (who.Task m) (who.Task k) ≡ false → (t : Task) → P t → R t) where
   head-step : (c : Bool) (rest : Option Task) → is_who (who.Task m) x ≡ c → is_who (who.Task k) x ≡ true → seen P (cond c (Some x) rest) → seen R (cond (is_who (who.Task m) y) (Some y) rest)
   head-step true rest e f h = subst (λ b. seen R (cond b (Some y) rest)) (sym (ap (same_who (who.Task m)) named ∙ e)) (same (both-same m k x.who e f) h)
-  head-step false rest e f h = subst (λ b. seen R (cond b (Some y) rest)) (sym (ap (same_who (who.Task m)) named ∙ e)) (apart (other-name m k x.who e f) (option_or_else rest nobody) h)
+  head-step false rest e f h = subst (λ b. seen R (cond b (Some y) rest)) (sym (ap (same_who (who.Task m)) named ∙ e)) (apart (other-name m k x.who e f) (unwrap_or rest nobody) h)
 
   rest-step : (c : Bool) (z : Task) (rest other : Option Task) → is_who (who.Task m) z ≡ c → is_who (who.Task k) z ≡ false → (seen P rest → seen R other) → seen P (cond c (Some z) rest) → seen R (cond c (Some z) other)
   rest-step true z rest other e f onward h = apart (other-one m k z.who e f) z h

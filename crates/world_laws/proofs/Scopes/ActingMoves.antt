@@ -2,13 +2,13 @@
 -- good world stays good, and whoever is there and not only made stays so.
 use Rattle.std.proofs.Common.{◌≡◌, Bool, true, false, cond, List, [], ◌∷◌, ◌++◌, Option, Some, sym, ap, subst, ◌∙◌}
 use Rattle.std.proofs.lemmas.Bool.{false≢true}
-use Rattle.std.specs.Prelude.{find}
+use Rattle.std.specs.Prelude.{find, unwrap_or}
 use Rattle.trace_text.specs.declared.events.Who.{Who}
 use Rattle.trace_text.specs.declared.events.Who.TheVariants as who
 use Rattle.profile_machine.specs.declared.numbers.StatementNo.{StatementNo}
 use Rattle.profile_machine.specs.declared.world.World.{World}
 use Rattle.profile_machine.specs.declared.world.tasks.Task.{Task}
-use Rattle.profile_machine.specs.Words.{same_who, option_or_else}
+use Rattle.profile_machine.specs.Words.{same_who}
 use Rattle.profile_machine.specs.Tasks.{is_who, is_made, nobody, task_of}
 use Rattle.profile_machine.specs.Masters.{forget_task}
 use Rattle.profile_machine.specs.Scopes.{open_scope}
@@ -72,7 +72,7 @@ found-added test x t (z ∷ zs) e = found-step test z x t zs (test z) e (λ k. f
 pub live-added : (x : Task) (w : World) (n : Who) → Live n w → Live n (add_task x w)
 live-added x w (who.Task k) live =
     let there = live-there (who.Task k) w live in
-    ap (λ found. is_made (option_or_else found nobody)) (found-added (is_who (who.Task k)) x there.task w.tasks there.found) ∙ not_made (who.Task k) w there live
+    ap (λ found. is_made (unwrap_or found nobody)) (found-added (is_who (who.Task k)) x there.task w.tasks there.found) ∙ not_made (who.Task k) w there live
 live-added x w who.Agent live = live
 
 task-added : (me name : Who) (onward : Option StatementNo) (t : Task) (w : World) → ActingWorld me w → t.who ≡ who.Task (record { 0 = w.drawn.tasks }) → t.frames ≡ [] → Led me w (add_task t (gone_on name onward w))

@@ -25,7 +25,7 @@ use Rattle.profile_machine.specs.declared.world.marks.ProtectedMark.{ProtectedMa
 use Rattle.profile_machine.specs.declared.world.scopes.ScopeId.{ScopeId}
 use Rattle.profile_machine.specs.declared.world.tasks.Task.{Task}
 use Rattle.profile_machine.specs.declared.world.tasks.Cause.TheVariants as inherited_by
-use Rattle.profile_machine.specs.Words.{first_of_list}
+use Rattle.world_tables.specs.Lists.{first_of}
 use Rattle.profile_machine.specs.Steps.{Step, says, changes, for_some, ◌▷◌}
 use Rattle.profile_machine.specs.Tasks.{is_made, with_frames}
 use Rattle.profile_machine.specs.Frames.{edit_top, frames_of, is_protected, pop, top_of, without_first}
@@ -79,7 +79,7 @@ protected-none (InFinalize o) e = refl
 protected-none (InAssign m) e = refl
 
 -- one that is on top stands there
-top-shields : (f : Frame) (fs : List Frame) → first_of_list fs ≡ Some f → is_protected f.mark ≡ true → shielded (natures fs) ≡ true
+top-shields : (f : Frame) (fs : List Frame) → first_of fs ≡ Some f → is_protected f.mark ≡ true → shielded (natures fs) ≡ true
 top-shields f [] top e = absurd cc
 top-shields f (g ∷ fs) top e =
     let same : g ≡ f = cc in
@@ -109,7 +109,7 @@ shielded-owns (f ∷ fs) h = sym (opened-owns f fs (top-none (is_protected f.mar
 -- somebody who is there
 shielded-there : (name : Who) (w : World) (fs : List Frame) → frames_of w name ≡ fs → shielded (natures fs) ≡ true → There name w
 shielded-there name w [] is h = absurd (false≢true h)
-shielded-there name w (f ∷ fs) is h = top-there name f w (ap first_of_list is)
+shielded-there name w (f ∷ fs) is h = top-there name f w (ap first_of is)
 
 pop-live : (name : Who) (w : World) → There name w → (n : Who) → Live n w → Live n (pop name w)
 pop-live name w there n e =

@@ -1,13 +1,14 @@
 -- Worlds with the same scopes: each task is who it was, with the scopes of its marks, and is only made at most where it was; and the
 -- scopes in use are the same, and as many scopes and tasks are drawn.
 use Rattle.std.proofs.Common.{◌≡◌, ℕ, ◌+◌, Bool, true, false, cond, List, [], ◌∷◌, ◌++◌, Option, Some, None, refl, sym, ap, subst, ◌∙◌}
-use Rattle.std.specs.Prelude.{find}
+use Rattle.std.specs.Prelude.{find, unwrap_or}
 use Rattle.trace_text.specs.declared.events.Who.{Who}
 use Rattle.trace_text.specs.declared.events.Who.TheVariants as who
 use Rattle.profile_machine.specs.declared.world.World.{World}
 use Rattle.profile_machine.specs.declared.world.tasks.Task.{Task}
 use Rattle.profile_machine.specs.declared.world.marks.Frame.{Frame}
-use Rattle.profile_machine.specs.Words.{same_who, first_of_list, set_where, option_or_else}
+use Rattle.profile_machine.specs.Words.{same_who, set_where}
+use Rattle.world_tables.specs.Lists.{first_of}
 use Rattle.profile_machine.specs.Tasks.{is_who, is_made, nobody, task_at, task_of, edit_task_found, edit_task, with_frames}
 use Rattle.profile_machine.specs.Frames.{push, pop, top_of, is_protected, without_first}
 use Rattle.profile_machine.specs.Scopes.{id_in}
@@ -39,7 +40,7 @@ like-frames t fs e = record { who = refl; marks = ap owns_in e; shield = λ h. a
 pub like-opened : (t : Task) (f : Frame) → (nature f.mark).id ≡ None → Like t (with_frames (f ∷ t.frames) t)
 like-opened t f none = record { who = refl; marks = opened-owns f t.frames none; shield = λ h. opened-shielded f t.frames none h; made = λ h. h }
 
-pub like-popped : (t : Task) (f : Frame) → first_of_list t.frames ≡ Some f → is_protected f.mark ≡ false → id_in f.mark ≡ None → Like t (with_frames (without_first t.frames) t)
+pub like-popped : (t : Task) (f : Frame) → first_of t.frames ≡ Some f → is_protected f.mark ≡ false → id_in f.mark ≡ None → Like t (with_frames (without_first t.frames) t)
 like-popped t f top plain none = record { who = refl; marks = popped-owns f t.frames top none; shield = λ h. popped-shielded f t.frames top plain none h; made = λ h. h }
 
 -- ---- lists of tasks
@@ -90,16 +91,16 @@ all-named n [] (u ∷ us) a = absurd a
 all-named n (t ∷ ts) [] a = absurd a
 all-named n (t ∷ ts) (u ∷ us) a = ap (λ k. bit (same_who n k) + named n us) a.0.who ∙ ap (λ m. bit (is_who n t) + m) (all-named n ts us a.1)
 
-found-step : (b : Bool) (t u : Task) (x y : Option Task) → Like t u → Like (option_or_else x nobody) (option_or_else y nobody) → Like (option_or_else (cond b (Some t) x) nobody) (option_or_else (cond b (Some u) y) nobody)
+found-step : (b : Bool) (t u : Task) (x y : Option Task) → Like t u → Like (unwrap_or x nobody) (unwrap_or y nobody) → Like (unwrap_or (cond b (Some t) x) nobody) (unwrap_or (cond b (Some u) y) nobody)
 found-step true t u x y a b = a
 found-step false t u x y a b = b
 
-pub all-found : (n : Who) (ts us : List Task) → AllLike ts us → Like (option_or_else (find (is_who n) ts) nobody) (option_or_else (find (is_who n) us) nobody)
+pub all-found : (n : Who) (ts us : List Task) → AllLike ts us → Like (unwrap_or (find (is_who n) ts) nobody) (unwrap_or (find (is_who n) us) nobody)
 all-found n [] [] a = like-self nobody
 all-found n [] (u ∷ us) a = absurd a
 all-found n (t ∷ ts) [] a = absurd a
 all-found n (t ∷ ts) (u ∷ us) a =
-    subst (λ k. Like (option_or_else (find (is_who n) (t ∷ ts)) nobody) (option_or_else (cond (same_who n k) (Some u) (find (is_who n) us)) nobody)) (sym a.0.who)
+    subst (λ k. Like (unwrap_or (find (is_who n) (t ∷ ts)) nobody) (unwrap_or (cond (same_who n k) (Some u) (find (is_who n) us)) nobody)) (sym a.0.who)
     (found-step (is_who n t) t u (find (is_who n) ts) (find (is_who n) us) a.0 (all-found n ts us a.1))
 
 -- ---- worlds
@@ -137,8 +138,8 @@ pub edited-same : (name : Who) (f : Task → Task) (w : World) → ((t : Task) �
 edited-same name f w like = edited-found name f w (task_at w name) refl (λ t e. like t)
 
 -- somebody whose mark on top is known
-found-top : (w : World) (name : Who) (f : Frame) (t : Task) → task_at w name ≡ Some t → top_of w name ≡ Some f → first_of_list t.frames ≡ Some f
-found-top w name f t e top = subst (λ found. first_of_list (option_or_else found nobody).frames ≡ Some f) e top
+found-top : (w : World) (name : Who) (f : Frame) (t : Task) → task_at w name ≡ Some t → top_of w name ≡ Some f → first_of t.frames ≡ Some f
+found-top w name f t e top = subst (λ found. first_of (unwrap_or found nobody).frames ≡ Some f) e top
 
 pub popped-same : (name : Who) (f : Frame) (w : World) → top_of w name ≡ Some f → is_protected f.mark ≡ false → id_in f.mark ≡ None → Same w (pop name w)
 popped-same name f w top plain none =

@@ -1,12 +1,12 @@
 -- Tasks that are only made have no scopes: each is the one of its name, is another than who acts, and may be gone or begin.
 use Rattle.std.proofs.Common.{◌≡◌, ℕ, ◌+◌, ◌≤◌, ◌<◌, Bool, true, false, cond, List, [], ◌∷◌, Some, refl, sym, ap, subst, ◌∙◌, arith}
 use Rattle.std.proofs.lemmas.Bool.{false≢true}
-use Rattle.std.specs.Prelude.{filter, find}
+use Rattle.std.specs.Prelude.{filter, find, unwrap_or}
 use Rattle.trace_text.specs.declared.events.Who.{Who}
 use Rattle.trace_text.specs.declared.events.Who.TheVariants as who
 use Rattle.profile_machine.specs.declared.world.World.{World}
 use Rattle.profile_machine.specs.declared.world.tasks.Task.{Task}
-use Rattle.profile_machine.specs.Words.{same_who, option_or_else}
+use Rattle.profile_machine.specs.Words.{same_who}
 use Rattle.profile_machine.specs.Tasks.{is_who, is_made, nobody, task_of}
 use Rattle.world_laws.proofs.Scopes.FineMoves.{Live}
 use Rattle.world_laws.proofs.Scopes.ScopeKeys.{by_test, bit}
@@ -124,7 +124,7 @@ agent-apart : (w : World) → GoodWorld w → Each (λ u. same_who u.who who.Age
 agent-apart w g = absent-apart who.Agent w.tasks (g.unnamed who.Agent tt)
 
 found-is : (w : World) (n : Who) (t : Task) → find (is_who n) w.tasks ≡ Some t → same_who n who.Agent ≡ false → task_of w n ≡ t
-found-is w (who.Task k) t e apart = ap (λ found. option_or_else found nobody) e
+found-is w (who.Task k) t e apart = ap (λ found. unwrap_or found nobody) e
 found-is w who.Agent t e apart = absurd cc
 
 made-is : (me : Who) (w : World) → ActingWorld me w → (t : Task) → IsFound w.tasks t → same_who t.who who.Agent ≡ false → MadeIs me w t

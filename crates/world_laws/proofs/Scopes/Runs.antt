@@ -1,6 +1,6 @@
 -- Every world that a run reaches is good: the opening is, an instant leads from good to good, as whose action has ended is ready, and
 -- a tock does.
-use Rattle.std.proofs.Common.{◌≡◌, ℕ, ℤ, ◌+◌, ◌≤◌, Bool, true, false, cond, eqb, List, [], ◌∷◌, ◌++◌, Option, Some, None, refl, sym, subst, arith}
+use Rattle.std.proofs.Common.{◌≡◌, ℕ, ℤ, ◌+◌, ◌≤◌, Bool, true, false, cond, eqb, List, [], ◌∷◌, ◌++◌, Option, Some, None, refl, sym, subst, arith, unwrap_or}
 use Rattle.std.proofs.lemmas.Bool.{false≢true}
 use Rattle.trace_text.specs.declared.events.Created.TheVariants as created
 use Rattle.trace_text.specs.declared.events.Event.{Event}
@@ -15,7 +15,6 @@ use Rattle.profile_machine.specs.declared.world.marks.Purpose.TheVariants as ope
 use Rattle.profile_machine.specs.declared.world.tasks.State.{State}
 use Rattle.profile_machine.specs.declared.world.tasks.State.TheVariants.{Made, Runnable, Blocked}
 use Rattle.profile_machine.specs.declared.world.tasks.Task.{Task}
-use Rattle.profile_machine.specs.Words.{option_or_else}
 use Rattle.profile_machine.specs.Steps.{Move, rests, settles}
 use Rattle.profile_machine.specs.Tasks.{is_made, is_made_state, is_runnable, is_runnable_state, is_who, nobody, task_of}
 use Rattle.profile_machine.specs.Dispatching.{choose}
@@ -44,7 +43,7 @@ use Rattle.machine_laws.proofs.Kept.Run.{before_tick, tock-parts}
 
 -- ---- the opening
 
-environment-found : (P : Task → Type 0) (b : Bool) (t : Task) → P t → P nobody → P (option_or_else (cond b (Some t) None) nobody)
+environment-found : (P : Task → Type 0) (b : Bool) (t : Task) → P t → P nobody → P (unwrap_or (cond b (Some t) None) nobody)
 environment-found P true t own blank = own
 environment-found P false t own blank = blank
 

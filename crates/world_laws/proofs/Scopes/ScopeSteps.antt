@@ -1,5 +1,5 @@
 -- A scope begins together with the mark that has it, and ends together with it: a good world stays good.
-use Rattle.std.proofs.Common.{◌≡◌, suc, Bool, true, false, List, [], ◌∷◌, Option, Some, None, refl, sym, ap, subst, ◌∙◌}
+use Rattle.std.proofs.Common.{◌≡◌, suc, Bool, true, false, List, [], ◌∷◌, Option, Some, None, refl, sym, ap, subst, ◌∙◌, unwrap_or}
 use Rattle.std.proofs.lemmas.Bool.{false≢true}
 use Rattle.trace_text.specs.declared.events.Who.{Who}
 use Rattle.trace_text.specs.declared.events.Who.TheVariants as who
@@ -14,7 +14,8 @@ use Rattle.profile_machine.specs.declared.world.marks.Purpose.{Purpose}
 use Rattle.profile_machine.specs.declared.world.scopes.Beginning.{Beginning}
 use Rattle.profile_machine.specs.declared.world.scopes.ScopeId.{ScopeId}
 use Rattle.profile_machine.specs.declared.world.tasks.Task.{Task}
-use Rattle.profile_machine.specs.Words.{same_who, first_of_list, option_or_else}
+use Rattle.profile_machine.specs.Words.{same_who}
+use Rattle.world_tables.specs.Lists.{first_of}
 use Rattle.profile_machine.specs.Program.{form_of, scope_of}
 use Rattle.profile_machine.specs.Calls.{parameters_of}
 use Rattle.profile_machine.specs.Tasks.{found_task, is_who, is_made, nobody, task_at, task_of, with_frames}
@@ -35,14 +36,14 @@ pub record There (name : Who) (w : World) : Type 0 where
   pub task : Task
   pub found : task_at w name ≡ Some task
 
-live-found : (found : Option Task) → is_made (option_or_else found nobody) ≡ false → (t : Task) × (found ≡ Some t)
+live-found : (found : Option Task) → is_made (unwrap_or found nobody) ≡ false → (t : Task) × (found ≡ Some t)
 live-found None e = absurd cc
 live-found (Some t) e = (t, refl)
 
 pub live-there : (name : Who) (w : World) → Live name w → There name w
 live-there name w e = let h = live-found (task_at w name) e in record { task = h.0; found = h.1 }
 
-top-found : (f : Frame) (found : Option Task) → first_of_list (option_or_else found nobody).frames ≡ Some f → (t : Task) × (found ≡ Some t)
+top-found : (f : Frame) (found : Option Task) → first_of (unwrap_or found nobody).frames ≡ Some f → (t : Task) × (found ≡ Some t)
 top-found f None e = absurd cc
 top-found f (Some t) e = (t, refl)
 
@@ -50,7 +51,7 @@ pub top-there : (name : Who) (f : Frame) (w : World) → top_of w name ≡ Some 
 top-there name f w e = let h = top-found f (task_at w name) e in record { task = h.0; found = h.1 }
 
 pub there-is : (name : Who) (w : World) (there : There name w) → task_of w name ≡ there.task
-there-is name w there = ap (λ found. option_or_else found nobody) there.found
+there-is name w there = ap (λ found. unwrap_or found nobody) there.found
 
 pub there-named : (free : Who → Bool) (name : Who) (w : World) (there : There name w) → GoodBut free w → there.task.who ≡ name
 there-named free (who.Task k) w there g = sym (same_who-path (who.Task k) there.task.who (found-holds (is_who (who.Task k)) w.tasks there.task there.found))
@@ -157,8 +158,8 @@ accepts-live p name s c w there =
 pub popped-put : (name : Who) (w : World) (there : There name w) → let v = pop name w in Put name there.task (with_frames (without_first there.task.frames) there.task) w.tasks w.agent v.tasks v.agent
 popped-put name w there = put-edit name (λ u. with_frames (without_first u.frames) u) w there.task there.found refl (λ h. h)
 
-there-top : (name : Who) (f : Frame) (w : World) (there : There name w) → top_of w name ≡ Some f → first_of_list there.task.frames ≡ Some f
-there-top name f w there top = subst (λ (x : Task). first_of_list x.frames ≡ Some f) (there-is name w there) top
+there-top : (name : Who) (f : Frame) (w : World) (there : There name w) → top_of w name ≡ Some f → first_of there.task.frames ≡ Some f
+there-top name f w there top = subst (λ (x : Task). first_of x.frames ≡ Some f) (there-is name w there) top
 
 pub scope_ends-good : (free : Who → Bool) (name : Who) (f : Frame) (id : ScopeId) (w : World) → GoodBut free w → top_of w name ≡ Some f → id_in f.mark ≡ Some id → GoodBut free (end_scope id (pop name w))
 scope_ends-good free name f id w g top is =

@@ -1,10 +1,10 @@
 -- A task comes, as the last, and tasks of a name are gone: what stays of the names, the keys, and who is found.
 use Rattle.std.proofs.Common.{◌≡◌, ℕ, suc, ◌+◌, ◌≤◌, Bool, true, false, cond, not, List, [], ◌∷◌, ◌++◌, Some, refl, sym, ap, subst, ◌∙◌, arith}
-use Rattle.std.specs.Prelude.{find}
+use Rattle.std.specs.Prelude.{find, unwrap_or}
 use Rattle.trace_text.specs.declared.events.Who.{Who}
 use Rattle.trace_text.specs.declared.events.Who.TheVariants as who
 use Rattle.profile_machine.specs.declared.world.tasks.Task.{Task}
-use Rattle.profile_machine.specs.Words.{same_who, option_or_else, without}
+use Rattle.profile_machine.specs.Words.{same_who, without}
 use Rattle.profile_machine.specs.Tasks.{is_who, is_made, nobody}
 use Rattle.world_laws.proofs.Scopes.ScopeKeys.{Key, Weights, bit, weigh, weigh-append}
 use Rattle.world_laws.proofs.Scopes.TaskMarks.{marks_of, keys_by, task_keys, bottomed}
@@ -101,8 +101,8 @@ absent-without : (n : Who) (ts : List Task) → named n ts ≡ 0 → without (is
 absent-without n [] e = refl
 absent-without n (z ∷ zs) e = absent-step n z zs (without (is_who n) zs) (is_who n z) e (absent-without n zs)
 
-gone-weigh-step : (by : Weights) (n : Who) (z : Task) (zs : List Task) (b : Bool) → bit b + named n zs ≤ 1 → marks_of (option_or_else (cond b (Some z) (find (is_who n) zs)) nobody) ≡ []
-    → (named n zs ≤ 1 → marks_of (option_or_else (find (is_who n) zs) nobody) ≡ [] → weigh by (keys_of (without (is_who n) zs)) ≡ weigh by (keys_of zs))
+gone-weigh-step : (by : Weights) (n : Who) (z : Task) (zs : List Task) (b : Bool) → bit b + named n zs ≤ 1 → marks_of (unwrap_or (cond b (Some z) (find (is_who n) zs)) nobody) ≡ []
+    → (named n zs ≤ 1 → marks_of (unwrap_or (find (is_who n) zs) nobody) ≡ [] → weigh by (keys_of (without (is_who n) zs)) ≡ weigh by (keys_of zs))
     → weigh by (keys_of (cond (not b) (z ∷ without (is_who n) zs) (without (is_who n) zs))) ≡ weigh by (task_keys z ++ keys_of zs)
 gone-weigh-step by n z zs true one none onward =
     let zero_left : named n zs ≡ 0 = omega (arith, one) in
@@ -116,7 +116,7 @@ gone-weigh-step by n z zs false one none onward =
     let c = weigh-append by (task_keys z) (keys_of zs) in
     omega (arith, a, b, c)
 
-gone-weigh : (by : Weights) (n : Who) (ts : List Task) → named n ts ≤ 1 → marks_of (option_or_else (find (is_who n) ts) nobody) ≡ [] → weigh by (keys_of (without (is_who n) ts)) ≡ weigh by (keys_of ts)
+gone-weigh : (by : Weights) (n : Who) (ts : List Task) → named n ts ≤ 1 → marks_of (unwrap_or (find (is_who n) ts) nobody) ≡ [] → weigh by (keys_of (without (is_who n) ts)) ≡ weigh by (keys_of ts)
 gone-weigh by n [] one none = refl
 gone-weigh by n (z ∷ zs) one none = gone-weigh-step by n z zs (is_who n z) one none (gone-weigh by n zs)
 

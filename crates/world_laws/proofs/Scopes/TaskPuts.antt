@@ -1,13 +1,13 @@
 -- One task is put in the place of the one that has its name: who is found by each name then, and what the keys of all weigh.
 use Rattle.std.proofs.Common.{◌≡◌, ◌+◌, Bool, true, false, cond, List, [], ◌∷◌, ◌++◌, Option, Some, None, refl, sym, ap, subst, ◌∙◌, arith, eq-eqb}
 use Rattle.std.proofs.lemmas.Bool.{false≢true}
-use Rattle.std.specs.Prelude.{find}
+use Rattle.std.specs.Prelude.{find, unwrap_or}
 use Rattle.ann_base.specs.declared.identities.TaskNo.{TaskNo}
 use Rattle.trace_text.specs.declared.events.Who.{Who}
 use Rattle.trace_text.specs.declared.events.Who.TheVariants as who
 use Rattle.profile_machine.specs.declared.world.World.{World}
 use Rattle.profile_machine.specs.declared.world.tasks.Task.{Task}
-use Rattle.profile_machine.specs.Words.{same_who, set_where, option_or_else}
+use Rattle.profile_machine.specs.Words.{same_who, set_where}
 use Rattle.profile_machine.specs.Tasks.{is_who, is_made, nobody, task_at, edit_task_found, edit_task}
 use Rattle.world_laws.proofs.Scopes.ScopeKeys.{Weights, by_test, bit, weigh, weigh-append}
 use Rattle.world_laws.proofs.Scopes.TaskMarks.{task_keys}
@@ -99,14 +99,14 @@ put-other : (k : TaskNo) (t u : Task) (tasks : List Task) (agent : Task) → fin
     → one_of (set_where (is_who (who.Task k)) u tasks) agent n ≡ one_of tasks agent n
 put-other k t u tasks agent e same (who.Task n) apart =
     let named_so : who.Task k ≡ t.who = same_who-path (who.Task k) t.who (found-holds (is_who (who.Task k)) tasks t e) in
-    ap (λ x. option_or_else x nobody)
+    ap (λ x. unwrap_or x nobody)
     (set-other (is_who (who.Task k)) (is_who (who.Task n)) tasks t u e (ap (same_who (who.Task n)) same) (subst (λ x. same_who (who.Task n) x ≡ false) named_so apart))
 put-other k t u tasks agent e same who.Agent apart = refl
 
 pub put-task : (k : TaskNo) (t u : Task) (tasks : List Task) (agent : Task) → find (is_who (who.Task k)) tasks ≡ Some t → u.who ≡ t.who → Put (who.Task k) t u tasks agent (set_where (is_who (who.Task k)) u tasks) agent
 put-task k t u tasks agent e same = record {
-  own = ap (λ x. option_or_else x nobody) e;
-  is = ap (λ x. option_or_else x nobody) (set-own (is_who (who.Task k)) tasks t u e (ap (same_who (who.Task k)) same ∙ found-holds (is_who (who.Task k)) tasks t e));
+  own = ap (λ x. unwrap_or x nobody) e;
+  is = ap (λ x. unwrap_or x nobody) (set-own (is_who (who.Task k)) tasks t u e (ap (same_who (who.Task k)) same ∙ found-holds (is_who (who.Task k)) tasks t e));
   other = put-other k t u tasks agent e same;
   names = λ n. set-named n (is_who (who.Task k)) tasks t u e same;
   weighs = λ by.

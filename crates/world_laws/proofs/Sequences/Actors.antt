@@ -12,7 +12,8 @@ use Rattle.profile_machine.specs.declared.world.marks.Frame.{Frame}
 use Rattle.profile_machine.specs.declared.world.tasks.State.{State}
 use Rattle.profile_machine.specs.declared.world.tasks.State.TheVariants.{Made, Runnable, Blocked}
 use Rattle.profile_machine.specs.declared.world.tasks.Waiting.TheVariants as waits_for
-use Rattle.profile_machine.specs.Words.{same_who, first_of_list}
+use Rattle.profile_machine.specs.Words.{same_who}
+use Rattle.world_tables.specs.Lists.{first_of}
 use Rattle.profile_machine.specs.Tasks.{task_of, is_runnable_state, waiting_in}
 use Rattle.profile_machine.specs.Frames.{any_protected, is_protected}
 use Rattle.profile_machine.specs.Masters.{waits_for_activation}
@@ -116,10 +117,10 @@ rooted-first : (n : Nature) (ns : List Nature) → Rooted (n ∷ ns) → n.abort
 rooted-first n [] h = h.2
 rooted-first n (m ∷ ns) h = h.1
 
-first-one : (x f : Frame) (xs : List Frame) → first_of_list (x ∷ xs) ≡ Some f → x ≡ f
+first-one : (x f : Frame) (xs : List Frame) → first_of (x ∷ xs) ≡ Some f → x ≡ f
 first-one x f xs e = cc
 
-pub rooted-unabortable : (fs : List Frame) (f : Frame) → first_of_list fs ≡ Some f → Rooted (natures fs) → is_abortable f.mark ≡ false
+pub rooted-unabortable : (fs : List Frame) (f : Frame) → first_of fs ≡ Some f → Rooted (natures fs) → is_abortable f.mark ≡ false
 rooted-unabortable [] f e h = absurd h
 rooted-unabortable (x ∷ xs) f e h = subst (λ g. is_abortable g.mark ≡ false) (first-one x f xs e) (rooted-first (nature x.mark) (natures xs) h)
 

@@ -25,7 +25,8 @@ use Rattle.profile_machine.specs.declared.world.objects.Entering.TheVariants as 
 use Rattle.profile_machine.specs.declared.world.tasks.Cause.TheVariants as inherited_by
 use Rattle.profile_machine.specs.declared.world.tasks.State.{State}
 use Rattle.profile_machine.specs.declared.world.tasks.State.TheVariants.{Made, Runnable, Blocked}
-use Rattle.profile_machine.specs.Words.{same_who, first_of_list}
+use Rattle.profile_machine.specs.Words.{same_who}
+use Rattle.world_tables.specs.Lists.{first_of}
 use Rattle.profile_machine.specs.Program.{subprogram_of, marks_of}
 use Rattle.profile_machine.specs.Steps.{Move, says, changes, looks, when, nothing, settles, rests}
 use Rattle.profile_machine.specs.Tasks.{task_of, edit_task, with_ticks, is_runnable, is_runnable_state, with_frames, nobody, task_at}
@@ -59,11 +60,11 @@ use Rattle.world_laws.proofs.Sequences.Kept.Act.{act_frame-from}
 use Rattle.world_laws.proofs.Sequences.Kept.Instant.{behind_action-leads}
 use Rattle.machine_laws.proofs.Kept.Combinators.{From, Leads}
 
-top-natures : (fs : List Frame) (f : Frame) → first_of_list fs ≡ Some f → natures fs ≡ nature f.mark ∷ natures (without_first fs)
+top-natures : (fs : List Frame) (f : Frame) → first_of fs ≡ Some f → natures fs ≡ nature f.mark ∷ natures (without_first fs)
 top-natures [] f e = cc
 top-natures (x ∷ xs) f e = let one : x ≡ f = cc in ap (λ g. nature g.mark ∷ natures xs) one
 
-no-frames : (fs : List Frame) → first_of_list fs ≡ None → natures fs ≡ []
+no-frames : (fs : List Frame) → first_of fs ≡ None → natures fs ≡ []
 no-frames [] e = refl
 no-frames (x ∷ xs) e = cc
 
@@ -228,7 +229,7 @@ module _ {p : Image} (fits : Fits p) where
   agent_without-turns None = nothing-turns Alone (ActedWorld fits who.Agent) (λ w g. acts-over (λ ns is. inl is) who.Agent w g)
   agent_without-turns (Some r) = called-turns r
 
-  standing-rooted : (fs : List Frame) (f : Frame) → first_of_list fs ≡ Some f → Standing (natures fs) → Rooted (natures fs)
+  standing-rooted : (fs : List Frame) (f : Frame) → first_of fs ≡ Some f → Standing (natures fs) → Rooted (natures fs)
   standing-rooted [] f e h = absurd (let never : None ≡ Some f = e in cc)
   standing-rooted (x ∷ xs) f e (inl is) = absurd (let never : nature x.mark ∷ natures xs ≡ [] = is in cc)
   standing-rooted (x ∷ xs) f e (inr h) = h
@@ -316,7 +317,7 @@ module _ {p : Image} (fits : Fits p) where
   unticked name w g = fine-edited name (with_ticks None) w (λ t. refl) (λ t fit. fit) (λ is m. m) (λ h. h) g
 
   known-edited : (name : Who) (v w : World) → v.calls ≡ w.calls → v.drawn ≡ w.drawn → (task_of v name ≡ with_ticks None (task_of w name)) ⊎ ((v ≡ w) × (task_of w name ≡ nobody)) → OwnKnown name w → OwnKnown name v
-  known-edited name v w calls drawn (inl is) known f m top mark = subst (λ d. Knows m.own_call name d.calls v.calls) (sym drawn) (subst (Knows m.own_call name w.drawn.calls) (sym calls) (known f m (sym (ap (λ t. first_of_list t.frames) is) ∙ top) mark))
+  known-edited name v w calls drawn (inl is) known f m top mark = subst (λ d. Knows m.own_call name d.calls v.calls) (sym drawn) (subst (Knows m.own_call name w.drawn.calls) (sym calls) (known f m (sym (ap (λ t. first_of t.frames) is) ∙ top) mark))
   known-edited name v w calls drawn (inr same) known f m top mark = (subst (OwnKnown name) (sym same.0) known) f m top mark
 
   unticked-known : (name : Who) (w : World) → OwnKnown name w → OwnKnown name (edit_task name (with_ticks None) w)

@@ -1,6 +1,6 @@
 -- The changes that the machine makes of a world, told apart by whom they touch, each from a world that is good. Who may go on
 -- (May) is who acts, and whoever is woken, until it has opened the sequence to which it has come; tasks are others (Other).
-use Rattle.std.proofs.Common.{◌≡◌, ℕ, ℤ, suc, Bool, true, false, List, [], ◌∷◌, ◌++◌, Option, Some, None, option_and_then, find, ◌⊎◌}
+use Rattle.std.proofs.Common.{◌≡◌, ℕ, ℤ, suc, Bool, true, false, List, [], ◌∷◌, ◌++◌, Option, Some, None, option_and_then, find, ◌⊎◌, unwrap_or}
 use Rattle.ann_base.specs.declared.identities.CallNo.{CallNo}
 use Rattle.ann_base.specs.declared.identities.ObjectNo.{ObjectNo}
 use Rattle.ann_base.specs.declared.identities.RegionNo.{RegionNo}
@@ -34,7 +34,8 @@ use Rattle.profile_machine.specs.declared.world.lines.Part.{Part}
 use Rattle.profile_machine.specs.declared.world.lines.Said.{Said}
 use Rattle.profile_machine.specs.declared.world.lines.Line.{Line}
 use Rattle.profile_machine.specs.declared.world.lines.Line.TheVariants as said
-use Rattle.profile_machine.specs.Words.{edit_at, first_of_list, option_or_else}
+use Rattle.profile_machine.specs.Words.{edit_at}
+use Rattle.world_tables.specs.Lists.{first_of}
 use Rattle.profile_machine.specs.Steps.{placed_by}
 use Rattle.profile_machine.specs.Tasks.{edit_task, with_state, with_frames, waiting_of}
 use Rattle.profile_machine.specs.Dispatching.{word_of, without_kept_level}
@@ -71,7 +72,7 @@ pub record Fits (p : Image) : Type 0 where
 
 -- who is made begins plainly
 abbrev pub Fitting : Image → Task → Type 0
-Fitting p t = t.state ≡ Made → begins_sequence p (scope_of p (task_unit_of p (option_or_else t.unit (record { 0 = 0 }))).scope).first ≡ false
+Fitting p t = t.state ≡ Made → begins_sequence p (scope_of p (task_unit_of p (unwrap_or t.unit (record { 0 = 0 }))).scope).first ≡ false
 
 abbrev pub AllFitting : Image → List Task → Type 0
 AllFitting p [] = Unit {0}
@@ -88,7 +89,7 @@ BehindMove G before lines after = G after
 
 -- what the top of a rest goes on with
 abbrev pub onward_in : List Frame → Option StatementNo
-onward_in fs = option_and_then (λ f. f.onward) (first_of_list fs)
+onward_in fs = option_and_then (λ f. f.onward) (first_of fs)
 
 -- it goes on as before, or with the end of what is open
 abbrev pub StaysOn : Option StatementNo → Option StatementNo → Type 0

@@ -5,7 +5,7 @@ use Rattle.world_laws.proofs.Sequences.TaskNames.{names, AllBelow, is_below, Lis
 use Rattle.world_laws.proofs.Sequences.FineMoves.{FineMoves, Fits, onward_in}
 use Rattle.world_laws.proofs.Sequences.UnitFits.{fitting-alone}
 use Rattle.world_laws.proofs.Sequences.Points.{Point, Marking, IsTask, Fine, Points, Free, Stacks, begins, fine-plain, fine-edited, fine-added, fine-forgotten, fine-call_edited, fine-call_added, fine-call_forgotten, fine-frames, waits-so, rises_as, Callings, Calling}
-use Rattle.std.proofs.Common.{◌≡◌, ℕ, suc, Bool, true, false, List, [], ◌∷◌, Option, Some, None, find, refl, sym, ap, ◌∙◌, subst, inl, inr}
+use Rattle.std.proofs.Common.{◌≡◌, ℕ, suc, Bool, true, false, List, [], ◌∷◌, Option, Some, None, find, refl, sym, ap, ◌∙◌, subst, inl, inr, unwrap_or}
 use Rattle.ann_base.specs.declared.identities.RegionNo.{RegionNo}
 use Rattle.trace_text.specs.declared.events.Who.{Who}
 use Rattle.trace_text.specs.declared.events.Who.TheVariants as who
@@ -18,7 +18,8 @@ use Rattle.profile_machine.specs.declared.world.marks.Purpose.{Purpose}
 use Rattle.profile_machine.specs.declared.world.tasks.Task.{Task}
 use Rattle.profile_machine.specs.declared.world.tasks.State.TheVariants.{Made, Runnable}
 use Rattle.profile_machine.specs.declared.world.scopes.Beginning.{Beginning}
-use Rattle.profile_machine.specs.Words.{edit_at, first_of_list, option_or_else}
+use Rattle.profile_machine.specs.Words.{edit_at}
+use Rattle.world_tables.specs.Lists.{first_of}
 use Rattle.profile_machine.specs.Steps.{placed_by}
 use Rattle.profile_machine.specs.Tasks.{task_of, edit_task, with_state, with_frames, waiting_of, is_who, nobody}
 use Rattle.profile_machine.specs.Program.{scope_of}
@@ -57,10 +58,10 @@ gone-natures : (onward : Option StatementNo) (fs : List Frame) → natures (edit
 gone-natures onward [] = refl
 gone-natures onward (f ∷ fs) = refl
 
-first-is : (x f : Frame) (xs : List Frame) → first_of_list (x ∷ xs) ≡ Some f → x ≡ f
+first-is : (x f : Frame) (xs : List Frame) → first_of (x ∷ xs) ≡ Some f → x ≡ f
 first-is x f xs e = cc
 
-popped-marks : (A : Marking) (May : Naming) → Stacks A May → May who.Agent → (fs : List Frame) (f : Frame) → first_of_list fs ≡ Some f → is_protected f.mark ≡ false → A (natures fs) → A (natures (without_first fs))
+popped-marks : (A : Marking) (May : Naming) → Stacks A May → May who.Agent → (fs : List Frame) (f : Frame) → first_of fs ≡ Some f → is_protected f.mark ≡ false → A (natures fs) → A (natures (without_first fs))
 popped-marks A May stacks may [] f e free h = absurd (let never : None ≡ Some f = e in cc)
 popped-marks A May stacks may (x ∷ xs) f e free h = stacks.popped may (nature x.mark) (natures xs) (ap (λ g. is_protected g.mark) (first-is x f xs e) ∙ free) h
 
@@ -79,7 +80,7 @@ below-listed d u (t ∷ ts) (inr l) h = below-listed d u ts l h.1
 
 module _ {p : Image} {P : Point} {A : Marking} {C : Calling} where
   pub listed_is : (w : World) (t : Task) → Listed t w.tasks → Fine p P A C w → (n : Who) → n ≡ t.who → task_of w n ≡ t
-  listed_is w t l g (who.Task n) is = ap (λ o. option_or_else o nobody) (subst (λ k. find (is_who k) w.tasks ≡ Some t) (sym is) (listed-found t w.tasks l g.apart))
+  listed_is w t l g (who.Task n) is = ap (λ o. unwrap_or o nobody) (subst (λ k. find (is_who k) w.tasks ≡ Some t) (sym is) (listed-found t w.tasks l g.apart))
   listed_is w t l g who.Agent is = absurd (subst IsTask (sym is) (below-task w.drawn.tasks t.who (below-listed w.drawn.tasks t w.tasks l g.below)))
 
   fine-gone : (name : Who) (onward : Option StatementNo) (w : World) → (P name (task_of w name).state (begins p w name) → P name (task_of w name).state (begins_sequence p (onward_in (edit_first (goes_on onward) (task_of w name).frames)))) → Fine p P A C w → Fine p P A C (gone_on name onward w)

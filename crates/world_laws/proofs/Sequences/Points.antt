@@ -1,6 +1,6 @@
 -- A fact of each task and of the agent by its state, and by whether it goes on with a sequence with handlers: what changes keep
 -- it, and what else a world has that steps rely on.
-use Rattle.std.proofs.Common.{◌≡◌, ℕ, suc, Bool, true, false, not, List, [], ◌∷◌, Option, Some, None, find, refl, sym, ap, subst, ◌∙◌, ◌⊎◌, inl, inr}
+use Rattle.std.proofs.Common.{◌≡◌, ℕ, suc, Bool, true, false, not, List, [], ◌∷◌, Option, Some, None, find, refl, sym, ap, subst, ◌∙◌, ◌⊎◌, inl, inr, unwrap_or}
 use Rattle.std.proofs.lemmas.Bool.{false≢true}
 use Rattle.ann_base.specs.declared.identities.CallNo.{CallNo}
 use Rattle.ann_base.specs.declared.identities.RegionNo.{RegionNo}
@@ -16,7 +16,7 @@ use Rattle.profile_machine.specs.declared.world.tasks.Task.{Task}
 use Rattle.profile_machine.specs.declared.world.tasks.State.{State}
 use Rattle.profile_machine.specs.declared.world.tasks.State.TheVariants.{Made, Runnable, Blocked}
 use Rattle.profile_machine.specs.declared.world.tasks.Waiting.TheVariants as waits_for
-use Rattle.profile_machine.specs.Words.{same_who, option_or_else, edit_where, without}
+use Rattle.profile_machine.specs.Words.{same_who, edit_where, without}
 use Rattle.profile_machine.specs.Tasks.{nobody, is_who, task_at, task_of, edit_task_found, edit_task, with_frames, waiting_in}
 use Rattle.profile_machine.specs.Frames.{onward_of}
 use Rattle.profile_machine.specs.Calls.{is_call, edit_call, forget_call}
@@ -88,7 +88,7 @@ pub record Stacks (A : Marking) (May : Naming) : Type 0 where
 -- ---- changes that touch nobody
 
 task-plain : (a b : World) (name : Who) → b.tasks ≡ a.tasks → b.agent ≡ a.agent → task_of b name ≡ task_of a name
-task-plain a b (who.Task n) tasks agent = ap (λ ts. option_or_else (find (is_who (who.Task n)) ts) nobody) tasks
+task-plain a b (who.Task n) tasks agent = ap (λ ts. unwrap_or (find (is_who (who.Task n)) ts) nobody) tasks
 task-plain a b who.Agent tasks agent = agent
 
 pub fine-plain : {p : Image} {P : Point} {A : Marking} {C : Calling} (a b : World) → b.tasks ≡ a.tasks → b.agent ≡ a.agent → b.calls ≡ a.calls → b.drawn.tasks ≡ a.drawn.tasks → b.drawn.calls ≡ a.drawn.calls → Fine p P A C a → Fine p P A C b
@@ -152,10 +152,10 @@ fine-edited {p} {P} {A} {C} name f w same fitted marks point h = record {
 -- ---- tasks that come and go
 
 new_point : (p : Image) (P : Point) (n : TaskNo) (a b : Option Task) (t : Task) → Points P → (a ≡ b) ⊎ ((b ≡ None) × (a ≡ Some t)) → t.state ≡ Made → t.frames ≡ []
-    → P (who.Task n) (option_or_else b nobody).state (begins_sequence p (onward_in (option_or_else b nobody).frames)) → P (who.Task n) (option_or_else a nobody).state (begins_sequence p (onward_in (option_or_else a nobody).frames))
-new_point p P n a b t points (inl same) made none h = subst (λ o. P (who.Task n) (option_or_else o nobody).state (begins_sequence p (onward_in (option_or_else o nobody).frames))) (sym same) h
+    → P (who.Task n) (unwrap_or b nobody).state (begins_sequence p (onward_in (unwrap_or b nobody).frames)) → P (who.Task n) (unwrap_or a nobody).state (begins_sequence p (onward_in (unwrap_or a nobody).frames))
+new_point p P n a b t points (inl same) made none h = subst (λ o. P (who.Task n) (unwrap_or o nobody).state (begins_sequence p (onward_in (unwrap_or o nobody).frames))) (sym same) h
 new_point p P n a b t points (inr is) made none h =
-    subst (λ o. P (who.Task n) (option_or_else o nobody).state (begins_sequence p (onward_in (option_or_else o nobody).frames))) (sym is.1)
+    subst (λ o. P (who.Task n) (unwrap_or o nobody).state (begins_sequence p (onward_in (unwrap_or o nobody).frames))) (sym is.1)
     (subst (λ s. P (who.Task n) s (begins_sequence p (onward_in t.frames))) (sym made) (subst (λ fs. P (who.Task n) Made (begins_sequence p (onward_in fs))) (sym none) (points.begun n)))
 
 added_point : (p : Image) (P : Point) (t : Task) (w : World) (name : Who) → Points P → t.frames ≡ [] → t.state ≡ Made → P name (task_of w name).state (begins p w name) → P name (task_of (add_task t w) name).state (begins p (add_task t w) name)
@@ -173,15 +173,15 @@ fine-added {p} {P} {A} {C} points t w is none made fits h = record {
   points = λ name. added_point p P t w name points none made (h.points name);
 }
 
-gone_point : (p : Image) (P : Point) (n : TaskNo) (o : Option Task) → Points P → o ≡ None → P (who.Task n) (option_or_else o nobody).state (begins_sequence p (onward_in (option_or_else o nobody).frames))
-gone_point p P n o points is = subst (λ a. P (who.Task n) (option_or_else a nobody).state (begins_sequence p (onward_in (option_or_else a nobody).frames))) (sym is) (points.begun n)
+gone_point : (p : Image) (P : Point) (n : TaskNo) (o : Option Task) → Points P → o ≡ None → P (who.Task n) (unwrap_or o nobody).state (begins_sequence p (onward_in (unwrap_or o nobody).frames))
+gone_point p P n o points is = subst (λ a. P (who.Task n) (unwrap_or a nobody).state (begins_sequence p (onward_in (unwrap_or a nobody).frames))) (sym is) (points.begun n)
 
 forgotten_point : (p : Image) (P : Point) (gone name : Who) (w : World) → Points P → P name (task_of w name).state (begins p w name) → P name (task_of (forget_task gone w) name).state (begins p (forget_task gone w) name)
 forgotten_point p P gone who.Agent w points h = h
 forgotten_point p P gone (who.Task n) w points h =
     by_bool (same_who gone (who.Task n))
     (λ is. gone_point p P n (find (is_who (who.Task n)) (without (is_who gone) w.tasks)) points (subst (λ g. find (is_who (who.Task n)) (without (is_who g) w.tasks) ≡ None) (sym (who-same gone (who.Task n) is)) (forgotten-own (who.Task n) w.tasks)))
-    (λ apart. subst (λ o. P (who.Task n) (option_or_else o nobody).state (begins_sequence p (onward_in (option_or_else o nobody).frames))) (sym (forgotten-other gone (who.Task n) w.tasks apart)) h)
+    (λ apart. subst (λ o. P (who.Task n) (unwrap_or o nobody).state (begins_sequence p (onward_in (unwrap_or o nobody).frames))) (sym (forgotten-other gone (who.Task n) w.tasks apart)) h)
 
 pub fine-forgotten : {p : Image} {P : Point} {A : Marking} {C : Calling} → Points P → (name : Who) (w : World) → Fine p P A C w → Fine p P A C (forget_task name w)
 fine-forgotten {p} {P} {A} {C} points name w h = record {
@@ -230,5 +230,5 @@ rises_as P points (who.Task n) s q g is h = points.rises n q g (subst (λ t. P (
 rises_as P points who.Agent s q g is h = points.agent_rises s g h
 
 listed_task : (w : World) (t : Task) → AllApart (names w.tasks) → find (is_who t.who) w.tasks ≡ Some t → (n : Who) → n ≡ t.who → (AllBelow w.drawn.tasks (names w.tasks)) → IsTask n → task_of w n ≡ t
-listed_task w t apart found (who.Task n) is below task = ap (λ o. option_or_else o nobody) (subst (λ k. find (is_who k) w.tasks ≡ Some t) (sym is) found)
+listed_task w t apart found (who.Task n) is below task = ap (λ o. unwrap_or o nobody) (subst (λ k. find (is_who k) w.tasks ≡ Some t) (sym is) found)
 listed_task w t apart found who.Agent is below task = absurd task

@@ -1,5 +1,5 @@
 -- In every world that a run reaches, who is ready has opened the sequence with handlers to which it has come.
-use Rattle.std.proofs.Common.{◌≡◌, ℕ, ℤ, zero, suc, Bool, true, false, cond, not, ◌&&◌, List, [], ◌∷◌, ◌++◌, Option, Some, None, slice_index_or, refl, sym, ap, subst, ◌∙◌, inl, inr}
+use Rattle.std.proofs.Common.{◌≡◌, ℕ, ℤ, zero, suc, Bool, true, false, cond, not, ◌&&◌, List, [], ◌∷◌, ◌++◌, Option, Some, None, slice_index_or, refl, sym, ap, subst, ◌∙◌, inl, inr, unwrap_or}
 use Rattle.std.specs.List.{list_all}
 use Rattle.std.proofs.lemmas.Bool.{false≢true, and_parts}
 use Rattle.trace_text.specs.declared.events.Created.TheVariants as created
@@ -22,7 +22,8 @@ use Rattle.profile_machine.specs.declared.world.marks.Purpose.TheVariants as ope
 use Rattle.profile_machine.specs.declared.world.tasks.Task.{Task}
 use Rattle.profile_machine.specs.declared.world.tasks.State.{State}
 use Rattle.profile_machine.specs.declared.world.tasks.State.TheVariants.{Made, Runnable, Blocked}
-use Rattle.profile_machine.specs.Words.{same_who, same_option, option_or_else, first_of_list}
+use Rattle.profile_machine.specs.Words.{same_who, same_option}
+use Rattle.world_tables.specs.Lists.{first_of}
 use Rattle.profile_machine.specs.Program.{no_statement, form_of, task_unit_of, scope_of}
 use Rattle.profile_machine.specs.Steps.{says, changes, rests}
 use Rattle.profile_machine.specs.Tasks.{task_of, with_ticks, is_runnable, is_runnable_state, nobody, is_who}
@@ -93,7 +94,7 @@ module _ (p : Image) (fit : sequences_fit p ≡ true) where
 
   -- ---- the opening
 
-  first_or_nobody : (b : Bool) (t : Task) → t.frames ≡ [] → begins_sequence p (onward_in (option_or_else (cond b (Some t) None) nobody).frames) ≡ false
+  first_or_nobody : (b : Bool) (t : Task) → t.frames ≡ [] → begins_sequence p (onward_in (unwrap_or (cond b (Some t) None) nobody).frames) ≡ false
   first_or_nobody true t none = ap (λ fs. begins_sequence p (onward_in fs)) none
   first_or_nobody false t none = refl
 
@@ -182,7 +183,7 @@ module _ (p : Image) (fit : sequences_fit p ≡ true) where
   known_by None name calls drawn k = tt
   known_by (Some c) name calls drawn k = let h = k c refl in (h.0, h.1)
 
-  known-first : (fs : List Frame) (f : Frame) (m : ProtectedMark) (name : Who) (calls : List Call) (drawn : ℕ) → OwnCalls calls drawn name fs → first_of_list fs ≡ Some f → f.mark ≡ InProtected m → Knows m.own_call name drawn calls
+  known-first : (fs : List Frame) (f : Frame) (m : ProtectedMark) (name : Who) (calls : List Call) (drawn : ℕ) → OwnCalls calls drawn name fs → first_of fs ≡ Some f → f.mark ≡ InProtected m → Knows m.own_call name drawn calls
   known-first [] f m name calls drawn h e is = absurd (let never : None ≡ Some f = e in cc)
   known-first (x ∷ xs) f m name calls drawn h e is =
       let one : x ≡ f = cc in

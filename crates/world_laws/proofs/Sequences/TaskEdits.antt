@@ -1,5 +1,5 @@
 -- What somebody goes on with behind an edit of its task.
-use Rattle.std.proofs.Common.{◌≡◌, ℕ, Bool, true, false, cond, List, [], ◌∷◌, Option, Some, None, find, refl, sym, ap, subst, ◌∙◌, eq-eqb, ◌⊎◌, inl, inr}
+use Rattle.std.proofs.Common.{◌≡◌, ℕ, Bool, true, false, cond, List, [], ◌∷◌, Option, Some, None, find, refl, sym, ap, subst, ◌∙◌, eq-eqb, ◌⊎◌, inl, inr, unwrap_or}
 use Rattle.std.proofs.lemmas.Bool.{eqb-true}
 use Rattle.std.proofs.lemmas.Bool.{false≢true}
 use Rattle.trace_text.specs.declared.events.Who.{Who}
@@ -9,7 +9,7 @@ use Rattle.profile_machine.specs.declared.run_data.Leaving.{Leaving}
 use Rattle.profile_machine.specs.declared.world.World.{World}
 use Rattle.profile_machine.specs.declared.world.marks.Frame.{Frame}
 use Rattle.profile_machine.specs.declared.world.tasks.Task.{Task}
-use Rattle.profile_machine.specs.Words.{same_who, option_or_else, set_where}
+use Rattle.profile_machine.specs.Words.{same_who, set_where}
 use Rattle.profile_machine.specs.Tasks.{nobody, is_who, task_at, task_of, edit_task_found, edit_task, with_frames}
 use Rattle.profile_machine.specs.Frames.{edit_first, edit_top, push, left_so, onward_of}
 use Rattle.profile_machine.specs.WellFormed.{begins_sequence}
@@ -79,11 +79,11 @@ set-other n m x y (z ∷ zs) apart e same =
 
 -- ---- a task of a world that is edited
 
-found-own : (n : Who) (f : Task → Task) (xs : List Task) (t : Task) → find (is_who n) xs ≡ Some t → (f t).who ≡ t.who → option_or_else (find (is_who n) (set_where (is_who n) (f t) xs)) nobody ≡ f (option_or_else (find (is_who n) xs) nobody)
-found-own n f xs t is same = ap (λ o. option_or_else o nobody) (set-found n t (f t) xs is same) ∙ sym (ap (λ o. f (option_or_else o nobody)) is)
+found-own : (n : Who) (f : Task → Task) (xs : List Task) (t : Task) → find (is_who n) xs ≡ Some t → (f t).who ≡ t.who → unwrap_or (find (is_who n) (set_where (is_who n) (f t) xs)) nobody ≡ f (unwrap_or (find (is_who n) xs) nobody)
+found-own n f xs t is same = ap (λ o. unwrap_or o nobody) (set-found n t (f t) xs is same) ∙ sym (ap (λ o. f (unwrap_or o nobody)) is)
 
 own-found : (name : Who) (f : Task → Task) (w : World) (found : Option Task) → task_at w name ≡ found → ((t : Task) → (f t).who ≡ t.who) → (task_of (edit_task_found name f w found) name ≡ f (task_of w name)) ⊎ ((edit_task_found name f w found ≡ w) × (task_of w name ≡ nobody))
-own-found name f w None is same = inr (refl, ap (λ o. option_or_else o nobody) is)
+own-found name f w None is same = inr (refl, ap (λ o. unwrap_or o nobody) is)
 own-found (who.Task n) f w (Some t) is same = inl (found-own (who.Task n) f w.tasks t is (same t))
 own-found who.Agent f w (Some t) is same = inl (let one : w.agent ≡ t = cc in ap f (sym one))
 
@@ -93,7 +93,7 @@ edited-own name f w same = own-found name f w (task_at w name) refl same
 
 other-found : (name b : Who) (f : Task → Task) (w : World) (found : Option Task) → task_at w name ≡ found → ((t : Task) → (f t).who ≡ t.who) → same_who name b ≡ false → task_of (edit_task_found name f w found) b ≡ task_of w b
 other-found name b f w None is same apart = refl
-other-found (who.Task n) (who.Task m) f w (Some t) is same apart = ap (λ o. option_or_else o nobody) (set-other (who.Task n) (who.Task m) t (f t) w.tasks apart is (same t))
+other-found (who.Task n) (who.Task m) f w (Some t) is same apart = ap (λ o. unwrap_or o nobody) (set-other (who.Task n) (who.Task m) t (f t) w.tasks apart is (same t))
 other-found (who.Task n) who.Agent f w (Some t) is same apart = refl
 other-found who.Agent (who.Task m) f w (Some t) is same apart = refl
 other-found who.Agent who.Agent f w (Some t) is same apart = absurd (false≢true (sym apart))

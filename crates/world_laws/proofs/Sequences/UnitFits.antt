@@ -1,11 +1,11 @@
 -- Each task that is made has a unit that begins plainly: what changes of tasks keep.
-use Rattle.std.proofs.Common.{◌≡◌, Bool, true, false, cond, List, [], ◌∷◌, ◌++◌, Option, Some, None, find, filter, refl, sym, subst, ◌∙◌}
+use Rattle.std.proofs.Common.{◌≡◌, Bool, true, false, cond, List, [], ◌∷◌, ◌++◌, Option, Some, None, find, filter, refl, sym, subst, ◌∙◌, unwrap_or}
 use Rattle.trace_text.specs.declared.events.Who.{Who}
 use Rattle.trace_text.specs.declared.events.Who.TheVariants as who
 use Rattle.profile_machine.specs.declared.image.Image.{Image}
 use Rattle.profile_machine.specs.declared.world.World.{World}
 use Rattle.profile_machine.specs.declared.world.tasks.Task.{Task}
-use Rattle.profile_machine.specs.Words.{option_or_else, set_where}
+use Rattle.profile_machine.specs.Words.{set_where}
 use Rattle.profile_machine.specs.Program.{scope_of, task_unit_of}
 use Rattle.profile_machine.specs.Tasks.{is_who, task_at, edit_task_found, edit_task}
 use Rattle.profile_machine.specs.WellFormed.{begins_sequence}
@@ -14,7 +14,7 @@ use Rattle.world_laws.proofs.Sequences.TaskEdits.{by_bool}
 use Rattle.world_laws.proofs.Sequences.TaskNames.{found-first, found-later}
 
 pub fitting-alone : (p : Image) (t u : Task) → u.state ≡ t.state → u.unit ≡ t.unit → Fitting p t → Fitting p u
-fitting-alone p t u state unit h = λ e. subst (λ n. begins_sequence p (scope_of p (task_unit_of p (option_or_else n (record { 0 = 0 }))).scope).first ≡ false) (sym unit) (h (sym state ∙ e))
+fitting-alone p t u state unit h = λ e. subst (λ n. begins_sequence p (scope_of p (task_unit_of p (unwrap_or n (record { 0 = 0 }))).scope).first ≡ false) (sym unit) (h (sym state ∙ e))
 
 set_fitting-step : (p : Image) (b : Bool) (y z : Task) (zs ys : List Task) → Fitting p y → Fitting p z → AllFitting p zs → AllFitting p ys → AllFitting p (cond b (y ∷ zs) (z ∷ ys))
 set_fitting-step p true y z zs ys new old rest set = (new, rest)

@@ -1,4 +1,5 @@
 -- Opening constructs, leaving them, and going on: each step keeps what its parts keep.
+use Rattle.ann_base.specs.Results.{◌>>=◌}
 use Rattle.ann_base.specs.declared.exceptions.Raised.{Raised}
 use Rattle.ann_base.specs.declared.exceptions.Raised.TheVariants as exception
 use Rattle.ceiling_laws.proofs.Runs.Kept.Tasks.{edit_task-alters, says-keeps}
@@ -7,7 +8,7 @@ use Rattle.ceiling_laws.proofs.Runs.SameLemmas.{same_then}
 use Rattle.ceiling_laws.proofs.Runs.Triples.{Alters, At, Keeps, Leads, State, branch-keeps, branch-leads, changes-keeps, changes-leads, from-leads, from_at, looks-keeps, looks-leads, nothing-keeps, then-keeps, then-leads, to-leads, when-keeps}
 use Rattle.ceiling_laws.specs.Cores.{Same}
 use Rattle.profile_machine.specs.Frames.{edit_first, edit_top, exit_loop, given, goes, goes_on, has_room, leaves, left_so, new_frame, onward_of, open_at, open_handled, open_if_ready, open_sequence, pass_on, pop, push, raise_if, raises, stands_in, top_of, with_room, without_first}
-use Rattle.profile_machine.specs.Operators.{Valued, ◌>>=◌}
+use Rattle.profile_machine.specs.Operators.{Valued}
 use Rattle.profile_machine.specs.Program.{form_of, next_of}
 use Rattle.profile_machine.specs.Steps.{Step, changes, ◌▷◌}
 use Rattle.profile_machine.specs.Tasks.{edit_task, is_runnable, task_of, with_frames}

@@ -13,7 +13,7 @@ use Rattle.ceiling_laws.proofs.Runs.LevelMoves.{BaseMoves, Fitting, Naming, Sile
 use Rattle.ceiling_laws.proofs.Runs.Triples.{Alters, At, Keeps, Leads, State, branch-leads, changes-keeps, for_some-keeps, from-leads, from_at, looks-keeps, looks-leads, looks-with, nothing-keeps, sees-keeps, then-keeps, then-leads}
 use Rattle.profile_machine.specs.CallEnds.{store}
 use Rattle.profile_machine.specs.Frames.{has_room}
-use Rattle.profile_machine.specs.Handlers.{add_member, add_release, add_to_budget, answer, appoint_event, argument_values, begin_handler, begin_handler_if_room, call_handler, cancel_budget, cancel_event, cancel_event_setting, cancel_timer, change_member, clear_timer, clock_of_timer, edit_budget, enter_handler, event_set_to, fill_budget, handler_attached, handler_named, has_room_for_release, interrupt, is_given, is_interrupt_handler, loaded, member_of, raised_by, release, remove_member, replenish, says_release, scope_size_of, set_budget, set_event, set_timer, set_value, setting_of, timer_set_beyond, timer_set_to, wake_agent, with_room_for_release, with_timer_set}
+use Rattle.profile_machine.specs.Handlers.{add_member, add_release, add_to_budget, answer, appoint_event, argument_values, begin_handler, begin_handler_if_room, call_handler, cancel_budget, cancel_event, cancel_event_setting, cancel_timer, change_member, clear_timer, clock_of_timer, edit_budget, enter_handler, event_set_to, fill_budget, handler_attached, handler_named, has_room_for_release, interrupt, is_interrupt_handler, loaded, member_of, raised_by, release, remove_member, replenish, says_release, scope_size_of, set_budget, set_event, set_timer, set_value, setting_of, timer_set_beyond, timer_set_to, wake_agent, with_room_for_release, with_timer_set}
 use Rattle.profile_machine.specs.Program.{marks_of, next_of, subprogram_of}
 use Rattle.profile_machine.specs.Protected.{begin_action_on, body_of_object, entering, find_held}
 use Rattle.profile_machine.specs.Serving.{end_release}
@@ -45,7 +45,7 @@ use Rattle.profile_machine.specs.declared.world.tasks.State.TheVariants.{Blocked
 use Rattle.profile_machine.specs.declared.world.tasks.Task as world
 use Rattle.profile_machine.specs.declared.world.tasks.Waiting.TheVariants as waits_for
 use Rattle.std.proofs.Common.{ap, refl, subst, sym, ◌≡◌}
-use Rattle.std.specs.Prelude.{Bool, None, Option, Some, [], false, int_lt, not, pos, true, ℕ, ℤ, ◌&&◌, ◌+◌}
+use Rattle.std.specs.Prelude.{Bool, None, Option, Some, [], false, int_lt, not, pos, true, ℕ, ℤ, ◌&&◌, ◌+◌, is_some}
 use Rattle.trace_text.specs.declared.events.Mode.TheVariants.{Write}
 use Rattle.trace_text.specs.declared.events.Who.{Who}
 use Rattle.trace_text.specs.declared.events.Who.TheVariants as who
@@ -56,7 +56,7 @@ module _ {X : State} (quiet : Silences X) where
 
   setting_of-keeps : (p : Image) (name : Who) (q : Seen) (base : ℤ) (set : Setting) (named : Option HandlerName) (step : Option HandlerOf → ℤ → Step) → ((x : Option HandlerOf) (y : ℤ) → Keeps X (step x y)) → Keeps X (setting_of p name q base set named step)
   setting_of-keeps p name q base set named step kept =
-      given-keeps quiet Own name (handler_named q named) _ (λ h. with_room_for_release-keeps name (is_given h) _
+      given-keeps quiet Own name (handler_named q named) _ (λ h. with_room_for_release-keeps name (is_some h) _
       (given-keeps quiet Own name (set_value q base set) _ (λ v. raise_if-keeps quiet name (not (is_interrupt_handler p q.world h)) exception.Program _ (kept h v))))
 
   pub answer-keeps : (p : Image) (name : Who) (v : Variable) (b : Bool) → Keeps X (answer p name v b)

@@ -1,4 +1,5 @@
 -- Priorities that are inherited, and base priorities and deadlines that are set: each step keeps what its parts keep.
+use Rattle.ann_base.specs.Results.{◌>>=◌}
 use Rattle.ann_base.specs.declared.exceptions.Raised.TheVariants as exception
 use Rattle.ann_base.specs.declared.identities.TaskNo.{TaskNo}
 use Rattle.ceiling_laws.proofs.Runs.ActingMoves.{ActingMoves, Admitting, LaterMoves}
@@ -12,7 +13,7 @@ use Rattle.profile_machine.specs.Calls.{place_of_entry, put_call, take_call}
 use Rattle.profile_machine.specs.Dispatching.{active_of, to_tail}
 use Rattle.profile_machine.specs.Frames.{goes, in_protected}
 use Rattle.profile_machine.specs.Inheritance.{inherit, inherit_running, rises, same_cause}
-use Rattle.profile_machine.specs.Operators.{Valued, held_moment, ticks, ◌>>=◌}
+use Rattle.profile_machine.specs.Operators.{Valued, held_moment, ticks}
 use Rattle.profile_machine.specs.Priorities.{call_waited_for, delay_and_set_deadline, delay_with_deadline, is_edf_base, is_queued, must_be_task, placed_anew, priority_in_range, quantum_of, reprioritize, reprioritize_own, says_deadline, set_base_of, set_deadline_of, set_or_defer_base, set_priority, set_quantum, with_priority}
 use Rattle.profile_machine.specs.Program.{interrupt_priority, next_of}
 use Rattle.profile_machine.specs.Statements.{delay_to, delay_until, wait_until}

@@ -19,7 +19,7 @@ use Rattle.profile_machine.specs.declared.world.marks.Mark.TheVariants.{Scope, H
 use Rattle.profile_machine.specs.Program.{declaration_of}
 use Rattle.profile_machine.specs.declared.world.lines.Part.{Part}
 use Rattle.profile_machine.specs.Steps.{Step, changes, looks, ◌▷◌}
-use Rattle.profile_machine.specs.Words.{first_of_list}
+use Rattle.world_tables.specs.Lists.{first_of}
 use Rattle.profile_machine.specs.Tasks.{waiting_of}
 use Rattle.profile_machine.specs.Frames.{frames_of, top_of, pop, pass_on, leaving_of, with_mark, leaves, raises, open_sequence}
 use Rattle.profile_machine.specs.declared.run_data.Leaving.TheVariants as how
@@ -155,7 +155,7 @@ module _ {G : GoodWorld} {May Acts Pushes : Naming} {Stops : Type 0} {R : StepRe
   end_top_abortable-from : (p : Image) (part : Part) (name : Who) (frames : List Frame) (w : World) → G w → Pushes name → Awake name w → frames_of w name ≡ frames → From R w (end_top_abortable p part name frames)
   unfolding end_top_abortable
   end_top_abortable-from p part name [] w good pushes awake is = keeps-from moves _ w good (nothing-keeps moves)
-  end_top_abortable-from p part name (f ∷ below) w good pushes awake is = end_abortable_in-from p part name f below f.mark w good pushes awake (ap first_of_list is) refl
+  end_top_abortable-from p part name (f ∷ below) w good pushes awake is = end_abortable_in-from p part name f below f.mark w good pushes awake (ap first_of is) refl
 
   pub end_found_abortable-from : (p : Image) (part : Part) (name : Who) (w : World) → G w → Pushes name → Awake name w → From R w (looks (λ v. end_top_abortable p part name (frames_of v name)))
   end_found_abortable-from p part name w good pushes awake = looks_at-from moves (λ v. end_top_abortable p part name (frames_of v name)) w (end_top_abortable-from p part name (frames_of w name) w good pushes awake refl)

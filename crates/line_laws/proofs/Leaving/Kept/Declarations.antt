@@ -1,6 +1,7 @@
 -- Declarations of objects: each step keeps a relation that its parts keep.
 use Rattle.std.proofs.Common.{refl}
 use Rattle.std.specs.Prelude.{ℕ, suc, not, List, [], ◌∷◌, Some, Ok, leb, length}
+use Rattle.ann_base.specs.Results.{◌>>=◌}
 use Rattle.ann_base.specs.declared.exceptions.Raised.TheVariants as exception
 use Rattle.profile_machine.specs.declared.world.lines.Line.TheVariants as line
 use Rattle.trace_text.specs.declared.events.Created.TheVariants as created
@@ -24,7 +25,7 @@ use Rattle.profile_machine.specs.Program.{declaration_of, next_of, protected_uni
 use Rattle.profile_machine.specs.declared.world.lines.Part.TheVariants.{Own}
 use Rattle.profile_machine.specs.Steps.{changes, ◌▷◌}
 use Rattle.profile_machine.specs.Frames.{goes}
-use Rattle.profile_machine.specs.Operators.{◌>>=◌, unless}
+use Rattle.profile_machine.specs.Operators.{unless}
 use Rattle.profile_machine.specs.Values.{Seen, value, object_cell, component_at, protected_cells, controlled_cells}
 use Rattle.profile_machine.specs.Statements.{copy_cells}
 use Rattle.profile_machine.specs.Scopes.{put_cells}

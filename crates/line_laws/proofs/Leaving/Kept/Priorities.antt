@@ -1,5 +1,6 @@
 -- Base priorities and deadlines that are set: each step keeps a relation that its parts keep.
 use Rattle.std.specs.Prelude.{ℕ, ℤ, ◌&&◌, Option, Some, None, ◌||◌}
+use Rattle.ann_base.specs.Results.{◌>>=◌}
 use Rattle.ann_base.specs.declared.exceptions.Raised.TheVariants as exception
 use Rattle.trace_text.specs.declared.events.Who.{Who}
 use Rattle.trace_text.specs.declared.events.Who.TheVariants as who
@@ -33,7 +34,6 @@ use Rattle.line_laws.proofs.Leaving.Kept.Calls.{edit_call-alters, with_call-keep
 use Rattle.line_laws.proofs.Leaving.Kept.Statements.{delay_to-keeps}
 use Rattle.std.proofs.Common.{◌≡◌, refl}
 use Rattle.line_laws.proofs.Leaving.TaskLemmas.{awake-state}
-use Rattle.profile_machine.specs.Operators.{◌>>=◌}
 use Rattle.profile_machine.specs.declared.world.World.{World}
 use Rattle.profile_machine.specs.Tasks.{found_task, task_of, waiting_in, edit_task}
 use Rattle.profile_machine.specs.Dispatching.{to_tail}

@@ -34,7 +34,7 @@ use Rattle.profile_machine.specs.declared.world.tasks.State.TheVariants.{Made, R
 use Rattle.profile_machine.specs.declared.world.tasks.Task.{Task}
 use Rattle.line_laws.proofs.Exits.TaskEdits.{one_of, one_of-is}
 use Rattle.world_laws.proofs.Actions.Natures.{nature, natures, guards}
-use Rattle.profile_machine.specs.Words.{first_of_list}
+use Rattle.world_tables.specs.Lists.{first_of}
 use Rattle.profile_machine.specs.Tasks.{is_runnable_state}
 use Rattle.world_laws.proofs.Actions.Kept.Combinators.{Keeps, Alters, changes-keeps, cond-keeps, looks-keeps, nothing-keeps, sees-keeps, then-keeps, unchanged-alters, From, keeps-from, looks_at-from, changes_then-from}
 use Rattle.world_laws.proofs.Actions.Kept.Dispatching.{block-keeps}
@@ -196,7 +196,7 @@ act_statement-from p name s (form.SetDeadline deadline task) w good awake = keep
 act_statement-from p name s (form.DelayUntilAndSetDeadline until offset) w good awake = keeps-from beside _ w good (delay_and_set_deadline-keeps p name s until offset)
 
 -- the end of the mark on top
-on_top : (frames : List Frame) (f : Frame) → first_of_list frames ≡ Some f → top_nature (natures frames) ≡ Some (nature f.mark)
+on_top : (frames : List Frame) (f : Frame) → first_of frames ≡ Some f → top_nature (natures frames) ≡ Some (nature f.mark)
 on_top [] f e = absurd cc
 on_top (g ∷ gs) f e = let is : g ≡ f = cc in ap (λ (x : Frame). Some (nature x.mark)) is
 
@@ -228,7 +228,7 @@ act_frame-from p name f (Some s) w good awake top = act_statement-from p name s 
 act_frame-from p name f None w good awake top = end_mark-from p name f f.mark w good awake top refl
 
 -- who has no marks has no action open
-no-marks : (name : Who) (w : World) (frames : List Frame) → frames_of w name ≡ frames → first_of_list frames ≡ None → Free name w
+no-marks : (name : Who) (w : World) (frames : List Frame) → frames_of w name ≡ frames → first_of frames ≡ None → Free name w
 no-marks name w [] is e = ap (λ (t : Task). guards (natures t.frames)) (one_of-is w name) ∙ ap (λ fs. guards (natures fs)) is
 no-marks name w (f ∷ fs) is e = absurd cc
 

@@ -1,5 +1,5 @@
 -- The opening of a run is good, and tocks leave worlds good.
-use Rattle.std.proofs.Common.{◌≡◌, ℤ, Bool, true, false, cond, List, [], ◌∷◌, Option, Some, None, refl, sym, ap, subst, ◌∙◌, arith}
+use Rattle.std.proofs.Common.{◌≡◌, ℤ, Bool, true, false, cond, List, [], ◌∷◌, Option, Some, None, refl, sym, ap, subst, ◌∙◌, arith, unwrap_or}
 use Rattle.std.proofs.lemmas.Bool.{false≢true}
 use Rattle.trace_text.specs.declared.events.Event.{Event}
 use Rattle.trace_text.specs.declared.events.Event.TheVariants as written
@@ -15,7 +15,7 @@ use Rattle.profile_machine.specs.declared.world.marks.Purpose.TheVariants as ope
 use Rattle.profile_machine.specs.declared.world.tasks.Task.{Task}
 use Rattle.profile_machine.specs.declared.world.lines.Line.TheVariants as line
 use Rattle.profile_machine.specs.declared.world.lines.Part.TheVariants.{Own}
-use Rattle.profile_machine.specs.Words.{option_or_else, same_option, same_who}
+use Rattle.profile_machine.specs.Words.{same_option, same_who}
 use Rattle.profile_machine.specs.Steps.{rests, says, changes}
 use Rattle.profile_machine.specs.Tasks.{is_who, nobody, task_of, with_ticks}
 use Rattle.profile_machine.specs.Dispatching.{choose, to_tail}
@@ -39,7 +39,7 @@ use Rattle.world_laws.proofs.Actions.Kept.Switching.{Only, less-from}
 
 -- ---- at first nobody has a mark
 
-found-none : (b : Bool) (t : Task) → t.frames ≡ [] → (option_or_else (cond b (Some t) None) nobody).frames ≡ []
+found-none : (b : Bool) (t : Task) → t.frames ≡ [] → (unwrap_or (cond b (Some t) None) nobody).frames ≡ []
 found-none true t e = e
 found-none false t e = refl
 

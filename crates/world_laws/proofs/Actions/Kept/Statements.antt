@@ -23,7 +23,7 @@ use Rattle.profile_machine.specs.Steps.{changes}
 use Rattle.profile_machine.specs.Frames.{goes, in_protected}
 use Rattle.profile_machine.specs.Appointments.{appoint}
 use Rattle.profile_machine.specs.Dispatching.{block}
-use Rattle.profile_machine.specs.Operators.{Valued, ◌>>=◌}
+use Rattle.profile_machine.specs.Operators.{Valued}
 use Rattle.profile_machine.specs.Values.{Seen, seen_by, value, variable, object_cell}
 use Rattle.profile_machine.specs.CallEnds.{store}
 use Rattle.profile_machine.specs.Statements.{null, assign, cells_from, copy_cells, array_copied, assign_array, if_statement, go_to_alternative, case_statement, while_turn, loop_cell, put, first_bound, last_bound, bounds_set, for_bounds, first_turn, advance, later_turn, exit_where, exit_statement, block_statement, raise_again, wait_until, delay_to, delay_until, put_line}
@@ -31,6 +31,7 @@ use Rattle.profile_machine.specs.Scopes.{put_cells}
 use Rattle.world_laws.proofs.Actions.FineMoves.{FineMoves}
 use Rattle.world_laws.proofs.Actions.Sound.{GoodWorld, Naming, Good}
 use Rattle.world_laws.proofs.Actions.GoodMoves.{Nobody, good_moves, free-by_test}
+use Rattle.ann_base.specs.Results.{◌>>=◌}
 use Rattle.ann_base.specs.declared.exceptions.Raised.TheVariants as exception
 use Rattle.world_laws.proofs.Actions.Kept.Switching.{Only, only-from}
 use Rattle.world_laws.proofs.Actions.Kept.Combinators.{Keeps, From, Alters, Gives, bind-gives, changes-keeps, keeps-from, looks-from, looks-keeps, nothing-keeps, ok-gives, sees-keeps, then-from, then-keeps, says-keeps}

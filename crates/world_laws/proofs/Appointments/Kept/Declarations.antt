@@ -1,6 +1,7 @@
 -- Declarations of objects: each step keeps a relation that its parts keep.
 use Rattle.std.proofs.Common.{refl}
 use Rattle.std.specs.Prelude.{ℕ, suc, not, List, [], ◌∷◌, Some, Ok, leb, length}
+use Rattle.ann_base.specs.Results.{◌>>=◌}
 use Rattle.ann_base.specs.declared.exceptions.Raised.TheVariants as exception
 use Rattle.trace_text.specs.declared.events.Created.TheVariants as created
 use Rattle.trace_text.specs.declared.events.Who.{Who}
@@ -24,7 +25,7 @@ use Rattle.profile_machine.specs.declared.world.scopes.Variable.{Variable}
 use Rattle.profile_machine.specs.CallEnds.{store}
 use Rattle.profile_machine.specs.Declarations.{default_cells, set_defaults, initialized, initial_of, components_initialized, located_here, set_thing, object_declared, object_drawn, new_object, with_object, says_object, declare_protected, controlled_declared, event_drawn, event_declared, with_budget, budget_declared, timed_task, with_timer, timer_declared, declared, declare_quietly, declare_by, declare}
 use Rattle.profile_machine.specs.Frames.{goes}
-use Rattle.profile_machine.specs.Operators.{◌>>=◌, unless}
+use Rattle.profile_machine.specs.Operators.{unless}
 use Rattle.profile_machine.specs.Program.{declaration_of, next_of, protected_unit_of, controlled_of}
 use Rattle.profile_machine.specs.Statements.{copy_cells}
 use Rattle.profile_machine.specs.Scopes.{put_cells}

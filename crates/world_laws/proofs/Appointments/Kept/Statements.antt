@@ -1,6 +1,7 @@
 -- Simple and compound statements: each step keeps a relation that its parts keep.
 use Rattle.std.proofs.Common.{refl}
 use Rattle.std.specs.Prelude.{Bool, true, false, List, Option, Some, None, Ok}
+use Rattle.ann_base.specs.Results.{◌>>=◌}
 use Rattle.trace_text.specs.declared.events.Who.{Who}
 use Rattle.profile_machine.specs.declared.expressions.ObjectName.{ObjectName}
 use Rattle.profile_machine.specs.declared.expressions.VariableName.{VariableName}
@@ -18,7 +19,7 @@ use Rattle.profile_machine.specs.declared.world.lines.Part.TheVariants.{Own}
 use Rattle.profile_machine.specs.declared.world.scopes.Variable.{Variable}
 use Rattle.profile_machine.specs.CallEnds.{store}
 use Rattle.profile_machine.specs.Frames.{goes}
-use Rattle.profile_machine.specs.Operators.{Valued, ◌>>=◌}
+use Rattle.profile_machine.specs.Operators.{Valued}
 use Rattle.profile_machine.specs.Program.{declaration_of, next_of}
 use Rattle.profile_machine.specs.Statements.{null, assign, cells_from, copy_cells, array_copied, assign_array, if_statement, go_to_alternative, case_statement, while_turn, loop_cell, put, first_bound, last_bound, bounds_set, for_bounds, first_turn, advance, later_turn, exit_where, exit_statement, block_statement, raise_again, text_of_pieces, put_line}
 use Rattle.profile_machine.specs.Scopes.{put_cells}

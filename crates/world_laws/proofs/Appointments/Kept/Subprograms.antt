@@ -1,5 +1,6 @@
 -- Calls of subprograms: each step keeps a relation that its parts keep.
 use Rattle.std.specs.Prelude.{List, [], ◌∷◌, Option, Some, None, Ok, slice_set}
+use Rattle.ann_base.specs.Results.{◌>>=◌}
 use Rattle.ann_base.specs.declared.identities.CallNo.{CallNo}
 use Rattle.trace_text.specs.declared.events.Who.{Who}
 use Rattle.profile_machine.specs.declared.image.Image.{Image}
@@ -19,7 +20,7 @@ use Rattle.profile_machine.specs.declared.world.scopes.Beginning.{Beginning}
 use Rattle.profile_machine.specs.declared.world.scopes.Handed.{Handed}
 use Rattle.profile_machine.specs.CallEnds.{store}
 use Rattle.profile_machine.specs.Frames.{leaves}
-use Rattle.profile_machine.specs.Operators.{◌>>=◌, checked}
+use Rattle.profile_machine.specs.Operators.{checked}
 use Rattle.profile_machine.specs.Program.{subprogram_of}
 use Rattle.profile_machine.specs.Scopes.{home, write_cell}
 use Rattle.profile_machine.specs.Statements.{becomes}

@@ -1,5 +1,6 @@
 -- Declarations of objects: each step keeps the cells right.
 use Rattle.std.specs.Prelude.{ℕ, suc, not, List, [], ◌∷◌, Ok, leb, length}
+use Rattle.ann_base.specs.Results.{◌>>=◌}
 use Rattle.ann_base.specs.declared.identities.TaskNo.{TaskNo}
 use Rattle.ann_base.specs.declared.exceptions.Raised.TheVariants as exception
 use Rattle.trace_text.specs.declared.events.Who.{Who}
@@ -19,7 +20,7 @@ use Rattle.profile_machine.specs.declared.world.World.{World}
 use Rattle.profile_machine.specs.declared.world.scopes.Located.{Located}
 use Rattle.profile_machine.specs.declared.world.scopes.Variable.{Variable}
 use Rattle.profile_machine.specs.Program.{declaration_of, controlled_of}
-use Rattle.profile_machine.specs.Operators.{◌>>=◌, unless}
+use Rattle.profile_machine.specs.Operators.{unless}
 use Rattle.profile_machine.specs.Values.{Seen, value, object_cell, component_at, controlled_cells}
 use Rattle.profile_machine.specs.Statements.{copy_cells}
 use Rattle.profile_machine.specs.CallEnds.{store}

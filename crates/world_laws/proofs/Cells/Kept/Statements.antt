@@ -1,5 +1,6 @@
 -- Simple and compound statements: each step keeps the cells right.
 use Rattle.std.specs.Prelude.{ℤ, Bool, true, false, List, Option, Some, None, Ok}
+use Rattle.ann_base.specs.Results.{◌>>=◌}
 use Rattle.trace_text.specs.declared.events.Who.{Who}
 use Rattle.trace_text.specs.declared.events.Who.TheVariants as who
 use Rattle.profile_machine.specs.declared.image.Image.{Image}
@@ -18,7 +19,7 @@ use Rattle.profile_machine.specs.Program.{declaration_of}
 use Rattle.profile_machine.specs.declared.world.lines.Part.{Part}
 use Rattle.profile_machine.specs.Steps.{changes}
 use Rattle.profile_machine.specs.Frames.{given}
-use Rattle.profile_machine.specs.Operators.{Valued, ◌>>=◌}
+use Rattle.profile_machine.specs.Operators.{Valued}
 use Rattle.profile_machine.specs.Values.{Seen, value, variable, object_cell}
 use Rattle.profile_machine.specs.CallEnds.{store}
 use Rattle.profile_machine.specs.Statements.{becomes, null, assign, cells_from, copy_cells, array_copied, assign_array, if_statement, go_to_alternative, case_statement, while_turn, loop_cell, put, first_bound, last_bound, bounds_set, for_bounds, first_turn, advance, later_turn, exit_where, exit_statement, block_statement, raise_again, wait_until, delay_to, delay_until, put_line}

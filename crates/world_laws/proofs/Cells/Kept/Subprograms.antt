@@ -1,5 +1,6 @@
 -- Subprograms: each step keeps the cells right.
 use Rattle.std.specs.Prelude.{List, [], ◌∷◌, Option, Some, None, Ok}
+use Rattle.ann_base.specs.Results.{◌>>=◌}
 use Rattle.ann_base.specs.declared.identities.CallNo.{CallNo}
 use Rattle.trace_text.specs.declared.events.Who.{Who}
 use Rattle.profile_machine.specs.declared.image.Image.{Image}
@@ -20,7 +21,7 @@ use Rattle.profile_machine.specs.Steps.{Step, changes}
 use Rattle.profile_machine.specs.declared.world.scopes.Beginning.{Beginning}
 use Rattle.profile_machine.specs.declared.world.scopes.Handed.{Handed}
 use Rattle.profile_machine.specs.Scopes.{home, write_cell}
-use Rattle.profile_machine.specs.Operators.{Valued, ◌>>=◌, checked}
+use Rattle.profile_machine.specs.Operators.{Valued, checked}
 use Rattle.profile_machine.specs.Values.{Seen, or_misfit}
 use Rattle.profile_machine.specs.CallEnds.{store}
 use Rattle.profile_machine.specs.declared.world.scopes.ScopeId.{ScopeId}

@@ -41,7 +41,8 @@ use Rattle.world_laws.proofs.Marks.TriggerLemmas.{TopCalm, same_tops, attempt-to
 use Rattle.world_laws.proofs.Marks.FineMoves.{FineMoves, Openings, Arming, RegionMoves}
 use Rattle.line_laws.proofs.Exits.TaskEdits.{one_of-is}
 use Rattle.line_laws.proofs.Exits.Steady.{FreeIn, Holding}
-use Rattle.profile_machine.specs.Words.{first_of_list, is_the, same_call}
+use Rattle.profile_machine.specs.Words.{is_the, same_call}
+use Rattle.world_tables.specs.Lists.{first_of}
 use Rattle.profile_machine.specs.Tasks.{task_of, edit_task, with_state}
 use Rattle.world_laws.proofs.Marks.Kept.Combinators.{changes-keeps, looks-keeps, nothing-keeps, sees-keeps, then-keeps, unchanged-alters, keeps-from, looks_at-from, changes_then-from, changes-from, then-from, then-kept}
 use Rattle.world_laws.proofs.Marks.Kept.Dispatching.{says_block-keeps}
@@ -293,7 +294,7 @@ module _ {G : GoodWorld} {R : StepRelation} {Q : MoveRelation} (moves : RegionMo
   act_without-keeps p who.Agent (Some r) = call_handler-keeps moves p r
   act_without-keeps p (who.Task t) (Some r) = nothing-keeps moves.fine
 
-  on_top : (frames : List Frame) (f : Frame) → first_of_list frames ≡ Some f → action_first (natures frames) ≡ action_in f.mark
+  on_top : (frames : List Frame) (f : Frame) → first_of frames ≡ Some f → action_first (natures frames) ≡ action_in f.mark
   on_top [] f e = absurd cc
   on_top (g ∷ gs) f e = let is : g ≡ f = cc in ap (λ (x : Frame). action_in x.mark) is
 

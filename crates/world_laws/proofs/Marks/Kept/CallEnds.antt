@@ -20,7 +20,7 @@ use Rattle.profile_machine.specs.declared.world.marks.Mark.TheVariants.{Abortabl
 use Rattle.profile_machine.specs.Program.{declaration_of}
 use Rattle.profile_machine.specs.declared.world.lines.Part.{Part}
 use Rattle.profile_machine.specs.Steps.{Step, changes, looks, ◌▷◌}
-use Rattle.profile_machine.specs.Words.{first_of_list}
+use Rattle.world_tables.specs.Lists.{first_of}
 use Rattle.profile_machine.specs.Tasks.{waiting_of}
 use Rattle.profile_machine.specs.Frames.{open_sequence, frames_of, top_of, pop, pass_on, leaving_of}
 use Rattle.profile_machine.specs.Scopes.{write_cell}
@@ -115,7 +115,7 @@ module _ {G : GoodWorld} {May Other : Naming} {R : StepRelation} {Q : MoveRelati
   end_top_abortable-from : (p : Image) (part : Part) (name : Who) (frames : List Frame) (w : World) → G w → May name → frames_of w name ≡ frames → ((f : Frame) → top_of w name ≡ Some f → Ends name f w) → From R w (end_top_abortable p part name frames)
   unfolding end_top_abortable
   end_top_abortable-from p part name [] w good may is ends = keeps-from moves _ w good (nothing-keeps moves)
-  end_top_abortable-from p part name (f ∷ below) w good may is ends = end_abortable_in-from p part name f below f.mark w good may (ap first_of_list is) (ends f (ap first_of_list is))
+  end_top_abortable-from p part name (f ∷ below) w good may is ends = end_abortable_in-from p part name f below f.mark w good may (ap first_of is) (ends f (ap first_of is))
 
   pub end_found_abortable-from : (p : Image) (part : Part) (name : Who) (w : World) → G w → May name → ((f : Frame) → top_of w name ≡ Some f → Ends name f w) → From R w (looks (λ v. end_top_abortable p part name (frames_of v name)))
   end_found_abortable-from p part name w good may ends = looks_at-from moves (λ v. end_top_abortable p part name (frames_of v name)) w (end_top_abortable-from p part name (frames_of w name) w good may refl ends)

@@ -1,6 +1,7 @@
 -- Steps and moves that are put together of those that keep a relation keep it.
 use Rattle.std.proofs.Common.{◌≡◌, Bool, true, false, cond, List, [], ◌∷◌, ◌++◌, Option, Some, None, refl, sym, subst, ap, ◌∙◌, append_assoc, append-nil}
 use Rattle.std.specs.Prelude.{Ok, Err, filter}
+use Rattle.ann_base.specs.Results.{◌>>=◌}
 use Rattle.trace_text.specs.declared.events.Who.{Who}
 use Rattle.profile_machine.specs.declared.image.Image.{Image}
 use Rattle.profile_machine.specs.declared.world.World.{World}
@@ -9,7 +10,7 @@ use Rattle.profile_machine.specs.declared.world.lines.Line.{Line}
 use Rattle.profile_machine.specs.declared.world.lines.Part.{Part}
 use Rattle.profile_machine.specs.declared.world.lines.Said.{Said}
 use Rattle.profile_machine.specs.Steps.{Step, Move, Done, done, goes_on_with, nothing, changes, says, looks, when, for_some, for_each, placed_by, settled, settles, rests, watches, ◌▷◌, ◌▶◌}
-use Rattle.profile_machine.specs.Operators.{Valued, ◌>>=◌}
+use Rattle.profile_machine.specs.Operators.{Valued}
 use Rattle.profile_machine.specs.Values.{Seen, seen_by}
 use Rattle.profile_machine.specs.Statements.{sees}
 use Rattle.machine_laws.proofs.Moves.{StepRelation, MoveRelation, lines_of}

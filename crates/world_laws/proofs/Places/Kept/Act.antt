@@ -35,7 +35,7 @@ use Rattle.profile_machine.specs.Steps.{Step, changes, looks, nothing, ◌▷◌
 use Rattle.profile_machine.specs.Serving.{end_in_protected}
 use Rattle.profile_machine.specs.Tasking.{take_terminates}
 use Rattle.profile_machine.specs.Tasks.{edit_task, edit_task_found, nobody, task_at, with_ticks}
-use Rattle.profile_machine.specs.Words.{first_of_list, option_or_else}
+use Rattle.world_tables.specs.Lists.{first_of}
 use Rattle.profile_machine.specs.Values.{condition, moment}
 use Rattle.profile_machine.specs.declared.image.Image.{Image}
 use Rattle.profile_machine.specs.declared.numbers.StatementNo.{StatementNo}
@@ -60,7 +60,7 @@ use Rattle.profile_machine.specs.declared.world.marks.Mark.TheVariants.{Abortabl
 use Rattle.profile_machine.specs.declared.world.tasks.Waiting.TheVariants as waits_for
 use Rattle.profile_machine.specs.declared.world.tasks.Task.{Task}
 use Rattle.std.proofs.Common.{ap, inl, inr, refl, subst, sym, ◌∙◌, ◌≡◌, ◌⊎◌}
-use Rattle.std.specs.Prelude.{List, None, Option, Some, [], true, ℕ}
+use Rattle.std.specs.Prelude.{List, None, Option, Some, [], true, ℕ, unwrap_or}
 use Rattle.trace_text.specs.declared.events.Who.{Who}
 use Rattle.trace_text.specs.declared.events.Who.TheVariants as who
 use Rattle.ceiling_laws.proofs.Runs.LevelMoves.{Fitting, Sleeping}
@@ -104,9 +104,9 @@ InsideOrNone frames = (frames ≡ []) ⊎ (any_protected frames ≡ true)
 abbrev pub AgentInside : World → Type 0
 AgentInside w = InsideOrNone w.agent.frames
 
-inside_top : (frames : List Frame) (f : Frame) → first_of_list frames ≡ Some f → InsideOrNone frames → any_protected frames ≡ true
+inside_top : (frames : List Frame) (f : Frame) → first_of frames ≡ Some f → InsideOrNone frames → any_protected frames ≡ true
 inside_top frames f top (inr inside) = inside
-inside_top frames f top (inl none) = absurd (let never : None ≡ Some f = ap first_of_list (sym none) ∙ top in cc)
+inside_top frames f top (inl none) = absurd (let never : None ≡ Some f = ap first_of (sym none) ∙ top in cc)
 
 inside_by : (name : Who) (v : World) (f : Frame) → name ≡ who.Agent → top_of v name ≡ Some f → AgentInside v → in_protected v name ≡ true
 inside_by (who.Task t) v f is top h = absurd cc
@@ -124,7 +124,7 @@ agent-ticked name w = ticked_found name w (task_at w name) refl
 acting_found : (name : Who) (w : World) (found : Option Task) → task_at w name ≡ found → frames_of (edit_task_found name (with_ticks None) w found) name ≡ frames_of w name
 acting_found name w None is = refl
 acting_found (who.Task n) w (Some t) is =
-    ap (λ (r : Option Task). (option_or_else r nobody).frames) (set_where-found (who.Task n) t (with_ticks None t) w.tasks is refl) ∙ sym (ap (λ (r : Option Task). (option_or_else r nobody).frames) is)
+    ap (λ (r : Option Task). (unwrap_or r nobody).frames) (set_where-found (who.Task n) t (with_ticks None t) w.tasks is refl) ∙ sym (ap (λ (r : Option Task). (unwrap_or r nobody).frames) is)
 acting_found who.Agent w (Some t) is = let one : w.agent ≡ t = cc in ap (λ (u : Task). u.frames) (sym one)
 
 acting-ticked : (name : Who) (w : World) → frames_of (edit_task name (with_ticks None) w) name ≡ frames_of w name
@@ -136,7 +136,7 @@ abbrev pub EnteredBy : List Call × ℕ → Who → ProtectedMark → Type 0
 EnteredBy calls name m = ((c : CallNo) → m.own_call ≡ Some c → CallerIn calls.0 calls.1 c name) × ((r : ℕ) → m.release ≡ Some r → who.Agent ≡ name)
 
 abbrev pub TopsEntered : List Call × ℕ → Who → List Frame → Type 0
-TopsEntered calls name frames = (f : Frame) (m : ProtectedMark) → first_of_list frames ≡ Some f → f.mark ≡ InProtected m → EnteredBy calls name m
+TopsEntered calls name frames = (f : Frame) (m : ProtectedMark) → first_of frames ≡ Some f → f.mark ≡ InProtected m → EnteredBy calls name m
 
 pub record MayAct (name : Who) (w : World) : Type 0 where
   pub inside : AgentInside w

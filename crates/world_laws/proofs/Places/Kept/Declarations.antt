@@ -1,4 +1,5 @@
 -- Declarations of objects, but of protected ones: each step keeps what its parts keep.
+use Rattle.ann_base.specs.Results.{◌>>=◌}
 use Rattle.ann_base.specs.declared.exceptions.Raised.TheVariants as exception
 use Rattle.world_laws.proofs.Places.Kept.Frames.{Gives, bind-gives, given-leads_at, given_world-keeps, goes-keeps, next-gives, ok-gives}
 use Rattle.world_laws.proofs.Places.Kept.Scopes.{cells-same, copy_cells-same}
@@ -10,7 +11,7 @@ use Rattle.world_laws.proofs.Places.Cores.{Same}
 use Rattle.profile_machine.specs.CallEnds.{store}
 use Rattle.profile_machine.specs.Declarations.{budget_declared, components_initialized, controlled_declared, declare, declare_by, declare_protected, declare_quietly, declared, default_cells, event_declared, event_drawn, initial_of, initialized, located_here, object_declared, says_object, set_defaults, set_thing, timed_task, timer_declared, with_budget, with_object, with_timer}
 use Rattle.profile_machine.specs.Frames.{goes}
-use Rattle.profile_machine.specs.Operators.{unless, ◌>>=◌}
+use Rattle.profile_machine.specs.Operators.{unless}
 use Rattle.profile_machine.specs.Program.{controlled_of, declaration_of, next_of, protected_unit_of}
 use Rattle.profile_machine.specs.Statements.{copy_cells}
 use Rattle.profile_machine.specs.Scopes.{put_cells}

@@ -1,4 +1,5 @@
 -- Base priorities and deadlines that are set, and delays: each step keeps what its parts keep.
+use Rattle.ann_base.specs.Results.{◌>>=◌}
 use Rattle.ann_base.specs.declared.exceptions.Raised.TheVariants as exception
 use Rattle.ann_base.specs.declared.identities.TaskNo.{TaskNo}
 use Rattle.world_laws.proofs.Places.ActingMoves.{ActingMoves, Admitting, Lasting, LastingOf}
@@ -11,7 +12,7 @@ use Rattle.ceiling_laws.proofs.Runs.Triples.{Alters, At, Keeps, Leads, State, ch
 use Rattle.profile_machine.specs.Calls.{place_of_entry, put_call, take_call}
 use Rattle.profile_machine.specs.Dispatching.{active_of, block, to_tail}
 use Rattle.profile_machine.specs.Frames.{given, goes, in_protected, raise_if}
-use Rattle.profile_machine.specs.Operators.{Valued, held_moment, ticks, ◌>>=◌}
+use Rattle.profile_machine.specs.Operators.{Valued, held_moment, ticks}
 use Rattle.profile_machine.specs.Appointments.{appoint}
 use Rattle.profile_machine.specs.Priorities.{call_waited_for, delay_and_set_deadline, delay_with_deadline, is_edf_base, is_queued, must_be_task, placed_anew, priority_in_range, quantum_of, reprioritize, reprioritize_own, says_deadline, set_base_of, set_deadline_of, set_or_defer_base, set_priority, set_quantum, with_priority}
 use Rattle.profile_machine.specs.Program.{interrupt_priority, next_of}

@@ -7,7 +7,7 @@ use Rattle.world_laws.proofs.Places.SameLemmas.{same_then}
 use Rattle.ceiling_laws.proofs.Runs.Triples.{Keeps, State, changes-keeps, looks-keeps, looks-with, sees-keeps, then-keeps}
 use Rattle.profile_machine.specs.CallEnds.{store}
 use Rattle.profile_machine.specs.Frames.{goes}
-use Rattle.profile_machine.specs.Operators.{Valued, checked, ◌>>=◌}
+use Rattle.profile_machine.specs.Operators.{Valued, checked}
 use Rattle.profile_machine.specs.Program.{declaration_of, next_of}
 use Rattle.profile_machine.specs.Scopes.{write_cell}
 use Rattle.profile_machine.specs.Statements.{advance, array_copied, assign, assign_array, block_statement, bounds_set, case_statement, copy_cells, exit_statement, exit_where, first_bound, first_turn, for_bounds, go_to_alternative, if_statement, last_bound, later_turn, loop_cell, null, put, put_line, raise_again, text_of_pieces, while_turn}
@@ -28,6 +28,7 @@ use Rattle.profile_machine.specs.declared.world.lines.Part.TheVariants.{Own}
 use Rattle.profile_machine.specs.declared.world.scopes.Variable.{Variable}
 use Rattle.std.proofs.Common.{refl}
 use Rattle.std.specs.Prelude.{Bool, List, None, Ok, Option, Some, false, slice_set, true}
+use Rattle.ann_base.specs.Results.{◌>>=◌}
 use Rattle.trace_text.specs.declared.events.Who.{Who}
 
 pub store-gives : (p : Image) (v : Variable) (value : Value) (w : World) → Gives w (store p v value w)

@@ -1,4 +1,5 @@
 -- Calls of subprograms: each step keeps what its parts keep.
+use Rattle.ann_base.specs.Results.{◌>>=◌}
 use Rattle.ann_base.specs.declared.identities.CallNo.{CallNo}
 use Rattle.world_laws.proofs.Places.Kept.Calls.{edit_call-alters}
 use Rattle.world_laws.proofs.Places.Kept.Frames.{Gives, becomes-keeps, bind-gives, given-keeps, given-through, given_world-keeps, goes-keeps, leaves-keeps, ok-gives, raise_if-keeps, with_room-keeps}
@@ -8,7 +9,7 @@ use Rattle.world_laws.proofs.Places.LevelMoves.{Silences}
 use Rattle.ceiling_laws.proofs.Runs.Triples.{Alters, Keeps, Leads, State, changes-keeps, looks-keeps, looks-with, nothing-keeps, sees-keeps, sees-leads, then-keeps, unchanged-alters}
 use Rattle.profile_machine.specs.CallEnds.{store}
 use Rattle.profile_machine.specs.Frames.{leaves}
-use Rattle.profile_machine.specs.Operators.{checked, ◌>>=◌}
+use Rattle.profile_machine.specs.Operators.{checked}
 use Rattle.profile_machine.specs.Program.{subprogram_of}
 use Rattle.profile_machine.specs.Scopes.{home, write_cell}
 use Rattle.profile_machine.specs.Statements.{becomes}

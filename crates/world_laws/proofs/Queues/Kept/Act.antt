@@ -1,6 +1,6 @@
 -- The effect of an action, of who comes to it in a good world: the world behind it is good.
 use Rattle.std.proofs.Common.{◌≡◌, ℕ, ◌≤◌, ◌<◌, Bool, true, false, cond, ◌&&◌, length, List, [], ◌∷◌, Option, Some, None, refl, sym, subst, ap, ◌∙◌, arith, is_none}
-use Rattle.std.specs.Prelude.{find}
+use Rattle.std.specs.Prelude.{find, unwrap_or}
 use Rattle.std.proofs.lemmas.Bool.{eq-eqb, or_left, true≢false}
 use Rattle.ann_base.specs.declared.exceptions.Raised.{Raised}
 use Rattle.ann_base.specs.declared.identities.CallNo.{CallNo}
@@ -34,7 +34,8 @@ use Rattle.profile_machine.specs.declared.world.tasks.State.TheVariants.{Blocked
 use Rattle.profile_machine.specs.declared.world.tasks.State.{State}
 use Rattle.profile_machine.specs.declared.world.tasks.Task.{Task}
 use Rattle.profile_machine.specs.declared.world.tasks.Waiting.TheVariants as waits_for
-use Rattle.profile_machine.specs.Words.{same_call, is_the, first_of_list, option_or_else}
+use Rattle.profile_machine.specs.Words.{same_call, is_the}
+use Rattle.world_tables.specs.Lists.{first_of}
 use Rattle.profile_machine.specs.Program.{form_of}
 use Rattle.profile_machine.specs.Steps.{Step, Done, done, goes_on_with, says, changes, looks, when, for_some, ◌▷◌}
 use Rattle.profile_machine.specs.Tasks.{is_who, nobody, task_of, edit_task, with_state, with_ticks, waiting_in, is_runnable, is_runnable_state}
@@ -105,11 +106,11 @@ drawn-of_top p (who.Task n) f w good top t is = subst (λ m. m.0 < w.drawn.tasks
   same-task a b e = cc
 
   by_found : (found : Option Task) → find (is_who (who.Task n)) w.tasks ≡ found → is_named (task_of w (who.Task n)) ≡ true
-  by_found None e = absurd (none-frame f (ap (λ x. first_of_list (option_or_else x nobody).frames) (sym e) ∙ top))
-  by_found (Some u) e = ap (λ x. is_named (option_or_else x nobody)) e ∙ named-found (is_who (who.Task n)) u w.tasks good.named e
+  by_found None e = absurd (none-frame f (ap (λ x. first_of (unwrap_or x nobody).frames) (sym e) ∙ top))
+  by_found (Some u) e = ap (λ x. is_named (unwrap_or x nobody)) e ∙ named-found (is_who (who.Task n)) u w.tasks good.named e
 
 -- who has a mark on top that has not come to its end, or is no abortable part, waits for the end of no call
-top-frames : (w : World) (name : Who) (f : Frame) (fs : List Frame) → frames_of w name ≡ fs → first_of_list fs ≡ Some f → (below : List Frame) × (frames_of w name ≡ f ∷ below)
+top-frames : (w : World) (name : Who) (f : Frame) (fs : List Frame) → frames_of w name ≡ fs → first_of fs ≡ Some f → (below : List Frame) × (frames_of w name ≡ f ∷ below)
 top-frames w name f [] is top = absurd (none-frame f top)
 top-frames w name f (x ∷ xs) is top = (xs, is ∙ ap (λ y. y ∷ xs) (same x top)) where
   same : (x : Frame) → Some x ≡ Some f → x ≡ f
@@ -395,7 +396,7 @@ awake-empty p name w good top c d waits e = by_frames (frames_of w name) refl (g
 
   by_frames : (fs : List Frame) → frames_of w name ≡ fs → is_ending c fs ≡ true → ⊥
   by_frames [] is h = true≢false (sym h)
-  by_frames (f ∷ fs) is h = some-none f (ap first_of_list (sym is) ∙ top)
+  by_frames (f ∷ fs) is h = some-none f (ap first_of (sym is) ∙ top)
 
 act_without-holds : (p : Image) (name : Who) (release : Option Release) (w : World) → Good p w → Awake name w → Holds p w (act_without p name release)
 unfolding act_without

@@ -31,7 +31,8 @@ use Rattle.profile_machine.specs.declared.world.tasks.State.TheVariants.{Runnabl
 use Rattle.profile_machine.specs.declared.world.tasks.Task.{Task}
 use Rattle.profile_machine.specs.declared.world.tasks.Waiting.{Waiting}
 use Rattle.profile_machine.specs.declared.world.tasks.Waiting.TheVariants as waits_for
-use Rattle.profile_machine.specs.Words.{same_call, is_the, first_of_list}
+use Rattle.profile_machine.specs.Words.{same_call, is_the}
+use Rattle.world_tables.specs.Lists.{first_of}
 use Rattle.profile_machine.specs.Program.{form_of, next_of, declaration_of, edf_low, is_robin_level, scope_of}
 use Rattle.profile_machine.specs.Steps.{Step, changes, ◌▷◌}
 use Rattle.profile_machine.specs.Tasks.{task_of, edit_task, with_state}
@@ -350,7 +351,7 @@ edit_call-quiets c f same =
 
 -- ---- a mark that is no abortable part ends
 
-unset-of : (name : Who) (w : World) (f : Frame) (fs : List Frame) → first_of_list fs ≡ Some f → part_of f.mark ≡ None → Unset name w fs
+unset-of : (name : Who) (w : World) (f : Frame) (fs : List Frame) → first_of fs ≡ Some f → part_of f.mark ≡ None → Unset name w fs
 unset-of name w f [] top free = tt
 unset-of name w f (x ∷ xs) top free = λ n is set awaits. let one : x ≡ f = cc in
     let none : awaits_part (part_of x.mark) ≡ false = ap (λ (y : Frame). awaits_part (part_of y.mark)) one ∙ ap awaits_part free in

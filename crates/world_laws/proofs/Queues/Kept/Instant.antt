@@ -1,6 +1,6 @@
 -- The seven steps of an instant lead from good worlds to good ones.
 use Rattle.std.proofs.Common.{◌≡◌, ℕ, ℤ, zero, suc, pos, Bool, true, false, cond, ◌&&◌, ◌||◌, inl, inr, List, [], ◌∷◌, Option, Some, None, refl, sym, subst, ap, ◌∙◌, length}
-use Rattle.std.specs.Prelude.{int_le}
+use Rattle.std.specs.Prelude.{int_le, unwrap_or}
 use Rattle.std.specs.List.{list_any}
 use Rattle.std.proofs.lemmas.Bool.{eq-eqb, or_left, or_right, true≢false}
 use Rattle.ann_base.specs.declared.identities.CallNo.{CallNo}
@@ -21,7 +21,7 @@ use Rattle.profile_machine.specs.declared.world.lines.Part.TheVariants.{Own}
 use Rattle.profile_machine.specs.declared.world.tasks.Task.{Task}
 use Rattle.profile_machine.specs.declared.world.tasks.Waiting.{Waiting}
 use Rattle.profile_machine.specs.declared.world.tasks.Waiting.TheVariants as waits_for
-use Rattle.profile_machine.specs.Words.{option_or_else, same_bool}
+use Rattle.profile_machine.specs.Words.{same_bool}
 use Rattle.profile_machine.specs.Program.{next_of}
 use Rattle.profile_machine.specs.Steps.{Step, Move, Done, done, looks, nothing, settled, settles, rests, ◌▷◌, ◌▶◌}
 use Rattle.profile_machine.specs.Tasks.{edit_task_found, with_frames, is_who, nobody, task_at, task_of, waiting_of}
@@ -169,7 +169,7 @@ trigger-calm {E = E} p t depth v free good (inr out) none = by_found (task_at v 
 
   by_found : {E : Kind} (found : Option Task) → task_at v (who.Task t) ≡ found → Calm E v (edit_task_found (who.Task t) f v found)
   by_found None e = stays-calm v
-  by_found (Some u) e = absurd (true≢false (sym (named-found (is_who (who.Task t)) u v.tasks good.named e) ∙ (ap (λ x. is_named (option_or_else x nobody)) (sym e) ∙ out)))
+  by_found (Some u) e = absurd (true≢false (sym (named-found (is_who (who.Task t)) u v.tasks good.named e) ∙ (ap (λ x. is_named (unwrap_or x nobody)) (sym e) ∙ out)))
 
 trigger-onward : (p : Image) (t : TaskNo) (depth : ℕ) (v : World) → Good p v → Waited t depth v → is_appointed (is_trigger_of t depth) v ≡ false → Onward p v (trigger_at Own t depth ▷ unwind p Own (who.Task t))
 trigger-onward p t depth v good waited none =

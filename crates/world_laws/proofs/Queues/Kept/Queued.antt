@@ -2,6 +2,7 @@
 use Rattle.std.proofs.Common.{◌≡◌, ℕ, ℤ, Bool, true, false, not, ◌&&◌, inl, inr, ◌≤◌, eqb, List, Option, Some, None, refl, sym, subst, ap, ◌∙◌, option_map}
 use Rattle.std.specs.Prelude.{is_none, find}
 use Rattle.std.proofs.lemmas.Bool.{eq-eqb}
+use Rattle.ann_base.specs.Results.{◌>>=◌}
 use Rattle.ann_base.specs.declared.exceptions.Raised.TheVariants as exception
 use Rattle.ann_base.specs.declared.identities.CallNo.{CallNo}
 use Rattle.trace_text.specs.declared.events.Who.{Who}
@@ -32,7 +33,6 @@ use Rattle.profile_machine.specs.Steps.{Step, changes, when, for_some, ◌▷◌
 use Rattle.profile_machine.specs.Tasks.{task_of, edit_task, found_task}
 use Rattle.profile_machine.specs.Dispatching.{active_of, to_tail}
 use Rattle.profile_machine.specs.Frames.{in_protected, frames_of}
-use Rattle.profile_machine.specs.Operators.{◌>>=◌}
 use Rattle.profile_machine.specs.Values.{value, moment, optional_task, whole_in, live_task}
 use Rattle.profile_machine.specs.Appointments.{is_timeout_of}
 use Rattle.profile_machine.specs.Calls.{is_call, call_of, edit_call, edit_queue, place_of_entry, put_call, take_call, enqueued, enqueue, unqueued}

@@ -61,7 +61,8 @@ use Rattle.profile_machine.specs.Rendezvous.{accept_for, first_accept, has_termi
 use Rattle.profile_machine.specs.Sending.{begin_abortable, sent_call}
 use Rattle.profile_machine.specs.Steps.{Done, for_some, goes_on_with}
 use Rattle.profile_machine.specs.Tasks.{task_at, task_of, waiting_of, with_frames}
-use Rattle.profile_machine.specs.Words.{edit_where, first_of_list, has, is_the, same_call, same_who}
+use Rattle.profile_machine.specs.Words.{edit_where, has, is_the, same_call, same_who}
+use Rattle.world_tables.specs.Lists.{first_of}
 use Rattle.profile_machine.specs.declared.statements.StatementForm.{StatementForm}
 use Rattle.profile_machine.specs.declared.world.calls.Outcome.{Outcome}
 use Rattle.profile_machine.specs.declared.world.tasks.Task.{Task}
@@ -393,7 +394,7 @@ module _ (p : Image) (name : Who) (m : AcceptMark) (leaving : Leaving) (w : Worl
         absurd (omega (arith, e, zero_there))
 
   top-first : top_of w name ≡ Some f
-  top-first = ap first_of_list top
+  top-first = ap first_of top
 
   pub end_in_accept-onward : Onward p w (end_in_accept p name m leaving)
   unfolding end_in_accept

@@ -1,5 +1,5 @@
 -- The opening world is good, and a tock leads from good worlds to good ones: so each world that a run reaches is good.
-use Rattle.std.proofs.Common.{◌≡◌, ℕ, ℤ, ◌<◌, Bool, true, false, cond, eqb, List, [], ◌∷◌, Option, Some, None, refl, sym, subst, ap, ◌∙◌, arith}
+use Rattle.std.proofs.Common.{◌≡◌, ℕ, ℤ, ◌<◌, Bool, true, false, cond, eqb, List, [], ◌∷◌, Option, Some, None, refl, sym, subst, ap, ◌∙◌, arith, unwrap_or}
 use Rattle.std.proofs.lemmas.Bool.{eqb-true, true≢false}
 use Rattle.ann_base.specs.declared.identities.CallNo.{CallNo}
 use Rattle.ann_base.specs.declared.identities.TaskNo.{TaskNo}
@@ -19,7 +19,7 @@ use Rattle.profile_machine.specs.declared.world.lines.Part.TheVariants.{Own}
 use Rattle.profile_machine.specs.declared.world.marks.Frame.{Frame}
 use Rattle.profile_machine.specs.declared.world.marks.Purpose.TheVariants as opened_for
 use Rattle.profile_machine.specs.declared.world.tasks.Task.{Task}
-use Rattle.profile_machine.specs.Words.{has, same_call, same_who, same_option, option_or_else}
+use Rattle.profile_machine.specs.Words.{has, same_call, same_who, same_option}
 use Rattle.profile_machine.specs.Steps.{rests, watches, ◌▶◌}
 use Rattle.profile_machine.specs.Tasks.{nobody, task_of, edit_task, waiting_in, waiting_of, with_ticks}
 use Rattle.profile_machine.specs.Dispatching.{choose}
@@ -41,7 +41,7 @@ use Rattle.world_laws.proofs.Queues.Standing.{Awake, Calm, Good, Nature, Stands,
 
 blank-one : (P : Task → Type 0) (p : Image) (script : List (ℤ × Item)) (name : Who) → P (environment_task p) → P (agent_at_first p) → P nobody → P (task_of (blank_world p script) name)
 blank-one P p script (who.Task n) a b c = step (eqb n.0 0) where
-  step : (b : Bool) → P (option_or_else (cond b (Some (environment_task p)) None) nobody)
+  step : (b : Bool) → P (unwrap_or (cond b (Some (environment_task p)) None) nobody)
   step true = a
   step false = c
 blank-one P p script who.Agent a b c = b
@@ -97,7 +97,7 @@ blank-good p script = record {
 } where
   drawn : (t : TaskNo) → is_named (task_of (blank_world p script) (who.Task t)) ≡ true → (b : Bool) → eqb t.0 0 ≡ b → t.0 < 1
   drawn t h true e = let same : t.0 ≡ 0 = eqb-true t.0 0 e in omega (arith, same)
-  drawn t h false e = absurd (true≢false (sym h ∙ ap (λ b. is_named (option_or_else (cond b (Some (environment_task p)) None) nobody)) e))
+  drawn t h false e = absurd (true≢false (sym h ∙ ap (λ b. is_named (unwrap_or (cond b (Some (environment_task p)) None) nobody)) e))
 
 awake-blank : (p : Image) (script : List (ℤ × Item)) (a : Who) → Awake a (blank_world p script)
 unfolding Awake

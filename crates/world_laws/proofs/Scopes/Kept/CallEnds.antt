@@ -19,7 +19,7 @@ use Rattle.profile_machine.specs.declared.world.marks.Mark.TheVariants.{Scope, H
 use Rattle.profile_machine.specs.Program.{declaration_of}
 use Rattle.profile_machine.specs.declared.world.lines.Part.{Part}
 use Rattle.profile_machine.specs.Steps.{Step, changes, looks, ◌▷◌}
-use Rattle.profile_machine.specs.Words.{first_of_list}
+use Rattle.world_tables.specs.Lists.{first_of}
 use Rattle.profile_machine.specs.Tasks.{waiting_of}
 use Rattle.profile_machine.specs.Frames.{frames_of, top_of, pop, pass_on, leaving_of, with_mark, is_protected}
 use Rattle.profile_machine.specs.Scopes.{write_cell, id_in}
@@ -134,7 +134,7 @@ module _ {G : GoodWorld} {May Other : Naming} {R : StepRelation} {Q : MoveRelati
   end_top_abortable-from : (p : Image) (part : Part) (name : Who) (frames : List Frame) (w : World) → G w → May name → frames_of w name ≡ frames → From R w (end_top_abortable p part name frames)
   unfolding end_top_abortable
   end_top_abortable-from p part name [] w good may is = keeps-from moves _ w good (nothing-keeps moves)
-  end_top_abortable-from p part name (f ∷ below) w good may is = end_abortable_in-from p part name f below f.mark w good may (ap first_of_list is) refl
+  end_top_abortable-from p part name (f ∷ below) w good may is = end_abortable_in-from p part name f below f.mark w good may (ap first_of is) refl
 
   pub end_found_abortable-keeps : (p : Image) (part : Part) (name : Who) → May name → Keeps G R (looks (λ w. end_top_abortable p part name (frames_of w name)))
   end_found_abortable-keeps p part name may = looks-from moves _ (λ w good. end_top_abortable-from p part name (frames_of w name) w good may refl)

@@ -188,7 +188,7 @@ B = {
  "option_and_then": (2, lambda f, o: o if o.n == "None" else ap(f, o.a[0])), "then_some": (2, lambda c, x: SOME(x) if c else NONE),
  "cond": (3, lambda c, a, b: a if c else b), "bytes_eq": (2, lambda a, b: a == b),
  "decimal": (1, lambda n: tuple(str(n).encode())), "signed_decimal": (1, lambda n: tuple(str(n).encode())),
- "is_ascii_digit": (1, _digit), "is_ascii_alphabetic": (1, _letter), "is_ascii_alphanumeric": (1, lambda b: _letter(b) or _digit(b)),
+ "is_ascii_digit": (1, _digit), "is_ascii_lowercase": (1, lambda b: 97 <= b <= 122), "is_ascii_uppercase": (1, lambda b: 65 <= b <= 90), "is_ascii_alphabetic": (1, _letter), "is_ascii_alphanumeric": (1, lambda b: _letter(b) or _digit(b)),
  "to_ascii_lowercase": (1, lambda b: b + 32 if 65 <= b <= 90 else b), "to_ascii_uppercase": (1, lambda b: b - 32 if 97 <= b <= 122 else b),
  "nat_cmp": (2, _ordering), "int_cmp": (2, _ordering), "bool_cmp": (2, _ordering), "is_eq": (1, lambda o: o.n == "Equal"),
  "on": (4, lambda f, r, x, y: ap(r, ap(f, x), ap(f, y))), "flip_args": (3, lambda r, x, y: ap(r, y, x)),

@@ -3,6 +3,7 @@
 -- load from 1 to 200, in plain decimal without leading zeros.
 use Rattle.std.specs.Prelude.{ℕ, ◌+◌, ◌-◌, ◌*◌, ◌==◌, nat_le, Bool, ◌&&◌, if◌then◌else◌, List, [], ◌∷◌, Option, Some, None, codes}
 use Rattle.std.specs.Option.{option_map}
+use Rattle.std.specs.Char.{is_ascii_digit}
 use Rattle.std.specs.Str.{bytes_eq}
 use Rattle.std.specs.Global.{Vec}
 use Rattle.load_runs.specs.declared.source.TheConstants.{MOST_TASKS}
@@ -18,14 +19,10 @@ abbrev pub name_of : List ℕ → Option (List ℕ)
 name_of [] = None
 name_of (byte ∷ bytes) = if byte == 45 then None else Some (byte ∷ bytes)
 
--- the bytes from 48 to 57 are the digits 0 to 9
-abbrev pub is_digit : ℕ → Bool
-is_digit byte = nat_le 48 byte && nat_le byte 57
-
 abbrev pub ticks_from : ℕ → List ℕ → Option ℕ
 ticks_from so_far [] = Some so_far
 ticks_from so_far (digit ∷ digits) =
-    if is_digit digit && nat_le (so_far * 10 + (digit - 48)) MOST_TICKS then ticks_from (so_far * 10 + (digit - 48)) digits else None
+    if is_ascii_digit digit && nat_le (so_far * 10 + (digit - 48)) MOST_TICKS then ticks_from (so_far * 10 + (digit - 48)) digits else None
 
 abbrev pub ticks_of : List ℕ → Option ℕ
 ticks_of [] = None

@@ -1,6 +1,7 @@
 -- What a table says: its duties, or its first line that is refused.
 use Rattle.std.specs.Prelude.{◌≡◌, ℕ, ◌+◌, ◌==◌, ◌&&◌, ◌||◌, not, Bool, true, false, nat_le, nat_lt, if◌then◌else◌, List, [], ◌∷◌, ◌++◌, length, take, Option, Some, None, Result, Ok, Err}
 use Rattle.std.specs.List.{list_all, list_any, fold}
+use Rattle.std.specs.Char.{is_ascii_digit, is_ascii_lowercase, is_ascii_uppercase}
 use Rattle.std.specs.Str.{bytes_eq}
 use Rattle.sched_tests.specs.declared.duties.TheConstants.{TABLE_BYTES, MOST_DUTIES, NAME_LENGTH, LONGEST, MOST_PRIORITY}
 use Rattle.sched_tests.specs.declared.duties.Duty.{Duty}
@@ -9,15 +10,11 @@ use Rattle.sched_tests.specs.declared.duties.TableFaultKind.{TableFaultKind}
 use Rattle.sched_tests.specs.declared.duties.TableFaultKind.TheVariants.{BadLine, BadNumber, Twice, TooMany, Empty}
 use Rattle.sched_tests.specs.declared.reading.Words.{Words}
 use Rattle.text_lines.specs.Lines.{NumberedLine, lines_of, words_of}
-use Rattle.text_lines.specs.Numerals.{is_digit, number_in}
-
--- a byte is between two others
-abbrev pub is_within : ℕ → ℕ → ℕ → Bool
-is_within low high byte = nat_le low byte && nat_le byte high
+use Rattle.text_lines.specs.Numerals.{number_in}
 
 -- a letter, a digit or an underscore
 abbrev pub is_name_byte : ℕ → Bool
-is_name_byte byte = is_digit byte || is_within 65 90 byte || is_within 97 122 byte || (byte == 95)
+is_name_byte byte = is_ascii_digit byte || is_ascii_uppercase byte || is_ascii_lowercase byte || (byte == 95)
 
 -- a name has 1 to 80 of them
 abbrev pub is_name : List ℕ → Bool

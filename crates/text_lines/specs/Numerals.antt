@@ -1,14 +1,11 @@
 -- Numerals: whole numbers in plain decimal.
 use Rattle.std.specs.Prelude.{ℕ, ◌*◌, ◌+◌, ◌-◌, ◌==◌, ◌&&◌, ◌||◌, not, Bool, nat_le, nat_lt, if◌then◌else◌, List, length, slice_index, Option, Some, None}
 use Rattle.std.specs.List.{list_all, fold}
-
--- the bytes from 48 to 57 are the digits 0 to 9
-abbrev pub is_digit : ℕ → Bool
-is_digit byte = nat_le 48 byte && nat_le byte 57
+use Rattle.std.specs.Char.{is_ascii_digit}
 
 -- a numeral is digits without a leading zero, or the digit 0
 abbrev pub is_numeral : List ℕ → Bool
-is_numeral word = nat_lt 0 (length word) && list_all is_digit word && (not (slice_index word 0 == 48) || (length word == 1))
+is_numeral word = nat_lt 0 (length word) && list_all is_ascii_digit word && (not (slice_index word 0 == 48) || (length word == 1))
 
 -- the number of a numeral
 abbrev pub numeral_value : List ℕ → ℕ

@@ -1,18 +1,13 @@
 //! Numerals: whole numbers in plain decimal.
 ghost use Rattle.std.specs.Prelude.{◌≡◌, ◌<◌, ◌≤◌, IsTrue, MatchOption, IfSome};
 ghost use Rattle.std.specs.List.{list_all};
-ghost use Rattle.text_lines.specs.Numerals.{is_digit, is_numeral, numeral_value, number_in};
-
-fn is_digit(byte: u8) -> bool
-    ensures { result ≡ is_digit byte }
-{
-    byte.is_ascii_digit()
-}
+ghost use Rattle.std.specs.Char.{is_ascii_digit};
+ghost use Rattle.text_lines.specs.Numerals.{is_numeral, numeral_value, number_in};
 
 fn are_digits(word: &[u8]) -> bool
-    ensures { result ≡ list_all is_digit word.now }
+    ensures { result ≡ list_all is_ascii_digit word.now }
 {
-    word.iter().all(|byte| is_digit(*byte))
+    word.iter().all(|byte| byte.is_ascii_digit())
 }
 
 /// Whether a word is digits without a leading zero, or the digit 0.
@@ -24,7 +19,7 @@ pub fn is_numeral(word: &[u8]) -> bool
 
 /// The number of digits; none where it is above the most.
 fn numeral_up_to(word: &[u8], most: u32) -> Option<u32>
-    requires { IsTrue (list_all is_digit word.now) }
+    requires { IsTrue (list_all is_ascii_digit word.now) }
     ensures { MatchOption result (most < numeral_value word.now)
         (λ value. (value ≡ numeral_value word.now) × (value ≤ most)) }
 {

@@ -17,8 +17,9 @@ use Rattle.trace_text.specs.declared.events.EntryName.TheVariants.{OfTask, OfObj
 use Rattle.trace_text.specs.declared.events.Finished.{Finished}
 use Rattle.trace_text.specs.declared.events.Finished.TheVariants as finished
 use Rattle.trace_text.specs.Text.{IsName, IsExceptionName, IsPutText, IsEntryPrintable, IsEntryWithin, IsFinishedPrintable, IsFinishedWithin, IsDeadlineWithin, is_name_from, task_text, object_text, entry_text, finished_text, deadline_words, spaced}
-use Rattle.trace_fields.specs.Reading.{◌>>=◌, place_of, front_of, rest_of, field, last_field, is_digit, is_number, number_in, signed_in, short_in, long_in, moment_in, value_in, task_in, object_in, name_in, text_in, exception_in, finished_in, part_in, entry_in, handler_in, deadline_in}
+use Rattle.trace_fields.specs.Reading.{◌>>=◌, place_of, front_of, rest_of, field, last_field, is_number, number_in, signed_in, short_in, long_in, moment_in, value_in, task_in, object_in, name_in, text_in, exception_in, finished_in, part_in, entry_in, handler_in, deadline_in}
 use Rattle.std.specs.Option.{option_or}
+use Rattle.std.specs.Char.{is_ascii_digit}
 use Rattle.trace_fields.proofs.Numbers.{numerals}
 
 -- no such byte
@@ -57,7 +58,7 @@ pub last_again : {X : Type 0} (read : List ℕ → Option X) (word : List ℕ) (
 last_again read word x e = rw (append-nil word) e
 
 -- numbers
-pub digits_none : (mark : ℕ) (ds : List ℕ) → mark < 48 → list_all is_digit ds ≡ true → has_no mark ds ≡ true
+pub digits_none : (mark : ℕ) (ds : List ℕ) → mark < 48 → list_all is_ascii_digit ds ≡ true → has_no mark ds ≡ true
 digits_none mark [] small e = refl
 digits_none mark (d ∷ ds) small e = grind (arith, nat_tests, digits_none mark ds small)
 

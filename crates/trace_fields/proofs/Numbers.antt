@@ -10,13 +10,14 @@ use Rattle.std.proofs.lemmas.Str.Parse.{IsNumeralModel, numerals_by_value, parse
 use Rattle.std.proofs.lemmas.Fmt.{decimal-digits_value, IsAscii-from_digits}
 use Rattle.std.proofs.lemmas.Str.{IsUtf8-from_ascii}
 use Rattle.std.proofs.lemmas.Grind.{common_steps}
-use Rattle.trace_fields.specs.Reading.{is_digit, is_number}
+use Rattle.std.specs.Char.{is_ascii_digit}
+use Rattle.trace_fields.specs.Reading.{is_number}
 
-pub numerals : IsNumeralModel (λ ds. list_all is_digit ds ≡ true) (digits_value 10)
+pub numerals : IsNumeralModel (λ ds. list_all is_ascii_digit ds ≡ true) (digits_value 10)
 numerals = numerals_by_value _ (search rules)
 
 pub record HasNumber (bytes : List ℕ) : Type 0 where
-  pub digits : list_all is_digit bytes ≡ true
+  pub digits : list_all is_ascii_digit bytes ≡ true
   pub some : 0 < length bytes
   pub plain : get_or bytes 0 0 ≡ 48 → length bytes ≡ 1
 

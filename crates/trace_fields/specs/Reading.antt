@@ -2,6 +2,7 @@
 use Rattle.std.specs.Prelude.{◌≡◌, ℕ, ◌+◌, ℤ, pos, negsuc, zero, suc, Bool, false, not, ◌&&◌, ◌||◌, ◌==◌, if◌then◌else◌, nat_le, List, [], ◌∷◌, Option, Some, None, length, take, drop, slice_index, codes, option_and_then}
 use Rattle.std.specs.Option.{option_or}
 use Rattle.std.specs.List.{list_all}
+use Rattle.std.specs.Char.{is_ascii_digit}
 use Rattle.std.specs.Str.{bytes_eq}
 use Rattle.std.specs.Str.Parse.{digits_value}
 use Rattle.ann_base.specs.declared.identities.TaskNo.{TaskNo}
@@ -57,12 +58,9 @@ abbrev pub ended : List ℕ → Option (Unit {0})
 ended [] = Some tt
 ended (byte ∷ bytes) = None
 
-abbrev pub is_digit : ℕ → Bool
-is_digit byte = nat_le 48 byte && nat_le byte 57
-
 -- digits without a leading zero
 abbrev pub is_number : List ℕ → Bool
-is_number bytes = list_all is_digit bytes && not (length bytes == 0) && (not (slice_index bytes 0 == 48) || length bytes == 1)
+is_number bytes = list_all is_ascii_digit bytes && not (length bytes == 0) && (not (slice_index bytes 0 == 48) || length bytes == 1)
 
 -- a number of at most `most`
 abbrev pub number_in : ℕ → List ℕ → Option ℕ

@@ -1,12 +1,13 @@
 //! How the fields of a line are read.
 ghost use Rattle.std.specs.Prelude.{◌≡◌, ◌+◌, ◌<◌, ◌≤◌, ◌^◌, ◌∷◌, [], ◌++◌, false, length, IfSome, IsTrue, MatchOption, decimal};
 ghost use Rattle.std.specs.List.{list_all};
+ghost use Rattle.std.specs.Char.{is_ascii_digit};
 ghost use Rattle.std.specs.Str.Parse.{digits_value};
 ghost use Rattle.std.specs.Fmt.{signed_decimal};
 ghost use Rattle.trace_text.specs.Text.{IsName, IsExceptionName, IsPutText, IsEntryPrintable, IsFinishedPrintable, is_name_from, is_name_byte, is_text_byte, task_text, object_text, entry_text, finished_text, queue_end_text, waits_text, mode_text, deadline_words, spaced};
 ghost use Rattle.trace_text.specs.Words.{word_text};
 ghost use Rattle.trace_fields.specs.Spelt.{queue_end_in, word_in, waits_in, mode_in};
-ghost use Rattle.trace_fields.specs.Reading.{ReadsAs, place_of, front_of, rest_of, behind, word_at, field, last_field, ended, is_digit, is_number, number_in, negative_of, signed_in, short_in, long_in, moment_in, value_in, task_in, object_in, name_in, text_in, exception_in, finished_in, part_in, entry_in, handler_in, deadline_in};
+ghost use Rattle.trace_fields.specs.Reading.{ReadsAs, place_of, front_of, rest_of, behind, word_at, field, last_field, ended, is_number, number_in, negative_of, signed_in, short_in, long_in, moment_in, value_in, task_in, object_in, name_in, text_in, exception_in, finished_in, part_in, entry_in, handler_in, deadline_in};
 
 use crate::words::{mode_of, queue_end_of, waits_of, word_of};
 use ann_base::{Moment, NAME_BYTES, Name, ObjectNo, TaskNo};
@@ -163,16 +164,10 @@ pub fn finished_of(bytes: &[u8]) -> Option<Finished>
     Some(Finished::Raised(name_of(bytes)?))
 }
 
-fn is_digit(byte: u8) -> bool
-    ensures { result ≡ is_digit byte }
-{
-    (b'0'..=b'9').contains(&byte)
-}
-
 fn are_digits(bytes: &[u8]) -> bool
-    ensures { result ≡ list_all is_digit bytes.now }
+    ensures { result ≡ list_all is_ascii_digit bytes.now }
 {
-    bytes.iter().all(|byte| is_digit(*byte))
+    bytes.iter().all(|byte| byte.is_ascii_digit())
 }
 
 // Digits without a leading zero.

@@ -59,7 +59,7 @@ use Rattle.ada_regions.specs.declared.table.Names.{Names}
 use Rattle.ada_regions.specs.Names.{denoted_by, kind_at, entity_denoted, entity_of}
 use Rattle.ada_regions.specs.Statics.{literal_value, negated, attribute_value}
 use Rattle.ada_image.specs.declared.making.Within.{Within}
-use Rattle.ada_image.specs.Making.{Making, ◌>>=◌, pure, value_put}
+use Rattle.ada_image.specs.Making.{Making, pure, value_put}
 use Rattle.ada_image.specs.Layout.{is_thing, subtype_is}
 
 -- ---- operators (4.5)
@@ -90,10 +90,6 @@ multiplying_operator multiplying.Times = binary.Times
 multiplying_operator multiplying.Divide = binary.Divide
 multiplying_operator multiplying.Modulus = binary.Mod
 multiplying_operator multiplying.Remainder = binary.Rem
-
-abbrev pub sign_operator : Sign → UnaryOperator
-sign_operator sign.Plus = unary.Plus
-sign_operator sign.Minus = unary.Minus
 
 abbrev pub highest_operator : HighestOperator → UnaryOperator
 highest_operator highest.Absolute = unary.Abs
@@ -295,10 +291,6 @@ image_or_none (Some e) within = e.made within
 abbrev pub first_actual : List (Option ExpressionImage) → Option ExpressionImage
 first_actual [] = None
 first_actual (e ∷ es) = e
-
-abbrev pub second_actual : List (Option ExpressionImage) → Option ExpressionImage
-second_actual [] = None
-second_actual (e ∷ es) = first_actual es
 
 unfoldable pub optional_made : Option ExpressionImage → Within → Making (Option ExprNo)
 optional_made None within = pure None

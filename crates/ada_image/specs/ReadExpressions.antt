@@ -187,10 +187,6 @@ module _ (p : Image) where
   abbrev pub actual_thing : Within → Option ExpressionReading → DeclNo
   actual_thing within e = thing_in within (and_then e (λ x. x.name))
 
-  abbrev pub first_reading : List (Option ExpressionReading) → Option ExpressionReading
-  first_reading [] = None
-  first_reading (e ∷ es) = e
-
   abbrev pub function_stands : Operation → Option ExpressionReading → Within → Valuation → Bool
   function_stands operations.Clock e within valuation.Clock = true
   function_stands operations.Microseconds e within (valuation.Span ticks count) = same_whole ticks (pos 1) && actual_stands e within count

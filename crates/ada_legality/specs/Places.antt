@@ -3,7 +3,6 @@ use Rattle.ada_tree.specs.declared.declarations.SubprogramSpecification.{Subprog
 use Rattle.ada_tree.specs.declared.names.Name.{Name}
 use Rattle.ada_tree.specs.declared.selects.Alternative.{Alternative}
 use Rattle.ada_tree.specs.declared.selects.SelectAlternative.{SelectAlternative}
-use Rattle.ada_tree.specs.declared.statements.Block.{Block}
 use Rattle.ada_tree.specs.declared.statements.Iteration.{Iteration}
 use Rattle.ada_tree.specs.declared.statements.Loop.{Loop}
 use Rattle.ann_base.specs.declared.places.Place.{Place}
@@ -40,7 +39,3 @@ place_of_iteration at (iteration.For place parameter reverse low high) = place
 abbrev pub place_of_loop : {Q : Type 0} → Loop Q → Place
 place_of_loop l =
     unwrap_or (option_map (λ x. x.name.place) l.label) (place_of_iteration l.place l.iteration)
-
--- where a block begins
-abbrev pub place_of_block : {Q : Type 0} → Block Q → Place
-place_of_block b = unwrap_or (option_map (λ x. x.name.place) b.label) b.place

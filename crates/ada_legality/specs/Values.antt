@@ -127,10 +127,6 @@ unfoldable pub subtype_of_entity : Known → Denoted → Option Subtype
 subtype_of_entity k d =
     and_then (entity_of d) (λ e. and_then (kind_at k.names e) (subtype_of_object k e))
 
--- the subtype of the object that a name denotes
-abbrev pub object_subtype : Known → Name → Option Subtype
-object_subtype k name = and_then (denoted_by k.names name) (subtype_of_entity k)
-
 -- the type of a constant that a name denotes
 abbrev pub constant_type : Denoted → Option AdaType
 constant_type (denotes.Item u item) = type_of_constant item

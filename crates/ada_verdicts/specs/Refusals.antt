@@ -1,5 +1,5 @@
 -- Why a source is refused and where: the codes and their texts, and the refusal of each stage's fault.
-use Rattle.std.specs.Prelude.{ℕ, ◌+◌, ◌==◌, if◌then◌else◌, List, [], ◌∷◌, length, slice_index_or, cond, nat_lt, decimal}
+use Rattle.std.specs.Prelude.{ℕ, ◌+◌, ◌==◌, if◌then◌else◌, List, [], ◌∷◌, length, slice_index_or, cond, nat_lt}
 use Rattle.ann_base.specs.declared.places.Place.{Place}
 use Rattle.ada_lex.specs.declared.tokens.Kind.TheVariants as kinds
 use Rattle.ada_lex.specs.declared.tokens.Token.{Token}
@@ -41,9 +41,6 @@ number_of code.Unknown = 7
 number_of code.Twice = 8
 number_of code.Ambiguous = 9
 number_of (code.Rule number) = number
-
-abbrev pub code_text : Code → List ℕ
-code_text c = letter_of c ∷ decimal (number_of c)
 
 -- ---- places
 

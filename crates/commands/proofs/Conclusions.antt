@@ -1,5 +1,5 @@
 -- Which outcome has a status, and what was noted on it.
-use Rattle.std.proofs.Common.{◌≡◌, ◌≢◌, ◌≤◌, ◌⊎◌, inl, inr, ℕ, true, false, List, Option, Some, None, refl, sym, subst, ◌∙◌, arith}
+use Rattle.std.proofs.Common.{◌≡◌, ◌≢◌, ◌≤◌, ◌⊎◌, inl, inr, ℕ, true, false, List, Option, Some, None, refl, sym, ◌∙◌, arith}
 use Rattle.trace_text.specs.declared.events.Ended.{Ended as Stop}
 use Rattle.trace_text.specs.declared.events.Ended.TheVariants as why
 use Rattle.ada_verdicts.specs.declared.refusals.Refusal.{Refusal}
@@ -201,10 +201,6 @@ failed_note (Some note) notes fault cut = (note, refl, fault, cut)
 pub failed : (o : Outcome) (notes : SinkChange) (status : ℕ) → Concludes o notes status → status ≡ 8 → (status_of o ≡ 8) ⊎ FailedNote (note_of o) notes
 failed o notes status (inl c) e = inl (sym c.0 ∙ e)
 failed o notes status (inr c) e = inr (failed_note (note_of o) notes c.1 c.2)
-
--- what is concluded of a known outcome
-pub concludes_as : (o is : Outcome) (notes : SinkChange) (status : ℕ) → o ≡ is → Concludes is notes status → Concludes o notes status
-concludes_as o is notes status same c = subst (λ x. Concludes x notes status) (sym same) c
 
 -- a low status is no fault of a stream
 pub low : (status : ℕ) → status ≤ 7 → status ≢ 8

@@ -92,13 +92,6 @@ Rises-set_where key test x y same low top [] is h = h
 Rises-set_where key test x y same low top (z ∷ zs) is h =
     Rises-set key test x y zs same low top (test z) z is (λ k. Rises-set_where key test x y same (suc (key z)) top zs k h.1) h
 
-Rises-edit_found : {X : Type 0} (key : X → ℕ) (test : X → Bool) (f : X → X) → ((x : X) → key (f x) ≡ key x) → (low top : ℕ) (xs : List X) (found : Option X) → find test xs ≡ found → Rises key low top xs → Rises key low top (edit_found test f xs found)
-Rises-edit_found key test f k low top xs None is h = h
-Rises-edit_found key test f k low top xs (Some x) is h = Rises-set_where key test x (f x) (k x) low top xs is h
-
-pub Rises-edit_where : {X : Type 0} (key : X → ℕ) (test : X → Bool) (f : X → X) → ((x : X) → key (f x) ≡ key x) → (low top : ℕ) (xs : List X) → Rises key low top xs → Rises key low top (edit_where test f xs)
-Rises-edit_where key test f k low top xs h = Rises-edit_found key test f k low top xs (find test xs) refl h
-
 -- one at the top is put behind
 pub Rises-behind : {X : Type 0} (key : X → ℕ) (low top : ℕ) (xs : List X) (x : X) → key x ≡ top → Rises key low top xs → Rises key low (suc top) (xs ++ x ∷ [])
 Rises-behind key low top [] x e h = (omega (arith, h, e), omega (arith, e))

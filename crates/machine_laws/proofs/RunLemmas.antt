@@ -35,9 +35,6 @@ going_on-below : (p : Image) (bound : ℕ) (w : World) → stop p bound w ≡ No
 going_on-below p bound w e =
     bound-reached (eqb w.time bound) (later-none (stop_by_stuck w) (stop_by_bound bound w) (later-none (stop_by_end p w.ended) (option_or (stop_by_stuck w) (stop_by_bound bound w)) e))
 
-eqb-self : (n : ℕ) → eqb n n ≡ true
-eqb-self n = grind arith
-
 -- a run that goes on stands below the bound
 pub below_bound : (p : Image) (bound : ℕ) (w : World) → stop p bound w ≡ None → w.time ≤ bound → suc w.time ≤ bound
 below_bound p bound w e a = let test : eqb w.time bound ≡ false = going_on-below p bound w e in grind arith

@@ -14,10 +14,6 @@ or_none (Some bytes) = bytes
 same_bytes : (a b : List ℕ) → Some a ≡ Some b → a ≡ b
 same_bytes a b h = ap or_none h
 
-pub handed_none : (before : Option (List ℕ)) → HasHandedOn before before []
-handed_none None = tt
-handed_none (Some bytes) = (bytes, refl, refl)
-
 -- the next byte of the piece
 popped : (piece : List ℕ) (next byte : ℕ) → next < length piece → byte ≡ get_or piece next byte → drop next piece ≡ byte ∷ drop (next + 1) piece
 popped piece next byte inside is = drop-cons piece next byte inside ∙ ap (λ b. b ∷ drop (suc next) piece) (sym is) ∙ ap (λ n. byte ∷ drop n piece) (sym (add-one next))
@@ -70,11 +66,6 @@ last_line (Some bytes) between after line some most none short h end same is =
       subst (λ o. IsStillToCome o after) h.2 same ∙ ap Some nothing ∙ sym (ap (λ xs. Some (drop (length line) xs)) whole ∙ ap Some (drop-append_seam line [])),
       is ∙ sym (ap is_some_byte (whole ∙ append-nil line)),
     )
-
--- what was handed on stays so while what is to come stays the same
-pub still_handed : (before between after : Option (List ℕ)) (line : List ℕ) → HasHandedOn before between line → IsStillToCome between after → HasHandedOn before after line
-still_handed None between after line h same = tt
-still_handed (Some bytes) between after line h same = (h.0, h.1, subst (λ o. IsStillToCome o after) h.2 same)
 
 -- a line was handed on where it has a byte
 pub some_by : (line : List ℕ) (size : ℕ) → size ≡ length line → not (size == 0) ≡ is_some_byte line

@@ -1,5 +1,5 @@
 -- What the words on entries say of each other.
-use Rattle.std.proofs.Common.{◌≡◌, ℕ, zero, suc, ◌+◌, ◌<◌, ◌≤◌, Bool, true, false, cond, eqb, ◌||◌, List, [], ◌∷◌, ◌++◌, length, get_or, drop, set, Some, refl, ap, ◌∙◌, arith, add-one}
+use Rattle.std.proofs.Common.{◌≡◌, ℕ, zero, suc, ◌+◌, ◌<◌, ◌≤◌, Bool, true, false, cond, eqb, ◌||◌, List, [], ◌∷◌, length, get_or, set, Some, refl, ap, arith, add-one}
 use Rattle.std.specs.Prelude.{insert, remove}
 use Rattle.std.specs.List.{list_any, AllByRecursion}
 use Rattle.std.specs.List as std
@@ -37,11 +37,6 @@ rekeyed-absent f t (e ∷ es) h = grind (arith, rekeyed-absent f t es)
 pub place_of-lt : {K : Type 0} (t : Slot) (es : List (Entry K)) → holds t es ≡ true → place_of t es < length es
 place_of-lt t [] h = cc
 place_of-lt t (e ∷ es) h = grind (arith, place_of-lt t es)
-
-pub place_of-step : {K : Type 0} (t : Slot) (es : List (Entry K)) (i : ℕ) (d : Entry K) → i < length es → place_of t (drop i es) ≡ cond (eqb (get_or es i d).0.0 t.0) 0 (place_of t (drop (suc i) es) + 1)
-place_of-step t [] i d h = absurd (omega arith)
-place_of-step t (e ∷ es) zero d h = refl
-place_of-step t (e ∷ es) (suc i) d h = place_of-step t es i d (omega arith)
 
 -- a list's own slots are told apart by their numbers
 numbers : {K : Type 0} → List (Entry K) → List ℕ
@@ -120,17 +115,9 @@ key-step : {K : Type 0} (e : Entry K) (es : List (Entry K)) (d : Entry K) (t : S
 key-step e es d t n true behind = refl
 key-step e es d t n false behind = rw add-one (behind refl)
 
-slot-step : {K : Type 0} (e : Entry K) (es : List (Entry K)) (d : Entry K) (t : Slot) (n : ℕ) (hit : Bool) → (hit ≡ true → e.0.0 ≡ t.0) → (hit ≡ false → (get_or es n d).0.0 ≡ t.0) → (get_or (e ∷ es) (cond hit 0 (n + 1)) d).0.0 ≡ t.0
-slot-step e es d t n true first behind = first refl
-slot-step e es d t n false first behind = rw add-one (behind refl)
-
 pub key_of-place : {K : Type 0} (t : Slot) (es : List (Entry K)) (d : Entry K) → holds t es ≡ true → key_of t es ≡ Some (get_or es (place_of t es) d).1
 key_of-place t [] d h = cc
 key_of-place t (e ∷ es) d h = key-step e es d t (place_of t es) (eqb e.0.0 t.0) (λ miss. key_of-place t es d (grind arith))
-
-pub slot-place : {K : Type 0} (t : Slot) (es : List (Entry K)) (d : Entry K) → holds t es ≡ true → (get_or es (place_of t es) d).0.0 ≡ t.0
-slot-place t [] d h = cc
-slot-place t (e ∷ es) d h = slot-step e es d t (place_of t es) (eqb e.0.0 t.0) (λ hit. grind arith) (λ miss. slot-place t es d (grind arith))
 
 pub rekeyed-is : {K : Type 0} (key : K) (t : Slot) (es : List (Entry K)) → IsDistinct es → rekeyed (λ _. key) t es ≡ set es (place_of t es) (t, key)
 rekeyed-is key t [] d = refl

@@ -65,11 +65,6 @@ holds-inside t [] level h = cc
 holds-inside t (es ∷ higher) zero h = omega arith
 holds-inside t (es ∷ higher) (suc level) h = omega (arith, holds-inside t higher level h)
 
-pub holds-ready : {K : Type 0} (t : Slot) (lists : List (List (Entry K))) (level : ℕ) → holds t (entries_at level lists) ≡ true → is_ready t lists ≡ true
-holds-ready t [] level h = cc
-holds-ready t (es ∷ higher) zero h = grind arith
-holds-ready t (es ∷ higher) (suc level) h = grind (arith, holds-ready t higher level h)
-
 -- the highest levels first: what is chosen of those from i on, and of all
 pub chosen-drop : {K : Type 0} (lists : List (List (Entry K))) (i : ℕ) → i < length lists → chosen (drop i lists) ≡ option_or (chosen (drop (suc i) lists)) (head_of (entries_at i lists))
 chosen-drop [] i h = absurd (omega arith)

@@ -1,5 +1,5 @@
 -- Where the words on places put somebody, and that they keep a level in order.
-use Rattle.std.proofs.Common.{◌≡◌, ℕ, ℤ, pos, zero, suc, ◌+◌, ◌-◌, ◌<◌, ◌≤◌, Bool, true, false, cond, eqb, ◌||◌, ◌&&◌, List, [], ◌∷◌, ◌++◌, length, get_or, drop, Some, refl, sym, ap, ◌∙◌, arith, add-one}
+use Rattle.std.proofs.Common.{◌≡◌, ℕ, ℤ, pos, ◌+◌, ◌-◌, ◌≤◌, Bool, true, false, cond, eqb, ◌||◌, List, [], ◌∷◌, length, Some, refl, sym, ap, ◌∙◌, arith, add-one}
 use Rattle.std.specs.Prelude.{insert, ◌≤ℤ◌, int_lt}
 use Rattle.std.proofs.lemmas.Int.{ints}
 use Rattle.ann_base.specs.declared.identities.Slot.{Slot}
@@ -39,16 +39,6 @@ place_after-le rank r (e ∷ es) = grind (arith, place_after-le rank r es)
 pub place_before-le : {K : Type 0} (rank : K → ℤ) (r : ℤ) (es : List (Entry K)) → place_before rank r es ≤ length es
 place_before-le rank r [] = omega arith
 place_before-le rank r (e ∷ es) = grind (arith, place_before-le rank r es)
-
-pub place_after-step : {K : Type 0} (rank : K → ℤ) (r : ℤ) (es : List (Entry K)) (i : ℕ) (d : Entry K) → i < length es → place_after rank r (drop i es) ≡ cond (int_lt r (rank (get_or es i d).1)) 0 (place_after rank r (drop (suc i) es) + 1)
-place_after-step rank r [] i d h = absurd (omega arith)
-place_after-step rank r (e ∷ es) zero d h = refl
-place_after-step rank r (e ∷ es) (suc i) d h = place_after-step rank r es i d (omega arith)
-
-pub place_before-step : {K : Type 0} (rank : K → ℤ) (r : ℤ) (es : List (Entry K)) (i : ℕ) (d : Entry K) → i < length es → place_before rank r (drop i es) ≡ cond (int_lt (rank (get_or es i d).1) r) (place_before rank r (drop (suc i) es) + 1) 0
-place_before-step rank r [] i d h = absurd (omega arith)
-place_before-step rank r (e ∷ es) zero d h = refl
-place_before-step rank r (e ∷ es) (suc i) d h = place_before-step rank r es i d (omega arith)
 
 pub NoneBelow-flat : {K : Type 0} (es : List (Entry K)) → NoneBelow (λ (_ : K). pos 0) (pos 0) es
 NoneBelow-flat [] = tt

@@ -9,4 +9,3 @@ pub mod Waits
 pub mod Fits
 pub mod Places
 pub mod Lines
-pub mod Loops

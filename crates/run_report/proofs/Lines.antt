@@ -4,7 +4,7 @@ use Rattle.std.specs.List.{AllByRecursion, list_all}
 use Rattle.std.specs.Ordering.{nat_cmp}
 use Rattle.std.specs.BTreeMap.{insert_entry}
 use Rattle.std.specs.Map.{keys_of}
-use Rattle.std.proofs.lemmas.Bool.{eq-eqb, le-leb, leb-true, and_from, and_parts}
+use Rattle.std.proofs.lemmas.Bool.{eq-eqb, leb-true, and_parts}
 use Rattle.std.proofs.lemmas.List.{map-append}
 use Rattle.ann_base.specs.declared.identities.TaskNo.{TaskNo}
 use Rattle.trace_text.specs.declared.lines.TheConstants.{LAST_TICK}
@@ -16,7 +16,6 @@ use Rattle.trace_text.specs.Queue.{somebody_eq}
 use Rattle.trace_text.specs.Laws.{has, is_subject_formed, is_formed_next}
 use Rattle.trace_lines.specs.Seen.{Seen, see_line, kept_bases, shape_of, is_formed_after}
 use Rattle.trace_lines.proofs.LevelLookups.{has-insert_entry}
-use Rattle.run_report.specs.declared.tallies.TheConstants.{ROOM}
 use Rattle.run_report.specs.declared.tallies.Tally.{Tally}
 use Rattle.run_report.specs.declared.tallies.Passing.{Passing}
 use Rattle.run_report.specs.declared.tallies.Move.{Move}
@@ -25,27 +24,13 @@ use Rattle.run_report.specs.declared.clocks.Clock.{Clock}
 use Rattle.run_report.specs.declared.dated.Dated.{Dated}
 use Rattle.run_report.specs.declared.report.Kept.{Kept}
 use Rattle.run_report.specs.declared.report.TheConstants.{MOST_TRACED_TASKS}
-use Rattle.run_report.specs.Kept.{fresh, ticks_if, has_room, is_put_off, passing_in, response_at, or_zero, move_of, kept_after, newly_kept, Reported, report_line, account_in}
+use Rattle.run_report.specs.Kept.{fresh, ticks_if, is_put_off, passing_in, response_at, or_zero, move_of, kept_after, newly_kept, Reported, report_line, account_in}
 use Rattle.run_report.specs.Clocks.{passed, goes_on, level_given, with_clock, tally_at, told, settled, made_quiet, stepped, number_in, named_by, is_number, created_number, newly_dated, place_in, noted, is_told, followed, HasClock, IsKnown, IsFit, IsWithin, IsShown, IsQuiet, IsSame, IsReady, IsFound, IsKept, IsReport}
 use Rattle.run_report.proofs.Waits.{ticks_most, told_on, told_stepped, told_settled, waits_same, gone_zero, minus_itself}
-use Rattle.run_report.proofs.Fits.{told_low, told_short, fit_passed, fit_stepped, fit_settled, told_with, fit_with, given_with, given_passed, quiet_on, quiet_settled, shown_passed, shown_with}
+use Rattle.run_report.proofs.Fits.{fit_passed, fit_stepped, fit_settled, told_with, fit_with, given_with, given_passed, quiet_on, quiet_settled, shown_passed, shown_with}
 use Rattle.run_report.proofs.Places.{placed_mapped, once_mapped, task_followed, once_end, found_end, noted_there}
 
 -- ---- no figure passes its type
-
-within_room : (clocks : List Clock) (last : ℕ) (one : Dated) → last ≤ LAST_TICK → IsWithin ROOM one → IsFit clocks last one → has_room (tally_at clocks last one) ≡ true
-within_room clocks last one small within fit =
-    let tally = tally_at clocks last one in
-    let low : tally.lower ≤ ROOM = omega (arith, told_low clocks last one fit, small) in
-    let short : tally.streak ≤ ROOM = omega (arith, told_short clocks last one fit, small) in
-    let two = and_from (nat_le tally.jobs ROOM) (nat_le tally.sum ROOM) (le-leb tally.jobs ROOM within.jobs) (le-leb tally.sum ROOM within.sum) in
-    let three = and_from (nat_le tally.jobs ROOM && nat_le tally.sum ROOM) (nat_le tally.run ROOM) two (le-leb tally.run ROOM within.run) in
-    let four = and_from (nat_le tally.jobs ROOM && nat_le tally.sum ROOM && nat_le tally.run ROOM) (nat_le tally.preempted ROOM) three (le-leb tally.preempted ROOM within.preempted) in
-    let five = and_from (nat_le tally.jobs ROOM && nat_le tally.sum ROOM && nat_le tally.run ROOM && nat_le tally.preempted ROOM) (nat_le tally.lower ROOM) four (le-leb tally.lower ROOM low) in
-    and_from (nat_le tally.jobs ROOM && nat_le tally.sum ROOM && nat_le tally.run ROOM && nat_le tally.preempted ROOM && nat_le tally.lower ROOM) (nat_le tally.streak ROOM) five (le-leb tally.streak ROOM short)
-
-pub room_told : (clocks : List Clock) (last : ℕ) (one : Dated) → last ≤ LAST_TICK → IsWithin ROOM one → IsFit clocks last one → has_room (tally_at clocks last one) ≡ true
-room_told = within_room
 
 response_most : (move : Move) (tick : ℕ) (since : Option ℕ) → or_zero (response_at move tick since) ≤ tick
 response_most (Enters end) tick since = omega arith

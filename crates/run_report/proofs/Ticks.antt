@@ -43,9 +43,6 @@ count_on (suc k) a n p c e h =
 streak_by : (d : ℕ) (c : Bool) (s : ℕ) → 0 < d → streak_after d c s ≡ (if c then s + d else 0)
 streak_by d c s some = ap (λ b. if b then s else (if c then s + d else 0)) (ne_eqb d 0 (λ e. omega (arith, some, e)))
 
-streak_zero : (d : ℕ) (c : Bool) (s : ℕ) → d ≡ 0 → streak_after d c s ≡ s
-streak_zero d c s e = ap (λ n. streak_after n c s) e
-
 next_streak : (k : ℕ) (c : Bool) (s : ℕ) → (if c then streak_after k c s + 1 else 0) ≡ streak_after (suc k) c s
 next_streak k false s = sym (streak_by (suc k) false s (omega arith))
 next_streak zero true s = let one : s + 1 ≡ s + suc zero = omega arith in one ∙ sym (streak_by (suc zero) true s (omega arith))

@@ -1,6 +1,5 @@
 -- What is kept of a list of lines for its report: the facts of the list, and a tally for each task, and no lines.
-use Rattle.std.specs.Prelude.{◌≡◌, nat_le, nat_lt, length, ℕ, ◌+◌, ◌-◌, ◌==◌, Bool, true, false, not, ◌&&◌, max, if◌then◌else◌, List, [], ◌∷◌, ◌++◌, Option, Some, None, map, is_some}
-use Rattle.std.specs.List.{list_all}
+use Rattle.std.specs.Prelude.{◌≡◌, nat_le, ℕ, ◌+◌, ◌-◌, ◌==◌, Bool, true, false, not, ◌&&◌, max, if◌then◌else◌, List, [], ◌∷◌, ◌++◌, Option, Some, None, map, is_some}
 use Rattle.ann_base.specs.declared.identities.TaskNo.{TaskNo}
 use Rattle.trace_text.specs.declared.events.Who.{Who}
 use Rattle.trace_text.specs.declared.events.Who.TheVariants as subject
@@ -16,7 +15,6 @@ use Rattle.run_report.specs.declared.tallies.Tally.{Tally}
 use Rattle.run_report.specs.declared.tallies.Passing.{Passing}
 use Rattle.run_report.specs.declared.tallies.Move.{Move}
 use Rattle.run_report.specs.declared.tallies.Move.TheVariants.{Enters, Leaves, Stays}
-use Rattle.run_report.specs.declared.report.TheConstants.{MOST_TRACED_TASKS}
 use Rattle.run_report.specs.declared.report.Kept.{Kept}
 use Rattle.run_report.specs.Accounts.{is_lower, is_tick, runner_base, chooses_another}
 
@@ -166,8 +164,3 @@ account_in kept = record {
 
 abbrev pub accounts_in : Reported → List Account
 accounts_in reported = map account_in reported.kept
-
--- no count passes its type with one line more
-abbrev pub has_room_in : Reported → Bool
-has_room_in reported =
-    nat_lt (length reported.kept) MOST_TRACED_TASKS && nat_le reported.agent_run ROOM && nat_le reported.idle ROOM && list_all (λ one. has_room one.tally) reported.kept

@@ -65,11 +65,6 @@ deadlines_slow window duty h =
     let later = next_is_later window duty h.recurs in
     deadlines_below (window + 1) (deadlines_in window duty + 1) duty h.recurs (grind (arith, h.recurs))
 
-pub deadlines_rise : (window : ℕ) (duty : Duty) → IsDuty duty → deadlines_in window duty ≤ deadlines_in (window + 1) duty
-deadlines_rise window duty h =
-    let later = next_is_later (window + 1) duty h.recurs in
-    deadlines_below window (deadlines_in (window + 1) duty) duty h.recurs (omega arith)
-
 -- nothing is due in a window of no length
 pub demand_at_first : (duties : List Duty) → All IsDuty duties → demand duties 0 ≡ 0
 demand_at_first [] h = refl

@@ -3,12 +3,10 @@ use Rattle.std.proofs.Common.{◌≡◌, ◌≤◌, ◌<◌, ℕ, suc, ◌+◌, 
 use Rattle.std.specs.List.{filter, remove, slice_get}
 use Rattle.std.proofs.Math.Nat.{mul-le-mul_left}
 use Rattle.std.proofs.lemmas.List.Sums.{sum_by-le-sum_by, sum_by-append}
-use Rattle.std.proofs.lemmas.List.Elements.{filter-append, All-take, All-drop}
-use Rattle.std.proofs.lemmas.List.{length-take, length-drop}
+use Rattle.std.proofs.lemmas.List.Elements.{filter-append}
 use Rattle.sched_tests.specs.declared.duties.Duty.{Duty}
 use Rattle.sched_tests.specs.Response.{asked_in, interference, need_beside, need, deadline_at}
 use Rattle.sched_tests.specs.Demand.{busy_demand}
-use Rattle.sched_tests.specs.Tables.{IsDuty, IsTable}
 use Rattle.sched_tests.proofs.Quotients.{div_ceil_rises}
 
 pub asked_rises : (m n : ℕ) (duty : Duty) → m ≤ n → asked_in m duty ≤ asked_in n duty
@@ -30,13 +28,6 @@ busy_rises duties m n h = sum_by-le-sum_by (asked_in m) (asked_in n) duties (λ 
 -- interference of joined lists
 pub interference-append : (window priority : ℕ) (xs ys : List Duty) → interference window priority (xs ++ ys) ≡ interference window priority xs + interference window priority ys
 interference-append window priority xs ys = rw filter-append (sum_by-append (asked_in window) (filter (λ duty. nat_le priority duty.priority) xs) (filter (λ duty. nat_le priority duty.priority) ys))
-
--- parts of a table are within the limits
-pub table_front : (n : ℕ) (duties : List Duty) → IsTable duties → IsTable (take n duties)
-table_front n duties h = record { few = omega (arith, length-take n duties, h.few); each = All-take IsDuty n duties h.each }
-
-pub table_rest : (n : ℕ) (duties : List Duty) → IsTable duties → IsTable (drop n duties)
-table_rest n duties h = record { few = omega (arith, length-drop n duties, h.few); each = All-drop IsDuty n duties h.each }
 
 pub slice_get_is : (duties : List Duty) (place : ℕ) (duty : Duty) → place < length duties → duty ≡ get_or duties place duty → slice_get duties place ≡ Some duty
 slice_get_is [] place duty h e = absurd (omega arith)

@@ -31,13 +31,6 @@ is_same-true (Trigger s m) (Event f) h = cc
 is_same-true (Trigger s m) (Delay t) h = cc
 is_same-true (Trigger s m) (Timeout d) h = cc
 
--- what is not set is not there to be taken out
-pub without-not_set : (what : Due) (set : List Appointment) → is_set what set ≡ false → without what set ≡ set
-without-not_set what [] h = refl
-without-not_set what (a ∷ set) h =
-    let parts : (is_for what a ≡ false) × (is_set what set ≡ false) = or_parts _ _ h in
-    rw parts.0 (ap (λ rest. a ∷ rest) (without-not_set what set parts.1))
-
 pub length-without : (what : Due) (set : List Appointment) → length (without what set) ≤ length set
 length-without what [] = omega arith
 length-without what (a ∷ set) =

@@ -17,7 +17,7 @@ use Rattle.trace_text.specs.declared.events.EntryName.TheVariants.{OfTask, OfObj
 use Rattle.trace_text.specs.declared.events.Finished.{Finished}
 use Rattle.trace_text.specs.declared.events.Finished.TheVariants as finished
 use Rattle.trace_text.specs.Text.{IsName, IsExceptionName, IsPutText, IsEntryPrintable, IsEntryWithin, IsFinishedPrintable, IsFinishedWithin, IsDeadlineWithin, is_name_from, task_text, object_text, entry_text, finished_text, deadline_words, spaced}
-use Rattle.trace_fields.specs.Reading.{◌>>=◌, place_of, front_of, rest_of, field, last_field, is_number, number_in, signed_in, short_in, long_in, moment_in, value_in, task_in, object_in, name_in, text_in, exception_in, finished_in, part_in, entry_in, handler_in, deadline_in}
+use Rattle.trace_fields.specs.Reading.{◌>>=◌, place_of, front_of, rest_of, field, last_field, is_number, number_in, signed_in, short_in, long_in, moment_in, value_in, task_in, object_in, name_in, text_in, exception_in, finished_in, entry_in, handler_in, deadline_in}
 use Rattle.std.specs.Option.{option_or}
 use Rattle.std.specs.Char.{is_ascii_digit}
 use Rattle.trace_fields.proofs.Numbers.{numerals}
@@ -145,9 +145,6 @@ finished_again (finished.Raised name) w p =
 pub name_none : (begun : Bool) (name : List ℕ) → is_name_from begun name ≡ true → has_no 32 name ≡ true
 name_none begun [] h = refl
 name_none begun (byte ∷ name) h = grind (arith, nat_tests, name_none true name, name_none false name)
-
-part_again : (name : List ℕ) → IsName name → length name ≤ 1000 → part_in (46 ∷ name) ≡ Some name
-part_again name h small = name_again name h small
 
 entry_owned : (owner name : List ℕ) (entry : EntryName) → has_no 46 owner ≡ true → name_in name ≡ Some name → option_or (task_in owner >>= λ task. Some (OfTask task name)) (object_in owner >>= λ object. Some (OfObject object name)) ≡ Some entry → entry_in (owner ++ 46 ∷ name) ≡ Some entry
 entry_owned owner name entry none h e = rw (rest_again 46 owner (46 ∷ name) none refl, front_again 46 owner (46 ∷ name) none refl, h) e

@@ -30,11 +30,6 @@ judged_first tells file laws trace left none first left_is =
     let empty = tells [] refl in
     record { rest = file; lines = []; left_is = left_is; answer = ap (λ n. verdict_from n [] (texts_in file)) (sym first.0); counted = sym first.1; stands = none; formed = empty.0; lawful = empty.1 }
 
--- nothing is left
-pub judged_whole : (file : List ℕ) (laws : Watched) (trace : TraceFile) (left : Option (List ℕ)) (count : ℕ) → Judged file laws trace left → ((rest : List ℕ) → IsLeft trace left rest → texts_in rest ≡ []) → count ≡ trace.count → laws_answer file ≡ verdict.Lawful count
-judged_whole file laws trace left count j none same =
-    j.answer ∙ ap (verdict_from trace.before j.lines) (none j.rest j.left_is) ∙ ap verdict.Lawful (j.counted ∙ sym same)
-
 beyond_or_none : (lines : List TraceLine) (read : Option TraceLine) (later : List TraceLine → Verdict) (b : Bool) → (b ≡ true) ⊎ (read ≡ None) → cond b (verdict.Refused (length lines + 1)) (verdict_with lines read later) ≡ verdict.Refused (length lines + 1)
 beyond_or_none lines read later true why = refl
 beyond_or_none lines read later false (inl beyond) = cc

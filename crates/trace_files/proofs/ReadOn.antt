@@ -1,17 +1,17 @@
 -- How a trace goes on, from the bytes that were read of its next text.
-use Rattle.std.proofs.Common.{◌≡◌, ◌≤◌, ◌<◌, ◌⊎◌, inl, inr, ◌+◌, ◌-◌, ℕ, suc, true, false, List, [], ◌∷◌, Option, Some, None, length, take, drop, ap, sym, subst, ◌∙◌, arith}
+use Rattle.std.proofs.Common.{◌≡◌, ◌≤◌, ◌<◌, ◌⊎◌, inl, inr, ◌+◌, ◌-◌, ℕ, true, List, ◌∷◌, Option, Some, None, length, take, drop, ap, sym, subst, ◌∙◌, arith}
 use Rattle.std.proofs.lemmas.List.{take_all, length-take, drop-take}
 use Rattle.trace_text.specs.declared.lines.TheConstants.{LINE_BYTES}
 use Rattle.trace_reading.specs.Lines.{line_in}
 use Rattle.trace_laws.specs.declared.verdicts.TheConstants.{TRACE_BYTES}
 use Rattle.trace_laws.specs.Verdicts.{texts_in}
-use Rattle.outside_bytes.specs.Bytes.{first_line, is_some_byte}
+use Rattle.outside_bytes.specs.Bytes.{first_line}
 use Rattle.outside_bytes.specs.Lines.{to_come, HandsOn}
 use Rattle.trace_files.specs.declared.texts.TraceFile.{TraceFile}
 use Rattle.trace_files.specs.declared.texts.Next.{Next}
 use Rattle.trace_files.specs.declared.texts.Next.TheVariants as next
 use Rattle.trace_files.specs.Texts.{IsLeft, GoesOn, IsBad, Takes}
-use Rattle.trace_files.proofs.FirstTexts.{first_text, first_line-take, some_of_cut, none_of_cut}
+use Rattle.trace_files.proofs.FirstTexts.{first_text, first_line-take, some_of_cut}
 
 -- the bytes that were read of the first text
 abbrev pub cut_text : ℕ → List ℕ → List ℕ
@@ -73,11 +73,3 @@ text_taken long old between new next.Refused before after rest same left handed 
       bad = bad_text long old.before between.text.items (first_line rest) cut (subst (λ n. IsBad n between.text.items) same taken);
     }
 text_taken long old between new next.End before after rest same left handed taken = absurd taken
-
--- nothing was read
-pub nothing_left : (old between : TraceFile) (before after : Option (List ℕ)) (rest : List ℕ) → old.before ≤ TRACE_BYTES → IsLeft old before rest →
-    HandsOn (LINE_BYTES + 1) (to_come old.lines before) (to_come between.lines after) between.text.items false → texts_in rest ≡ []
-nothing_left old between before after rest sound left handed =
-    let h = subst (λ come. HandsOn (LINE_BYTES + 1) come (to_come between.lines after) between.text.items false) left handed in
-    let one : TRACE_BYTES + 1 - old.before ≡ suc (TRACE_BYTES - old.before) = omega (arith, sound) in
-    none_of_cut (TRACE_BYTES - old.before) rest (ap (λ n. is_some_byte (take n rest)) (sym one) ∙ sym h.2)

@@ -12,10 +12,6 @@ pub seen_after-append : (seen : Seen) (lines : List TraceLine) (line : TraceLine
 seen_after-append seen [] line = refl
 seen_after-append seen (first ∷ lines) line = seen_after-append (see_line seen first) lines line
 
-pub seen_from-append : {S : Type 0} (see : S → Event → S) (s : S) (lines : List TraceLine) (line : TraceLine) → seen_from see s (lines ++ line ∷ []) ≡ see (seen_from see s lines) line.1
-seen_from-append see s [] line = refl
-seen_from-append see s (first ∷ lines) line = seen_from-append see (see s first.1) lines line
-
 pub last_from-append : (tick : ℕ) (lines : List TraceLine) (line : TraceLine) → last_from tick (lines ++ line ∷ []) ≡ line.0
 last_from-append tick [] line = refl
 last_from-append tick (first ∷ lines) line = last_from-append first.0 lines line

@@ -1,7 +1,6 @@
 -- Levels by number, as a map's entries.
 use Rattle.std.proofs.Common.{◌≡◌, ℕ, Bool, true, false, cond, ◌||◌, eqb, List, [], ◌∷◌, Option, Some, refl, ap, sym, ◌∙◌, arith, inl, inr}
-use Rattle.std.specs.Ordering.{nat_cmp, is_eq}
-use Rattle.std.specs.declared.cmp.Ordering.TheVariants.{Equal, Greater}
+use Rattle.std.specs.Ordering.{nat_cmp}
 use Rattle.std.specs.BTreeMap.{is_at, insert_entry}
 use Rattle.std.specs.Map.{lookup, keys_of}
 use Rattle.std.specs.Option.{is_some}
@@ -9,10 +8,6 @@ use Rattle.std.proofs.lemmas.Bool.{cases_lt}
 use Rattle.std.proofs.lemmas.Bool.Decides.{nat_tests}
 use Rattle.std.proofs.lemmas.Grind.{common_steps}
 use Rattle.trace_text.specs.Laws.{has, level_of}
-
-is_eq-cond : (b : Bool) → is_eq (cond b Equal Greater) ≡ b
-is_eq-cond true = refl
-is_eq-cond false = refl
 
 is_some-cond : (b : Bool) (level : ℕ) (o : Option ℕ) → is_some (cond b (Some level) o) ≡ cond b true (is_some o)
 is_some-cond true level o = refl

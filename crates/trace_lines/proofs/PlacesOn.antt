@@ -100,12 +100,6 @@ rises_last first place entry (e ∷ es) rises = (rises.0, rises_last (e.0 + 1) p
 
 -- ---- one entry less
 
-pub removed_first : (place : ℕ) (entry : Entry) (es : List (ℕ × Entry)) → remove_entry (is_at (nat_cmp place)) ((place, entry) ∷ es) ≡ es
-removed_first place entry es = rw (nat_itself place) refl
-
-pub removed_later : (place q : ℕ) (entry : Entry) (es : List (ℕ × Entry)) → q < place → remove_entry (is_at (nat_cmp place)) ((q, entry) ∷ es) ≡ (q, entry) ∷ remove_entry (is_at (nat_cmp place)) es
-removed_later place q entry es less = rw (nat_over place q less) refl
-
 pub rises_removed : (first next place : ℕ) (es : List (ℕ × Entry)) → Rises first es next → Rises first (remove_entry (is_at (nat_cmp place)) es) next
 rises_removed first next place [] rises = rises
 rises_removed first next place (e ∷ es) rises = on_cond (λ xs. Rises first xs next) (is_eq (nat_cmp place e.0)) es (e ∷ remove_entry (is_at (nat_cmp place)) es)

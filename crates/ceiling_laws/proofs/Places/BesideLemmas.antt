@@ -12,7 +12,7 @@ use Rattle.ceiling_laws.proofs.Runs.Kept.Instant.{OtherMoves}
 use Rattle.ceiling_laws.proofs.Runs.Kept.Scopes.{open_scope-alters}
 use Rattle.ceiling_laws.proofs.Runs.Kept.Waking.{who-is}
 use Rattle.ceiling_laws.proofs.Runs.LevelMoves.{Silences, is_apart, said_so}
-use Rattle.ceiling_laws.proofs.Runs.RunLemmas.{Others, Settles, behind_onward, settles_onward}
+use Rattle.ceiling_laws.proofs.Runs.RunLemmas.{Others, Settles, behind_onward}
 use Rattle.ceiling_laws.proofs.Runs.Triples.{Ends, Keeps, Leads, State, With, changes-keeps, from-leads, then-keeps}
 use Rattle.ceiling_laws.specs.RunLaws.{levels_told}
 use Rattle.machine_laws.proofs.Moves.{lines_of}
@@ -20,13 +20,12 @@ use Rattle.profile_machine.specs.Dispatching.{active, active_of, deadline_shown,
 use Rattle.profile_machine.specs.Inheritance.{inherit, same_cause}
 use Rattle.profile_machine.specs.Instant.{budgets_due, events_due, moments_due, quantum_spent, script_items, timers_due}
 use Rattle.profile_machine.specs.Program.{edf_low, is_robin_level}
-use Rattle.profile_machine.specs.Run.{blank_world, environment, opening, opens}
+use Rattle.profile_machine.specs.Run.{environment, opens}
 use Rattle.profile_machine.specs.Scopes.{end_scope, plainly}
 use Rattle.profile_machine.specs.Steps.{is_part_before, placed_by, says, ◌▶◌}
 use Rattle.profile_machine.specs.Tasks.{edit_task, task_of, with_state}
 use Rattle.profile_machine.specs.Words.{same_who}
 use Rattle.profile_machine.specs.declared.image.Image.{Image}
-use Rattle.profile_machine.specs.declared.run_data.Item.{Item}
 use Rattle.profile_machine.specs.declared.world.World.{World}
 use Rattle.profile_machine.specs.declared.world.lines.Line.{Line}
 use Rattle.profile_machine.specs.declared.world.lines.Line.TheVariants as line
@@ -41,7 +40,7 @@ use Rattle.profile_machine.specs.declared.world.tasks.Task.{Task}
 use Rattle.std.proofs.Common.{Bool, List, None, Option, Some, [], ap, cond, eq-eqb, false, le_refl, le_trans, refl, subst, sym, true, ℕ, ℤ, ◌&&◌, ◌++◌, ◌∙◌, ◌∷◌, ◌≡◌, ◌≤◌}
 use Rattle.std.specs.Prelude.{eqb, slice_index_or}
 use Rattle.line_laws.proofs.Ticks.LineByLine.{Follow, seen_behind}
-use Rattle.trace_text.specs.Laws.{Levels, no_levels, see_levels}
+use Rattle.trace_text.specs.Laws.{Levels, see_levels}
 use Rattle.trace_text.specs.declared.events.Created.TheVariants as created
 use Rattle.trace_text.specs.declared.events.Event.{Event}
 use Rattle.trace_text.specs.declared.events.QueueEnd.{QueueEnd}
@@ -229,11 +228,6 @@ module _ (p : Image) where
 
   beside : Others see_levels any_event Shows p
   beside sight = (Low p sight, any_world, any_task, low_others p sight, low-starts p sight, low_settles sight)
-
-  pub opening-low : (script : List (ℤ × Item)) → AreAtMostActive p (levels_told no_levels (opening p script).1) (opening p script).0
-  opening-low script =
-      subst (λ s. AreAtMostActive p s (opening p script).0) (seen-told no_levels (opening p script).1)
-      (settles_onward see_levels any_event Shows p no_levels (Low p no_levels) (Low p no_levels) (opens p) (blank_world p script) (low_settles no_levels) (low_opens p no_levels) (low-starts p no_levels (blank_world p script) (λ n. tt))).shows
 
 pub others_keep_places : OthersKeepPlaces
 others_keep_places p w sight h =

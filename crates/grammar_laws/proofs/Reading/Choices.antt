@@ -72,9 +72,6 @@ opened_plain (suc m) make P w fits ends k more = delimiter_then make P w (λ i. 
 
 -- ---- items in brackets, or nothing
 
-pub some_items : {A : Type 0} → OneOrMore A → List A
-some_items xs = xs.first ∷ xs.others
-
 abbrev no_items : {A : Type 0} → Unit {0} → List A
 no_items u = []
 

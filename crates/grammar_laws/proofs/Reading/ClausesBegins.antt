@@ -3,55 +3,28 @@ use Rattle.std.proofs.Common.{◌≡◌, Bool, true, false, List, [], ◌∷◌,
 use Rattle.std.specs.Prelude.{Option, Some, None}
 use Rattle.ann_base.specs.declared.places.Place.{Place}
 use Rattle.ada_tree.specs.declared.names.Identifier.{Identifier}
-use Rattle.ada_tree.specs.declared.names.Name.{Name}
-use Rattle.ada_tree.specs.declared.names.OneOrMore.{OneOrMore}
 use Rattle.ada_tree.specs.declared.expressions.Expression.{Expression}
 use Rattle.ada_tree.specs.declared.expressions.Argument.{Argument}
 use Rattle.ada_tree.specs.declared.statements.Assignment.{Assignment}
 use Rattle.ada_tree.specs.declared.statements.Call.{Call}
-use Rattle.ada_tree.specs.declared.statements.Delay.{Delay}
-use Rattle.ada_tree.specs.declared.statements.Exit.{Exit}
 use Rattle.ada_tree.specs.declared.statements.Iteration.{Iteration}
 use Rattle.ada_tree.specs.declared.statements.Iteration.TheVariants as iterations
-use Rattle.ada_tree.specs.declared.declarations.TypeDeclaration.{TypeDeclaration}
-use Rattle.ada_tree.specs.declared.declarations.SubtypeDeclaration.{SubtypeDeclaration}
 use Rattle.ada_tree.specs.declared.declarations.TaskDeclaration.{TaskDeclaration}
 use Rattle.ada_tree.specs.declared.declarations.ProtectedDeclaration.{ProtectedDeclaration}
-use Rattle.ada_tree.specs.Written.{Written, Lexeme, word, word_at, delimiter, identifier_written, flag, optional, each_written, behind, separated, one_identifier, name_written}
+use Rattle.ada_tree.specs.Written.{Written, Lexeme, word, word_at, delimiter, identifier_written, flag, optional, each_written, behind, one_identifier}
 use Rattle.ada_tree.specs.SpellingExpressions.{expression_written, argument_written, arguments_written}
-use Rattle.ada_tree.specs.SpellingStatements.{semicolon, index_written, assignment_written, call_written, delay_written, when_written, loop_name_written, exit_written, iteration_written, indication_written, with_abort_written}
-use Rattle.ada_tree.specs.SpellingDeclarations.{definition_written, type_written, subtype_written, aspects_written, task_definition_written}
+use Rattle.ada_tree.specs.SpellingStatements.{semicolon, index_written, assignment_written, call_written, iteration_written}
+use Rattle.ada_tree.specs.SpellingDeclarations.{aspects_written, task_definition_written}
 use Rattle.ada_grammar.specs.Reading.{starts, starts_both, sees_delimiter, sees_word}
 use Rattle.ada_grammar.specs.ReadingStatements.{begins_loop, sees_label}
 use Rattle.grammar_laws.specs.Leads.{Leads}
 use Rattle.grammar_laws.proofs.Reading.Leading.{as_written}
 use Rattle.grammar_laws.proofs.Reading.Exact.{first_is, first_each}
-use Rattle.grammar_laws.proofs.Reading.Tokens.{not_true, sees_word_at_first, sees_identifier_first}
+use Rattle.grammar_laws.proofs.Reading.Tokens.{not_true, sees_identifier_first}
 use Rattle.grammar_laws.proofs.Reading.ClausesEnds.{ends_label, stop_enclosed, identifier_no_body}
 use Rattle.grammar_laws.proofs.Reading.ClausesTasks.{task_behind, protected_behind, aspects_behind}
 
 -- ---- statements without others in them
-
-pub delay_begins : (d : Delay) (ls r : List Lexeme) → Leads (delay_written d) ls r → sees_word (codes "delay") ls ≡ true
-delay_begins d ls r l = sees_word_at_first (codes "delay") d.place (flag d.until (word (codes "until") ∷ []) ++ (expression_written d.value ++ semicolon)) ls r l
-
-pub exit_begins : (e : Exit) (ls r : List Lexeme) → Leads (exit_written e) ls r → sees_word (codes "exit") ls ≡ true
-exit_begins e ls r l = sees_word_at_first (codes "exit") e.place (optional loop_name_written e.loop_name ++ (optional when_written e.condition ++ semicolon)) ls r l
-
-pub null_begins : (p : Place) (ls r : List Lexeme) → Leads (word_at p (codes "null") ∷ semicolon) ls r → sees_word (codes "null") ls ≡ true
-null_begins p ls r l = sees_word_at_first (codes "null") p semicolon ls r l
-
-pub return_begins : (x : Place × Option Expression) (ls r : List Lexeme) → Leads (word_at x.0 (codes "return") ∷ (optional expression_written x.1 ++ semicolon)) ls r → sees_word (codes "return") ls ≡ true
-return_begins x ls r l = sees_word_at_first (codes "return") x.0 (optional expression_written x.1 ++ semicolon) ls r l
-
-pub raise_begins : (x : Place × Option Name) (ls r : List Lexeme) → Leads (word_at x.0 (codes "raise") ∷ (optional name_written x.1 ++ semicolon)) ls r → sees_word (codes "raise") ls ≡ true
-raise_begins x ls r l = sees_word_at_first (codes "raise") x.0 (optional name_written x.1 ++ semicolon) ls r l
-
-pub abort_begins : (x : Place × OneOrMore Name) (ls r : List Lexeme) → Leads (word_at x.0 (codes "abort") ∷ (separated (delimiter (codes ",")) name_written x.1 ++ semicolon)) ls r → sees_word (codes "abort") ls ≡ true
-abort_begins x ls r l = sees_word_at_first (codes "abort") x.0 (separated (delimiter (codes ",")) name_written x.1 ++ semicolon) ls r l
-
-pub requeue_begins : (x : Place × (Name × Bool)) (ls r : List Lexeme) → Leads (word_at x.0 (codes "requeue") ∷ (name_written x.1.0 ++ (with_abort_written x.1.1 ++ semicolon))) ls r → sees_word (codes "requeue") ls ≡ true
-requeue_begins x ls r l = sees_word_at_first (codes "requeue") x.0 (name_written x.1.0 ++ (with_abort_written x.1.1 ++ semicolon)) ls r l
 
 -- ---- an assignment or a call is no label
 
@@ -116,15 +89,6 @@ label_before_semicolon None l ls = refl
 label_before_semicolon (Some name) l ls = refl
 
 -- ---- declarations
-
-pub type_begins : (t : TypeDeclaration) (ls r : List Lexeme) → Leads (type_written t) ls r → sees_word (codes "type") ls ≡ true
-type_begins t ls r l = sees_word_at_first (codes "type") t.place (identifier_written t.name ∷ word (codes "is") ∷ (definition_written t.definition ++ semicolon)) ls r l
-
-pub subtype_begins : (s : SubtypeDeclaration) (ls r : List Lexeme) → Leads (subtype_written s) ls r → sees_word (codes "subtype") ls ≡ true
-subtype_begins s ls r l = sees_word_at_first (codes "subtype") s.place (identifier_written s.name ∷ word (codes "is") ∷ (indication_written s.subtype ++ semicolon)) ls r l
-
-pub use_begins : (x : Place × Name) (ls r : List Lexeme) → Leads (word_at x.0 (codes "use") ∷ (name_written x.1 ++ semicolon)) ls r → sees_word (codes "use") ls ≡ true
-use_begins x ls r l = sees_word_at_first (codes "use") x.0 (name_written x.1 ++ semicolon) ls r l
 
 -- behind "task" and "protected", no body
 typed_no_body : (is_type : Bool) (name : Identifier) (w : List Written) (ls r : List Lexeme) → Leads (flag is_type (word (codes "type") ∷ []) ++ identifier_written name ∷ w) ls r → sees_word (codes "body") ls ≡ false

@@ -16,7 +16,7 @@ use Rattle.ada_tree.specs.SpellingExpressions.{expression_written, argument_writ
 use Rattle.ada_tree.specs.SpellingStatements.{semicolon, index_written, assignment_written, call_written, delay_written, statement_written}
 use Rattle.ada_tree.specs.ShapeExpressions.{optional_fits, expression_fits, arguments_fit}
 use Rattle.ada_tree.specs.ShapeStatements.{value_fits, index_fits, assignment_fits, call_fits, delay_fits, parts_fit}
-use Rattle.ada_grammar.specs.Reading.{Parser, ◌>>=◌, ◌>>◌, pure, starts, sees_delimiter, sees_identifier, the_delimiter, flag_of, name_of}
+use Rattle.ada_grammar.specs.Reading.{Parser, ◌>>=◌, ◌>>◌, pure, starts, sees_delimiter, the_delimiter, flag_of, name_of}
 use Rattle.ada_grammar.specs.ReadingExpressions.{expression_of}
 use Rattle.ada_grammar.specs.ReadingSimple.{all_arguments_of, only_index_of, index_of, assignment_behind_of, call_behind_of, simple_of, call_of, delay_of}
 use Rattle.grammar_laws.specs.Leads.{Leads}
@@ -30,7 +30,6 @@ use Rattle.grammar_laws.proofs.Reading.Expressions.{expression_exact, arguments_
 use Rattle.grammar_laws.proofs.Reading.ClausesEnds.{stop_enclosed}
 use Rattle.grammar_laws.proofs.Reading.ClausesSteps.{delimiter_ends, field_before, last_before, word_kept, known, no_item, carried, chosen_by, passed_by, forked_behind}
 use Rattle.grammar_laws.proofs.Reading.ClausesValues.{value_no_until}
-use Rattle.grammar_laws.proofs.Reading.ClausesSubtypes.{name_begins}
 
 -- ---- calls
 
@@ -244,9 +243,3 @@ call_complete left c ls r okay l =
     ((call_statement_exact left).complete c ls r tt okay l refl)
 
 -- ---- what they begin with
-
-pub assignment_begins : (a : Assignment) (ls r : List Lexeme) → Leads (assignment_written a) ls r → sees_identifier ls ≡ true
-assignment_begins a ls r l = name_begins a.target (optional index_written a.index ++ value_behind a) ls r l
-
-pub call_begins : (c : Call) (ls r : List Lexeme) → Leads (call_written c) ls r → sees_identifier ls ≡ true
-call_begins c ls r l = name_begins c.name (actuals_written c.arguments ++ semicolon) ls r l

@@ -124,9 +124,6 @@ object_whole_exact left =
     plain_before object_made Any (delimiter (codes ":")) object_behind always (λ o. o.names) identifiers_written shapeless (not_delimiter (codes ",")) identifiers_of _ identifiers_exact (λ l ls. refl) _ (λ a. refl)
     (λ names. delimiter_then object_made _ object_behind _ always (codes ":") _ (object_exact left names))
 
-abbrev exception_written : OneOrMore Identifier → List Written
-exception_written names = identifiers_written names ++ delimiter (codes ":") ∷ word (codes "exception") ∷ semicolon
-
 pub exception_whole_exact : Rest (λ (n : OneOrMore Identifier). declarations.Exception n) Any (λ n. identifiers_written n ++ delimiter (codes ":") ∷ word (codes "exception") ∷ semicolon) shapeless always exception_whole_of
 unfolding starts
 exception_whole_exact =

@@ -18,14 +18,14 @@ use Rattle.ada_tree.specs.SpellingDeclarations.{aspect_value_written, aspect_wri
 use Rattle.ada_tree.specs.ShapeExpressions.{optional_fits}
 use Rattle.ada_tree.specs.ShapeStatements.{value_fits, indication_fits, parameters_fit}
 use Rattle.ada_tree.specs.ShapeDeclarations.{aspect_fits, aspects_fit, specification_fits, entry_fits, entry_head_fits}
-use Rattle.ada_grammar.specs.Reading.{◌>>=◌, starts, sees_delimiter, sees_word, sees_identifier, the_word, items_of, behind_delimiter_of}
+use Rattle.ada_grammar.specs.Reading.{◌>>=◌, starts, sees_delimiter, sees_word, the_word, items_of, behind_delimiter_of}
 use Rattle.ada_grammar.specs.ReadingExpressions.{expression_of}
 use Rattle.ada_grammar.specs.ReadingSimple.{subtype_indication_of, parameters_of}
 use Rattle.ada_grammar.specs.ReadingDeclarations.{aspect_value_of, aspect_of, given_aspects_of, aspects_of, overriding_of, procedure_of, function_of, specification_of, begins_specification, entry_of, entry_head_of}
 use Rattle.grammar_laws.specs.Leads.{Leads}
 use Rattle.grammar_laws.proofs.Reading.Leading.{as_written}
 use Rattle.grammar_laws.proofs.Reading.Exact.{done, Rest, Any, itself, Exact, first_true, second_true, field, plain, narrower, respelt, closing, first_is, optionally}
-use Rattle.grammar_laws.proofs.Reading.Tokens.{always, shapeless, not_true, not_word, word_then, delimiter_then, word_exact, sees_delimiter_first, sees_word_first, sees_word_at_first, sees_identifier_first, seen_delimiter}
+use Rattle.grammar_laws.proofs.Reading.Tokens.{always, shapeless, not_true, not_word, word_then, delimiter_then, word_exact, sees_delimiter_first, sees_word_first, sees_word_at_first, seen_delimiter}
 use Rattle.grammar_laws.proofs.Reading.Names.{not_delimiter}
 use Rattle.grammar_laws.proofs.Reading.Choices.{Sound, one_form}
 use Rattle.grammar_laws.proofs.Reading.Ends.{ends_expression}
@@ -53,9 +53,6 @@ aspect_exact left =
     identifier_kept itself Any _ _ ends_aspect (λ a. a.name) _
     (λ name. closing itself _ ends_aspect (λ a. a.value) (optional aspect_value_written) (optional_fits (value_fits left)) (aspect_value_of left) (λ value. record { name = name; value = value }) (aspect_value_exact left)
     (λ v. (tt, refl)) (λ v. refl) (λ v a p e. rw (p.1, e) refl))
-
-pub aspect_begins : (a : Aspect) (ls r : List Lexeme) → Leads (aspect_written a) ls r → sees_identifier ls ≡ true
-aspect_begins a ls r l = sees_identifier_first a.name (optional aspect_value_written a.value) ls r l
 
 abbrev others_written : List Aspect → List Written
 others_written others = each_written (behind (delimiter (codes ",")) aspect_written) others
@@ -160,9 +157,6 @@ procedure_whole_exact left =
     plain procedure_made Any procedure_behind (λ x. parameters_fit left x.1.1.1.0 && aspects_fit left x.1.1.1.1) ends_aspects (λ x. x.0) (optional overriding_written) (optional_fits shapeless) (not_word (codes "overriding")) overriding_of (procedure_of left) overriding_exact optional_shapeless
     (λ x ls r p l end. first_is (not_word (codes "overriding")) true (word_at x.1.0 (codes "procedure")) (λ l ls. refl) (identifier_written x.1.1.0 ∷ (parameters_written x.1.1.1.0 ++ aspects_written x.1.1.1.1)) ls r l)
     (procedure_exact left)
-
-abbrev function_respelt : Function → List Written
-function_respelt x = optional overriding_written x.0 ++ function_behind x
 
 function_whole_exact : (left : ℕ) → Rest function_made Any (λ x. specification_written (function_made x)) (λ x. specification_fits left (function_made x)) ends_specification (overriding_of >>= function_of left)
 unfolding starts

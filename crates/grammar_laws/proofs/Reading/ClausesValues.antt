@@ -125,6 +125,3 @@ value_no_reverse e w ls r l = value_before (not_word (codes "reverse")) e (value
 
 pub value_no_others : (e : Expression) (w : List Written) (ls r : List Lexeme) → Leads (expression_written e ++ w) ls r → not_word (codes "others") ls ≡ true
 value_no_others e w ls r l = value_before (not_word (codes "others")) e (value_is_no_others e) w ls r l
-
-pub value_no_semicolon : (e : Expression) (w : List Written) (ls r : List Lexeme) → Leads (expression_written e ++ w) ls r → not_delimiter (codes ";") ls ≡ true
-value_no_semicolon e w ls r l = value_before (not_delimiter (codes ";")) e (value_is_no_semicolon e) w ls r l

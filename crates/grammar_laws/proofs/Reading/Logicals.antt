@@ -108,25 +108,6 @@ module _ (test : List Lexeme → Bool) (v : Bool) (on : Firsts test v) (operated
   pub by_relation : (e : Expression) (ls r : List Lexeme) → expression_fits e precedence.Relational left ≡ true → Leads (expression_written e) ls r → test ls ≡ v
   by_relation e ls r o l = relation_first (out-Expression e).form ls r (shape_of e precedence.Relational o) (leads_of e ls r l)
 
-  -- of every expression
-  pub by_expression_first : (e : Expression) (ls r : List Lexeme) → expression_fits e precedence.Logical left ≡ true → Leads (expression_written e) ls r → test ls ≡ v
-  by_expression_first e ls r o l = from (out-Expression e).form ls r (shape_of e precedence.Logical o) (leads_of e ls r l)
-    where
-      from : (f : ExpressionForm Expression) (ls r : List Lexeme) → form_fits expression_fits f precedence.Logical left ≡ true → Leads (form_written expression_written f) ls r → test ls ≡ v
-      from (form.Logical operator first others) ls r o l =
-          let t = leads_through (expression_written first) (all_written (operand_written expression_written operator) others) ls r l in
-          by_relation first ls t.middle (first_true (expression_fits first precedence.Relational left) (all_fit (operand_fits expression_fits left) others) o) t.first
-      from (form.Relational a place operator b) ls r o l = relation_first (form.Relational a place operator b) ls r o l
-      from (form.Adding first others) ls r o l = relation_first (form.Adding first others) ls r o l
-      from (form.Signed place sign operand) ls r o l = relation_first (form.Signed place sign operand) ls r o l
-      from (form.Multiplying first others) ls r o l = relation_first (form.Multiplying first others) ls r o l
-      from (form.Highest place operator operand) ls r o l = relation_first (form.Highest place operator operand) ls r o l
-      from (form.Number place literal) ls r o l = relation_first (form.Number place literal) ls r o l
-      from (form.Text place text) ls r o l = relation_first (form.Text place text) ls r o l
-      from (form.Null place) ls r o l = relation_first (form.Null place) ls r o l
-      from (form.Bracketed place e) ls r o l = relation_first (form.Bracketed place e) ls r o l
-      from (form.Named name attribute arguments) ls r o l = relation_first (form.Named name attribute arguments) ls r o l
-
 sign_no_then : (p : Place) (sign : Sign) (k : Lexeme) (ks : List Lexeme) → sees_word (codes "then") (as_written (delimiter_at p (sign_text sign)) k ∷ ks) ≡ false
 unfolding starts
 sign_no_then p sign k ks = refl

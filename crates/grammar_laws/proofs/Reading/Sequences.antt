@@ -112,9 +112,6 @@ module _ (left : ℕ) (inner : SequenceRole → Parser Sequence) (deeper : Seque
       at zero inner deeper known further = no_level begins_statement (statement_written sequence_written) always
       at (suc m) inner deeper known further = statement_exact m inner deeper known further
 
-  behind_statement : (others : List (Statement Sequence)) (ls r : List Lexeme) → Leads (each_written w others) ls r → ends_statements r ≡ true → always ls ≡ true
-  behind_statement others ls r l end = refl
-
   all_statements : Exact (all_written w) (all_fit fits) ends_statements (statements_of left inner deeper)
   unfolding statements_of starts begins_statement
   all_statements =

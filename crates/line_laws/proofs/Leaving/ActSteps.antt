@@ -88,9 +88,6 @@ silent-from a w v g first next said = subst (λ xs. Kept (Does a) w said (g v xs
 abbrev At : Who → World → Type 0
 At a w = Inv w × Awake a w
 
-good_going : (a : Who) (w : World) → Inv w → Free a w → GoodAs (Free a) w
-good_going a w inv free = (inv, free)
-
 -- it is not special: somebody who acts is free below it
 pub plainly-from : (a : Who) (f : Frame) (g : Step) (w : World) → Inv w → Awake a w → top_of w a ≡ Some f → is_special f.mark ≡ false → Keeps (GoodAs (Free a)) (Moved (acting a) true (Free a)) g → From (Does a) w (changes (pop a) ▷ g)
 unfolding From

@@ -11,13 +11,6 @@ use Rattle.profile_machine.specs.Calls.{is_call}
 use Rattle.profile_machine.specs.EntryCalls.{numbered}
 use Rattle.line_laws.proofs.Leaving.FreeWorlds.{CallerIn}
 
-found-call : (test : Call → Bool) (xs : List Call) (d : Call) → find test xs ≡ Some d → test d ≡ true
-found-call test [] d e = absurd cc
-found-call test (z ∷ zs) d e = step (test z) refl e (λ k. found-call test zs d k) where
-  step : (b : Bool) → test z ≡ b → cond b (Some z) (find test zs) ≡ Some d → (find test zs ≡ Some d → test d ≡ true) → test d ≡ true
-  step true is e k = let same : z ≡ d = cc in subst (λ (x : Call). test x ≡ true) same is
-  step false is e k = k e
-
 -- one is set in the place of the one that was found, which has the same number and caller
 pub record Before (k : CallNo) (calls : List Call) (d : Call) : Type 0 where
   pub call : Call

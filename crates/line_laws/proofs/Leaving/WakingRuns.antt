@@ -24,7 +24,7 @@ use Rattle.line_laws.proofs.Leaving.RegionLines.{by_test}
 use Rattle.line_laws.proofs.Leaving.CoreMoves.{state_in}
 use Rattle.line_laws.proofs.Leaving.Kept.Run.{before_tick-leads}
 use Rattle.line_laws.proofs.Leaving.Following.{Following, RanAwake, resting, tock_moves, instant-following, opening-following}
-use Rattle.machine_laws.specs.Reached.{Comes, opened, ticked, Reached, before, behind}
+use Rattle.machine_laws.specs.Reached.{Comes, opened, ticked, before}
 use Rattle.machine_laws.proofs.Kept.Combinators.{Leads}
 use Rattle.machine_laws.proofs.Kept.Run.{before_tick, tock-parts}
 
@@ -89,8 +89,3 @@ comes-awake p script bound _ (ticked w c e) =
     let g = tock-following p i f.inv in
     let unplaced = tock-unplaced p i (instant-unplaced p w before.unplaced f) g in
     record { inv = g.inv; unplaced = unplaced; awake = chosen-awake p i unplaced }
-
--- and behind it
-pub reached-inv : (p : Image) (script : List (ℤ × Item)) (bound : ℕ) (w : World) → Reached p script bound w → Inv w
-reached-inv p script bound _ (before w c) = (comes-awake p script bound w c).inv
-reached-inv p script bound _ (behind w c) = let h = comes-awake p script bound w c in (instant-following p w h.inv h.awake).inv

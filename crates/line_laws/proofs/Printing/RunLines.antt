@@ -25,10 +25,6 @@ pub AllOf-append : (P : Event → Type 0) (xs ys : List Event) → AllOf P xs �
 AllOf-append P [] ys a b = b
 AllOf-append P (x ∷ xs) ys a b = (a.0, AllOf-append P xs ys a.1 b)
 
-pub AllOf-also : (P Q : Event → Type 0) → ((x : Event) → P x → Q x) → (xs : List Event) → AllOf P xs → AllOf Q xs
-AllOf-also P Q f [] a = tt
-AllOf-also P Q f (x ∷ xs) a = (f x a.0, AllOf-also P Q f xs a.1)
-
 EachEvent-at_tick : (P : Event → Type 0) (now : ℕ) (events : List Event) → AllOf P events → EachEvent P (at_tick now events)
 EachEvent-at_tick P now [] a = tt
 EachEvent-at_tick P now (x ∷ xs) a = (a.0, EachEvent-at_tick P now xs a.1)

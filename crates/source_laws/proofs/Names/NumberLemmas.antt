@@ -71,9 +71,6 @@ module _ (f g : List Before → ℕ) (before : Before) (agree : Agree f g before
   beginning-same (begins r) = region-same r
   beginning-same _ = refl
 
-asked_within : ℕ → List Before → ℕ
-asked_within limit bs = number_within limit (first_or_none bs)
-
 within-agree : (k m n : ℕ) (b : Before) → length b ≤ k → k ≤ m → k ≤ n → number_within m b ≡ number_within n b
 within-agree k zero zero [] le lm ln = refl
 within-agree k zero (suc n) [] le lm ln = refl

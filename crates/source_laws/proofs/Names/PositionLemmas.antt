@@ -57,13 +57,6 @@ first-stands passed before = go (around_behind passed before) refl
     go [] e = stands-start before
     go (b ∷ bs) e = (around-of_first passed before b bs e).1
 
-pub first-again : (passed : ℕ) (before : Before) → first_or_none (around (first_or_none (around_behind passed before))) ≡ first_or_none (around_behind passed before)
-first-again passed before = go (around_behind passed before) refl
-  where
-    go : (bs : List Before) → around_behind passed before ≡ bs → first_or_none (around (first_or_none bs)) ≡ first_or_none bs
-    go [] e = refl
-    go (b ∷ bs) e = ap first_or_none (around-of_first passed before b bs e).0
-
 pub first-length : (passed : ℕ) (before : Before) → length (first_or_none (around_behind passed before)) ≤ length before
 first-length passed before = stands-length (first_or_none (around_behind passed before)) before (first-stands passed before)
 

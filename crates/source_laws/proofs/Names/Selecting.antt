@@ -66,10 +66,6 @@ and-bound n q y f s e = go (and_then (item_at q n.bindings) (find f)) refl e
     go None h e2 = cc
     go (Some b) h e2 = bound-there n q y b (found-sound n q f b s h).0 e2
 
-no-entity : (d : Denoted) → Type 0
-no-entity (denotes.Entity e) = ⊥
-no-entity _ = Unit {0}
-
 item-unit : (last : ℕ) (u : PredefinedUnit) (name : List ℕ) (y : ℕ) (other : Option Denoted) → (other ≡ Some (denotes.Entity y) → ⊥) → option_or (item_of last u name) other ≡ Some (denotes.Entity y) → ⊥
 unfolding item_of
 item-unit last u name y other no_entity e = go (item_in last u name) e

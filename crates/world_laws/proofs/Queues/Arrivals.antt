@@ -35,7 +35,7 @@ use Rattle.profile_machine.specs.WellFormed.{number_in}
 use Rattle.world_laws.proofs.Queues.Calming.{Softens, calm-from, came-same, softens-same, task_of-same, unfirm-same}
 use Rattle.machine_laws.proofs.ListLemmas.{Falls, Falls-without, Rises-behind, Rises-without}
 use Rattle.world_laws.proofs.Queues.Standing.{Awaited, Calm, Fall, Kind, Nature, Open, Stands, Unfirm, Waited_in, ends_by, has_own, is_ending, is_named, is_task, natures, natures_of, none_late, object_key, served, served_in, some_nature, task_number, top_waits, waits_end}
-use Rattle.world_laws.proofs.Queues.TaskEdits.{added, gone, left, still}
+use Rattle.world_laws.proofs.Queues.TaskEdits.{gone, left}
 use Rattle.line_laws.proofs.Exits.TaskEdits.{same_who-path}
 
 wrong : {A : Type 0} → false ≡ true → A
@@ -43,9 +43,6 @@ wrong e = absurd (true≢false (sym e))
 
 waits_for_none : {A : Type 0} (c : CallNo) → None ≡ waits_end c → A
 waits_for_none c e = cc
-
-nobody-none : {A : Type 0} (k : ℕ) (c : CallNo) → has same_call (queue_at nobody.queues k) c ≡ true → A
-nobody-none k c h = wrong h
 
 -- ---- entries begin without calls
 

@@ -26,7 +26,6 @@ use Rattle.world_laws.proofs.Queues.NumberedLists as numbered
 use Rattle.world_laws.proofs.Queues.CallLists.{left-has, same-call}
 use Rattle.world_laws.proofs.Queues.CallChanges.{edited-other}
 use Rattle.world_laws.proofs.Queues.Calming.{StandsAt, edit_task-objects, task-edited}
-use Rattle.world_laws.proofs.Queues.NumberedLists.{edited-same}
 use Rattle.world_laws.proofs.Queues.Standing.{Awaited, Fall, GoodBut, Idle, Open, Stands, Waited, awaits_at, ends_by, has_own, is_ending, is_named, is_task, natures, object_key, rightly, served, some_nature, waits_end}
 
 -- ---- what stays so of somebody but for queues and services
@@ -179,10 +178,6 @@ last-stays c (y ∷ ys) x h = step (same_call y x) h (last-stays c ys x) where
   step : (b : Bool) → (b || has same_call ys x) ≡ true → (has same_call ys x ≡ true → has same_call (ys ++ c ∷ []) x ≡ true) → (b || has same_call (ys ++ c ∷ []) x) ≡ true
   step true k onward = refl
   step false k onward = onward k
-
-last-new : (c : CallNo) (q : List CallNo) → has same_call (q ++ c ∷ []) c ≡ true
-last-new c [] = or-left (same_call c c) false (eq-eqb c.0 c.0 refl)
-last-new c (y ∷ ys) = or-right (same_call y c) (has same_call (ys ++ c ∷ []) c) (last-new c ys)
 
 among-stays : (w : World) (c : CallNo) (priority : ℕ) (q : List CallNo) (x : CallNo) → has same_call q x ≡ true → has same_call (put_by_priority w c priority q) x ≡ true
 among-stays w c priority [] x h = absurd (true≢false (sym h))

@@ -44,14 +44,6 @@ frames-counted : (name : Who) (fs : List Frame) → frames_with_scopes fs ≡ we
 frames-counted name [] = refl
 frames-counted name (f ∷ fs) = counted-step name f fs (id_in f.mark) (frames-counted name fs)
 
-tasks-counted : (ts : List Task) → scopes_counted ts ≡ weigh one (keys_of ts)
-tasks-counted [] = refl
-tasks-counted (t ∷ ts) =
-    let a = frames-counted t.who t.frames in
-    let b = tasks-counted ts in
-    let c = weigh-append one (task_keys t) (keys_of ts) in
-    omega (arith, a, b, c)
-
 counted-last : (ts : List Task) (agent : Task) → scopes_counted (ts ++ agent ∷ []) ≡ weigh one (everybody_keys ts agent)
 counted-last [] agent = let a = frames-counted agent.who agent.frames in omega (arith, a)
 counted-last (t ∷ ts) agent =

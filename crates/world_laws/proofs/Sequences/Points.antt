@@ -228,7 +228,3 @@ waits-so r (Blocked waits_for.Release) e = absurd (false≢true e)
 pub rises_as : (P : Point) → Points P → (name : Who) (s : State) (q : RegionNo) (g : Bool) → s ≡ Blocked (waits_for.Dependents q) → P name s g → P name Runnable g
 rises_as P points (who.Task n) s q g is h = points.rises n q g (subst (λ t. P (who.Task n) t g) is h)
 rises_as P points who.Agent s q g is h = points.agent_rises s g h
-
-listed_task : (w : World) (t : Task) → AllApart (names w.tasks) → find (is_who t.who) w.tasks ≡ Some t → (n : Who) → n ≡ t.who → (AllBelow w.drawn.tasks (names w.tasks)) → IsTask n → task_of w n ≡ t
-listed_task w t apart found (who.Task n) is below task = ap (λ o. unwrap_or o nobody) (subst (λ k. find (is_who k) w.tasks ≡ Some t) (sym is) found)
-listed_task w t apart found who.Agent is below task = absurd task

@@ -31,10 +31,6 @@ AllBelow d (n ∷ ns) = (is_below d n ≡ true) × AllBelow d ns
 
 -- ---- a task that is edited keeps its name
 
-set-names-step : (b : Bool) (y z : Task) (zs ys : List Task) → (b ≡ true → y.who ≡ z.who) → names ys ≡ names zs → names (cond b (y ∷ zs) (z ∷ ys)) ≡ names (z ∷ zs)
-set-names-step true y z zs ys same rest = ap (λ n. n ∷ names zs) (same refl)
-set-names-step false y z zs ys same rest = ap (λ ns. z.who ∷ ns) rest
-
 pub found-first : (x z : Task) (rest : Option Task) (b : Bool) → cond b (Some z) rest ≡ Some x → b ≡ true → z ≡ x
 found-first x z rest true e is = cc
 found-first x z rest false e is = absurd (false≢true is)

@@ -220,10 +220,6 @@ module _ {G : GoodWorld} {May Other : Naming} {R : StepRelation} {Q : MoveRelati
   still_known : (t : world.Task) (a b : World) (xs : List Said) → R a xs b → KnownAbnormal a t → KnownAbnormal b t
   still_known t a b xs r k = record { number = k.number; named = k.named; marked = moves.still_marked k.number a b r k.marked }
 
-  still_all : (ts : List world.Task) (a b : World) (xs : List Said) → R a xs b → AllTasks (KnownAbnormal a) ts → AllTasks (KnownAbnormal b) ts
-  still_all [] a b xs r k = tt
-  still_all (t ∷ ts) a b xs r k = (still_known t a b xs r k.0, still_all ts a b xs r k.1)
-
   still_each_drawn : (ts : List world.Task) (a b : World) {xs : List Said} → R a xs b → AllTasks (λ t. Drawn a t.who) ts → AllTasks (λ t. Drawn b t.who) ts
   still_each_drawn [] a b r k = tt
   still_each_drawn (t ∷ ts) a b r k = (moves.still_drawn t.who a b r k.0, still_each_drawn ts a b r k.1)

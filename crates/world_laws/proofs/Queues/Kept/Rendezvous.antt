@@ -81,7 +81,6 @@ use Rattle.world_laws.proofs.Queues.Kept.Sending.{begin_abortable-calms, no-stea
 use Rattle.world_laws.proofs.Queues.Moving.{Begun, Next, Serves, calm-next, next-then, served-next}
 use Rattle.world_laws.proofs.Queues.Softening.{awaits-more}
 use Rattle.world_laws.proofs.Queues.Standing.{Awake, Calm, Good, Idle, Kind, Out, Stands, any_kind, calm-awake, calm-good, calm-idle, calm-out, calm-then, ends_by, ends_part, has_own, nature, natures, one_if, own_in, part_of, queued-idle, quiet_kind, served, served_in, service, some_nature}
-use Rattle.line_laws.proofs.Exits.TaskEdits.{edited_to}
 
 finish_without_room-calms : {E : Kind} (part : Part) (name : Who) (c : Call) → Calms E (finish_without_room part name c)
 unfolding finish_without_room

@@ -1,6 +1,6 @@
 -- What a function that reads a production answers, and the tokens that remain.
-use Rattle.std.specs.Prelude.{◌≡◌, List, Result, Err}
-use Rattle.ann_base.specs.Answers.{AnswersAs, OfFault}
+use Rattle.std.specs.Prelude.{List, Result}
+use Rattle.ann_base.specs.Answers.{AnswersAs}
 use Rattle.ann_base.specs.declared.faults.OrMemory.{OrMemory}
 use Rattle.ada_tree.specs.Written.{Lexeme}
 use Rattle.ada_grammar.specs.declared.stuck.Stuck.{Stuck}
@@ -9,7 +9,3 @@ use Rattle.ada_grammar.specs.Reading.{Read}
 -- The function answered what reading gives, and these tokens remain; unless memory ran out.
 abbrev pub Reads : {A : Type 0} → Result A (OrMemory Stuck) → List Lexeme → Read A → Type 0
 Reads answer remaining read = AnswersAs (λ part. (part, remaining)) answer read
-
--- Reading stops so; unless memory ran out.
-abbrev pub Stops : {A : Type 0} → OrMemory Stuck → Read A → Type 0
-Stops answer read = OfFault (λ stuck. read ≡ Err stuck) answer

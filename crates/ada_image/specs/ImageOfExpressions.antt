@@ -59,7 +59,7 @@ use Rattle.ada_regions.specs.declared.table.Names.{Names}
 use Rattle.ada_regions.specs.Names.{denoted_by, kind_at, entity_denoted, entity_of}
 use Rattle.ada_regions.specs.Statics.{literal_value, negated, attribute_value}
 use Rattle.ada_image.specs.declared.making.Within.{Within}
-use Rattle.ada_image.specs.Making.{Making, pure, value_put}
+use Rattle.ada_image.specs.Making.{Making, ◌>>=◌, pure, value_put}
 use Rattle.ada_image.specs.Layout.{is_thing, subtype_is}
 
 -- ---- operators (4.5)

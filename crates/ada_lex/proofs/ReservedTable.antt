@@ -1,7 +1,6 @@
 -- Each entry stands in the table, and its letters are in lower case.
-use Rattle.std.proofs.Common.{◌≡◌, ℕ, refl, get_or, ◌<◌, lit<, List, map, Option, Some, None, ap, ◌∙◌}
+use Rattle.std.proofs.Common.{◌≡◌, ℕ, refl, get_or, ◌<◌, lit<, List, Option, Some, None, ap, ◌∙◌}
 use Rattle.std.specs.Prelude.{IfNone}
-use Rattle.std.specs.Char.{to_ascii_lowercase}
 use Rattle.ada_lex.specs.declared.words.Reserved.{Reserved}
 use Rattle.ada_lex.specs.declared.words.Reserved.TheVariants.{Abort, Abs, Abstract, Accept, Access, Aliased, All, And, Array, At, Begin, Body, Case, Constant, Declare, Delay, Delta, Digits, Do, Else, Elsif, End, Entry, Exception, Exit, For, Function, Generic, Goto, If, In, Interface, Is, Limited, Loop, Mod, New, Not, Null, Of, Or, Others, Out, Overriding, Package, Pragma, Private, Procedure, Protected, Raise, Range, Record, Rem, Renames, Requeue, Return, Reverse, Select, Separate, Some, Subtype, Synchronized, Tagged, Task, Terminate, Then, TypeWord, Until, Use, When, While, With, Xor}
 use Rattle.ada_lex.specs.declared.words.TheConstants.{ALL}
@@ -231,81 +230,6 @@ at_place When = refl
 at_place While = refl
 at_place With = refl
 at_place Xor = refl
-
-pub lower_letters : (entry : Reserved) → map to_ascii_lowercase (word_letters entry) ≡ word_letters entry
-lower_letters Abort = refl
-lower_letters Abs = refl
-lower_letters Abstract = refl
-lower_letters Accept = refl
-lower_letters Access = refl
-lower_letters Aliased = refl
-lower_letters All = refl
-lower_letters And = refl
-lower_letters Array = refl
-lower_letters At = refl
-lower_letters Begin = refl
-lower_letters Body = refl
-lower_letters Case = refl
-lower_letters Constant = refl
-lower_letters Declare = refl
-lower_letters Delay = refl
-lower_letters Delta = refl
-lower_letters Digits = refl
-lower_letters Do = refl
-lower_letters Else = refl
-lower_letters Elsif = refl
-lower_letters End = refl
-lower_letters Entry = refl
-lower_letters Exception = refl
-lower_letters Exit = refl
-lower_letters For = refl
-lower_letters Function = refl
-lower_letters Generic = refl
-lower_letters Goto = refl
-lower_letters If = refl
-lower_letters In = refl
-lower_letters Interface = refl
-lower_letters Is = refl
-lower_letters Limited = refl
-lower_letters Loop = refl
-lower_letters Mod = refl
-lower_letters New = refl
-lower_letters Not = refl
-lower_letters Null = refl
-lower_letters Of = refl
-lower_letters Or = refl
-lower_letters Others = refl
-lower_letters Out = refl
-lower_letters Overriding = refl
-lower_letters Package = refl
-lower_letters Pragma = refl
-lower_letters Private = refl
-lower_letters Procedure = refl
-lower_letters Protected = refl
-lower_letters Raise = refl
-lower_letters Range = refl
-lower_letters Record = refl
-lower_letters Rem = refl
-lower_letters Renames = refl
-lower_letters Requeue = refl
-lower_letters Return = refl
-lower_letters Reverse = refl
-lower_letters Select = refl
-lower_letters Separate = refl
-lower_letters Some = refl
-lower_letters Subtype = refl
-lower_letters Synchronized = refl
-lower_letters Tagged = refl
-lower_letters Task = refl
-lower_letters Terminate = refl
-lower_letters Then = refl
-lower_letters TypeWord = refl
-lower_letters Until = refl
-lower_letters Use = refl
-lower_letters When = refl
-lower_letters While = refl
-lower_letters With = refl
-lower_letters Xor = refl
 
 pub none_of : (o : Option Reserved) (low : List ℕ) → IfNone o ((k : ℕ) → k < 73 → word_letters (get_or ALL k Abort) ≡ low → ⊥) → IfNone o ((entry : Reserved) → word_letters entry ≡ low → ⊥)
 none_of None low h = λ entry same. h (place_of entry) (place_in entry) (ap word_letters (at_place entry) ∙ same)

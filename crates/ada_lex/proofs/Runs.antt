@@ -1,5 +1,5 @@
 -- A run that is read is a run, and the longest one.
-use Rattle.std.proofs.Common.{◌≡◌, ℕ, zero, suc, ◌<◌, ◌≤◌, Bool, true, false, cond, eqb, ◌&&◌, ◌||◌, ◌⊎◌, List, [], ◌∷◌, length, take, drop, refl, arith, inl, inr}
+use Rattle.std.proofs.Common.{◌≡◌, ℕ, zero, suc, ◌<◌, ◌≤◌, Bool, true, false, cond, eqb, ◌&&◌, ◌||◌, List, [], ◌∷◌, length, take, drop, refl, arith}
 use Rattle.std.proofs.lemmas.Bool.{false≢true}
 use Rattle.std.specs.Char.{is_ascii_digit, is_ascii_alphanumeric}
 use Rattle.ada_lex.specs.declared.scan.Run.{Run}
@@ -50,15 +50,6 @@ run_longest run (suc k) (b ∷ rest) le e =
     let here : goes_on run (b ∷ rest) ≡ true = goes_more run k b rest p.0 in
     let there : k ≤ run_length run rest = run_longest run k rest (omega arith) p.1 in
     rw here (omega arith)
-
--- an underscore that goes on has a byte of the run behind it
-cases_or : (p q : Bool) → (p || q) ≡ true → (p ≡ true) ⊎ (q ≡ true)
-cases_or true q e = inl refl
-cases_or false q e = inr e
-
-or_right : (p q : Bool) → q ≡ true → (p || q) ≡ true
-or_right true q e = refl
-or_right false q e = e
 
 or_left : (p q : Bool) → p ≡ true → (p || q) ≡ true
 or_left true q e = refl

@@ -1,5 +1,5 @@
 -- What is lexed is what reading gives.
-use Rattle.std.proofs.Common.{◌≡◌, ℕ, zero, suc, ◌+◌, ◌-◌, ◌<◌, ◌≤◌, Bool, true, false, cond, eqb, leb, ◌&&◌, ◌||◌, ◌⊎◌, List, [], ◌∷◌, ◌++◌, length, take, drop, Result, Ok, Err, refl, sym, ap, ◌∙◌, subst, arith, inl, inr, length-append, take-add, take_at, drop_at}
+use Rattle.std.proofs.Common.{◌≡◌, ℕ, zero, suc, ◌+◌, ◌-◌, ◌<◌, ◌≤◌, Bool, true, false, cond, eqb, leb, ◌&&◌, ◌||◌, ◌⊎◌, List, [], ◌∷◌, ◌++◌, length, take, drop, Result, Ok, refl, sym, ap, ◌∙◌, subst, arith, inl, inr, length-append, take-add, take_at, drop_at}
 use Rattle.std.proofs.lemmas.Bool.{false≢true, eqb-true, cases_lt, lt-leb, leb-true}
 use Rattle.std.specs.Char.{is_ascii_digit, is_ascii_alphabetic}
 use Rattle.ann_base.specs.declared.faults.OrMemory.{OrMemory}
@@ -10,7 +10,6 @@ use Rattle.ada_lex.specs.declared.tokens.Kind.{Kind}
 use Rattle.ada_lex.specs.declared.tokens.Kind.TheVariants as kinds
 use Rattle.ada_lex.specs.declared.tokens.Token.{Token}
 use Rattle.ada_lex.specs.declared.tokens.LexFault.{LexFault}
-use Rattle.ada_lex.specs.declared.tokens.LexFault.TheVariants as faults
 use Rattle.ada_lex.specs.Shapes.{begins_with, is_separator, is_delimiter, is_double_delimiter, gap_length, delimiter_length, run_length}
 use Rattle.ada_lex.specs.Reading.{behind_all, made, kind_of, token_at, piece_at, with_front, tokens_from, start}
 use Rattle.ada_lex.specs.Lexed.{IsToken, IsWithin, IsApart, StandsThere, LexedFrom, Lexed}
@@ -197,7 +196,3 @@ complete (token ∷ tokens) bytes spot (gap, text, rest, s, lexed) =
 -- a function that reads a source answers what is lexed
 pub only_by : {V : Type 0} (view : V → List Token) (answer : Result V (OrMemory LexFault)) (source : List ℕ) → AnswersAs view answer (tokens_from source 0 start) → (tokens : List Token) → Lexed source tokens → AnswersAs view answer (Ok tokens)
 only_by view answer source e tokens (short, lexed) = subst (AnswersAs view answer) (complete tokens source start lexed) e
-
--- a source that is too long has none
-pub too_long : {V : Type 0} (view : V → List Token) (source : List ℕ) → 262144 < length source → (tokens : List Token) → Lexed source tokens → AnswersAs view (Err (answer.Fault faults.TooLong)) (Ok tokens)
-too_long view source long tokens (short, lexed) = absurd (omega (arith, short, long))

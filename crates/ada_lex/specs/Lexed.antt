@@ -11,7 +11,7 @@ use Rattle.ada_lex.specs.declared.tokens.Kind.TheVariants as kinds
 use Rattle.ada_lex.specs.declared.tokens.Token.{Token}
 use Rattle.ada_lex.specs.Shapes.{begins_with, goes_on, is_separator, is_no_text, text_length, delimiter_length}
 use Rattle.ada_lex.specs.Reading.{behind_all, made, spoils_number, start}
-use Rattle.ada_lex.specs.Meaning.{IsInside, spelling_of, meaning_of, whole_of}
+use Rattle.ada_lex.specs.Meaning.{IsInside, spelling_of, whole_of}
 
 -- Separators and comments, and nothing else. A comment begins with two minus signs and ends with its line; the state
 -- behind the bytes is whether a comment is still open.
@@ -104,7 +104,3 @@ pub record IsTokenOf (source : List ℕ) (token : Token) : Type 0 where
 abbrev pub AreTokensOf : List ℕ → List Token → Type 0
 AreTokensOf source [] = Unit {0}
 AreTokensOf source (token ∷ tokens) = IsTokenOf source token × AreTokensOf source tokens
-
--- some token of this kind says so
-abbrev pub IsMeaning : Kind → List ℕ → Type 0
-IsMeaning kind text = (bytes : List ℕ) × IsProper kind bytes × (text ≡ meaning_of kind bytes)

@@ -7,7 +7,6 @@ use Rattle.ada_tree.specs.declared.statements.Statement.TheVariants as statement
 use Rattle.ada_tree.specs.declared.statements.Elsif.{Elsif}
 use Rattle.ada_tree.specs.declared.statements.CaseAlternative.{CaseAlternative}
 use Rattle.ada_tree.specs.declared.statements.Handler.{Handler}
-use Rattle.ada_tree.specs.declared.statements.Accept.{Accept}
 use Rattle.ada_tree.specs.declared.statements.AcceptBody.{AcceptBody}
 use Rattle.ada_tree.specs.declared.statements.Sequence.{Sequence}
 use Rattle.ada_tree.specs.declared.statements.Sequence.TheOpen.{Sequence-F}

@@ -6,10 +6,7 @@ use Rattle.std.proofs.Math.Seq.{drop-cons}
 use Rattle.std.proofs.lemmas.List.{append_assoc, append-nil, drop_all}
 use Rattle.std.specs.List.{slice_get}
 use Rattle.ann_base.specs.Results.{◌>>=◌}
-use Rattle.ann_base.specs.Answers.{Answers}
 use Rattle.ann_base.specs.declared.exceptions.Raised.{Raised}
-use Rattle.ann_base.specs.declared.faults.OrMemory.{OrMemory}
-use Rattle.ann_base.specs.declared.faults.OrMemory.TheVariants as answer
 use Rattle.profile_machine.specs.declared.numbers.StatementNo.{StatementNo}
 use Rattle.profile_machine.specs.declared.statements.SelectAlternative.{SelectAlternative}
 use Rattle.profile_machine.specs.declared.statements.SelectKind.{SelectKind}
@@ -33,11 +30,6 @@ with_before-all xs = ap Ok (append-nil xs)
 pub with_before-none : {X : Type 0} (rest : Valued (List X)) → with_before [] rest ≡ rest
 with_before-none (Ok xs) = refl
 with_before-none (Err e) = refl
-
--- what fails in a part fails as a whole
-pub refused : {X Y : Type 0} (e : OrMemory Raised) (r : Valued X) (all : Valued Y) → Answers {X = X} (Err e) r → ((x : Raised) → r ≡ Err x → all ≡ Err x) → Answers {X = Y} (Err e) all
-refused (answer.Fault x) r all h k = k x h
-refused answer.Memory r all h k = tt
 
 -- ---- alternatives
 

@@ -1,5 +1,5 @@
 -- Lists that are made part by part.
-use Rattle.std.specs.Prelude.{List, [], ◌∷◌, ◌++◌, Option, Some, None, Ok, Err, option_to_list}
+use Rattle.std.specs.Prelude.{List, ◌++◌, Option, Some, None, Ok, Err}
 use Rattle.std.specs.Bool.{then_some}
 use Rattle.ann_base.specs.Results.{◌>>=◌}
 use Rattle.profile_machine.specs.declared.numbers.StatementNo.{StatementNo}

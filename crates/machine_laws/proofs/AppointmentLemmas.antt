@@ -17,10 +17,6 @@ abbrev pub InOrder : List Appointment → Type 0
 InOrder [] = Unit {0}
 InOrder (a ∷ rest) = Above a.moment rest
 
-by_test : {P : Type 0} (b : Bool) → (b ≡ true → P) → (b ≡ false → P) → P
-by_test true p q = p refl
-by_test false p q = q refl
-
 above-earlier : (x y : ℤ) → int_lt x y ≡ true → x ≤ℤ y
 above-earlier x y h = grind (arith, ints)
 

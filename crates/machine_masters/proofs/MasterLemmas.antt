@@ -1,5 +1,5 @@
 -- One master more is asked, where there is fuel.
-use Rattle.std.proofs.Common.{◌≡◌, ◌≢◌, ◌<◌, ℕ, suc, ◌-◌, [], Option, ap, arith}
+use Rattle.std.proofs.Common.{◌≡◌, ◌<◌, ℕ, suc, ◌-◌, [], Option, ap, arith}
 use Rattle.ann_base.specs.declared.identities.RegionNo.{RegionNo}
 use Rattle.profile_machine.specs.declared.world.World.{World}
 use Rattle.profile_machine.specs.Masters.{masters_from}

@@ -1,35 +1,27 @@
 -- Steps that change a world several times, change by change.
-use Rattle.std.proofs.Common.{◌≡◌, ℕ, ℤ, Bool, true, false, ◌||◌, leb, length, Option, Some, Ok, Err, List, filter, map, refl, ap, sym, ◌∙◌}
-use Rattle.ann_base.specs.declared.exceptions.Raised.TheVariants as exception
+use Rattle.std.proofs.Common.{◌≡◌, ℕ, Bool, true, false, List, filter, map, ap, sym, ◌∙◌}
 use Rattle.ann_base.specs.declared.identities.RegionNo.{RegionNo}
-use Rattle.ann_base.specs.declared.identities.TaskNo.{TaskNo}
-use Rattle.trace_text.specs.declared.events.Created.TheVariants as created
 use Rattle.trace_text.specs.declared.events.Who.{Who}
 use Rattle.profile_machine.specs.declared.image.Image.{Image}
-use Rattle.profile_machine.specs.declared.numbers.DeclNo.{DeclNo}
 use Rattle.profile_machine.specs.declared.numbers.StatementNo.{StatementNo}
 use Rattle.profile_machine.specs.declared.run_data.Leaving.{Leaving}
 use Rattle.profile_machine.specs.declared.values.Value.{Value}
 use Rattle.profile_machine.specs.declared.world.World.{World}
-use Rattle.profile_machine.specs.declared.world.scopes.ScopeId.{ScopeId}
-use Rattle.profile_machine.specs.declared.world.lines.Line.TheVariants as line
-use Rattle.profile_machine.specs.declared.world.lines.Part.TheVariants.{Own, OfOther}
+use Rattle.profile_machine.specs.declared.world.lines.Part.TheVariants.{OfOther}
 use Rattle.profile_machine.specs.declared.world.lines.Said.{Said}
 use Rattle.profile_machine.specs.declared.world.marks.Purpose.TheVariants as opened_for
 use Rattle.profile_machine.specs.declared.world.marks.ScopeMark.{ScopeMark}
 use Rattle.profile_machine.specs.declared.world.tasks.Cause.TheVariants as inherited_by
 use Rattle.profile_machine.specs.declared.world.tasks.Task.{Task}
 use Rattle.profile_machine.specs.Dispatching.{active_of, ready}
-use Rattle.profile_machine.specs.Frames.{goes, pop, given, raise_if, raises, in_protected, is_deferred}
+use Rattle.profile_machine.specs.Frames.{goes, pop}
 use Rattle.profile_machine.specs.Inheritance.{inherit}
-use Rattle.profile_machine.specs.Program.{next_of, declaration_of, task_unit_of}
-use Rattle.profile_machine.specs.Scopes.{home, open_scope, plainly, end_scope, cells_of, scope_in_use}
-use Rattle.profile_machine.specs.Steps.{Done, done, goes_on_with, says, changes, looks, for_each, ◌▷◌}
+use Rattle.profile_machine.specs.Program.{next_of}
+use Rattle.profile_machine.specs.Scopes.{open_scope, plainly, end_scope, cells_of, scope_in_use}
+use Rattle.profile_machine.specs.Steps.{Done, done, goes_on_with, changes, looks, for_each, ◌▷◌}
 use Rattle.profile_machine.specs.Tasks.{task_of, edit_task}
-use Rattle.profile_machine.specs.Tasking.{unit_of_declaration, optional_span, created_task, add_task, says_created, create_task, create, is_to_activate, top_region_of_scope, no_failure, activate_one, await_group, activate_group, unit_of_task, activated_task, begin_task, left_by, says_left, behind_scope, end_of_scope}
+use Rattle.profile_machine.specs.Tasking.{is_to_activate, top_region_of_scope, no_failure, activate_one, await_group, activate_group, unit_of_task, activated_task, begin_task, left_by, says_left, behind_scope, end_of_scope}
 use Rattle.profile_machine.specs.Masters.{has_activating}
-use Rattle.profile_machine.specs.Operators.{Valued}
-use Rattle.profile_machine.specs.Values.{Seen, seen_by}
 use Rattle.machine_tasking.specs.KeptTasks.{kept_of, tasks_kept}
 use Rattle.machine_tasking.specs.declared.kept.Kept.{Kept}
 use Rattle.machine_tasking.proofs.KeptLemmas.{activate_each}

@@ -1,7 +1,7 @@
 -- Reading a file piece by piece.
 use Rattle.std.proofs.Common.{◌≡◌, ◌<◌, ◌+◌, ℕ, List, [], ◌++◌, Option, Some, None, IfSome, take, drop, refl, sym, ap, subst, ◌∙◌, append_assoc, arith}
 use Rattle.std.proofs.lemmas.List.{take-append-drop, drop-drop, length-drop, nil_from_length}
-use Rattle.ann_base.specs.Outside.{Lacks, LacksIn, HasRead, HasReadFile}
+use Rattle.ann_base.specs.Outside.{HasRead, HasReadFile}
 use Rattle.outside_bytes.specs.Files.{left_in, left_of}
 
 -- ---- one read
@@ -53,11 +53,3 @@ read_more (Some left) at behind bytes got asked count so_far piece =
 -- ---- the named file
 
 -- ---- why a file is not read
-
-lacks_in : (bytes : Option (List ℕ)) (rose : Type 0) → rose → LacksIn bytes rose
-lacks_in None rose h = tt
-lacks_in (Some bytes) rose h = h
-
-lacks : (files : Option (List ℕ → Option (List ℕ))) (name : List ℕ) (rose : Type 0) → rose → Lacks files name rose
-lacks None name rose h = h
-lacks (Some files) name rose h = lacks_in (files name) rose h

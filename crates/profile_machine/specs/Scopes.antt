@@ -1,5 +1,5 @@
 -- Scopes in use: where a name's cells are, how a scope begins and ends (3.1, 7.6.1, 8.2).
-use Rattle.std.specs.Prelude.{ℕ, suc, zero, pos, Bool, true, false, not, ◌&&◌, List, [], ◌∷◌, ◌++◌, Option, Some, None, eqb, length, find, option_map, slice_index_or, slice_set}
+use Rattle.std.specs.Prelude.{ℕ, suc, zero, pos, Bool, true, false, not, ◌&&◌, List, [], ◌∷◌, Option, Some, None, eqb, length, find, option_map, slice_index_or, slice_set}
 use Rattle.std.specs.Bool.{then_some}
 use Rattle.std.specs.List.{list_all}
 use Rattle.ann_base.specs.declared.identities.RegionNo.{RegionNo}

@@ -1,5 +1,5 @@
 -- The computed level is the greatest.
-use Rattle.std.proofs.Common.{◌≡◌, ℕ, ℤ, ◌<◌, ◌≤◌, Bool, true, false, cond, eqb, ltb, ◌||◌, ◌&&◌, List, [], ◌∷◌, refl, sym, subst, ◌∙◌, arith, inl, inr}
+use Rattle.std.proofs.Common.{◌≡◌, ℕ, ℤ, ◌≤◌, Bool, true, false, cond, eqb, ltb, List, [], ◌∷◌, refl, sym, subst, ◌∙◌, arith, inl, inr}
 use Rattle.std.specs.Prelude.{max, ◌⊎◌}
 use Rattle.ready_queues.specs.EdfLevels.{Dated, is_entered, MayPreempt, IsEdfLevel, may_preempt, raised_by, edf_level_of}
 

@@ -1,5 +1,5 @@
 -- A tock charges the task that runs, and nobody else.
-use Rattle.std.proofs.Common.{◌≡◌, ℕ, suc, Bool, true, false, cond, ◌&&◌, eqb, List, [], ◌∷◌, Option, Some, None, is_some, option_map, refl, sym, ap, subst, ◌∙◌, eq-eqb, arith, unwrap_or}
+use Rattle.std.proofs.Common.{◌≡◌, ℕ, suc, Bool, true, false, cond, ◌&&◌, eqb, List, [], ◌∷◌, Option, Some, None, is_some, option_map, refl, sym, ap, subst, ◌∙◌, arith, unwrap_or}
 use Rattle.ann_base.specs.declared.identities.TaskNo.{TaskNo}
 use Rattle.trace_text.specs.declared.events.Event.{Event}
 use Rattle.trace_text.specs.declared.events.Who.{Who}
@@ -97,9 +97,6 @@ risen-own t w (Some y) e = ap shown (set-itself t (clock_risen y) y refl w.tasks
 
 same_number : (a b : ℕ) → eqb a b ≡ true → a ≡ b
 same_number a b h = grind arith
-
-same_itself : (t : TaskNo) → same_task t t ≡ true
-same_itself t = eq-eqb t.0 t.0 refl
 
 risen-where : (t u : TaskNo) (w : World) (same : Bool) → same_task t u ≡ same → clock_in (risen t w).tasks u ≡ cond (same && is_there w u) (suc (clock_in w.tasks u)) (clock_in w.tasks u)
 risen-where t u w true e =

@@ -15,10 +15,6 @@ shown found = (unwrap_or found nobody).cpu_ticks
 abbrev pub clock_in : List Task → TaskNo → ℕ
 clock_in tasks t = shown (found_task (who.Task t) tasks)
 
-abbrev is_there : {X : Type 0} → Option X → Bool
-is_there (Some x) = true
-is_there None = false
-
 abbrev or_that : {X : Type 0} → X → Option X → X
 or_that x (Some y) = y
 or_that x None = x

@@ -34,11 +34,6 @@ number_of_event s = s.event
 abbrev pub handler_of_event : EventSet → HandlerOf
 handler_of_event s = s.handler
 
--- the first event that is due is the first of the events that has come
-or_that : {X : Type 0} → X → Option X → X
-or_that x (Some y) = y
-or_that x None = x
-
 abbrev Found : Option Appointment → Option EventSet → Type 0
 Found None None = Unit {0}
 Found (Some a) (Some s) = (a.due ≡ due_for.Event s.event s.handler)

@@ -152,9 +152,6 @@ all_quiet_settled : (clocks : List Clock) (passing : Passing) (last : ℕ) (item
 all_quiet_settled clocks passing last [] = tt
 all_quiet_settled clocks passing last (one ∷ items) = (quiet_settled clocks passing last one, all_quiet_settled clocks passing last items)
 
-pub same_itself : (last : ℕ) (items : List Dated) (clocks : List Clock) (places : ℕ → Option ℕ) → AllByRecursion (IsFit clocks last) items → IsKnown items places → IsSame last items clocks items clocks places
-same_itself last items clocks places fit known = record { tells = refl; fit = fit; within = λ most w. w; shown = λ s. s; once = λ o. o; placed = λ n. refl; known = known }
-
 pub same_with : (last : ℕ) (items : List Dated) (clocks : List Clock) (places : ℕ → Option ℕ) (given : Option ℕ) → AllByRecursion (IsFit clocks last) items → IsKnown items places → IsSame last items clocks items (with_clock given clocks) places
 same_with last items clocks places given fit known = record {
   tells = all_told_with given clocks last items fit;

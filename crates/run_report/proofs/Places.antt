@@ -1,6 +1,5 @@
 -- Where a task is kept, and what a line leaves of all tasks.
 use Rattle.std.proofs.Common.{◌≡◌, ◌≤◌, ◌<◌, ◌||◌, ◌==◌, ℕ, zero, suc, Bool, true, false, if◌then◌else◌, cond, List, [], ◌∷◌, ◌++◌, Option, Some, None, is_some, map, length, slice_get, slice_set, get_or, refl, ap, sym, subst, ◌∙◌, arith, inl, inr}
-use Rattle.std.specs.List.{AllByRecursion}
 use Rattle.std.specs.Option.{option_map}
 use Rattle.std.proofs.lemmas.Bool.{cases_Bool, eqb-true, eq-eqb, ne_eqb, false_from_ne_true}
 use Rattle.trace_text.specs.declared.events.Event.{Event}
@@ -10,11 +9,6 @@ use Rattle.run_report.specs.declared.tallies.Passing.{Passing}
 use Rattle.run_report.specs.declared.clocks.Clock.{Clock}
 use Rattle.run_report.specs.declared.dated.Dated.{Dated}
 use Rattle.run_report.specs.Clocks.{dated, next_tally, next_waited, stepped, number_in, named_by, is_number, place_in, place_at, IsEachOnce, place_if, place_of, checked_place, noted, step_of, step_at, written_at, written, is_told, followed, IsKnown}
-
-pub all_at : (P : Dated → Type 0) (items : List Dated) (place : ℕ) (one : Dated) → AllByRecursion P items → slice_get items place ≡ Some one → P one
-all_at P [] place one all e = cc
-all_at P (first ∷ items) zero one all e = let same : first ≡ one = cc in subst P same all.0
-all_at P (first ∷ items) (suc place) one all e = all_at P items place one all.1 e
 
 found_if : (b : Bool) (o : Option ℕ) → is_some o ≡ true → is_some (if b then Some 0 else option_map (λ place. suc place) o) ≡ true
 found_if true o known = refl

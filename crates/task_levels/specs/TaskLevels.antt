@@ -1,7 +1,6 @@
 -- The priorities of a task (ISO/IEC 8652:2012, D.1, D.2.6, D.5.1), and of all tasks by slot.
 use Rattle.std.specs.Prelude.{◌+◌, ℕ, Bool, true, false, ◌==◌, ◌||◌, if◌then◌else◌, max, List, [], ◌∷◌, ◌++◌, length, Option, Some, None, unwrap_or, slice_index_or, slice_set}
 use Rattle.ann_base.specs.declared.identities.Slot.{Slot}
-use Rattle.ann_base.specs.Slots.{IsSlot}
 use Rattle.task_levels.specs.declared.causes.Cause.{Cause}
 use Rattle.task_levels.specs.declared.causes.Cause.TheVariants.{Activation, Meeting, Ceiling}
 

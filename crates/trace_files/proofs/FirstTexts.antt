@@ -35,7 +35,3 @@ pub some_of_cut : (n : ℕ) (bytes : List ℕ) → is_some_byte (take n bytes) �
 some_of_cut zero bytes some = cc
 some_of_cut (suc n) [] some = some
 some_of_cut (suc n) (byte ∷ bytes) some = refl
-
-pub none_of_cut : (n : ℕ) (bytes : List ℕ) → is_some_byte (take (suc n) bytes) ≡ false → texts_in bytes ≡ []
-none_of_cut n [] none = refl
-none_of_cut n (byte ∷ bytes) none = cc

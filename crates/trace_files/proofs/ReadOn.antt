@@ -13,10 +13,6 @@ use Rattle.trace_files.specs.declared.texts.Next.TheVariants as next
 use Rattle.trace_files.specs.Texts.{IsLeft, GoesOn, IsBad, Takes}
 use Rattle.trace_files.proofs.FirstTexts.{first_text, first_line-take, some_of_cut}
 
--- the bytes that were read of the first text
-abbrev pub cut_text : ℕ → List ℕ → List ℕ
-cut_text before rest = take (LINE_BYTES + 1) (take (TRACE_BYTES + 1 - before) (first_line rest))
-
 -- they are the whole of it where they are no more than a line has, and within the bytes of a trace
 whole_text : (before : ℕ) (text line : List ℕ) → text ≡ take (LINE_BYTES + 1) (take (TRACE_BYTES + 1 - before) line) → length text ≤ LINE_BYTES → before + length text ≤ TRACE_BYTES → text ≡ line
 whole_text before text line is short within =

@@ -1,3 +1,1 @@
-pub mod ListLemmas
 mod PlaceLemmas
-pub mod TableLemmas

@@ -1,9 +1,9 @@
 -- What stands at a place of a table, and what is found and left under its number.
-use Rattle.std.proofs.Common.{◌≡◌, ℕ, ◌<◌, ◌≤◌, zero, suc, Bool, true, false, cond, ◌≢◌, ◌==◌, nat_lt, List, [], ◌∷◌, length, get_or, slice_set, slice_get, Some, None, refl, ap, arith, insert, remove}
+use Rattle.std.proofs.Common.{◌≡◌, ℕ, ◌<◌, ◌≤◌, zero, suc, Bool, true, false, cond, ◌≢◌, ◌==◌, nat_lt, List, [], ◌∷◌, length, get_or, slice_set, Some, None, refl, ap, arith, insert}
 use Rattle.std.proofs.lemmas.Bool.Decides.{nat_tests}
 use Rattle.std.specs.List.Sorted.{IsPartitionPoint}
 use borrow.Author.Tests.{ltb-true, ltb-false, eqb-true, eqb-false}
-use Rattle.world_tables.specs.Tables.{item_at, with_item, put, without, numbers_of, first_from, before_unless}
+use Rattle.world_tables.specs.Tables.{item_at, with_item, put}
 use Rattle.world_tables.specs.Rising.{StartsAbove, IsRising, Divides, Stands, Misses}
 
 -- tests of two numbers
@@ -68,18 +68,6 @@ module _ {X : Type 0} where
   with_item-stands n x (e ∷ es) zero up s = let number = s.number e in rw (equal e.0 n number)
   with_item-stands n x (e ∷ es) (suc p) up s = rw (unequal e.0 n (before n e es p up s)) (ap (λ zs. e ∷ zs) (with_item-stands n x es p up.1 (stands-behind n e es p s)))
 
-  -- a number that is not above the first is nowhere behind it
-  without-above : (n m : ℕ) (es : List (ℕ × X)) → n ≤ m → StartsAbove m es → IsRising es → without n es ≡ es
-  unfolding without
-  without-above n m [] le start up = refl
-  without-above n m (e ∷ es) le start up = rw (past e.0 n (omega arith)) (ap (λ zs. e ∷ zs) (without-above n e.0 es (omega arith) up.0 up.1))
-
-  pub without-stands : (n : ℕ) (es : List (ℕ × X)) (p : ℕ) → IsRising es → Stands n es p → without n es ≡ remove es p
-  unfolding without
-  without-stands n [] p up s = let within = s.within in absurd (omega arith)
-  without-stands n (e ∷ es) zero up s = let number = s.number e in rw (equal e.0 n number, without-above n e.0 es (omega arith) up.0 up.1)
-  without-stands n (e ∷ es) (suc p) up s = rw (unequal e.0 n (before n e es p up s)) (ap (λ zs. e ∷ zs) (without-stands n es p up.1 (stands-behind n e es p s)))
-
   pub put-stands : (n : ℕ) (x : X) (es : List (ℕ × X)) (p : ℕ) → IsRising es → Stands n es p → put n x es ≡ slice_set es p (n, x)
   unfolding put
   put-stands n x [] p up s = let within = s.within in absurd (omega arith)
@@ -113,17 +101,6 @@ module _ {X : Type 0} where
   put-misses n x (e ∷ es) zero up m = let h = m.above e (omega arith) in rw (not_below e.0 n (omega arith), past e.0 n h)
   put-misses n x (e ∷ es) (suc p) up m = rw (below e.0 n (m.below 0 e (omega arith))) (ap (λ zs. e ∷ zs) (put-misses n x es p up.1 (misses-behind n e es p m)))
 
-  pub first_from-divides : (n : ℕ) (es : List (ℕ × X)) (p : ℕ) → Divides n es p → first_from n (numbers_of es) ≡ slice_get (numbers_of es) p
-  unfolding first_from
-  first_from-divides n [] p d = refl
-  first_from-divides n (e ∷ es) zero d = rw (not_below e.0 n (d.rest e (omega arith)))
-  first_from-divides n (e ∷ es) (suc p) d =
-      rw (below e.0 n (d.below 0 e (omega arith))) (first_from-divides n es p (record {
-        within = let h = d.within in omega arith;
-        below = λ k x lt. d.below (suc k) x (omega arith);
-        rest = λ x lt. d.rest x (omega arith);
-      }))
-
   -- ---- the numbers still rise
 
   StartsAbove-put : (m n : ℕ) (x : X) (es : List (ℕ × X)) → m < n → StartsAbove m es → StartsAbove m (put n x es)
@@ -149,24 +126,6 @@ module _ {X : Type 0} where
       go true c lt q more = (StartsAbove-put e.0 n x es (ltb-true _ _ lt) up.0, more)
       go false true ge q more = (StartsAbove-weaker n e.0 es (let h = eqb-true _ _ q in omega arith) up.0, up.1)
       go false false ge q more = ((let h = ltb-false _ _ ge in let k : e.0 ≢ n = eqb-false _ _ q in let gap : n < e.0 = omega arith in gap), up)
-
-  StartsAbove-without : (m n : ℕ) (es : List (ℕ × X)) → StartsAbove m es → IsRising es → StartsAbove m (without n es)
-  unfolding without
-  StartsAbove-without m n [] start up = tt
-  StartsAbove-without m n (e ∷ es) start up = go (e.0 == n) (StartsAbove-without m n es (StartsAbove-weaker m e.0 es (let h = start in omega arith) up.0) up.1)
-    where
-      go : (b : Bool) → StartsAbove m (without n es) → StartsAbove m (before_unless b e (without n es))
-      go true more = more
-      go false more = start
-
-  pub IsRising-without : (n : ℕ) (es : List (ℕ × X)) → IsRising es → IsRising (without n es)
-  unfolding without
-  IsRising-without n [] up = tt
-  IsRising-without n (e ∷ es) up = go (e.0 == n) (IsRising-without n es up.1)
-    where
-      go : (b : Bool) → IsRising (without n es) → IsRising (before_unless b e (without n es))
-      go true more = more
-      go false more = (StartsAbove-without e.0 n es up.0 up.1, more)
 
   StartsAbove-with_item : (m n : ℕ) (x : X) (es : List (ℕ × X)) → StartsAbove m es → StartsAbove m (with_item n x es)
   unfolding with_item

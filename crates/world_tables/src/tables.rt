@@ -1,16 +1,13 @@
 //! Items by number.
-ghost use Rattle.std.specs.Prelude.{◌≡◌, ◌==◌, ℕ, [], Some, None, length, MatchResult, IfOk, IfErr, OnOk, OnErr, slice_get, option_copied};
+ghost use Rattle.std.specs.Prelude.{◌≡◌, ◌==◌, ℕ, [], Some, None, MatchResult, IfErr, OnOk, OnErr, option_copied};
 ghost use Rattle.std.specs.Option.{option_copied_mut};
 ghost use Rattle.std.specs.Borrow.{sem};
-ghost use Rattle.std.specs.Iterator.Runs.{YieldsRefsInOrder};
-ghost use Rattle.std.specs.VecDeque.Iter.{deque_iter_rest, deque_iter_steps};
-ghost use Rattle.world_tables.specs.Tables.{item_at, has_number, put, without, numbers_of, first_from};
+ghost use Rattle.world_tables.specs.Tables.{item_at, put};
 ghost use Rattle.world_tables.specs.Rising.{IsRising, Divides, Stands, Misses};
 
 use crate::lists::List;
-use std::alloc::{AllocError, AllocFailed, Global};
+use std::alloc::{AllocFailed, Global};
 use std::collections::VecDeque;
-use std::collections::vec_deque::Iter;
 use std::marker::Model;
 
 /// Items by number; contracts see the list of the pairs of a number and its item, in rising order of the numbers.
@@ -42,20 +39,6 @@ impl<T> Table<T> {
         }
     }
 
-    /// How many items there are.
-    pub fn len(&self) -> usize
-        ensures { result ≡ length self.now }
-    {
-        self.entries.len()
-    }
-
-    /// Whether there is no item.
-    pub fn is_empty(&self) -> bool
-        ensures { result ≡ (length self.now == 0) }
-    {
-        self.entries.is_empty()
-    }
-
     // Where the numbers begin that are not below this one.
     fn place(&self, number: u32) -> usize
         ensures { Divides number self.now result }
@@ -83,13 +66,6 @@ impl<T> Table<T> {
             Ok(place) => Some(&self.entries[place].1),
             Err(_) => None,
         }
-    }
-
-    /// Whether an item has this number.
-    pub fn contains(&self, number: u32) -> bool
-        ensures { result ≡ has_number number self.now }
-    {
-        self.get(number).is_some()
     }
 
     // The item that stands at this place under this number, for writing.
@@ -127,16 +103,6 @@ impl<T> Table<T> {
         }
     }
 
-    // Takes the item at this place, under this number, out.
-    fn take(&mut self, number: u32, place: usize) -> Option<T>
-        requires { Stands number self.old place }
-        ensures value { result ≡ item_at number self.old }
-        ensures rest { self.new ≡ without number self.old }
-    {
-        let (_, item) = self.entries.remove(place)?;
-        Some(item)
-    }
-
     /// Keeps the item under this number, in place of one that is there. Want of memory hands it back and leaves the
     /// table as it was. A number above all others is added at the end at no cost but for the look-up.
     pub fn put(&mut self, number: u32, item: T) -> Result<(), AllocFailed<T>>
@@ -153,63 +119,5 @@ impl<T> Table<T> {
             }
             Err(place) => self.insert(number, place, item),
         }
-    }
-
-    /// Takes the item with this number out, if it is there.
-    #[tactic(auto, using(crate::proofs::TableLemmas::table_laws))]
-    pub fn remove(&mut self, number: u32) -> Option<T>
-        ensures value { result ≡ item_at number self.old }
-        ensures rest { self.new ≡ without number self.old }
-    {
-        match self.find(number) {
-            Ok(place) => self.take(number, place),
-            Err(_) => None,
-        }
-    }
-
-    /// Takes every item out.
-    pub fn clear(&mut self)
-    where
-        T: Drop,
-        ensures { self.new ≡ [] }
-    {
-        self.entries.clear();
-    }
-
-    /// The number at a place, counted from 0 at the least.
-    pub fn number_at(&self, place: usize) -> Option<u32>
-        ensures { result ≡ slice_get (numbers_of self.now) place }
-    {
-        match self.entries.get(place) {
-            Some(entry) => Some(entry.0),
-            None => None,
-        }
-    }
-
-    /// The least number that is not below this one.
-    pub fn first_number_from(&self, least: u32) -> Option<u32>
-        ensures { result ≡ first_from least (numbers_of self.now) }
-    {
-        self.number_at(self.place(least))
-    }
-
-    /// The numbers in order, as a list of its own. A loop over them may change the table.
-    pub fn numbers(&self, alloc: Global) -> Result<List<u32>, AllocError>
-        ensures { IfOk result (λ numbers. numbers ≡ numbers_of self.now) }
-    {
-        let mut numbers = List::new(alloc);
-        for entry in self.entries.iter() {
-            numbers.push_back(entry.0)?;
-        }
-        Ok(numbers)
-    }
-
-    /// The numbers with their items, in order.
-    pub fn iter(&self) -> Iter<'_, (u32, T)>
-        ensures rest { deque_iter_rest result ≡ self.now }
-        ensures runs { YieldsRefsInOrder (deque_iter_steps {X = ℕ × T}) deque_iter_rest }
-        ensures rising { IsRising self.now }
-    {
-        self.entries.iter()
     }
 }

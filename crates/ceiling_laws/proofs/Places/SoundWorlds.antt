@@ -4,7 +4,7 @@ use Rattle.ann_base.specs.declared.identities.TaskNo.{TaskNo}
 use Rattle.ceiling_laws.proofs.Places.BesideLemmas.{same-self}
 use Rattle.ceiling_laws.proofs.Runs.Kept.Waking.{found-each, who-is}
 use Rattle.ceiling_laws.proofs.Runs.LevelMoves.{EachTask}
-use Rattle.ceiling_laws.proofs.Runs.SameLemmas.{found_is_who, set_where-seen}
+use Rattle.ceiling_laws.proofs.Runs.SameLemmas.{set_where-seen}
 use Rattle.ceiling_laws.specs.Cores.{Core, Same, core, is_delayed}
 use Rattle.profile_machine.specs.Appointments.{appoint, is_delay_of, put_appointment}
 use Rattle.profile_machine.specs.Inheritance.{same_cause}
@@ -283,7 +283,3 @@ pub all_there : (w : World) → Sound w → EachTask (IsThere w) w.tasks
 all_there w h =
     each-on (Known 0 w.drawn.tasks w.tasks) (IsThere w) w.tasks (λ t k. record { found = found_as t.who w t k.no_agent k.found; drawn = k.drawn_before; no_agent = k.no_agent })
     (each-known 0 w.drawn.tasks w.tasks h.names)
-
--- it was found under its name
-pub there-named : (w : World) (t : TaskNo) (x : Task) → task_at w (who.Task t) ≡ Some x → same_who (who.Task t) x.who ≡ true
-there-named w t x e = found_is_who (who.Task t) x w.tasks e

@@ -45,9 +45,6 @@ pub ceiling-found : (o : ObjectNo) (xs : List Object) (x : Object) → find (is_
 ceiling-found o [] x e = absurd cc
 ceiling-found o (y ∷ ys) x e = ceiling-test (is_object o y) o y x (find (is_object o) ys) (ceiling_at o (map ceiling_in ys)) e (λ k. ceiling-found o ys x k)
 
-some-number : (a b : ℕ) → Some a ≡ Some b → a ≡ b
-some-number a b e = cc
-
 shown-test : (b : Bool) (shown : List (ℕ × ℕ)) (o : ObjectNo) (x : Object) (c : ℕ) (rest : Option ℕ) → same_object o x.number ≡ b → level_of x.number.0 shown ≡ Some x.ceiling → cond b (Some x.ceiling) rest ≡ Some c → (rest ≡ Some c → level_of o.0 shown ≡ Some c) → level_of o.0 shown ≡ Some c
 shown-test true shown o x c rest is level e onward = ap (λ n. level_of n shown) (eqb-true o.0 x.number.0 is) ∙ level ∙ e
 shown-test false shown o x c rest is level e onward = onward e

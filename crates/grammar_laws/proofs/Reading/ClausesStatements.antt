@@ -1,5 +1,5 @@
 -- Statements without others in them, choices, iterations, handled exceptions (clauses 5, 6.5, 9.5.4, 9.8, 11).
-use Rattle.std.proofs.Common.{◌≡◌, ℕ, Bool, true, false, ◌&&◌, List, [], ◌∷◌, ◌++◌, refl, sym, ap, subst, codes}
+use Rattle.std.proofs.Common.{◌≡◌, ℕ, Bool, true, false, ◌&&◌, List, [], ◌∷◌, ◌++◌, refl, sym, subst, codes}
 use Rattle.std.specs.Prelude.{Option, Some, None}
 use Rattle.ann_base.specs.declared.places.Place.{Place}
 use Rattle.ada_lex.specs.Reserved.{is_reserved}
@@ -16,25 +16,24 @@ use Rattle.ada_tree.specs.declared.statements.Iteration.{Iteration}
 use Rattle.ada_tree.specs.declared.statements.Iteration.TheVariants as iterations
 use Rattle.ada_tree.specs.declared.statements.HandledExceptions.{HandledExceptions}
 use Rattle.ada_tree.specs.declared.statements.HandledExceptions.TheVariants as exceptions
-use Rattle.ada_tree.specs.declared.statements.Label.{Label}
 use Rattle.ada_tree.specs.declared.statements.Exit.{Exit}
-use Rattle.ada_tree.specs.Written.{Written, Lexeme, word, word_at, delimiter, identifier_written, flag, optional, each_written, behind, separated, one_identifier, name_written, end_name_written}
+use Rattle.ada_tree.specs.Written.{Written, Lexeme, word, word_at, delimiter, identifier_written, flag, optional, each_written, behind, separated, one_identifier, name_written}
 use Rattle.ada_tree.specs.SpellingExpressions.{expression_written}
-use Rattle.ada_tree.specs.SpellingStatements.{semicolon, choice_written, iteration_written, loop_name_written, when_written, exit_written, exceptions_written, with_abort_written, label_end_written}
+use Rattle.ada_tree.specs.SpellingStatements.{semicolon, choice_written, iteration_written, loop_name_written, when_written, exit_written, exceptions_written, with_abort_written}
 use Rattle.ada_tree.specs.ShapeExpressions.{optional_fits}
 use Rattle.ada_tree.specs.ShapeStatements.{value_fits, choice_fits, iteration_fits, exit_fits}
-use Rattle.ada_grammar.specs.Reading.{Parser, ◌>>=◌, ◌>>◌, pure, starts, sees_delimiter, sees_word, sees_identifier, the_word, the_delimiter, an_identifier, flag_of, end_name_of, name_of, names_of}
+use Rattle.ada_grammar.specs.Reading.{Parser, ◌>>=◌, ◌>>◌, pure, starts, sees_delimiter, sees_word, sees_identifier, the_word, the_delimiter, an_identifier, flag_of, name_of, names_of}
 use Rattle.ada_grammar.specs.ReadingExpressions.{expression_of}
-use Rattle.ada_grammar.specs.ReadingSimple.{bounds_of, value_choice_of, choice_of, while_of, for_of, iteration_of, label_end_of, loop_name_of, when_of, exit_of, null_of, result_value_of, return_of, exception_name_of, raise_of, abort_of, with_abort_of, requeue_of, exceptions_of}
+use Rattle.ada_grammar.specs.ReadingSimple.{bounds_of, value_choice_of, choice_of, while_of, for_of, iteration_of, loop_name_of, when_of, exit_of, null_of, result_value_of, return_of, exception_name_of, raise_of, abort_of, with_abort_of, requeue_of, exceptions_of}
 use Rattle.grammar_laws.specs.Leads.{Leads}
-use Rattle.grammar_laws.proofs.Reading.Exact.{done, pair_of, Found, Rest, Any, itself, Exact, first_true, second_true, ready, plain, narrower, closing, first_is, first_optional, optionally}
+use Rattle.grammar_laws.proofs.Reading.Exact.{done, pair_of, Rest, Any, itself, Exact, first_true, second_true, ready, plain, narrower, closing, first_is, first_optional, optionally}
 use Rattle.grammar_laws.proofs.Reading.Tokens.{always, shapeless, not_true, not_word, word_then, delimiter_then, word_exact, identifier_exact, flag_exact, sees_delimiter_first, sees_word_first, sees_word_at_first, sees_identifier_first, seen_delimiter}
 use Rattle.grammar_laws.proofs.Reading.Names.{not_delimiter, name_exact, names_exact, ends_names}
 use Rattle.grammar_laws.proofs.Reading.Choices.{Sound, either, one_form}
 use Rattle.grammar_laws.proofs.Reading.Ends.{ends_expression}
 use Rattle.grammar_laws.proofs.Reading.Expressions.{expression_exact}
-use Rattle.grammar_laws.proofs.Reading.ClausesEnds.{ends_exceptions, ends_result, ends_choice, ends_iteration, not_identifier, ends_name, ends_when, ends_label, stop_flag, identifier_no_others}
-use Rattle.grammar_laws.proofs.Reading.ClausesSteps.{optional_shapeless, delimiter_ends, word_ends, field_before, last_before, plain_before, word_kept, identifier_kept, end_name_exact, carried, chosen_by, passed_by, forked}
+use Rattle.grammar_laws.proofs.Reading.ClausesEnds.{ends_exceptions, ends_result, ends_choice, ends_iteration, not_identifier, ends_name, ends_when, stop_flag, identifier_no_others}
+use Rattle.grammar_laws.proofs.Reading.ClausesSteps.{optional_shapeless, delimiter_ends, word_ends, field_before, last_before, plain_before, word_kept, identifier_kept, carried, chosen_by, passed_by, forked}
 use Rattle.grammar_laws.proofs.Reading.ClausesValues.{value_is_no_others, value_no_others, value_no_reverse, value_is_no_semicolon}
 use Rattle.grammar_laws.proofs.Reading.ClausesSubtypes.{bounds_written, both_fit, bounds_exact, name_begins}
 
@@ -355,49 +354,3 @@ requeue_exact =
     (λ with_abort. delimiter_ends make _ (codes ";") (place, (entry, with_abort)) (((tt, refl), refl), refl) (λ j p. rw (p.0.0.1, p.0.1, p.1) refl))))
 
 -- ---- the name of a loop or a block behind its end
-
-abbrev pub label_name : Option Label → Option Identifier
-label_name None = None
-label_name (Some l) = Some l.name
-
-abbrev pub NamedSo : Option Identifier → Option Label → Type 0
-NamedSo given o = given ≡ label_name o
-
-abbrev some_label : Label → Option Label
-some_label l = Some l
-
-one_label : (name : Identifier) → Rest some_label (λ l. name ≡ l.name) (λ l. end_name_written l.named_at_end name) shapeless (not_word name.text) (label_end_of (Some name))
-one_label name =
-    closing some_label (λ l. name ≡ l.name) (not_word name.text) (λ l. l.named_at_end) (λ b. end_name_written b name) shapeless (end_name_of name.text) (λ named. record { name = name; named_at_end = named })
-    (end_name_exact name) (λ b. refl) (λ b. refl) (λ b l p e. rw (p, e) refl)
-
-same_name : (a b : Identifier) → Some a ≡ Some b → a ≡ b
-same_name a b e = ap (λ (o : Option Identifier). name_in a o) e
-  where
-    name_in : Identifier → Option Identifier → Identifier
-    name_in other None = other
-    name_in other (Some n) = n
-
-label_end_sound : (given : Option Identifier) (ls : List Lexeme) (x : Option Label) (r : List Lexeme) → label_end_of given ls ≡ done x r → Found itself (NamedSo given) (optional label_end_written) (optional_fits shapeless) x ls r
-label_end_sound None ls x r e = let is = pair_of None x ls r e in record { item = None; is = is.0; fits = refl; leads = is.1; shaped = refl }
-label_end_sound (Some name) ls x r e =
-    let f = (one_label name).sound ls x r e in
-    record {
-      item = Some f.item;
-      is = f.is;
-      fits = ap (λ (n : Identifier). Some n) f.fits;
-      shaped = refl;
-      leads = subst (λ (n : Identifier). Leads (end_name_written f.item.named_at_end n) ls r) f.fits f.leads;
-    }
-
-label_end_complete : (given : Option Identifier) (o : Option Label) (ls r : List Lexeme) → NamedSo given o → Leads (optional label_end_written o) ls r → ends_label given r ≡ true → label_end_of given ls ≡ done o r
-label_end_complete None None ls r p l end = rw l refl
-label_end_complete None (Some label) ls r p l end = absurd cc
-label_end_complete (Some name) None ls r p l end = absurd cc
-label_end_complete (Some name) (Some label) ls r p l end =
-    let is = same_name name label.name p in
-    (one_label name).complete label ls r is refl (subst (λ (n : Identifier). Leads (end_name_written label.named_at_end n) ls r) (sym is) l) end
-
--- the given name is the label's, behind which the name itself may not stand again
-pub label_end_exact : (given : Option Identifier) → Rest itself (NamedSo given) (optional label_end_written) (optional_fits shapeless) (ends_label given) (label_end_of given)
-label_end_exact given = record { sound = label_end_sound given; complete = λ o ls r p okay l end. label_end_complete given o ls r p l end }

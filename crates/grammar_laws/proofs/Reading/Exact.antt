@@ -280,9 +280,6 @@ neither false false e = (refl, refl)
 
 -- ---- a part that may be missing
 
-abbrev none : {A : Type 0} → A → Option A
-none a = None
-
 pub optionally : {A : Type 0} (begins : List Lexeme → Bool) (wa : A → List Written) (oka : A → Bool) (ends : List Lexeme → Bool) (p : Parser (Option A))
     → Rest (λ (a : A). Some a) Any wa oka ends p
     → ((a : A) (ls r : List Lexeme) → Leads (wa a) ls r → begins ls ≡ true)

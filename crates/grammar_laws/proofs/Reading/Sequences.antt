@@ -143,9 +143,6 @@ module _ (left : ℕ) (inner : SequenceRole → Parser Sequence) (deeper : Seque
 
   -- ---- handlers
 
-  handled_by : Place → HandledExceptions → Parser (Handler Sequence)
-  handled_by place exceptions = plain_of left inner deeper >>= (λ q. pure (record { place = place; exceptions = exceptions; statements = q }))
-
   same_handler : (place : Place) (exceptions : HandledExceptions) (ls : List Lexeme)
       → and_then {B = Handler Sequence} (plain_of left inner deeper ls) (λ q. pure (record { place = place; exceptions = exceptions; statements = q }))
       ≡ and_then {B = Handler Sequence} (statements_of left inner deeper ls) (λ inside. pure (record { place = place; exceptions = exceptions; statements = made [] inside [] }))

@@ -127,9 +127,6 @@ delimiter_spelt text l e = record {
 delimiter_is : (text : List ℕ) (p : Place) (l : Lexeme) → Spells (delimiter_at p text) l → (is_this_delimiter text l ≡ true) × (l.place ≡ p)
 delimiter_is text p l s = (rw (← s.kind, ← s.text) (text_same text), sym s.place)
 
-place_of : Lexeme → Place
-place_of l = l.place
-
 pub word_exact : (text : List ℕ) → Exact (λ p. word_at p text ∷ []) shapeless always (the_word text)
 unfolding the_word
 word_exact text = token_exact (is_this_word text) (λ l. l.place) (λ p. word_at p text) (word_spelt text) (word_is text)

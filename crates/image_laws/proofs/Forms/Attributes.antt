@@ -5,7 +5,6 @@ use Rattle.std.proofs.lemmas.Bool.{false≢true}
 use Rattle.ada_tree.specs.declared.names.Name.{Name}
 use Rattle.ada_tree.specs.declared.operators.Attribute.{Attribute}
 use Rattle.ada_tree.specs.declared.operators.Attribute.TheVariants as attribute
-use Rattle.profile_machine.specs.declared.declarations.EntryUnit.TheVariants as entry_unit
 use Rattle.ada_regions.specs.declared.entities.Denoted.{Denoted}
 use Rattle.ada_regions.specs.declared.entities.EntityKind.{EntityKind}
 use Rattle.ada_regions.specs.declared.entities.EntityKind.TheVariants as entity

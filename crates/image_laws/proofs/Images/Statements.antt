@@ -3,7 +3,6 @@ use Rattle.std.proofs.Common.{◌≡◌, Bool, true, ◌&&◌, List, [], ◌∷�
 use Rattle.std.proofs.lemmas.Bool.{and_from, and_parts}
 use Rattle.ada_tree.specs.declared.expressions.Expression.{Expression}
 use Rattle.ada_tree.specs.declared.statements.Sequence.{Sequence}
-use Rattle.ada_tree.specs.declared.statements.If.{If}
 use Rattle.ada_tree.specs.declared.statements.Elsif.{Elsif}
 use Rattle.ada_tree.specs.declared.statements.CaseAlternative.{CaseAlternative}
 use Rattle.ada_tree.specs.declared.statements.Handler.{Handler}

@@ -36,7 +36,7 @@ fn a_list_at_both_ends_and_at_places(rt: HostRuntime) {
 #[test]
 fn a_table_by_number(rt: HostRuntime) {
     let mut table = Table::new(rt.alloc());
-    assert!(rt; table.is_empty());
+    assert!(rt; table.get(4).is_none());
     for (number, item) in [(4, 40), (9, 90), (6, 60), (9, 91)] {
         table.put(number, item).expect(&rt, "memory");
     }
@@ -44,18 +44,5 @@ fn a_table_by_number(rt: HostRuntime) {
         *item = 61;
     }
     assert!(rt; table.get_mut(5).is_none());
-    assert!(rt; [table.get(6), table.get(9)] == [Some(&61), Some(&91)]);
-    assert!(rt; table.contains(4) && !table.contains(5));
-    let numbers = [
-        table.number_at(1),
-        table.number_at(3),
-        table.first_number_from(5),
-        table.first_number_from(10),
-        table.numbers(rt.alloc()).expect(&rt, "memory").pop_front(),
-    ];
-    assert!(rt; numbers == [Some(6), None, Some(6), None, Some(4)]);
-    assert!(rt; [table.remove(4), table.remove(4)] == [Some(40), None]);
-    assert!(rt; table.iter().count() == 2);
-    table.clear();
-    assert!(rt; table.len() == 0);
+    assert!(rt; [table.get(4), table.get(6), table.get(9)] == [Some(&40), Some(&61), Some(&91)]);
 }

@@ -43,9 +43,6 @@ stands_rooted ns h = standing-rooted ns h
 pub rooted : Stacking Rooted
 rooted = record { opened = λ n m ns release abortable h. (release, abortable, h); ended = ended-rooted }
 
-pub standing : Stacking Standing
-standing = record { opened = λ n m ns release abortable h. (release, abortable, h); ended = λ n ns e h. standing-rooted ns (ended-rooted n ns e h) }
-
 pub rooted-unabortable : (n : Nature) (ns : List Nature) → Rooted (n ∷ ns) → n.abortable ≡ false
 rooted-unabortable n [] h = h.1
 rooted-unabortable n (m ∷ ns) h = h.1

@@ -133,10 +133,6 @@ is_same-refl : (a b : Bool) → a ≡ b → is_same a b ≡ true
 is_same-refl true b e = sym e
 is_same-refl false b e = ap not (sym e)
 
-both_parts : (a b : Bool) → (a && b) ≡ true → (a ≡ true) × (b ≡ true)
-both_parts true b e = (refl, e)
-both_parts false b e = absurd (false≢true e)
-
 both_true : (a b : Bool) → a ≡ true → b ≡ true → (a && b) ≡ true
 both_true true b e f = f
 both_true false b e f = e

@@ -85,9 +85,6 @@ silent-from a w v g first next said = subst (λ xs. Kept (Does a) w said (g v xs
 
 -- ---- the mark on top ends
 
-abbrev At : Who → World → Type 0
-At a w = Inv w × Awake a w
-
 -- it is not special: somebody who acts is free below it
 pub plainly-from : (a : Who) (f : Frame) (g : Step) (w : World) → Inv w → Awake a w → top_of w a ≡ Some f → is_special f.mark ≡ false → Keeps (GoodAs (Free a)) (Moved (acting a) true (Free a)) g → From (Does a) w (changes (pop a) ▷ g)
 unfolding From

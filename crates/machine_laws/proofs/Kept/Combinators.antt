@@ -243,10 +243,6 @@ module _ {G : GoodWorld} {May Other : Naming} {R : StepRelation} {Q : MoveRelati
   unfolding Leads
   watches-leads f a w good = a w w good
 
-  pub branch-leads : (b : Bool) (f g : Move) → Leads G Q f → Leads G Q g → Leads G Q (elim b as (λ _. Move) [ true ↦ f | false ↦ g ])
-  branch-leads true f g a b = a
-  branch-leads false f g a b = b
-
   -- an effect is over
   settled-kept : (p : Image) (w : World) (d : Done) → Kept R w [] d → Q w (settled p d).1 (settled p d).0
   unfolding Kept

@@ -3,7 +3,7 @@ use Rattle.ann_base.specs.declared.identities.TaskNo.{TaskNo}
 use Rattle.ceiling_laws.proofs.Places.BesideLemmas.{same-self}
 use Rattle.world_laws.proofs.Places.CorePoints.{Holds, Places, Point, holds-put}
 use Rattle.world_laws.proofs.Places.SoundWorlds.{sound-forget}
-use Rattle.ceiling_laws.proofs.Places.SoundWorlds.{is_agent, is_fresh}
+use Rattle.ceiling_laws.proofs.Places.SoundWorlds.{is_agent}
 use Rattle.world_laws.proofs.Places.Standing.{Last}
 use Rattle.world_laws.proofs.Places.Puts.{Spot, last_put, puts}
 use Rattle.ceiling_laws.proofs.Runs.FoundLemmas.{by_test, kept-others, none-left}
@@ -20,9 +20,8 @@ use Rattle.profile_machine.specs.declared.world.lines.Line.TheVariants as line
 use Rattle.profile_machine.specs.declared.world.lines.Part.{Part}
 use Rattle.profile_machine.specs.declared.world.lines.Part.TheVariants.{TheBlock}
 use Rattle.profile_machine.specs.declared.world.tasks.Task.{Task}
-use Rattle.std.proofs.Common.{ap, arith, cond, inl, inr, le_refl, refl, subst, sym, ◌++◌, ◌∙◌, ◌∷◌, ◌≡◌, ◌⊎◌}
-use Rattle.std.proofs.lemmas.Bool.{le-leb}
-use Rattle.std.specs.Prelude.{Bool, List, None, Option, Some, [], false, find, leb, suc, true, ℕ, unwrap_or}
+use Rattle.std.proofs.Common.{ap, cond, inl, inr, refl, subst, sym, ◌++◌, ◌∷◌, ◌≡◌, ◌⊎◌}
+use Rattle.std.specs.Prelude.{Bool, List, None, Option, Some, [], false, find, suc, true, ℕ, unwrap_or}
 use Rattle.trace_text.specs.declared.events.Waits.{Waits}
 use Rattle.trace_text.specs.declared.events.Who.{Who}
 use Rattle.trace_text.specs.declared.events.Who.TheVariants as who
@@ -90,19 +89,6 @@ added_by t n None behind false is e = inl (ap (λ (r : Option Task). core (unwra
 pub add-found : (t : Task) (w : World) (n : Who) → (core (task_of (add_task t w) n) ≡ core (task_of w n)) ⊎ AddedAs t n (core (task_of w n)) (core (task_of (add_task t w) n))
 add-found t w (who.Task k) = added_by t (who.Task k) (find (is_who (who.Task k)) w.tasks) (find (is_who (who.Task k)) (w.tasks ++ t ∷ [])) (is_who (who.Task k) t) refl (find-behind (is_who (who.Task k)) t w.tasks)
 add-found t w who.Agent = inl refl
-
-less_number : (d k : ℕ) → leb (suc d) k ≡ true → leb d k ≡ true
-less_number d k e = grind arith
-
-pub fresh-less : (d : ℕ) (n : Who) → is_fresh (suc d) n ≡ true → is_fresh d n ≡ true
-fresh-less d (who.Task t) e = less_number d t.0 e
-fresh-less d who.Agent e = e
-
-pub drawn-more : (d : ℕ) (n : Who) → is_fresh d n ≡ false → is_fresh (suc d) n ≡ false
-drawn-more d n e = by_test (is_fresh (suc d) n) (λ fresh. absurd (let clash : false ≡ true = sym e ∙ fresh-less d n fresh in cc)) (λ apart. apart)
-
-pub fresh-next : (d : ℕ) → is_fresh d (who.Task (record { 0 = d })) ≡ true
-fresh-next d = le-leb d d (le_refl d)
 
 -- ---- lines that take somebody out
 

@@ -28,10 +28,8 @@ use Rattle.world_laws.proofs.Queues.NumberedLists as numbered
 use Rattle.line_laws.proofs.Exits.TaskEdits as edits_of
 use Rattle.world_laws.proofs.Queues.CallLists.{call_number, gone-at, left-at, same-call, taken-at}
 use Rattle.world_laws.proofs.Queues.Calming.{Softens, StandsAt, appointed-same, calm-from, came-same, edit_task-calls, edit_task-drawn, edit_task-fall, edit_task-objects, found-appointments, named-edited, softens-same, task-edited, task_of-same, there-same, unfirm-same}
-use Rattle.world_laws.proofs.Queues.NumberedLists.{by, edited-same, left-found, other-found}
 use Rattle.world_laws.proofs.Queues.Softening.{softens-plain}
 use Rattle.world_laws.proofs.Queues.Standing.{Awaited, Calm, Came, GoodBut, Idle, Kind, Open, Out, Stands, Unfirm, Waited, any_kind, none_late, object_key, served}
-use Rattle.line_laws.proofs.Exits.TaskEdits.{edited_to}
 
 by_test : {P : Type 0} (b : Bool) → (b ≡ true → P) → (b ≡ false → P) → P
 by_test true p q = p refl

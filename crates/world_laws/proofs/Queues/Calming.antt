@@ -26,12 +26,7 @@ use Rattle.line_laws.proofs.Exits.TaskEdits as edits_of
 use Rattle.profile_machine.specs.Notation.{agent, t}
 use Rattle.profile_machine.specs.WellFormed.{number_in}
 use Rattle.machine_laws.proofs.ListLemmas.{Falls, Falls-edit_where, Rises, Rises-set_where}
-use Rattle.world_laws.proofs.Queues.NumberedLists.{edited}
 use Rattle.world_laws.proofs.Queues.Standing.{Awaited, Calm, Came, Ended, Fall, Idle, Kind, Open, Own, Stands, Unfirm, Waited, awaits_at, ends_by, has_own, is_ending, is_named, is_task, natures, natures_of, none_late, object_key, served_in, some_nature, task_number, top_waits, waits_end}
-use Rattle.line_laws.proofs.Exits.TaskEdits.{edited_to, one_of, same_who-path}
-
-abbrev pub call_number : Call → ℕ
-call_number d = d.number.0
 
 -- ---- what an edit of somebody leaves alone
 

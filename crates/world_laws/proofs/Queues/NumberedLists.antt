@@ -1,5 +1,5 @@
 -- Lists of items with numbers: what is found by a number where one is edited, and where those of a number are taken out.
-use Rattle.std.proofs.Common.{◌≡◌, ℕ, suc, ◌≤◌, ◌<◌, Bool, true, false, cond, not, eqb, length, List, [], ◌∷◌, Option, Some, None, refl, sym, ap, subst, ◌∙◌, arith}
+use Rattle.std.proofs.Common.{◌≡◌, ℕ, suc, Bool, true, false, cond, not, eqb, List, [], ◌∷◌, Option, Some, None, refl, sym, ap, subst, ◌∙◌}
 use Rattle.std.specs.Prelude.{find, option_map}
 use Rattle.std.proofs.lemmas.Bool.{eqb-true, eq-eqb, true≢false}
 use Rattle.profile_machine.specs.Words.{edit_where, edit_found, set_where, without}
@@ -97,20 +97,3 @@ module _ {X : Type 0} (key : X → ℕ) where
   pub other-found : (n m : ℕ) (xs : List X) → eqb n m ≡ false → find (by n) (without (by m) xs) ≡ find (by n) xs
   other-found n m [] apart = refl
   other-found n m (z ∷ zs) apart = other-step n m z zs (without (by m) zs) (by m z) (by n z) refl refl apart (other-found n m zs apart)
-
-  -- and there are fewer, if one was there
-  no_more-step : (keep : Bool) (z : X) (left zs : List X) → length left ≤ length zs → length (cond keep (z ∷ left) left) ≤ suc (length zs)
-  no_more-step true z left zs h = omega (arith, h)
-  no_more-step false z left zs h = omega (arith, h)
-
-  no_more-without : (m : ℕ) (xs : List X) → length (without (by m) xs) ≤ length xs
-  no_more-without m [] = omega arith
-  no_more-without m (z ∷ zs) = no_more-step (not (by m z)) z (without (by m) zs) zs (no_more-without m zs)
-
-  fewer-step : (m : ℕ) (z x : X) (zs : List X) (b : Bool) → cond b (Some z) (find (by m) zs) ≡ Some x → (find (by m) zs ≡ Some x → length (without (by m) zs) < length zs) → length (cond (not b) (z ∷ without (by m) zs) (without (by m) zs)) < suc (length zs)
-  fewer-step m z x zs true e onward = let few : length (without (by m) zs) ≤ length zs = no_more-without m zs in omega (arith, few)
-  fewer-step m z x zs false e onward = let few : length (without (by m) zs) < length zs = onward e in omega (arith, few)
-
-  pub fewer-without : (m : ℕ) (xs : List X) (x : X) → find (by m) xs ≡ Some x → length (without (by m) xs) < length xs
-  fewer-without m [] x e = absurd cc
-  fewer-without m (z ∷ zs) x e = fewer-step m z x zs (by m z) e (fewer-without m zs x)

@@ -1,49 +1,18 @@
 -- A task, or the agent, as it stands in a world: what holds of it where somebody is edited.
-use Rattle.std.proofs.Common.{◌≡◌, Bool, true, false, cond, List, [], ◌∷◌, ◌++◌, Option, Some, None, refl, sym, ap, subst, ◌∙◌}
-use Rattle.std.proofs.lemmas.Bool.{false≢true}
-use Rattle.std.specs.Prelude.{find, not, unwrap_or}
+use Rattle.std.proofs.Common.{◌≡◌, Bool, true, false, cond, List, [], ◌∷◌, ◌++◌, Some, None, refl, sym, subst}
+use Rattle.std.specs.Prelude.{find, not}
 use Rattle.ann_base.specs.declared.identities.TaskNo.{TaskNo}
 use Rattle.trace_text.specs.declared.events.Who.{Who}
 use Rattle.trace_text.specs.declared.events.Who.TheVariants as who
 use Rattle.profile_machine.specs.declared.world.tasks.Task.{Task}
-use Rattle.profile_machine.specs.Words.{same_who, set_where, without}
+use Rattle.profile_machine.specs.Words.{same_who, without}
 use Rattle.profile_machine.specs.Tasks.{is_who, nobody}
-use Rattle.line_laws.proofs.Exits.TaskEdits.{apart-names, both-same, none-left, one_of, other-name, same_who-path, seen, some-none, some-same, tail-step}
-
-by_test : {P : Type 0} (b : Bool) → (b ≡ true → P) → (b ≡ false → P) → P
-by_test true p q = p refl
-by_test false p q = q refl
-
-other-one : (m k : TaskNo) (name : Who) → same_who (who.Task m) name ≡ true → same_who (who.Task k) name ≡ false → same_who (who.Task m) (who.Task k) ≡ false
-other-one m k name e f =
-    by_test (same_who (who.Task m) (who.Task k))
-    (λ same. absurd (false≢true (sym f ∙ subst (λ n. same_who n name ≡ true) (same_who-path (who.Task m) (who.Task k) same) e)))
-    (λ apart. apart)
+use Rattle.line_laws.proofs.Exits.TaskEdits.{apart-names, none-left, one_of, same_who-path, seen, tail-step}
 
 -- ---- what holds of the one that is found, or of nobody
 
 -- from P before to R behind: of the one that is edited by the edit, and of another as it is
 module _ (P R : Task → Type 0) (m k : TaskNo) (x y : Task) (named : y.who ≡ x.who) (same : same_who (who.Task m) (who.Task k) ≡ true → P x → R y) (apart : same_who (who.Task m) (who.Task k) ≡ false → (t : Task) → P t → R t) where
-  head-step : (c : Bool) (rest : Option Task) → is_who (who.Task m) x ≡ c → is_who (who.Task k) x ≡ true → seen P (cond c (Some x) rest) → seen R (cond (is_who (who.Task m) y) (Some y) rest)
-  head-step true rest e f h = subst (λ b. seen R (cond b (Some y) rest)) (sym (ap (same_who (who.Task m)) named ∙ e)) (same (both-same m k x.who e f) h)
-  head-step false rest e f h = subst (λ b. seen R (cond b (Some y) rest)) (sym (ap (same_who (who.Task m)) named ∙ e)) (apart (other-name m k x.who e f) (unwrap_or rest nobody) h)
-
-  rest-step : (c : Bool) (z : Task) (rest other : Option Task) → is_who (who.Task m) z ≡ c → is_who (who.Task k) z ≡ false → (seen P rest → seen R other) → seen P (cond c (Some z) rest) → seen R (cond c (Some z) other)
-  rest-step true z rest other e f onward h = apart (other-one m k z.who e f) z h
-  rest-step false z rest other e f onward h = onward h
-
-  set-step : (b : Bool) (z : Task) (zs : List Task) → is_who (who.Task k) z ≡ b → cond b (Some z) (find (is_who (who.Task k)) zs) ≡ Some x
-      → (find (is_who (who.Task k)) zs ≡ Some x → seen P (find (is_who (who.Task m)) zs) → seen R (find (is_who (who.Task m)) (set_where (is_who (who.Task k)) y zs)))
-      → seen P (cond (is_who (who.Task m) z) (Some z) (find (is_who (who.Task m)) zs)) → seen R (find (is_who (who.Task m)) (cond b (y ∷ zs) (z ∷ set_where (is_who (who.Task k)) y zs)))
-  set-step true z zs is e onward h =
-      let one : z ≡ x = some-same z x e in
-      head-step (is_who (who.Task m) x) (find (is_who (who.Task m)) zs) refl (subst (λ t. is_who (who.Task k) t ≡ true) one is)
-      (subst (λ t. seen P (cond (is_who (who.Task m) t) (Some t) (find (is_who (who.Task m)) zs))) one h)
-  set-step false z zs is e onward h = rest-step (is_who (who.Task m) z) z (find (is_who (who.Task m)) zs) (find (is_who (who.Task m)) (set_where (is_who (who.Task k)) y zs)) refl is (onward e) h
-
-  set-all : (zs : List Task) → find (is_who (who.Task k)) zs ≡ Some x → seen P (find (is_who (who.Task m)) zs) → seen R (find (is_who (who.Task m)) (set_where (is_who (who.Task k)) y zs))
-  set-all [] e h = absurd (some-none x e)
-  set-all (z ∷ zs) e h = set-step (is_who (who.Task k) z) z zs refl e (λ g i. set-all zs g i) h
 
 -- ---- tasks that come and go
 

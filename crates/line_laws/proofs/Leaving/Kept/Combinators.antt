@@ -84,18 +84,9 @@ module _ {G : GoodWorld} {May Acts Pushes : Naming} {Stops : Type 0} {R : StepRe
   cond-keeps true f g a b = a
   cond-keeps false f g a b = b
 
-  pub option-keeps : {X : Type 0} (x : Option X) (f : Step) (g : X → Step) → Keeps G R f → ((y : X) → Keeps G R (g y)) → Keeps G R (elim x as (λ _. Step) [ None ↦ f | Some y ↦ g y ])
-  option-keeps None f g a b = a
-  option-keeps (Some y) f g a b = b y
-
   pub when-keeps : (b : Bool) (step : Step) → Keeps G R step → Keeps G R (when b step)
   when-keeps true step a = a
   when-keeps false step a = nothing-keeps
-
-  -- the step is kept where the test holds
-  pub when-keeps-if : (b : Bool) (step : Step) → (b ≡ true → Keeps G R step) → Keeps G R (when b step)
-  when-keeps-if true step a = a refl
-  when-keeps-if false step a = nothing-keeps
 
   pub for_some-keeps : {X : Type 0} (x : Option X) (f : X → Step) → ((y : X) → Keeps G R (f y)) → Keeps G R (for_some x f)
   for_some-keeps None f a = nothing-keeps
@@ -208,10 +199,6 @@ module _ {G : GoodWorld} {May Acts Pushes : Naming} {Stops : Type 0} {R : StepRe
   pub watches-leads : (f : World → Move) → ((v : World) → Leads G Q (f v)) → Leads G Q (watches f)
   unfolding Leads
   watches-leads f a w good = a w w good
-
-  pub branch-leads : (b : Bool) (f g : Move) → Leads G Q f → Leads G Q g → Leads G Q (elim b as (λ _. Move) [ true ↦ f | false ↦ g ])
-  branch-leads true f g a b = a
-  branch-leads false f g a b = b
 
   -- an effect is over
   settled-kept : (p : Image) (w : World) (d : Done) → Kept R w [] d → Q w (settled p d).1 (settled p d).0

@@ -1,4 +1,4 @@
-use Rattle.std.proofs.Common.{◌≡◌, ◌≤◌, ◌++◌, drop}
+use Rattle.std.proofs.Common.{◌≤◌, ◌++◌, drop}
 use Rattle.outside_bytes.proofs.PiecesWritten.{Written}
 use Rattle.run_report.specs.Kept.{accounts_in}
 use Rattle.run_report.specs.Texts.{account_texts, totals_text, text_in}

@@ -61,7 +61,6 @@ use Rattle.world_laws.proofs.Actions.MadeTasks.{MadeOf, Member, filter-member, m
 use Rattle.world_laws.proofs.Actions.GoodMoves.{Nobody, add_task-made, free-by_test, free-floor, free-region, good_moves}
 use Rattle.world_laws.proofs.Actions.Kept.Switching.{Only, less-from, switch-from}
 use Rattle.profile_machine.specs.Words.{is_the, same_region}
-use Rattle.profile_machine.specs.declared.world.lines.Line.TheVariants.{New}
 use Rattle.profile_machine.specs.Inheritance.{inherit}
 use Rattle.profile_machine.specs.declared.world.tasks.Cause.TheVariants as inherited_by
 

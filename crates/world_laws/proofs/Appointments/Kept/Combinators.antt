@@ -8,13 +8,11 @@ use Rattle.profile_machine.specs.declared.world.World.{World}
 use Rattle.profile_machine.specs.declared.world.lines.Line.{Line}
 use Rattle.profile_machine.specs.declared.world.lines.Part.{Part}
 use Rattle.profile_machine.specs.declared.world.lines.Said.{Said}
-use Rattle.profile_machine.specs.declared.world.tasks.Task.{Task}
 use Rattle.profile_machine.specs.Operators.{Valued}
 use Rattle.profile_machine.specs.Statements.{sees}
 use Rattle.profile_machine.specs.Steps.{Step, Move, Done, done, goes_on_with, nothing, changes, says, looks, when, for_some, for_each, placed_by, settled, settles, ◌▷◌, ◌▶◌}
 use Rattle.profile_machine.specs.Values.{Seen, seen_by}
 use Rattle.machine_laws.proofs.Moves.{StepRelation, MoveRelation, lines_of}
-use Rattle.world_laws.proofs.Appointments.Delays.{EachTask}
 use Rattle.world_laws.proofs.Appointments.FineMoves.{GoodWorld, Naming, FineMoves, is_apart}
 use Rattle.machine_laws.proofs.Kept.Combinators.{From, Gives, Kept}
 
@@ -111,11 +109,6 @@ module _ {G : GoodWorld} {May : Naming} {R : StepRelation} {Q : MoveRelation} (m
   pub for_each-keeps : {X : Type 0} (xs : List X) (f : X → Step) → ((y : X) → Keeps G R (f y)) → Keeps G R (for_each xs f)
   for_each-keeps [] f a = nothing-keeps
   for_each-keeps (x ∷ xs) f a = then-keeps (f x) (for_each xs f) (a x) (for_each-keeps xs f a)
-
-  -- the same of tasks of which something holds
-  pub for_each_task-keeps : (P : Task → Type 0) (ts : List Task) (f : Task → Step) → EachTask P ts → ((t : Task) → P t → Keeps G R (f t)) → Keeps G R (for_each ts f)
-  for_each_task-keeps P [] f each a = nothing-keeps
-  for_each_task-keeps P (t ∷ ts) f each a = then-keeps (f t) (for_each ts f) (a t each.0) (for_each_task-keeps P ts f each.1 a)
 
   -- ---- from one world
 

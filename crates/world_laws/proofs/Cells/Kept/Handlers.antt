@@ -27,7 +27,6 @@ use Rattle.profile_machine.specs.Frames.{has_room}
 use Rattle.profile_machine.specs.Values.{Seen}
 use Rattle.profile_machine.specs.Serving.{end_release}
 use Rattle.profile_machine.specs.Handlers.{add_release, says_release, wake_agent, release, with_room_for_release, scope_size_of, begin_handler, begin_handler_if_room, enter_handler, call_handler, interrupt, setting_of, answer, cancel_event_setting, appoint_event, event_set_to, set_event, cancel_event, clear_timer, with_timer_set, timer_set_beyond, timer_set_to, set_timer, cancel_timer, edit_budget, change_member, add_member, remove_member, fill_budget, replenish, add_to_budget, set_budget, cancel_budget, clock_risen, charge_budget, quantum_spent_by, charge_clock, charge_group, charge_task, charge}
-use Rattle.profile_machine.specs.declared.world.tasks.Task.{Task}
 use Rattle.world_laws.proofs.Cells.RightCells.{Right, Keeps, Alters, then-keeps, nothing-keeps, changes-keeps, says-keeps, looks-keeps, sees-keeps, branch-keeps, for_some-keeps, unchanged-alters, next-alters}
 use Rattle.world_laws.proofs.Cells.Kept.Tasks.{edit_task-alters}
 use Rattle.world_laws.proofs.Cells.Kept.Dispatching.{ready-keeps}

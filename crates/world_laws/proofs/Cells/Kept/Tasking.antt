@@ -21,7 +21,6 @@ use Rattle.profile_machine.specs.Steps.{Step}
 use Rattle.profile_machine.specs.Frames.{has_room, pass_on}
 use Rattle.profile_machine.specs.Controlled.{next_to_finalize, finalize}
 use Rattle.profile_machine.specs.Tasking.{add_task, says_created, create_task, create, fall_from, unit_of_task, begin_task, says_done, fail_to_begin, activate_one, await_group, activate_group, activate, end_own_activation, end_made, complete_if_task, wait_for_dependents, leave_region, end_environment, end_task, is_normal, end_body, behind_scope, says_left, end_of_scope, go_on_leaving, end_scope_mark_of, end_scope_mark, says_abort, abort_one, unwind_by, unwind_one, abort_all, abort_statement, block_at_terminate, take_terminates, unwind_all}
-use Rattle.profile_machine.specs.declared.world.tasks.Task.{Task}
 use Rattle.world_laws.proofs.Cells.RightCells.{Right, Keeps, Alters, then-keeps, nothing-keeps, changes-keeps, says-keeps, looks-keeps, sees-keeps, branch-keeps, cond-keeps, option-keeps, when-keeps, for_some-keeps, for_each-keeps}
 use Rattle.world_laws.proofs.Cells.Kept.Tasks.{edit_task-alters}
 use Rattle.world_laws.proofs.Cells.Kept.Dispatching.{to_head-keeps, ready-keeps, says_block-keeps, block-keeps}

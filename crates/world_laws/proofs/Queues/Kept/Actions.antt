@@ -102,7 +102,7 @@ use Rattle.world_laws.proofs.Queues.Kept.Subprograms.{begin_body-keeps, handing-
 use Rattle.world_laws.proofs.Queues.Moving.{Begun, Next, Serves, calm-next, next-then, served-next}
 use Rattle.world_laws.proofs.Queues.Softening.{Unset, pop-calm, push-calm}
 use Rattle.world_laws.proofs.Queues.Standing.{Awake, Calm, Ended, Good, Idle, Kind, Out, Own, Stands, any_kind, awaits_at, awaits_part, calm-awake, calm-good, calm-idle, calm-out, calm-owns, calm-then, ended-out, ends_by, ends_part, has_own, natures, natures_of, one_if, own_in, part_of, queued-idle, quiet_kind, served, served_in, service, some_nature, top_waits}
-use Rattle.line_laws.proofs.Exits.TaskEdits.{edited_to, same_who-path}
+use Rattle.line_laws.proofs.Exits.TaskEdits.{same_who-path}
 
 -- ---- an object is entered
 

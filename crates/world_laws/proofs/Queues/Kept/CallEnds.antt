@@ -39,10 +39,8 @@ use Rattle.world_laws.proofs.Queues.CallLists.{call_number}
 use Rattle.world_laws.proofs.Queues.Calming.{task-edited}
 use Rattle.world_laws.proofs.Queues.Kept.Combinators.{Calms, From, Gives, Keeps, Quiets, calms-from, changes-calms, changes-from, looks_at-from, nothing-from, stays-calm, then-after, then-calms, then-from, when-from, with_call-from}
 use Rattle.world_laws.proofs.Queues.Kept.Frames.{Same, drop_delay-quiets, edit_call-quiets, edit_task-quiets, goes-keeps, grant_quantum-quiets, keep_level-quiets, leaves-calms, leaves-keeps, raises-keeps, ready-calms, runnable-quiets, store-gives}
-use Rattle.world_laws.proofs.Queues.NumberedLists.{found-key}
 use Rattle.world_laws.proofs.Queues.Softening.{marks-calm}
 use Rattle.world_laws.proofs.Queues.Standing.{Awake, Calm, Good, Kind, Out, any_kind, calm-awake, calm-good, calm-then, is_ending, nature, natures, waits_end}
-use Rattle.line_laws.proofs.Exits.TaskEdits.{edited_to}
 
 -- ---- cancellation is attempted
 

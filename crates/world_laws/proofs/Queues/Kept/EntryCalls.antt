@@ -72,7 +72,6 @@ use Rattle.world_laws.proofs.Queues.Kept.Sending.{not_accepted-from}
 use Rattle.world_laws.proofs.Queues.Moving.{Next, calm-next, next-then}
 use Rattle.world_laws.proofs.Queues.Softening.{natures-length, push-calm}
 use Rattle.world_laws.proofs.Queues.Standing.{Awake, Calm, Good, Idle, Kind, Out, Own, Stands, Waited, Waited_in, any_kind, awaits_at, calm-awake, calm-good, calm-idle, ends_by, fresh-idle, fresh-out, has_own, is_ending, natures, natures_of, quiet_kind, served, some_nature, Awaited, Open, Unfirm, none_late}
-use Rattle.line_laws.proofs.Exits.TaskEdits.{edited_to}
 
 -- ---- a call is made: nothing knows its number yet
 

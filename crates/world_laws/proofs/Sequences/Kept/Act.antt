@@ -65,9 +65,6 @@ keeping-nature e (InInitialize l) = refl
 keeping-nature e (InFinalize o) = refl
 keeping-nature e (InAssign m) = refl
 
-waiting-nature : (x : Frame) → nature (edit_abortable waiting_mark x.mark) ≡ nature x.mark
-waiting-nature x = abortable-nature waiting_mark x.mark
-
 module _ {p : Image} {G : GoodWorld} {May Other : Naming} (moves : FineMoves p G May Other) where
   pub handle_or_pass-keeps : (name : Who) (e : Raised) (next : Option StatementNo) → May name → Keeps G (Behind G) (handle_or_pass p name e next)
   unfolding handle_or_pass

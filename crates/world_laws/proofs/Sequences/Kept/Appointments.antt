@@ -1,8 +1,6 @@
 -- Appointments that are set and dropped: each step keeps a relation that its parts keep.
 use Rattle.profile_machine.specs.declared.image.Image.{Image}
-use Rattle.std.proofs.Common.{◌≡◌, ℕ, ℤ, Bool, true, false, arith}
-use Rattle.std.specs.Prelude.{int_le, int_lt, pos}
-use Rattle.std.proofs.lemmas.Int.{ints}
+use Rattle.std.proofs.Common.{ℕ, ℤ, Bool, true, false}
 use Rattle.trace_text.specs.declared.events.Who.{Who}
 use Rattle.trace_text.specs.declared.events.Who.TheVariants as who
 use Rattle.profile_machine.specs.declared.world.World.{World}
@@ -13,10 +11,6 @@ use Rattle.machine_laws.proofs.FineMoves.{GoodWorld, Naming}
 use Rattle.world_laws.proofs.Sequences.FineMoves.{FineMoves, Behind}
 use Rattle.world_laws.proofs.Sequences.Kept.Combinators.{changes-from, unchanged-alters}
 use Rattle.machine_laws.proofs.Kept.Combinators.{Alters, From}
-
--- a moment that is not past is later
-pub is_later : (now : ℕ) (moment : ℤ) → int_le moment (pos now) ≡ false → int_lt (pos now) moment ≡ true
-is_later now moment h = grind (arith, ints)
 
 module _ {p : Image} {G : GoodWorld} {May Other : Naming} (moves : FineMoves p G May Other) where
   pub appoint-from : (due : Due) (moment : ℤ) (w : World) → G w → From (Behind G) w (changes (appoint due moment))

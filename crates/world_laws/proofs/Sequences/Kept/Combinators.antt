@@ -243,10 +243,6 @@ module _ {p : Image} {G : GoodWorld} {May Other : Naming} (moves : FineMoves p G
       let more = said ++ record { part = part; line = line } ∷ [] in
       then-kept w w said more (g w more) (said-from part line w a said) (b more)
 
-  pub either-from : (b : Bool) (f g : Step) (w : World) → From (Behind G) w f → From (Behind G) w g → From (Behind G) w (elim b as (λ _. Step) [ true ↦ f | false ↦ g ])
-  either-from true f g w a b = a
-  either-from false f g w a b = b
-
   -- a change, and a step from the world that it makes
   pub changes_then-from : (f : World → World) (g : Step) (w : World) → Behind G w [] (f w) → From (Behind G) (f w) g → From (Behind G) w (changes f ▷ g)
   unfolding From
@@ -291,10 +287,6 @@ module _ {p : Image} {G : GoodWorld} {May Other : Naming} (moves : FineMoves p G
   pub watches-leads : (f : World → Move) → ((v : World) → Leads G (BehindMove G) (f v)) → Leads G (BehindMove G) (watches f)
   unfolding Leads
   watches-leads f a w good = a w w good
-
-  pub branch-leads : (b : Bool) (f g : Move) → Leads G (BehindMove G) f → Leads G (BehindMove G) g → Leads G (BehindMove G) (elim b as (λ _. Move) [ true ↦ f | false ↦ g ])
-  branch-leads true f g a b = a
-  branch-leads false f g a b = b
 
   -- an effect is over
   settled-kept : (w : World) (d : Done) → Kept (Behind G) w [] d → BehindMove G w (settled p d).1 (settled p d).0

@@ -22,7 +22,7 @@ use Rattle.profile_machine.specs.Frames.{top_of, new_frame, edit_first, edit_top
 use Rattle.profile_machine.specs.Operators.{Valued}
 use Rattle.machine_laws.proofs.FineMoves.{GoodWorld, Naming, nature, natures}
 use Rattle.world_laws.proofs.Sequences.FineMoves.{FineMoves, Openings, Behind, StaysOn, onward_in}
-use Rattle.world_laws.proofs.Sequences.Kept.Combinators.{branch-keeps, changes-keeps, keeps-from, looks-keeps, looks_at-from, nothing-keeps, says-keeps, then-keeps, when-keeps, changes-from, changes_then-from}
+use Rattle.world_laws.proofs.Sequences.Kept.Combinators.{branch-keeps, changes-keeps, keeps-from, looks-keeps, nothing-keeps, says-keeps, then-keeps, when-keeps, changes-from, changes_then-from}
 use Rattle.world_laws.proofs.Sequences.Kept.Tasks.{edit_frames-alters}
 use Rattle.std.proofs.Common.{◌≡◌, List, [], ◌∷◌, refl, ap, inl, inr}
 use Rattle.machine_laws.proofs.Kept.Combinators.{Alters, From, Gives, Keeps}
@@ -144,13 +144,6 @@ module _ {p : Image} {G : GoodWorld} {May Other : Naming} (moves : FineMoves p G
   unfolding Gives
   becomes-from part name (Ok next) w good a = changes-from moves (λ _. next) w a
   becomes-from part name (Err e) w good a = keeps-from moves (raises part name e) w good (raises-keeps part name e)
-
-  branch-from : (name : Who) (test : Bool) (e : Raised) (step : Step) (w : World) → G w → From (Behind G) w step → From (Behind G) w (elim test as (λ _. Step) [ true ↦ step | false ↦ raises Own name e ])
-  branch-from name true e step w good k = k
-  branch-from name false e step w good k = keeps-from moves (raises Own name e) w good (raises-keeps Own name e)
-
-  pub with_room-from : (name : Who) (marks cells : ℕ) (step : Step) (w : World) → G w → From (Behind G) w step → From (Behind G) w (with_room name marks cells step)
-  with_room-from name marks cells step w good k = looks_at-from moves (λ v. elim (has_room v name marks cells) as (λ _. Step) [ true ↦ step | false ↦ raises Own name exception.Storage ]) w (branch-from name (has_room w name marks cells) exception.Storage step w good k)
 
   pub raise_if-keeps : (name : Who) (test : Bool) (e : Raised) (step : Step) → Keeps G (Behind G) step → Keeps G (Behind G) (raise_if name test e step)
   raise_if-keeps name true e step kept = search (raises-keeps)

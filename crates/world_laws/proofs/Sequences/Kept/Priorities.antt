@@ -1,5 +1,5 @@
 -- Base priorities and deadlines that are set: each step keeps a relation that its parts keep.
-use Rattle.std.specs.Prelude.{ℕ, ℤ, ◌&&◌, Option, Some, None, Ok, ◌||◌, Err}
+use Rattle.std.specs.Prelude.{ℕ, ℤ, ◌&&◌, Option, Some, None, ◌||◌}
 use Rattle.ann_base.specs.Results.{◌>>=◌}
 use Rattle.ann_base.specs.declared.exceptions.Raised.TheVariants as exception
 use Rattle.trace_text.specs.declared.events.Who.{Who}
@@ -32,19 +32,8 @@ use Rattle.world_laws.proofs.Sequences.Kept.Dispatching.{to_tail-keeps}
 use Rattle.world_laws.proofs.Sequences.Kept.Frames.{goes-keeps, given-keeps, raise_if-keeps, given-from, given_as-from}
 use Rattle.world_laws.proofs.Sequences.Kept.Calls.{edit_call-alters, with_call-keeps, edit_queue-alters}
 use Rattle.world_laws.proofs.Sequences.Kept.Statements.{delay_to-keeps}
-use Rattle.std.proofs.Common.{◌≡◌, refl, subst}
-use Rattle.profile_machine.specs.Operators.{Valued}
-use Rattle.profile_machine.specs.declared.world.World.{World}
-use Rattle.ann_base.specs.declared.identities.TaskNo.{TaskNo}
-use Rattle.profile_machine.specs.Tasks.{found_task, is_who}
+use Rattle.profile_machine.specs.Tasks.{found_task}
 use Rattle.machine_laws.proofs.Kept.Combinators.{Alters, Keeps}
-use Rattle.machine_laws.proofs.Kept.Masters.{found-other}
-
-abbrev well : world.Task → Valued world.Task
-well t = Ok t
-
-ok-is : (v u : world.Task) → well v ≡ Ok u → v ≡ u
-ok-is v u e = cc
 
 module _ {p : Image} {G : GoodWorld} {May Other : Naming} (moves : FineMoves p G May Other) where
   pub placed_anew-alters : (queuing : Queuing) (c : Call) (level : ℕ) → Alters G (Behind G) (placed_anew queuing p c level)
@@ -113,19 +102,6 @@ module _ {p : Image} {G : GoodWorld} {May Other : Naming} (moves : FineMoves p G
   set_base_of-keeps actor s level (Some t) may =
       raise_if-keeps moves actor (is_edf_base p t.base || is_edf_base p level) exception.Program _
       (then-keeps moves (goes actor (next_of p s)) _ (search (goes-keeps)) (set_or_defer_base-keeps actor t.who level))
-
-  -- a task that is live is in the list
-  live_found-other : (found : Option world.Task) (u : world.Task) → ((v : world.Task) → found ≡ Some v → Other v.who) → elim found as (λ _. Valued world.Task) [ None ↦ Err exception.Tasking | Some v ↦ Ok v ] ≡ Ok u → Other u.who
-  live_found-other None u others is = cc
-  live_found-other (Some v) u others is = subst (λ (x : world.Task). Other x.who) (ok-is v u is) (others v refl)
-
-  live-other : (w : World) → G w → (t : Option TaskNo) (u : world.Task) → live_task w t ≡ Ok u → Other u.who
-  live-other w good None u is = cc
-  live-other w good (Some t) u is = live_found-other (found_task (who.Task t) w.tasks) u (λ v k. found-other Other (is_who (who.Task t)) w.tasks v (moves.listed w good) k) is
-
-  named-other : (w : World) → G w → (named : Valued (Option TaskNo)) (u : world.Task) → (named >>= live_task w) ≡ Ok u → Other u.who
-  named-other w good (Ok t) u is = live-other w good t u is
-  named-other w good (Err e) u is = cc
 
   pub set_priority-keeps : (name : Who) (s : StatementNo) (e : ExprNo) (task : Option ExprNo) → May name → Keeps G (Behind G) (set_priority p name s e task)
   unfolding set_priority

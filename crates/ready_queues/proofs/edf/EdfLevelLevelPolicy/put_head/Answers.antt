@@ -1,4 +1,4 @@
-use Rattle.std.proofs.Common.{◌≡◌, sym, ap, ◌∙◌, arith, w64}
+use Rattle.std.proofs.Common.{◌≡◌, sym, ap, ◌∙◌}
 use Rattle.std.specs.Prelude.{insert}
 use Rattle.std.proofs.lemmas.Int.{to_z-of_z}
 use Rattle.ready_queues.specs.Entries.{place_before, placed_head}

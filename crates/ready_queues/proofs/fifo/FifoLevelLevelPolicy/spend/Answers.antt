@@ -1,4 +1,4 @@
-use Rattle.std.proofs.Common.{sym, refl, ap, ◌∙◌}
+use Rattle.std.proofs.Common.{sym, refl, ap}
 use Rattle.std.specs.Prelude.{not, ◌&&◌}
 use Rattle.ready_queues.specs.Disciplines.{fifo_discipline}
 use Rattle.ready_queues.proofs.RankLemmas.{rekeyed-kept, is_spent_at-never}

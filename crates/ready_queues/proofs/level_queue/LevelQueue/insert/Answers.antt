@@ -1,4 +1,4 @@
-use Rattle.std.proofs.Common.{◌<◌, ◌≡◌, arith, false}
+use Rattle.std.proofs.Common.{arith, false}
 use Rattle.ready_queues.proofs.EntryLemmas.{length-lt, IsDistinct-insert, AreSlots-insert}
 use Rattle.ready_queues.proofs.level_queue.LevelQueue.insert.Goals as goal
 

@@ -1,4 +1,4 @@
-use Rattle.std.proofs.Common.{arith, rules}
+use Rattle.std.proofs.Common.{rules}
 use Rattle.ready_queues.proofs.EntryLemmas.{place_of-lt, key_of-place}
 use Rattle.ready_queues.proofs.level_queue.LevelQueue.key.Goals as goal
 

@@ -1,4 +1,4 @@
-use Rattle.std.proofs.Common.{◌≡◌, set, ap, sym, ◌∙◌, arith, rules}
+use Rattle.std.proofs.Common.{◌≡◌, set, ap, sym, ◌∙◌, rules}
 use Rattle.ready_queues.specs.Entries.{place_of, rekeyed}
 use Rattle.ready_queues.proofs.EntryLemmas.{place_of-lt, rekeyed-is, IsDistinct-rekeyed, AreSlots-rekeyed}
 use Rattle.ready_queues.proofs.level_queue.LevelQueue.set_key.Goals as goal

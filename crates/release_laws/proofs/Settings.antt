@@ -47,11 +47,6 @@ pub sees-does : (r : Request) (p : Image) (name : Who) (f : Seen → Step) (w : 
 unfolding From
 sees-does r p name f w k said = k said
 
--- a change, and nothing else
-pub changed-from : (r : Request) (w v u : World) (f : World → World) → f v ≡ u → Effect r w u → at_once w r ≡ [] → From (Onward r w) v (changes f)
-unfolding From Kept
-changed-from r w v u f e k none said = ([], sym (append-nil said), (subst (Effect r w) (sym e) k, subst (λ hs. Tells hs []) (sym none) tells_none))
-
 -- a change, and an answer
 pub answered-from : (p : Image) (name : Who) (x : Variable) (b : Bool) (r : Request) (w v : World) (f : World → World) → Effect r w (f v) → at_once w r ≡ [] → From (Onward r w) v (changes f ▷ answer p name x b)
 unfolding From Keeps

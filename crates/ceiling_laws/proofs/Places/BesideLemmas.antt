@@ -7,21 +7,18 @@ use Rattle.ceiling_laws.specs.PlaceLaws.{AreAtMostActive, IsAtMost, OthersKeepPl
 use Rattle.ceiling_laws.specs.Puts.{last_put, place_by, puts, with_put}
 use Rattle.ceiling_laws.proofs.Runs.FoundLemmas.{by_test}
 use Rattle.ceiling_laws.proofs.Runs.FreeMoves.{any_task, any_world}
-use Rattle.ceiling_laws.proofs.Runs.Kept.Frames.{open_sequence-keeps}
 use Rattle.ceiling_laws.proofs.Runs.Kept.Instant.{OtherMoves}
-use Rattle.ceiling_laws.proofs.Runs.Kept.Scopes.{open_scope-alters}
 use Rattle.ceiling_laws.proofs.Runs.Kept.Waking.{who-is}
 use Rattle.ceiling_laws.proofs.Runs.LevelMoves.{Silences, is_apart, said_so}
 use Rattle.ceiling_laws.proofs.Runs.RunLemmas.{Others, Settles, behind_onward}
-use Rattle.ceiling_laws.proofs.Runs.Triples.{Ends, Keeps, Leads, State, With, changes-keeps, from-leads, then-keeps}
+use Rattle.ceiling_laws.proofs.Runs.Triples.{Ends, Keeps, Leads, State, With, from-leads}
 use Rattle.ceiling_laws.specs.RunLaws.{levels_told}
 use Rattle.machine_laws.proofs.Moves.{lines_of}
 use Rattle.profile_machine.specs.Dispatching.{active, active_of, deadline_shown, grant_quantum, granted, keep_level, level_kept_by, ready, says_ready, to_tail}
 use Rattle.profile_machine.specs.Inheritance.{inherit, same_cause}
 use Rattle.profile_machine.specs.Instant.{budgets_due, events_due, moments_due, quantum_spent, script_items, timers_due}
 use Rattle.profile_machine.specs.Program.{edf_low, is_robin_level}
-use Rattle.profile_machine.specs.Run.{environment, opens}
-use Rattle.profile_machine.specs.Scopes.{end_scope, plainly}
+use Rattle.profile_machine.specs.Scopes.{end_scope}
 use Rattle.profile_machine.specs.Steps.{is_part_before, placed_by, says, ◌▶◌}
 use Rattle.profile_machine.specs.Tasks.{edit_task, task_of, with_state}
 use Rattle.profile_machine.specs.Words.{same_who}
@@ -32,7 +29,6 @@ use Rattle.profile_machine.specs.declared.world.lines.Line.TheVariants as line
 use Rattle.profile_machine.specs.declared.world.lines.Part.{Part}
 use Rattle.profile_machine.specs.declared.world.lines.Part.TheVariants.{Own}
 use Rattle.profile_machine.specs.declared.world.lines.Said.{Said}
-use Rattle.profile_machine.specs.declared.world.marks.Purpose.TheVariants as opened_for
 use Rattle.profile_machine.specs.declared.world.tasks.Cause.{Cause}
 use Rattle.profile_machine.specs.declared.world.tasks.Cause.TheVariants as inherited_by
 use Rattle.profile_machine.specs.declared.world.tasks.State.TheVariants.{Runnable}
@@ -41,7 +37,6 @@ use Rattle.std.proofs.Common.{Bool, List, None, Option, Some, [], ap, cond, eq-e
 use Rattle.std.specs.Prelude.{eqb, slice_index_or}
 use Rattle.line_laws.proofs.Ticks.LineByLine.{Follow, seen_behind}
 use Rattle.trace_text.specs.Laws.{Levels, see_levels}
-use Rattle.trace_text.specs.declared.events.Created.TheVariants as created
 use Rattle.trace_text.specs.declared.events.Event.{Event}
 use Rattle.trace_text.specs.declared.events.QueueEnd.{QueueEnd}
 use Rattle.trace_text.specs.declared.events.Who.{Who}
@@ -188,16 +183,6 @@ module _ (p : Image) (s : Levels) where
   low-starts : (w : World) → AreAtMostActive p s w → Low p s w []
   unfolding Low
   low-starts w h = λ n. (tt, h n)
-
-  low_new : Keeps (Low p s) (says Own (line.New (created.Task (record { 0 = 0 })) None p.main.priority))
-  unfolding Ends
-  low_new = record { runs = λ w said h. low-says Own (line.New (created.Task (record { 0 = 0 })) None p.main.priority) w said (λ n. refl) h }
-
-  low_opens : Keeps (Low p s) (opens p)
-  unfolding opens
-  low_opens =
-      then-keeps _ _ (changes-keeps _ (open_scope-alters low_quiet p environment p.environment (plainly None) opened_for.Task))
-      (then-keeps _ _ low_new (then-keeps _ _ (low_tails environment) (open_sequence-keeps low_quiet p Own environment)))
 
 -- ---- an effect is over
 

@@ -260,11 +260,6 @@ unfolding opening_is_of
 local_opening_is zero = local_choose (head_starts _) local_too_deep local_nothing
 local_opening_is (suc left) = local_word _
 
-pub eats_opening : (left : ℕ) → Eats (opening_of left)
-unfolding opening_of
-eats_opening zero = eats_choose _ eats_too_deep eats_nothing
-eats_opening (suc left) = eats_delimiter _
-
 -- ---- lists: the fuel is the number of tokens, and each item has one at least
 
 pub next_within : {A B : Type 0} (rest : A → Parser B) (n : ℕ) (read : Read A) → ((a : A) (m : List Lexeme) → Within (length m) (rest a m)) → Within n read → Within n (and_then read rest)

@@ -86,10 +86,6 @@ ends_private r = not_word (codes "private") r && not_identifier r
 
 -- ---- the name behind an end, where there is one
 
-abbrev pub ends_label : Option Identifier → List Lexeme → Bool
-ends_label None r = true
-ends_label (Some name) r = not_word name.text r
-
 -- ---- what these say
 
 pub expression_designated : (r : List Lexeme) → ends_expression r ≡ true → ends_designated r ≡ true

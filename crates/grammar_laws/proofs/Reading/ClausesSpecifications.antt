@@ -21,7 +21,7 @@ use Rattle.ada_tree.specs.ShapeDeclarations.{aspect_fits, aspects_fit, specifica
 use Rattle.ada_grammar.specs.Reading.{◌>>=◌, starts, sees_delimiter, sees_word, the_word, items_of, behind_delimiter_of}
 use Rattle.ada_grammar.specs.ReadingExpressions.{expression_of}
 use Rattle.ada_grammar.specs.ReadingSimple.{subtype_indication_of, parameters_of}
-use Rattle.ada_grammar.specs.ReadingDeclarations.{aspect_value_of, aspect_of, given_aspects_of, aspects_of, overriding_of, procedure_of, function_of, specification_of, begins_specification, entry_of, entry_head_of}
+use Rattle.ada_grammar.specs.ReadingDeclarations.{aspect_value_of, aspect_of, given_aspects_of, aspects_of, overriding_of, procedure_of, function_of, specification_of, entry_of, entry_head_of}
 use Rattle.grammar_laws.specs.Leads.{Leads}
 use Rattle.grammar_laws.proofs.Reading.Leading.{as_written}
 use Rattle.grammar_laws.proofs.Reading.Exact.{done, Rest, Any, itself, Exact, first_true, second_true, field, plain, narrower, respelt, closing, first_is, optionally}
@@ -231,10 +231,6 @@ pub specification_first : (test : List Lexeme → Bool) (v : Bool)
 specification_first test v on_overriding on_procedure on_function s ls r l =
     by_word test v on_overriding on_procedure on_function s.overriding s.place s.result
     (identifier_written s.name ∷ (parameters_written s.parameters ++ (optional result_written s.result ++ aspects_written s.aspects))) ls r l
-
-pub specification_begins : (s : SubprogramSpecification) (ls r : List Lexeme) → Leads (specification_written s) ls r → begins_specification ls ≡ true
-unfolding starts
-specification_begins s ls r l = specification_first begins_specification true (λ p l ls. refl) (λ p l ls. refl) (λ p l ls. refl) s ls r l
 
 -- ---- entries
 

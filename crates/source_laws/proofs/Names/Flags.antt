@@ -6,7 +6,6 @@ use Rattle.ada_tree.specs.declared.declarations.SubprogramSpecification.{Subprog
 use Rattle.ada_regions.specs.declared.entities.UnitKind.{UnitKind}
 use Rattle.ada_regions.specs.declared.entities.UnitKind.TheVariants as unit
 use Rattle.ada_regions.specs.declared.entities.Denoted.TheVariants as denotes
-use Rattle.ada_regions.specs.declared.table.Binding.{Binding}
 use Rattle.ada_regions.specs.declared.table.PackageContext.{PackageContext}
 use Rattle.ada_regions.specs.declared.table.Names.{Names}
 use Rattle.ada_regions.specs.Names.{noted, region_of_entity, region_here, entity_denoted}
@@ -68,10 +67,6 @@ flags-private passed (x ∷ bs) before = ap (λ fs. (shows x && not (is_private_
 -- m has one more region open than n, which shows nothing
 Closed : Names → Names → Type 0
 Closed n m = exports_of (known m).opened ≡ false ∷ exports_of (known n).opened
-
-closed-apart : (e : Option ℕ) (i : Identifier) (scope : Option ℕ) (seen : List Binding) (n : Names) → Closed n (body_apart e i scope seen n)
-unfolding Closed body_apart
-closed-apart e i scope seen n = refl
 
 closed-first : (e : ℕ) (region : Option ℕ) (i : Identifier) (scope : Option ℕ) (n : Names) → Closed n (first_body e region i scope n)
 unfolding Closed first_body body_apart

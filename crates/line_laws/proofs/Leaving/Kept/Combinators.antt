@@ -141,12 +141,6 @@ module _ {G : GoodWorld} {May Acts Pushes : Naming} {Stops : Type 0} {R : StepRe
       let more = said ++ record { part = part; line = line } ∷ [] in
       then-kept w (f w) said more (g (f w) more) (record { part = part; line = line } ∷ [], refl, a) (b (f w) (moves.behind w (f w) a) more)
 
-  pub changes_told-from : (f g : World → World) (part : Part) (line : Line) (h : Step) (w : World) → R w (record { part = part; line = line } ∷ []) (g (f w)) → Keeps G R h → From R w (changes f ▷ changes g ▷ says part line ▷ h)
-  unfolding From Kept Keeps
-  changes_told-from f g part line h w a b said =
-      let more = said ++ record { part = part; line = line } ∷ [] in
-      then-kept w (g (f w)) said more (h (g (f w)) more) (record { part = part; line = line } ∷ [], refl, a) (b (g (f w)) (moves.behind w (g (f w)) a) more)
-
   pub when-from : (b : Bool) (f : Step) (w : World) → G w → From R w f → From R w (when b f)
   when-from true f w good a = a
   when-from false f w good a = keeps-from nothing w good nothing-keeps

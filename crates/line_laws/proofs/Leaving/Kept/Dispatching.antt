@@ -41,9 +41,6 @@ ready-awake p name w =
     awake-edited name name (granted p kept.quanta) kept (granted-who p kept.quanta) (granted-state p kept.quanta) second
 
 module _ {G : GoodWorld} {May Acts Pushes : Naming} {Stops : Type 0} {R : StepRelation} {Q : MoveRelation} (moves : FineMoves G May Acts Pushes Stops R Q) where
-  pub keep_level-alters : (p : Image) (name : Who) → Alters G R (keep_level p name)
-  unfolding Alters
-  keep_level-alters p name w good = moves.edits_task name (λ t. record t { kept_level = level_kept_by p w t (edf_low p t.base) }) w good (λ t. refl) (λ t. refl) (λ t. refl)
 
   pub grant_quantum-alters : (p : Image) (name : Who) → Alters G R (grant_quantum p name)
   unfolding Alters

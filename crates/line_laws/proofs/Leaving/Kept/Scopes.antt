@@ -7,7 +7,7 @@ use Rattle.profile_machine.specs.declared.values.Value.{Value}
 use Rattle.profile_machine.specs.declared.world.marks.Purpose.{Purpose}
 use Rattle.profile_machine.specs.declared.world.scopes.ScopeId.{ScopeId}
 use Rattle.profile_machine.specs.declared.world.scopes.Beginning.{Beginning}
-use Rattle.profile_machine.specs.Scopes.{edit_cells, write_cell, begin_scope, open_scope, end_scope}
+use Rattle.profile_machine.specs.Scopes.{edit_cells, write_cell, open_scope, end_scope}
 use Rattle.machine_laws.proofs.Moves.{StepRelation, MoveRelation}
 use Rattle.line_laws.proofs.Leaving.FineMoves.{FineMoves}
 use Rattle.machine_laws.proofs.FineMoves.{GoodWorld, Naming}
@@ -20,10 +20,6 @@ module _ {G : GoodWorld} {May Acts Pushes : Naming} {Stops : Type 0} {R : StepRe
 
   pub write_cell-alters : (id : ScopeId) (place : ℕ) (value : Value) → Alters G R (write_cell id place value)
   write_cell-alters id place value = search (edit_cells-alters)
-
-  pub begin_scope-alters : (p : Image) (name : Who) (scope : ScopeNo) (b : Beginning) → Alters G R (begin_scope p name scope b)
-  unfolding Alters
-  begin_scope-alters p name scope b w good = moves.begins_scope p name scope b w good
 
   pub end_scope-alters : (id : ScopeId) → Alters G R (end_scope id)
   unfolding Alters

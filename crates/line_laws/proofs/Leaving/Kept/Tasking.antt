@@ -24,7 +24,7 @@ use Rattle.profile_machine.specs.declared.world.lines.Part.{Part}
 use Rattle.profile_machine.specs.declared.world.lines.Part.TheVariants.{Own}
 use Rattle.profile_machine.specs.Steps.{Step, changes, looks, for_some, ◌▷◌, for_each, says, when}
 use Rattle.profile_machine.specs.Frames.{has_room, pass_on, in_protected, is_deferred, edit_top, goes_on, goes}
-use Rattle.profile_machine.specs.Scopes.{home, end_scope}
+use Rattle.profile_machine.specs.Scopes.{home}
 use Rattle.profile_machine.specs.Declarations.{set_thing}
 use Rattle.profile_machine.specs.Tasking.{unit_of_declaration, optional_span, created_task, add_task, says_created, create_task, create, fall_from, unit_of_task, begin_task, says_done, fail_to_begin, activate_one, await_group, activate_group, activate, end_own_activation, end_made, complete_if_task, wait_for_dependents, end_environment, end_task, is_normal, end_body, behind_scope, says_abort, abort_one, unwind_by, unwind_one, abort_all, abort_statement, unwind_all, is_to_abort, named_tasks, is_made_in}
 use Rattle.std.proofs.Common.{◌≡◌, refl, sym, ap, ◌∙◌}
@@ -35,15 +35,12 @@ use Rattle.profile_machine.specs.Scopes.{open_scope}
 use Rattle.profile_machine.specs.Tasking.{is_task_scope}
 use Rattle.profile_machine.specs.declared.world.scopes.Beginning.{Beginning}
 use Rattle.profile_machine.specs.declared.numbers.ScopeNo.{ScopeNo}
-use Rattle.profile_machine.specs.declared.world.lines.Said.{Said}
-use Rattle.std.proofs.Common.{subst, append-nil}
 use Rattle.machine_laws.proofs.Moves.{StepRelation, MoveRelation}
 use Rattle.line_laws.proofs.Leaving.FineMoves.{FineMoves}
 use Rattle.line_laws.proofs.Leaving.Kept.Combinators.{branch-keeps, changes-from, changes-keeps, cond-keeps, for_each-keeps, for_some-keeps, looks-from, looks-keeps, nothing-keeps, says-keeps, sees-keeps, then-from, then-keeps, when-keeps, listed-keeps, changes_then-from}
 use Rattle.line_laws.proofs.Leaving.Kept.Frames.{raise_if-from, given-from, goes-keeps, raises-keeps, pass_on-keeps, given-keeps, raise_if-keeps}
 use Rattle.line_laws.proofs.Leaving.Kept.Tasks.{edit_task-alters}
 use Rattle.line_laws.proofs.Leaving.Kept.Dispatching.{to_head-keeps, ready-keeps, block_apart-keeps}
-use Rattle.line_laws.proofs.Leaving.Kept.Scopes.{end_scope-alters}
 use Rattle.line_laws.proofs.Leaving.Kept.Inheritance.{inherit-alters}
 use Rattle.line_laws.proofs.Leaving.Kept.Unwinding.{strike_outermost-alters, unwind-keeps}
 use Rattle.line_laws.proofs.Leaving.Kept.Masters.{end_activation-keeps, complete-keeps, terminate-keeps, leave_by_terminate-keeps}
@@ -144,11 +141,6 @@ module _ {G : GoodWorld} {May Acts Pushes : Naming} {Stops : Type 0} {R : StepRe
   -- Program_Error, where a Finalize raised
   pub raised_behind-keeps : (name : Who) (test : Bool) → Keeps G R (when test (says Own (line.Raise name exception.Program)))
   raised_behind-keeps name test = search (when-keeps, says-keeps)
-
-  -- the scope is no longer there, and what is told stays told
-  pub ended-kept : (id : ScopeId) (lines : List Said) (w v : World) → R w lines v → R w lines (end_scope id v)
-  unfolding Alters
-  ended-kept id lines w v first = subst (λ xs. R w xs (end_scope id v)) (append-nil lines) (moves.goes_on w v (end_scope id v) {xs = lines} {ys = []} first (end_scope-alters moves id v (moves.behind w v first)))
 
   pub says_abort-keeps : (actor name : Who) → Keeps G R (says_abort actor name)
   unfolding says_abort

@@ -145,13 +145,6 @@ module _ {G : GoodWorld} {May Other : Naming} {R : StepRelation} {Q : MoveRelati
       let more = said ++ record { part = part; line = line } ∷ [] in
       then-kept w w said more (g w more) (said-from part line w a said) (b more)
 
-  -- a line that tells one change, or two, and a step behind
-  pub told_change-from : (part : Part) (line : Line) (f : World → World) (g : Step) (w : World) → R w (record { part = part; line = line } ∷ []) (f w) → Keeps G R g → From R w (says part line ▷ changes f ▷ g)
-  unfolding From Kept Keeps
-  told_change-from part line f g w a b said =
-      let more = said ++ record { part = part; line = line } ∷ [] in
-      then-kept w (f w) said more (g (f w) more) (record { part = part; line = line } ∷ [], refl, a) (b (f w) (moves.behind w (f w) a) more)
-
   pub told_then-from : (part : Part) (line : Line) (f : World → World) (g : Step) (w : World) → R w (record { part = part; line = line } ∷ []) (f w) → From R (f w) g → From R w (says part line ▷ changes f ▷ g)
   unfolding From Kept
   told_then-from part line f g w a b said =

@@ -11,7 +11,7 @@ use Rattle.profile_machine.specs.declared.world.tasks.Task.{Task}
 use Rattle.profile_machine.specs.declared.world.lines.Line.{Line}
 use Rattle.profile_machine.specs.declared.world.lines.Part.{Part}
 use Rattle.profile_machine.specs.declared.world.lines.Said.{Said}
-use Rattle.profile_machine.specs.Steps.{Step, Move, Done, done, goes_on_with, nothing, changes, says, looks, when, for_some, for_each, placed_by, settled, settles, rests, watches, ◌▷◌, ◌▶◌}
+use Rattle.profile_machine.specs.Steps.{Step, Move, Done, done, goes_on_with, nothing, changes, says, looks, when, for_some, for_each, placed_by, settled, settles, ◌▷◌, ◌▶◌}
 use Rattle.profile_machine.specs.Operators.{Valued}
 use Rattle.profile_machine.specs.Values.{Seen, seen_by}
 use Rattle.profile_machine.specs.Statements.{sees}
@@ -70,10 +70,6 @@ looks-turns X Y f a w h said = a w h said
 pub turns-from : (X Y : GoodWorld) (f : Step) (w : World) → X w → Turns X Y f → From (Behind Y) w f
 unfolding Keeps From
 turns-from X Y f w h a said = a w h said
-
-pub from-turns : (X Y : GoodWorld) (f : Step) → ((w : World) → X w → From (Behind Y) w f) → Turns X Y f
-unfolding Keeps From
-from-turns X Y f a w h said = a w h said
 
 pub changes-turns : (X Y : GoodWorld) (f : World → World) → ((w : World) → X w → Y (f w)) → Turns X Y (changes f)
 unfolding Keeps Kept
@@ -237,12 +233,6 @@ module _ {p : Image} {G : GoodWorld} {May Other : Naming} (moves : FineMoves p G
   unfolding From Kept
   said-from part line w a said = (record { part = part; line = line } ∷ [], refl, a)
 
-  pub said_then-from : (part : Part) (line : Line) (g : Step) (w : World) → Behind G w (record { part = part; line = line } ∷ []) w → From (Behind G) w g → From (Behind G) w (says part line ▷ g)
-  unfolding From
-  said_then-from part line g w a b said =
-      let more = said ++ record { part = part; line = line } ∷ [] in
-      then-kept w w said more (g w more) (said-from part line w a said) (b more)
-
   -- a change, and a step from the world that it makes
   pub changes_then-from : (f : World → World) (g : Step) (w : World) → Behind G w [] (f w) → From (Behind G) (f w) g → From (Behind G) w (changes f ▷ g)
   unfolding From
@@ -279,14 +269,6 @@ module _ {p : Image} {G : GoodWorld} {May Other : Naming} (moves : FineMoves p G
   then-leads f g a b w good =
       let first = a w good in
       moves.leads_on w (f w).0 (g (f w).0).0 first (b (f w).0 (moves.moved w (f w).0 first))
-
-  pub rests-leads : Leads G (BehindMove G) rests
-  unfolding Leads
-  rests-leads w good = moves.rests w good
-
-  pub watches-leads : (f : World → Move) → ((v : World) → Leads G (BehindMove G) (f v)) → Leads G (BehindMove G) (watches f)
-  unfolding Leads
-  watches-leads f a w good = a w w good
 
   -- an effect is over
   settled-kept : (w : World) (d : Done) → Kept (Behind G) w [] d → BehindMove G w (settled p d).1 (settled p d).0

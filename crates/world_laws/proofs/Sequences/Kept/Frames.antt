@@ -1,5 +1,4 @@
 -- Opening constructs, leaving them, and going on: each step keeps a relation that its parts keep.
-use Rattle.profile_machine.specs.WellFormed.{begins_sequence}
 use Rattle.profile_machine.specs.declared.world.marks.Mark.{Mark}
 use Rattle.std.specs.Prelude.{ℕ, Bool, true, false, Option, Some, None, Result, Ok, Err}
 use Rattle.ann_base.specs.declared.exceptions.Raised.{Raised}
@@ -9,20 +8,17 @@ use Rattle.profile_machine.specs.declared.image.Image.{Image}
 use Rattle.profile_machine.specs.declared.numbers.StatementNo.{StatementNo}
 use Rattle.profile_machine.specs.declared.run_data.Leaving.{Leaving}
 use Rattle.profile_machine.specs.declared.run_data.Leaving.TheVariants as how
-use Rattle.profile_machine.specs.declared.statements.StatementForm.{StatementForm}
-use Rattle.profile_machine.specs.declared.statements.StatementForm.TheVariants as form
 use Rattle.profile_machine.specs.declared.world.World.{World}
 use Rattle.profile_machine.specs.declared.world.marks.Frame.{Frame}
-use Rattle.profile_machine.specs.declared.world.marks.Mark.TheVariants.{Handled}
-use Rattle.profile_machine.specs.Program.{form_of, next_of}
+use Rattle.profile_machine.specs.Program.{next_of}
 use Rattle.profile_machine.specs.declared.world.lines.Part.{Part}
 use Rattle.profile_machine.specs.declared.world.lines.Part.TheVariants.{Own}
 use Rattle.profile_machine.specs.Steps.{Step, changes, ◌▷◌}
-use Rattle.profile_machine.specs.Frames.{top_of, new_frame, edit_first, edit_top, goes, push, pop, leaves, raises, has_room, open_handled, open_at, open_sequence, open_if_ready, stands_in, exit_loop, pass_on, is_protected, given, raise_if, with_room, goes_on, with_mark, onward_of, left_so}
+use Rattle.profile_machine.specs.Frames.{top_of, edit_first, edit_top, goes, push, pop, leaves, raises, has_room, stands_in, exit_loop, pass_on, is_protected, given, raise_if, with_room, goes_on, with_mark, left_so}
 use Rattle.profile_machine.specs.Operators.{Valued}
 use Rattle.machine_laws.proofs.FineMoves.{GoodWorld, Naming, nature, natures}
 use Rattle.world_laws.proofs.Sequences.FineMoves.{FineMoves, Openings, Behind, StaysOn, onward_in}
-use Rattle.world_laws.proofs.Sequences.Kept.Combinators.{branch-keeps, changes-keeps, keeps-from, looks-keeps, nothing-keeps, says-keeps, then-keeps, when-keeps, changes-from, changes_then-from}
+use Rattle.world_laws.proofs.Sequences.Kept.Combinators.{branch-keeps, changes-keeps, keeps-from, looks-keeps, nothing-keeps, says-keeps, then-keeps, changes-from, changes_then-from}
 use Rattle.world_laws.proofs.Sequences.Kept.Tasks.{edit_frames-alters}
 use Rattle.std.proofs.Common.{◌≡◌, List, [], ◌∷◌, refl, ap, inl, inr}
 use Rattle.machine_laws.proofs.Kept.Combinators.{Alters, From, Gives, Keeps}
@@ -47,21 +43,9 @@ module _ {p : Image} {G : GoodWorld} {May Other : Naming} (moves : FineMoves p G
   unfolding Alters
   goes_on-alters name onward may w good = moves.goes name onward w good may
 
-  pub push_any-alters : (name : Who) (f : Frame) → May name → (nature f.mark).release ≡ None → (nature f.mark).abortable ≡ false → Alters G (Behind G) (push name f)
-  unfolding Alters
-  push_any-alters name f may release abortable w good = moves.pushes name f w good may release abortable
-
   pub goes-keeps : (name : Who) (onward : Option StatementNo) → May name → Keeps G (Behind G) (goes name onward)
   unfolding goes
   goes-keeps name onward may = changes-keeps moves (edit_top name (goes_on onward)) (goes_on-alters name onward may)
-
-  goes_on_plainly-alters : (name : Who) (onward : Option StatementNo) → begins_sequence p onward ≡ false → Alters G (Behind G) (edit_top name (goes_on onward))
-  unfolding Alters
-  goes_on_plainly-alters name onward plain w good = moves.goes_plainly name onward w good plain
-
-  pub goes_plainly-keeps : (name : Who) (onward : Option StatementNo) → begins_sequence p onward ≡ false → Keeps G (Behind G) (goes name onward)
-  unfolding goes
-  goes_plainly-keeps name onward plain = changes-keeps moves (edit_top name (goes_on onward)) (goes_on_plainly-alters name onward plain)
 
   -- a mark that is no protected action ends
   pub popped : (name : Who) (f : Frame) (w : World) → G w → May name → top_of w name ≡ Some f → is_protected f.mark ≡ false → Behind G w [] (pop name w)
@@ -74,27 +58,6 @@ module _ {p : Image} {G : GoodWorld} {May Other : Naming} (moves : FineMoves p G
   pub raises-keeps : (part : Part) (name : Who) (e : Raised) → Keeps G (Behind G) (raises part name e)
   unfolding raises
   raises-keeps part name e = search (says-keeps, then-keeps, leaves-keeps)
-
-  open_handled-keeps : (part : Part) (name : Who) (s : StatementNo) (form : StatementForm) → May name → Keeps G (Behind G) (open_handled p part name s form)
-  unfolding open_handled
-  open_handled-keeps part name s (form.Handled handlers first) may =
-      looks-keeps moves _ (λ w. branch-keeps moves (has_room w name 1 0) (goes name (next_of p s) ▷ changes (push name (new_frame (Handled s) (Some first)))) (raises part name exception.Storage)
-      (then-keeps moves (goes name (next_of p s)) (changes (push name (new_frame (Handled s) (Some first)))) (goes-keeps name (next_of p s) may) (changes-keeps moves (push name (new_frame (Handled s) (Some first))) (push_any-alters name (new_frame (Handled s) (Some first)) may refl refl)))
-      (raises-keeps part name exception.Storage))
-  open_handled-keeps part name s _ may = nothing-keeps moves
-
-  open_at-keeps : (part : Part) (name : Who) (next : Option StatementNo) → May name → Keeps G (Behind G) (open_at p part name next)
-  unfolding open_at
-  open_at-keeps part name None may = nothing-keeps moves
-  open_at-keeps part name (Some s) may = open_handled-keeps part name s (form_of p s) may
-
-  pub open_sequence-keeps : (part : Part) (name : Who) → May name → Keeps G (Behind G) (open_sequence p part name)
-  unfolding open_sequence
-  open_sequence-keeps part name may = looks-keeps moves _ (λ w. open_at-keeps part name (onward_of w name) may)
-
-  pub open_if_ready-keeps : (name : Who) → May name → Keeps G (Behind G) (open_if_ready p name)
-  unfolding open_if_ready
-  open_if_ready-keeps name may = search (looks-keeps, when-keeps, open_sequence-keeps)
 
   pub exit_loop-keeps : (name : Who) (loop : StatementNo) → May name → Keeps G (Behind G) (exit_loop p name loop)
   unfolding exit_loop

@@ -7,7 +7,7 @@ use Rattle.profile_machine.specs.declared.values.Value.{Value}
 use Rattle.profile_machine.specs.declared.world.marks.Purpose.{Purpose}
 use Rattle.profile_machine.specs.declared.world.scopes.ScopeId.{ScopeId}
 use Rattle.profile_machine.specs.declared.world.scopes.Beginning.{Beginning}
-use Rattle.profile_machine.specs.Scopes.{edit_cells, write_cell, begin_scope, open_scope, end_scope}
+use Rattle.profile_machine.specs.Scopes.{edit_cells, write_cell, open_scope, end_scope}
 use Rattle.machine_laws.proofs.FineMoves.{GoodWorld, Naming}
 use Rattle.world_laws.proofs.Sequences.FineMoves.{FineMoves, Openings, Behind}
 use Rattle.machine_laws.proofs.Kept.Combinators.{Alters}
@@ -19,10 +19,6 @@ module _ {p : Image} {G : GoodWorld} {May Other : Naming} (moves : FineMoves p G
 
   pub write_cell-alters : (id : ScopeId) (place : ℕ) (value : Value) → Alters G (Behind G) (write_cell id place value)
   write_cell-alters id place value = search (edit_cells-alters)
-
-  pub begin_scope-alters : (name : Who) (scope : ScopeNo) (b : Beginning) → Alters G (Behind G) (begin_scope p name scope b)
-  unfolding Alters
-  begin_scope-alters name scope b w good = moves.begins_scope name scope b w good
 
   pub end_scope-alters : (id : ScopeId) → Alters G (Behind G) (end_scope id)
   unfolding Alters

@@ -2,6 +2,7 @@
 use Rattle.std.specs.Prelude.{ℕ, zero, suc, ◌+◌, ◌-◌, ℤ, pos, ◌-ℤ◌, nat_abs, int_lt, Bool, true, false, cond, ◌&&◌, List, [], ◌∷◌, ◌++◌, Option, Some, None, eqb, slice_get, option_map, map, unwrap_or}
 use Rattle.std.specs.List.{filter, list_any, find}
 use Rattle.std.specs.Char.{to_ascii_uppercase}
+use Rattle.profile_machine.specs.declared.limits.TheConstants.{CONTROLLED_CELLS, PROTECTED_CELLS}
 use Rattle.profile_machine.specs.declared.numbers.ScopeNo.{ScopeNo}
 use Rattle.profile_machine.specs.declared.numbers.ProtectedUnitNo.{ProtectedUnitNo}
 use Rattle.profile_machine.specs.declared.values.Value.{Value}
@@ -185,9 +186,9 @@ width_of_type n types.Timer = 1
 width_of_type n types.GroupBudget = 1
 width_of_type n types.LimitedControlled = 1
 width_of_type n types.Controlled = 1
-width_of_type n (types.Derived c) = 1 + width_of_components n (owner.Controlled c)
+width_of_type n (types.Derived c) = CONTROLLED_CELLS + width_of_components n (owner.Controlled c)
 width_of_type n (types.Task u) = 1
-width_of_type n (types.Protected u) = 16 + width_of_components n (owner.Protected u)
+width_of_type n (types.Protected u) = PROTECTED_CELLS + width_of_components n (owner.Protected u)
 
 unfoldable pub width_of_object : Names → Option Subtype → ℕ
 width_of_object n s = unwrap_or (option_map (λ t. width_of_type n t.of_type) s) 1
@@ -254,9 +255,9 @@ runs_of_type n place s types.Timer = []
 runs_of_type n place s types.GroupBudget = []
 runs_of_type n place s types.LimitedControlled = []
 runs_of_type n place s types.Controlled = []
-runs_of_type n place s (types.Derived c) = runs_of_components n (place + 1) (components_of_owner n (owner.Controlled c))
+runs_of_type n place s (types.Derived c) = runs_of_components n (place + CONTROLLED_CELLS) (components_of_owner n (owner.Controlled c))
 runs_of_type n place s (types.Task u) = []
-runs_of_type n place s (types.Protected u) = runs_of_components n (place + 16) (components_of_owner n (owner.Protected u))
+runs_of_type n place s (types.Protected u) = runs_of_components n (place + PROTECTED_CELLS) (components_of_owner n (owner.Protected u))
 
 unfoldable pub runs_of_subtype : Names → ℕ → Option Subtype → List CellRun
 runs_of_subtype n place None = []

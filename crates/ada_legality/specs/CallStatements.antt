@@ -8,6 +8,7 @@ use Rattle.ada_legality.specs.Reading.{actuals_judged, expected, fitted, literal
 use Rattle.ada_legality.specs.Types.{has_ranges, is_controlled_type, is_event_timer_or_budget, is_pointed, is_root_controlled, is_scalar, is_scalar_or_array, is_timer}
 use Rattle.ada_legality.specs.Values.{denotes_procedure, is_kind}
 use Rattle.ada_legality.specs.Words.{is_static, static_number}
+use Rattle.ada_legality.specs.declared.limits.TheConstants.{MOST_PARAMETERS}
 use Rattle.ada_legality.specs.declared.parts.ActualPart.{ActualPart}
 use Rattle.ada_legality.specs.declared.parts.IndicationUse.{IndicationUse}
 use Rattle.ada_legality.specs.declared.reading.Read.{Read}
@@ -212,11 +213,11 @@ abbrev pub beyond : {X : Type 0} → Rule → (X → Place) → ℕ → List X �
 beyond r place most xs =
     unwrap_or (option_map (λ x. broken r (place x) ∷ []) (slice_get xs most)) []
 
--- a profile's parameters: 16 names at most (own)
+-- a profile's parameters (own)
 unfoldable pub parameters_found : Bool → Bool → List Parameter → Known → Found
 parameters_found in_unit overrides parameters k =
     let names = formal_names_of parameters in
-    beyond rule.Limit (λ i. i.place) 16 names
+    beyond rule.Limit (λ i. i.place) MOST_PARAMETERS names
     ++ all_found (parameter_found (in_unit && is_one names) (overrides && is_one names)) parameters k
 
 -- ---- calls (6.4, 9.5.3)

@@ -14,6 +14,7 @@ use Rattle.ada_legality.specs.Types.{has_no_values, is_controlled_type, is_event
 use Rattle.ada_legality.specs.UnitsUsed.{is_unit_name}
 use Rattle.ada_legality.specs.Values.{entity_of_name, formals_of_subprogram, is_library_object, type_of_unit_kind}
 use Rattle.ada_legality.specs.Words.{static_number}
+use Rattle.ada_legality.specs.declared.limits.TheConstants.{MOST_COMPONENTS, MOST_ENTRIES}
 use Rattle.ada_legality.specs.declared.findings.BodyKind.{BodyKind}
 use Rattle.ada_legality.specs.declared.findings.Finding.{Finding}
 use Rattle.ada_legality.specs.declared.parts.AspectOwner.{AspectOwner}
@@ -227,10 +228,10 @@ abbrev pub components_from_to : Option ℤ → Option ℤ → ℤ
 components_from_to (Some low) (Some high) = high -ℤ low
 components_from_to a b = pos 0
 
--- an array has more than 4,096 components
+-- an array has more components than it may
 unfoldable pub is_too_long : Known → AdaType → Expression → Read → Expression → Read → Bool
 is_too_long k t low l high h =
-    int_le (pos 4096)
+    int_le MOST_COMPONENTS
     (components_from_to (static_number k t low l.typed) (static_number k t high h.typed))
 
 -- an array type that is too long, or not of scalars
@@ -402,11 +403,11 @@ abbrev pub entries_noted : Bool → List EntryDeclaration → Known → Found
 entries_noted true entries k = []
 entries_noted false entries k = all_found entry_noted entries k
 
--- the entries of a unit: 64 at most (own)
+-- the entries of a unit (own)
 unfoldable pub entries_judged : Bool → List EntryDeclaration → Known → Found
 entries_judged of_task entries k =
     entries_noted of_task entries k
-    ++ (beyond rule.Limit (λ e. e.place) 64 entries
+    ++ (beyond rule.Limit (λ e. e.place) MOST_ENTRIES entries
     ++ beyond_restriction (λ e. e.place) (most_entries k.in_force of_task) entries)
 
 -- ---- task and protected declarations (9.1, 9.4)

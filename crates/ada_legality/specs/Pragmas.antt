@@ -3,6 +3,7 @@ use Rattle.ada_image.specs.PoliciesOfImage.{policy_words}
 use Rattle.ada_legality.specs.Choices.{ends_of, meet, span}
 use Rattle.ada_legality.specs.Findings.{Found, broken_if}
 use Rattle.ada_legality.specs.Words.{lies_between}
+use Rattle.ada_regions.specs.declared.predefined.TheConstants.{LAST_PRIORITY}
 use Rattle.ada_legality.specs.declared.parts.Span.{Span}
 use Rattle.ada_lex.specs.Meaning.{decimals_of, whole_of}
 use Rattle.ada_regions.specs.Numbered.{last_priority_of}
@@ -62,7 +63,7 @@ integer_names = codes "integer" ∷ codes "natural" ∷ codes "positive" ∷ []
 unfoldable pub integer_named : List ℕ → Option Subtype
 integer_named word =
     cond (list_any (bytes_eq word) integer_names)
-    (and_then (item_in 30 units.Standard word) subtype_of_item) None
+    (and_then (item_in LAST_PRIORITY units.Standard word) subtype_of_item) None
 
 -- the same, perhaps behind Standard
 abbrev pub integer_behind : Identifier → List Identifier → Option Subtype

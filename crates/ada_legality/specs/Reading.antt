@@ -6,6 +6,7 @@ use Rattle.ada_legality.specs.Calls.{actual_from, is_formal_named, wrong_actuals
 use Rattle.ada_legality.specs.Findings.{Found, broken, broken_if, broken_unless}
 use Rattle.ada_legality.specs.Types.{discrete_if, fits, has_type, is_discrete, is_duration, is_integer, is_text, operation_type, operation_type_of_one, same_type, typed_if, typed_is}
 use Rattle.ada_legality.specs.Values.{denoted_kind, formals_of_subprogram, is_literal_kind, is_type}
+use Rattle.ann_base.specs.declared.names.TheConstants.{NAME_BYTES}
 use Rattle.ada_legality.specs.declared.parts.ActualPart.{ActualPart}
 use Rattle.ada_legality.specs.declared.parts.FormalPart.{FormalPart}
 use Rattle.ada_legality.specs.declared.parts.Wanted.{Wanted}
@@ -326,10 +327,10 @@ actuals_judged k call formals actuals =
     actuals_numbered k call formals actuals ++ actuals_fitted k 0 formals actuals
 
 -- ---- Image (3.5): the greatest length (own: of an Integer 11 whatever it is), where it is short
--- enough for a line of 1,000 bytes
+-- enough for a text of a line
 
 abbrev pub short_length : ℕ → Option ℕ
-short_length bytes = cond (leb bytes 1000) (Some bytes) None
+short_length bytes = cond (leb bytes NAME_BYTES) (Some bytes) None
 
 -- the length of the longest text
 unfoldable pub longest : List (List ℕ) → ℕ

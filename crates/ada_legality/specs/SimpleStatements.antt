@@ -9,6 +9,7 @@ use Rattle.ada_legality.specs.Reading.{component_assigned, expected, fitted}
 use Rattle.ada_legality.specs.Types.{fits, has_type, is_copied_controlled, is_limited, operand_type, same_type_if, type_of_bounds, typed_is}
 use Rattle.ada_legality.specs.Values.{denoted_kind, denotes_object, denotes_value, is_denoted, is_entry_kind, is_kind, kind_of_name, stands_in_unit, typed_name}
 use Rattle.ada_legality.specs.Words.{any_in_body, any_in_sequence, is_accept, sequence_around}
+use Rattle.ada_legality.specs.declared.limits.TheConstants.{MOST_ALTERNATIVES}
 use Rattle.ada_legality.specs.declared.parts.AlternativeKind.{AlternativeKind}
 use Rattle.ada_legality.specs.declared.parts.AlternativePart.{AlternativePart}
 use Rattle.ada_legality.specs.declared.reading.Read.{Read}
@@ -514,10 +515,10 @@ abbrev pub beyond_restriction : {X : Type 0} → (X → Place) → Option ℤ �
 beyond_restriction place (Some (pos most)) xs = beyond rule.Restriction place most xs
 beyond_restriction place most xs = []
 
--- the alternatives of a selective accept: 64 at most (own)
+-- the alternatives of a selective accept (own)
 unfoldable pub selective_accept_judged : Known → Place → List AlternativePart → Bool → Found
 selective_accept_judged k place parts otherwise =
     broken_unless rule.SelectiveAccept (is_selective_accept parts otherwise) place
-    ++ (beyond rule.Limit (λ p. p.place) 64 parts
+    ++ (beyond rule.Limit (λ p. p.place) MOST_ALTERNATIVES parts
     ++ (beyond_restriction (λ p. p.place) k.in_force.max_select_alternatives parts
     ++ terminates_forbidden k.in_force.no_terminate_alternatives parts))

@@ -13,6 +13,7 @@ use Rattle.ada_regions.specs.SelectedNames.{frame_owned_by}
 use Rattle.ada_regions.specs.Visibility.{is_withed_by, same_denoted}
 use Rattle.ada_regions.specs.Words.{all_of, and_then}
 use Rattle.std.specs.Option.{option_or}
+use Rattle.ada_legality.specs.declared.limits.TheConstants.{LONGEST_NAME}
 use Rattle.ada_regions.specs.declared.entities.Denoted.{Denoted}
 use Rattle.ada_regions.specs.declared.table.Names.{Names}
 use Rattle.ada_tree.specs.declared.names.Identifier.{Identifier}
@@ -51,10 +52,10 @@ unit_unseen n name =
     (unwrap_or (option_map (is_usable_unit n) (unit_in_parts n (all_of name.parts))) true)
     (place_of name)
 
--- ---- 500 bytes of an expanded name (4.1.3; own)
+-- ---- the length of an expanded name (4.1.3; own)
 
 unfoldable pub long_name : Names → Identifier → Found
-long_name n i = broken_if rule.Limit (ltb 500 (length (expanded n.frames i.text))) i.place
+long_name n i = broken_if rule.Limit (ltb LONGEST_NAME (length (expanded n.frames i.text))) i.place
 
 -- ---- the way through the names of a source
 

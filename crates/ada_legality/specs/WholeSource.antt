@@ -3,6 +3,7 @@
 use Rattle.ada_image.specs.Layout.{cells_of_declaration, is_in_scope}
 use Rattle.ada_legality.specs.Findings.{Found, broken_if, broken_unless}
 use Rattle.ada_legality.specs.Words.{same_number}
+use Rattle.ada_legality.specs.declared.limits.TheConstants.{MOST_PACKAGE_CELLS}
 use Rattle.ada_legality.specs.declared.findings.Attached.{Attached}
 use Rattle.ada_legality.specs.declared.findings.BodyKind.{BodyKind}
 use Rattle.ada_legality.specs.declared.findings.Ceiling.{Ceiling}
@@ -197,10 +198,10 @@ judged_from n found at [] = []
 judged_from n found at (f ∷ rest) =
     judged_beside n found (take at found) f ++ judged_from n found (suc at) rest
 
--- ---- 32,768 cells of the declarations and loops of library packages: the one that passes it
+-- ---- the cells of the declarations and loops of library packages: the one that passes their limit
 
 abbrev pub passes_cells : ℕ → ℕ → Bool
-passes_cells before cells = leb before 32768 && ltb 32768 (before + cells)
+passes_cells before cells = leb before MOST_PACKAGE_CELLS && ltb MOST_PACKAGE_CELLS (before + cells)
 
 -- the declaration of this number
 abbrev pub cells_of : ℕ → Finding → Found

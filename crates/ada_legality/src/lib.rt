@@ -4,6 +4,7 @@
 
 mod faults;
 mod findings;
+mod limits;
 mod parts;
 mod reading;
 mod rules;
@@ -12,6 +13,10 @@ mod types;
 
 pub use faults::Fault;
 pub use findings::{Attached, BodyKind, Ceiling, DeadlineRange, Finding, ProtectedObject};
+pub use limits::{
+    LONGEST_NAME, MOST_ALTERNATIVES, MOST_COMPONENTS, MOST_ENTRIES, MOST_PACKAGE_CELLS,
+    MOST_PARAMETERS,
+};
 pub use parts::{
     ActualPart, AlternativeKind, AlternativePart, AspectName, AspectOwner, AspectPart, ChoicePart,
     FormalPart, IndicationUse, Span, Wanted,

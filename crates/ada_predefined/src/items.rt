@@ -3,6 +3,7 @@ ghost use Rattle.std.specs.Prelude.{◌≡◌, suc, pos};
 ghost use Rattle.ada_regions.specs.Words.{entry_named};
 ghost use Rattle.ada_regions.specs.PredefinedUnits.{item_in, free, integers, whole_integer, whole_boolean, whole_duration, default_priority, declared_in_standard, declared_in_system, declared_in_text_io, declared_in_real_time, declared_in_timing_events, declared_in_execution_time, declared_in_timers, declared_in_group_budgets, declared_in_dynamic_priorities, declared_in_task_identification, declared_in_dispatching, declared_in_round_robin, declared_in_edf, declared_in_finalization, declared_in_script_ports};
 
+use crate::priorities::default_priority;
 use ada_regions::{AdaType, Operation, Predefined, PredefinedUnit, Subtype};
 use ann_base::{Moment, Raised};
 use profile_machine::{Constraint, TIME_FIRST, TIME_LAST, Value};
@@ -76,13 +77,6 @@ fn moment(of_type: AdaType, moment: Moment) -> Predefined
     }
 }
 
-/// System.Default_Priority (13.7), where the last Priority is given.
-fn default_priority(last: u8) -> i32
-    ensures { result ≡ pos (default_priority last) }
-{
-    if last == 97 { 48 } else { 15 }
-}
-
 /// The number behind the last Priority.
 fn after(last: u8) -> i32
     ensures { result ≡ pos (suc last) }
@@ -136,7 +130,7 @@ fn item_in_system(last: u8, name: &[u8]) -> Option<Predefined>
     } else if name == b"default_priority".as_slice() {
         Some(Predefined::Constant {
             of_type: AdaType::Integer,
-            value: Value::Whole(default_priority(last)),
+            value: Value::Whole(default_priority(last) as i32),
         })
     } else {
         None

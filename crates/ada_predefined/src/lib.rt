@@ -1,5 +1,5 @@
-//! The predefined units and what they declare (ISO/IEC 8652:2012, annex A, C.7.1, annex D), by name, and the last priority of
-//! a source.
+//! The predefined units and what they declare (ISO/IEC 8652:2012, annex A, C.7.1, annex D), by name, and the last and
+//! the default priority of a source.
 #![tactic(auto)]
 
 mod items;
@@ -7,5 +7,5 @@ mod priorities;
 mod units;
 
 pub use items::item_in;
-pub use priorities::last_priority_of;
+pub use priorities::{default_priority, last_priority_of};
 pub use units::{child_unit, parent_unit, root_unit, same_unit};

@@ -6,6 +6,7 @@ use Rattle.ann_base.specs.declared.places.Place.{Place}
 use Rattle.ada_tree.specs.declared.units.Unit.{Unit as Tree}
 use Rattle.ada_tree.specs.declared.units.Pragma.{Pragma}
 use Rattle.ada_regions.specs.declared.faults.NameFault.{NameFault}
+use Rattle.ada_regions.specs.declared.predefined.TheConstants.{LAST_PRIORITY, LAST_WIDE_PRIORITY}
 use Rattle.ada_regions.specs.Occurrences.{Occurrence, Occurrences, begins, ends, private_from_here, hides, heads, declares, declares_unit, completes, is_called, mentions, mentions_simply, mentions_entry, with_unit, use_package}
 use Rattle.ada_regions.specs.NamesInUnits.{names_in_unit}
 use Rattle.ada_regions.specs.declared.table.Names.{Names}
@@ -42,7 +43,7 @@ abbrev pub is_wide : Pragma → Bool
 is_wide p = bytes_eq p.name.text (codes "priority_range")
 
 abbrev pub last_priority_of : List Pragma → ℕ
-last_priority_of pragmas = cond (list_any is_wide pragmas) 97 30
+last_priority_of pragmas = cond (list_any is_wide pragmas) LAST_WIDE_PRIORITY LAST_PRIORITY
 
 abbrev pub no_place : Place
 no_place = record { line = 0; column = 0 }

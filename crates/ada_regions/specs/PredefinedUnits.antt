@@ -11,6 +11,7 @@ use Rattle.profile_machine.specs.declared.values.Constraint.TheVariants as const
 use Rattle.ada_regions.specs.declared.types.AdaType.{AdaType}
 use Rattle.ada_regions.specs.declared.types.AdaType.TheVariants as types
 use Rattle.ada_regions.specs.declared.types.Subtype.{Subtype}
+use Rattle.ada_regions.specs.declared.predefined.TheConstants.{DEFAULT_PRIORITY, DEFAULT_WIDE_PRIORITY, LAST_WIDE_PRIORITY}
 use Rattle.ada_regions.specs.declared.predefined.PredefinedUnit.{PredefinedUnit}
 use Rattle.ada_regions.specs.declared.predefined.PredefinedUnit.TheVariants as units
 use Rattle.ada_regions.specs.declared.predefined.Operation.{Operation}
@@ -117,7 +118,7 @@ whole_duration = subtype_with types.Duration (constraint.Ticks time_first time_l
 -- ---- what each unit declares, where the last Priority is given
 
 abbrev pub default_priority : ℕ → ℕ
-default_priority last = cond (eqb last 97) 48 15
+default_priority last = cond (eqb last LAST_WIDE_PRIORITY) DEFAULT_WIDE_PRIORITY DEFAULT_PRIORITY
 
 unfoldable pub declared_in_standard : List (List ℕ × Predefined)
 declared_in_standard =

@@ -16,7 +16,10 @@ pub use entities::{
 pub use faults::NameFault;
 pub use occurrences::{Occurrence, Occurrences};
 pub use parts::{AspectsOf, ExpressionOf};
-pub use predefined::{Operation, Predefined, PredefinedUnit};
+pub use predefined::{
+    DEFAULT_PRIORITY, DEFAULT_WIDE_PRIORITY, LAST_PRIORITY, LAST_WIDE_PRIORITY, Operation,
+    Predefined, PredefinedUnit,
+};
 pub use table::{
     Binding, Enclosure, Frame, Names, NumberedControlled, NumberedDeclaration, NumberedEntry,
     NumberedEntryBody, NumberedProtected, NumberedScope, NumberedSubprogram, NumberedTask,

@@ -1,7 +1,17 @@
 //! The predefined units, and what they declare (ISO/IEC 8652:2012, annex A, C.7.1, annex D).
 use crate::types::{AdaType, Subtype};
-use ann_base::Raised;
+use ann_base::{Level, Raised};
 use profile_machine::Value;
+
+/// The last value of System.Priority (13.7, D.1), and of the wide range for which a pragma asks (docs/LANGUAGE.md).
+pub const LAST_PRIORITY: Level = 30;
+
+pub const LAST_WIDE_PRIORITY: Level = 97;
+
+/// System.Default_Priority (13.7, D.1) of each.
+pub const DEFAULT_PRIORITY: Level = 15;
+
+pub const DEFAULT_WIDE_PRIORITY: Level = 48;
 
 /// A predefined library unit of the profile.
 #[derive(Clone, Copy)]

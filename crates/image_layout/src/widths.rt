@@ -7,7 +7,7 @@ use crate::places::is_component_of;
 use crate::subtypes::{array_at, array_of};
 use ada_regions::{AdaType, ArrayType, ComponentOwner, Names, NumberedDeclaration, Sort, Subtype};
 use ann_base::NoMemory;
-use profile_machine::Constraint;
+use profile_machine::{CONTROLLED_CELLS, Constraint, PROTECTED_CELLS};
 
 /// A sum of 32 bits. One that does not fit wants more memory than there is.
 pub fn added(sum: u32, more: u32) -> Result<u32, NoMemory>
@@ -122,10 +122,10 @@ fn width_of_type(names: &Names<'_>, of_type: AdaType) -> Result<u32, NoMemory>
     match of_type {
         AdaType::Array(array) => width_of_array(array_at(names, array)),
         AdaType::Derived(of_type) => {
-            width_with_components(names, 1, ComponentOwner::Controlled(of_type))
+            width_with_components(names, CONTROLLED_CELLS, ComponentOwner::Controlled(of_type))
         }
         AdaType::Protected(unit) => {
-            width_with_components(names, 16, ComponentOwner::Protected(unit))
+            width_with_components(names, PROTECTED_CELLS, ComponentOwner::Protected(unit))
         }
         _ => Ok(1),
     }

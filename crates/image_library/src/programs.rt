@@ -1,13 +1,13 @@
 //! The main procedure, and the program that the machine runs, where what is made is given (ISO/IEC 8652:2012, 10.2).
 ghost use Rattle.std.specs.Prelude.{◌≡◌, IfOk};
-ghost use Rattle.ada_regions.specs.PredefinedUnits.{default_priority};
 ghost use Rattle.ada_image.specs.ImageOfUnits.{main_of, program_with};
 
 use ada_entities::copy;
 use ada_image::{Lists, MadeLists};
+use ada_predefined::default_priority;
 use ada_regions::Names;
 use ada_tree::Unit;
-use ann_base::{Level, NoMemory};
+use ann_base::NoMemory;
 use image_layout::enumerations_made;
 use image_policies::policies_of;
 use image_scopes::{scope_no, scopes_made, subprograms_made};
@@ -17,13 +17,6 @@ use profile_machine::{Image, ImageList, MainProcedure, Statement};
 use std::alloc::Global;
 use std::mem::replace;
 use world_tables::List;
-
-/// System.Default_Priority, where the last Priority is given (D.1).
-fn default_priority(last: Level) -> Level
-    ensures { result ≡ default_priority last }
-{
-    if last == 97 { 48 } else { 15 }
-}
 
 /// The main procedure, which the environment task calls (10.2).
 #[tactic(auto, unfolding(ada_image::specs::ImageOfUnits::main_of))]

@@ -1,5 +1,6 @@
 //! Arguments of pragmas: a word, or a number. Names in pragmas are words, and no names of the source.
 ghost use Rattle.std.specs.Prelude.{◌≡◌, option_copied, unwrap_or, IfOk};
+ghost use Rattle.ada_regions.specs.declared.predefined.TheConstants.{LAST_PRIORITY};
 ghost use Rattle.ada_regions.specs.declared.predefined.PredefinedUnit.TheVariants as units;
 ghost use Rattle.ada_regions.specs.Names.{last_part};
 ghost use Rattle.ada_regions.specs.PredefinedUnits.{item_in};
@@ -12,7 +13,7 @@ use crate::levels::level_of;
 use ada_entities::last_part;
 use ada_lex::{decimals, whole_value};
 use ada_predefined::item_in;
-use ada_regions::{Predefined, PredefinedUnit};
+use ada_regions::{LAST_PRIORITY, Predefined, PredefinedUnit};
 use ada_subtypes::{high_of, low_of, subtype_of_item};
 use ada_tree::{Argument, Attribute, AttributeDesignator, Expression, ExpressionForm, Name};
 use ann_base::NoMemory;
@@ -67,10 +68,10 @@ fn high_of_item(item: Predefined) -> Option<Value>
 
 /// What package Standard declares under the last part of a name, where the range of priorities is the plain one.
 fn item_of_standard(name: &Name) -> Option<Predefined>
-    ensures { result ≡ item_in 30 units.Standard (last_part name.now).text }
+    ensures { result ≡ item_in LAST_PRIORITY units.Standard (last_part name.now).text }
 {
     item_in(
-        30,
+        LAST_PRIORITY,
         PredefinedUnit::Standard,
         last_part(name).text.as_slice(),
     )

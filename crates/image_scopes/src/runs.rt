@@ -8,7 +8,7 @@ use image_layout::{
     added, cells_of_declaration, first_value, is_component_of, is_in_scope, subtype_is_thing,
     width_of_object, width_of_subtype,
 };
-use profile_machine::{CellRun, ImageList, Value};
+use profile_machine::{CONTROLLED_CELLS, CellRun, ImageList, PROTECTED_CELLS, Value};
 
 #[tactic(auto, using(crate::proofs::Zeros::no_zero))]
 fn is_plain_zero(value: Value) -> bool
@@ -131,11 +131,23 @@ fn runs_of_type(
         AdaType::LimitedControlled => Ok(()),
         AdaType::Controlled => Ok(()),
         AdaType::Derived(of_type) => {
-            runs_behind(names, runs, place, 1, ComponentOwner::Controlled(of_type))
+            runs_behind(
+                names,
+                runs,
+                place,
+                CONTROLLED_CELLS,
+                ComponentOwner::Controlled(of_type),
+            )
         }
         AdaType::Task(_) => Ok(()),
         AdaType::Protected(unit) => {
-            runs_behind(names, runs, place, 16, ComponentOwner::Protected(unit))
+            runs_behind(
+                names,
+                runs,
+                place,
+                PROTECTED_CELLS,
+                ComponentOwner::Protected(unit),
+            )
         }
         _ => run_of_values(names, runs, place, subtype),
     }

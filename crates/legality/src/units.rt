@@ -6,6 +6,7 @@ ghost use Rattle.ada_legality.specs.CallStatements.{all_found, found_if};
 ghost use Rattle.ada_legality.specs.Units.{library_package_found, main_found, main_priority_noted, package_body_found, package_declaration_found, package_found, part_found, units_found};
 
 use ada_legality::{Around, AspectOwner, AspectPart, Finding, Known};
+use ada_predefined::default_priority;
 use ada_tree::{
     Declaration, LibraryPackage, MainProcedure, Package, PackageBody, PackageDeclaration, Sequence,
     Unit,
@@ -125,19 +126,12 @@ fn packages_found(
     Ok(())
 }
 
-/// System.Default_Priority, where the last Priority is given.
-fn default_priority(last: u8) -> i128
-    ensures { result ≡ pos (default_priority last) }
-{
-    if last == 97 { 48 } else { 15 }
-}
-
 /// The base priority of the main procedure.
 fn priority_of_main(last: u8, aspects: &[AspectPart]) -> i128
     ensures { result ≡ unwrap_or (stated_value last aspects.now) (pos (default_priority last)) }
 {
     match stated_value(last, aspects) {
-        None => default_priority(last),
+        None => default_priority(last) as i128,
         Some(number) => number,
     }
 }

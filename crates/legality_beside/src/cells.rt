@@ -5,20 +5,17 @@ ghost use Rattle.ada_image.specs.Layout.{cells_of_declaration, is_in_scope};
 ghost use Rattle.ada_legality.specs.WholeSource.{passes_cells, cells_of, passing_cells};
 ghost use Rattle.legality_beside.specs.Passing.{told_of, cells_with, passing_from};
 
-use ada_legality::{Finding, Rule};
+use ada_legality::{Finding, MOST_PACKAGE_CELLS, Rule};
 use ada_regions::{Names, NumberedDeclaration};
 use ann_base::{NoMemory, next_number};
 use image_layout::{cells_of_declaration, is_in_scope};
 use legality_types::broken_if;
 use world_tables::List;
 
-/// The cells that library packages may have.
-const MOST_CELLS: u64 = 32_768;
-
 fn passes_cells(before: u64, cells: u32) -> bool
     ensures { result ≡ passes_cells before cells }
 {
-    before <= MOST_CELLS && MOST_CELLS < before + cells as u64
+    before <= MOST_PACKAGE_CELLS && MOST_PACKAGE_CELLS < before + cells as u64
 }
 
 fn cells_of(judged: &mut List<Finding>, number: u32, finding: &Finding) -> Result<(), NoMemory>

@@ -3,7 +3,7 @@ ghost use Rattle.std.specs.Prelude.{◌≡◌, ◌++◌, slice_get, OnOk, Some};
 ghost use Rattle.ada_legality.specs.CallStatements.{beyond};
 ghost use Rattle.ada_legality.specs.SimpleStatements.{is_accept_alternative, is_delay_alternative, is_delay_until_alternative, is_terminate_alternative, any_is, has_delay, has_mixed_delays, terminates, excludes, is_selective_accept, terminates_forbidden, beyond_restriction, selective_accept_judged};
 
-use ada_legality::{AlternativeKind, AlternativePart, Finding, Known, Rule};
+use ada_legality::{AlternativeKind, AlternativePart, Finding, Known, MOST_ALTERNATIVES, Rule};
 use ann_base::{NoMemory, Place};
 use legality_types::{broken_if, broken_unless};
 use world_tables::List;
@@ -197,7 +197,7 @@ pub fn selective_accept_judged(
 {
     let kept = is_selective_accept(parts, otherwise);
     broken_unless(found, Rule::SelectiveAccept, kept, place)?;
-    beyond(found, Rule::Limit, 64, parts)?;
+    beyond(found, Rule::Limit, MOST_ALTERNATIVES, parts)?;
     beyond_restriction(found, known.in_force.max_select_alternatives, parts)?;
     terminates_forbidden(found, known.in_force.no_terminate_alternatives, parts)
 }

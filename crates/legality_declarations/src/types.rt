@@ -5,7 +5,7 @@ ghost use Rattle.ada_legality.specs.Declarations.{array_found, array_judged, com
 
 use crate::components::components_found;
 use ada_entities::denoted_by;
-use ada_legality::{Finding, IndicationUse, Known, Read, Rule};
+use ada_legality::{Finding, IndicationUse, Known, MOST_COMPONENTS, Read, Rule};
 use ada_regions::AdaType;
 use ada_subtypes::mark_denoted;
 use ada_tree::{Component, Expression, Name, OneOrMore, SubtypeIndication, TypeDefinition};
@@ -40,7 +40,7 @@ fn components_from_to(low: Option<i128>, high: Option<i128>) -> Result<i128, NoM
     }
 }
 
-/// An array has more than 4,096 components.
+/// An array has more components than it may.
 #[tactic(auto, unfolding(ada_legality::specs::Declarations::is_too_long))]
 fn is_too_long(
     known: &Known<'_, '_>,
@@ -56,7 +56,7 @@ fn is_too_long(
     let first = static_number(known, t, low, low_read.typed)?;
     let last = static_number(known, t, high, high_read.typed)?;
     let behind = components_from_to(first, last)?;
-    Ok(4096 <= behind)
+    Ok(MOST_COMPONENTS <= behind)
 }
 
 /// The component of an array is no scalar.

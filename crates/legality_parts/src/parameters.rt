@@ -4,7 +4,7 @@ ghost use Rattle.ada_regions.specs.Words.{all_of};
 ghost use Rattle.ada_legality.specs.CallStatements.{all_found, beyond, formal_names_of, is_one, parameter_found, parameters_found};
 
 use crate::marks::parameter_found;
-use ada_legality::{Finding, Known, Rule};
+use ada_legality::{Finding, Known, MOST_PARAMETERS, Rule};
 use ada_tree::{Identifier, Parameter};
 use ann_base::{NoMemory, Place};
 use legality_conditions::legality_types::broken_if;
@@ -120,7 +120,7 @@ fn each_parameter(
     Ok(())
 }
 
-/// The parameters of a profile: 16 names at most (this profile's own).
+/// The parameters of a profile: their names have a limit (this profile's own).
 #[tactic(auto, unfolding(ada_legality::specs::CallStatements::parameters_found))]
 pub fn parameters_found(
     alloc: Global,
@@ -135,7 +135,7 @@ pub fn parameters_found(
 {
     let listed = formal_names_of(alloc, parameters)?;
     let names = listed.as_slice();
-    beyond(found, 16, names)?;
+    beyond(found, MOST_PARAMETERS, names)?;
     let one = is_one(names);
     each_parameter(
         alloc,

@@ -11,7 +11,7 @@ ghost use Rattle.ada_legality.specs.Pragmas.{end_of_range, integer_behind, integ
 
 use ada_lex::{decimals, whole_value};
 use ada_predefined::item_in;
-use ada_regions::{PredefinedUnit, Subtype};
+use ada_regions::{LAST_PRIORITY, PredefinedUnit, Subtype};
 use ada_subtypes::subtype_of_item;
 use ada_tree::{
     Argument, Attribute, AttributeDesignator, Expression, ExpressionForm, Identifier, Name, Sign,
@@ -116,7 +116,7 @@ fn integer_named(word: &[u8]) -> Option<Subtype>
     ensures { result ≡ integer_named word.now }
 {
     if is_integer_name(word) {
-        match item_in(30, PredefinedUnit::Standard, word) {
+        match item_in(LAST_PRIORITY, PredefinedUnit::Standard, word) {
             None => None,
             Some(item) => subtype_of_item(item),
         }

@@ -10,6 +10,7 @@ use ada_legality::Known;
 use ada_regions::{AdaType, Names, Subtype};
 use ada_subtypes::mark_denoted;
 use ada_tree::{AddingOperator, Attribute, Name};
+use ann_base::NAME_BYTES;
 use legality_types::discrete_if;
 use profile_machine::Text;
 
@@ -17,7 +18,7 @@ use profile_machine::Text;
 pub(crate) fn short_length(bytes: usize) -> Option<u32>
     ensures { result ≡ short_length bytes }
 {
-    if bytes <= 1000 {
+    if bytes <= NAME_BYTES {
         Some(bytes as u32)
     } else {
         None

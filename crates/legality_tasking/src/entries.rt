@@ -5,7 +5,7 @@ ghost use Rattle.ada_legality.specs.CallStatements.{all_found, beyond};
 ghost use Rattle.ada_legality.specs.SimpleStatements.{beyond_restriction};
 ghost use Rattle.ada_legality.specs.Declarations.{entries_judged, entries_noted, entries_of_definition, entry_noted, entry_of_operation, most_entries};
 
-use ada_legality::{BodyKind, Finding, InForce, Known, Rule};
+use ada_legality::{BodyKind, Finding, InForce, Known, MOST_ENTRIES, Rule};
 use ada_tree::{EntryDeclaration, ProtectedOperation, TaskDefinition};
 use ann_base::NoMemory;
 use legality_expressions::legality_types::broken_if;
@@ -226,7 +226,7 @@ pub fn entries_judged(
     ensures { OnOk result (found.new ≡ found.old ++ entries_judged of_task entries.now known.now) }
 {
     entries_noted(found, known, of_task, entries)?;
-    beyond_most(found, Rule::Limit, 64, entries)?;
+    beyond_most(found, Rule::Limit, MOST_ENTRIES, entries)?;
     let most = most_entries(known.in_force, of_task);
     beyond_restriction(found, most, entries)
 }

@@ -7,7 +7,7 @@ ghost use Rattle.legality_units.specs.Along.{found_along};
 
 use crate::names::unit_unseen;
 use ada_entities::expanded;
-use ada_legality::{Finding, Rule};
+use ada_legality::{Finding, LONGEST_NAME, Rule};
 use ada_naming::{behind, nothing_known};
 use ada_predefined::last_priority_of;
 use ada_regions::{Names, Occurrence, Occurrences};
@@ -17,7 +17,7 @@ use legality_types::broken_if;
 use std::alloc::Global;
 use world_tables::List;
 
-/// A declaration whose expanded name has more than 500 bytes (this profile's own).
+/// A declaration whose expanded name is longer than it may be (this profile's own).
 #[tactic(auto, unfolding(ada_legality::specs::UnitsUsed::long_name))]
 fn long_name(
     alloc: Global,
@@ -28,7 +28,7 @@ fn long_name(
     ensures { OnOk result (found.new ≡ found.old ++ long_name names.now name.now) }
 {
     let text = expanded(alloc, &names.frames, name.text.as_slice())?;
-    let is_long = 500 < text.as_slice().len();
+    let is_long = LONGEST_NAME < text.as_slice().len();
     broken_if(found, Rule::Limit, is_long, name.place)
 }
 

@@ -15,9 +15,8 @@ use machine_frames::{Effect, leaves, pop, raises};
 use machine_parameters::cells_from;
 use machine_program::{Program, declaration_of};
 use machine_scopes::{put_cells, scope_mut};
-use machine_values::CONTROLLED_CELLS;
 use profile_machine::world::{AssignMark, AssignStep, Located, Part, Registered, Variable, World};
-use profile_machine::{Leaving, SubprogramNo};
+use profile_machine::{CONTROLLED_CELLS, Leaving, SubprogramNo};
 use std::alloc::Global;
 use trace_text::Who;
 

@@ -1,7 +1,8 @@
 //! The creation of a task (ISO/IEC 8652:2012, 9.1).
 ghost use Rattle.std.specs.Prelude.{◌≡◌, IfOk, OnOk, leb, length};
 ghost use Rattle.ann_base.specs.Answers.{Answers};
-ghost use Rattle.profile_machine.specs.Tasking.{unit_of_kind, unit_of_declaration, optional_span, outer_of_task, created_task, task_drawn, add_task, create_task, most_live_tasks, create};
+ghost use Rattle.profile_machine.specs.declared.limits.TheConstants.{MOST_LIVE_TASKS};
+ghost use Rattle.profile_machine.specs.Tasking.{unit_of_kind, unit_of_declaration, optional_span, outer_of_task, created_task, task_drawn, add_task, create_task, create};
 ghost use Rattle.machine_frames.specs.Did.{Did};
 ghost use Rattle.machine_creation.specs.Created.{span_given, asks_span, last_drawn, names_object};
 
@@ -14,12 +15,11 @@ use machine_program::{Program, declaration_of, next_of, scope_of, task_unit_of};
 use machine_scopes::home;
 use machine_values::{Seen, moment, seen_by};
 use profile_machine::world::{Drawn, Line, Located, Part, ScopeId, State, Task, World};
-use profile_machine::{DeclNo, DeclarationKind, ExprNo, StatementNo, TaskUnit, TaskUnitNo, Value};
+use profile_machine::{
+    DeclNo, DeclarationKind, ExprNo, MOST_LIVE_TASKS, StatementNo, TaskUnit, TaskUnitNo, Value,
+};
 use std::alloc::Global;
 use trace_text::{Created, Who};
-
-/// How many tasks may be live at a time.
-const TASKS: usize = 256;
 
 fn unit_of_kind(kind: &DeclarationKind) -> TaskUnitNo
     ensures { result ≡ unit_of_kind kind.now }
@@ -192,9 +192,9 @@ fn asks_span(
 
 // Whether as many tasks are live as may be.
 fn is_full(world: &World) -> bool
-    ensures { result ≡ leb most_live_tasks (length world.now.tasks) }
+    ensures { result ≡ leb MOST_LIVE_TASKS (length world.now.tasks) }
 {
-    TASKS <= world.tasks.len()
+    MOST_LIVE_TASKS <= world.tasks.len()
 }
 
 /// A task is created (9.1). Program_Error is raised inside a protected action and wherever abort is

@@ -1,5 +1,6 @@
 -- The steps of the declaration of a protected object, in the machine's own words.
 use Rattle.trace_text.specs.declared.events.Who.{Who}
+use Rattle.profile_machine.specs.declared.limits.TheConstants.{PROTECTED_CELLS}
 use Rattle.profile_machine.specs.declared.image.Image.{Image}
 use Rattle.profile_machine.specs.declared.numbers.ProtectedUnitNo.{ProtectedUnitNo}
 use Rattle.profile_machine.specs.declared.numbers.StatementNo.{StatementNo}
@@ -8,7 +9,6 @@ use Rattle.profile_machine.specs.declared.world.scopes.Located.{Located}
 use Rattle.profile_machine.specs.Program.{next_of, protected_unit_of}
 use Rattle.profile_machine.specs.Steps.{Step, changes, ◌▷◌}
 use Rattle.profile_machine.specs.Frames.{goes, given}
-use Rattle.profile_machine.specs.Values.{protected_cells}
 use Rattle.profile_machine.specs.Statements.{sees}
 use Rattle.profile_machine.specs.Declarations.{components_initialized, with_object, says_object}
 
@@ -19,5 +19,5 @@ made_here p name s l u = goes name (next_of p s) ▷ changes (with_object p l u)
 -- the declaration of a protected object that stands here
 abbrev pub declare_protected_at : Image → Who → StatementNo → Located → ProtectedUnitNo → Step
 declare_protected_at p name s l u =
-    sees p name (λ q. given Own name (components_initialized q protected_cells l (protected_unit_of p u).components q.world) (λ next.
+    sees p name (λ q. given Own name (components_initialized q PROTECTED_CELLS l (protected_unit_of p u).components q.world) (λ next.
     changes (λ _. next) ▷ made_here p name s l u))

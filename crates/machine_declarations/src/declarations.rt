@@ -11,10 +11,11 @@ use crate::timing::{budget_declared, event_declared, timer_declared};
 use ann_base::{NoMemory, OrMemory, Raised};
 use machine_frames::{Effect, goes, raises};
 use machine_program::{Program, controlled_of, declaration_of, next_of};
-use machine_values::{CONTROLLED_CELLS, object_cell, or_raised, seen_by};
+use machine_values::{object_cell, or_raised, seen_by};
 use profile_machine::world::{Part, World};
 use profile_machine::{
-    ControlledNo, DeclNo, DeclarationKind, Initial, ObjectName, StatementNo, Value,
+    CONTROLLED_CELLS, ControlledNo, DeclNo, DeclarationKind, Initial, ObjectName, StatementNo,
+    Value,
 };
 use std::alloc::Global;
 use trace_text::Who;

@@ -9,11 +9,8 @@ use ann_base::{NoMemory, OrMemory, Raised, TaskNo, next_number};
 use machine_program::Program;
 use machine_values::{Seen, first_cell, home_of, or_raised, seen_by, task_in};
 use profile_machine::world::{Budget, Drawn, Timer, World};
-use profile_machine::{DeclNo, Value};
+use profile_machine::{DeclNo, MOST_TIMERS, Value};
 use trace_text::Who;
-
-/// How many timers may exist.
-const TIMERS: usize = 256;
 
 fn event_drawn(drawn: &mut Drawn) -> Result<(), NoMemory>
     ensures { OnOk result (drawn.new ≡ event_drawn drawn.old) }
@@ -115,7 +112,7 @@ pub(crate) fn timer_declared(
         world.new }
 {
     let timed = or_raised(timed_task(&seen_by(p, world, name), task))?;
-    if TIMERS <= world.timers.len() {
+    if MOST_TIMERS <= world.timers.len() {
         return Err(OrMemory::Fault(Raised::TimerResource));
     }
     let object = or_raised(located_here(&seen_by(p, world, name), d))?;

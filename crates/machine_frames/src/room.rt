@@ -1,17 +1,13 @@
 //! Room (own): 1,000 marks of a task, 65,536 marks in all, and 65,536 cells.
 ghost use Rattle.std.specs.Prelude.{◌≡◌, ◌+◌, leb, length, sum_by};
-ghost use Rattle.profile_machine.specs.Frames.{frames_of, marks_in_use, cells_in_use, most_marks_of_task, most_marks, most_cells, has_room};
+ghost use Rattle.profile_machine.specs.declared.limits.TheConstants.{MOST_MARKS_OF_TASK, MOST_MARKS, MOST_CELLS};
+ghost use Rattle.profile_machine.specs.Frames.{frames_of, marks_in_use, cells_in_use, has_room};
 
 use crate::tasks::task_at;
 use profile_machine::world::{ScopeInUse, Task, World};
+use profile_machine::{MOST_CELLS, MOST_MARKS, MOST_MARKS_OF_TASK};
 use trace_text::Who;
 use world_tables::List;
-
-const MARKS_OF_A_TASK: usize = 1_000;
-
-const MARKS: usize = 65_536;
-
-const CELLS: usize = 65_536;
 
 /// How many marks the one with this name has open.
 pub fn frame_count(world: &World, name: Who) -> usize
@@ -53,25 +49,27 @@ fn cells_fit(scopes: &List<ScopeInUse>, room: usize) -> bool
 }
 
 fn task_has_room(world: &World, name: Who, marks: u32) -> bool
-    ensures { result ≡ leb (length (frames_of world.now name) + marks) most_marks_of_task }
+    ensures { result ≡ leb (length (frames_of world.now name) + marks) MOST_MARKS_OF_TASK }
 {
     let more = marks as usize;
-    more <= MARKS_OF_A_TASK && frame_count(world, name) <= MARKS_OF_A_TASK - more
+    more <= MOST_MARKS_OF_TASK && frame_count(world, name) <= MOST_MARKS_OF_TASK - more
 }
 
 fn marks_have_room(world: &World, marks: u32) -> bool
-    ensures { result ≡ leb (marks_in_use world.now + marks) most_marks }
+    ensures { result ≡ leb (marks_in_use world.now + marks) MOST_MARKS }
 {
     let of_agent = world.agent.frames.len();
     let more = marks as usize;
-    more <= MARKS && of_agent <= MARKS - more && marks_fit(&world.tasks, MARKS - more - of_agent)
+    more <= MOST_MARKS
+        && of_agent <= MOST_MARKS - more
+        && marks_fit(&world.tasks, MOST_MARKS - more - of_agent)
 }
 
 fn cells_have_room(world: &World, cells: u32) -> bool
-    ensures { result ≡ leb (cells_in_use world.now + cells) most_cells }
+    ensures { result ≡ leb (cells_in_use world.now + cells) MOST_CELLS }
 {
     let more = cells as usize;
-    more <= CELLS && cells_fit(&world.scopes, CELLS - more)
+    more <= MOST_CELLS && cells_fit(&world.scopes, MOST_CELLS - more)
 }
 
 /// Whether there is room for so many more marks of a task, and for so many more cells.

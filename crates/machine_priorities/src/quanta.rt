@@ -13,16 +13,13 @@ use machine_frames::{Effect, goes, raises};
 use machine_program::{Program, is_robin_level, next_of, policies};
 use machine_values::{moment, seen_by, value, whole_in};
 use profile_machine::world::{Part, World};
-use profile_machine::{ExprNo, StatementNo, Value};
+use profile_machine::{ExprNo, LAST_QUANTUM, StatementNo, Value};
 use trace_text::Who;
-
-/// The longest quantum, in ticks.
-const QUANTUM_LAST: Moment = 1_000_000_000;
 
 fn quantum_in_range(n: Moment) -> bool
     ensures { result ≡ quantum_in_range n }
 {
-    1 <= n && n <= QUANTUM_LAST
+    1 <= n && n <= LAST_QUANTUM
 }
 
 // A quantum of a level, in ticks.

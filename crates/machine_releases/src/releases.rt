@@ -8,10 +8,9 @@ use ann_base::{NoMemory, next_number};
 use machine_dispatching::ready;
 use machine_frames::{Effect, says};
 use machine_program::Program;
+use profile_machine::MOST_RELEASES;
 use profile_machine::world::{HandlerOf, Line, Part, Release, State, World};
 use trace_text::Who;
-
-const RELEASES: usize = 65_536;
 
 fn add_release(world: &mut World, handler: HandlerOf, argument: Option<u32>) -> Result<(), NoMemory>
     ensures { OnOk result (world.new ≡ add_release handler argument world.old) }
@@ -71,5 +70,5 @@ pub fn release(
 pub fn has_room_for_release(world: &World) -> bool
     ensures { result ≡ has_room_for_release world.now }
 {
-    world.releases.len() < RELEASES
+    world.releases.len() < MOST_RELEASES
 }

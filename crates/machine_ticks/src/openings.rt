@@ -11,20 +11,14 @@ use machine_program::{
     Program, environment as environment_scope, interrupt_priority, main_procedure,
 };
 use machine_scopes::{open_scope, plainly};
-use profile_machine::Item;
 use profile_machine::world::{Drawn, Line, Part, Purpose, State, Task, Waiting, World};
+use profile_machine::{DEFAULT_QUANTUM, Item, LINES_FROM_OUTSIDE};
 use std::alloc::Global;
 use trace_text::{Created, Who};
 use world_tables::List;
 
 /// The environment task.
 const ENVIRONMENT: Who = Who::Task(TaskNo(0));
-
-/// How many ports, and how many interrupts, a script knows.
-const LINES: u32 = 16;
-
-/// The quantum of a level until it is set, in ticks.
-const QUANTUM: u64 = 1_000;
 
 fn environment_task(alloc: Global, p: &Program) -> Task
     ensures { result ≡ environment_task p.now }
@@ -108,13 +102,13 @@ fn blank_world(alloc: Global, p: &Program, script: List<(Moment, Item)>) -> Resu
         time: 0,
         ran: None,
         script,
-        ports: ports(alloc, 0, LINES)?,
-        masked: flags(alloc, false, LINES)?,
-        kept_interrupts: flags(alloc, false, LINES)?,
+        ports: ports(alloc, 0, LINES_FROM_OUTSIDE)?,
+        masked: flags(alloc, false, LINES_FROM_OUTSIDE)?,
+        kept_interrupts: flags(alloc, false, LINES_FROM_OUTSIDE)?,
         tasks: tasks_at_first(alloc, p)?,
         agent: agent_at_first(alloc, p)?,
         places: List::new(alloc),
-        quanta: quanta(alloc, QUANTUM, interrupt_priority(p) + 1)?,
+        quanta: quanta(alloc, DEFAULT_QUANTUM, interrupt_priority(p) + 1)?,
         ended: None,
         scopes: List::new(alloc),
         objects: List::new(alloc),

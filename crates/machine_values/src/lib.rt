@@ -14,9 +14,9 @@ pub use answers::or_raised;
 pub use events::{budget_of, event_moment, is_event, port_value, time_left, timer_of};
 pub use moments::relative_moment;
 pub use names::{
-    CONTROLLED_CELLS, PROTECTED_CELLS, component_at, component_cell, declared_already, first_cell,
-    home_of, is_parameter, located, located_in, number_of_thing, object_cell, object_number,
-    own_object, read, subject_of, task_in, thing, thing_number,
+    component_at, component_cell, declared_already, first_cell, home_of, is_parameter, located,
+    located_in, number_of_thing, object_cell, object_number, own_object, read, subject_of, task_in,
+    thing, thing_number,
 };
 pub use seen::{Seen, seen_by};
 pub use tasks::{count_of_entry, live_task, moment_at};

@@ -13,7 +13,9 @@ use machine_operators::component_place;
 use machine_program::{Program, declaration_of};
 use machine_scopes::{Sought, first_outwards, home, is_of_unit, read_cell, scope_in_use};
 use profile_machine::world::{Located, ScopeId, Variable, World};
-use profile_machine::{DeclNo, DeclarationKind, ObjectName, ProtectedUnitNo, Value};
+use profile_machine::{
+    CONTROLLED_CELLS, DeclNo, DeclarationKind, ObjectName, PROTECTED_CELLS, ProtectedUnitNo, Value,
+};
 
 /// The object of the unit in whose body a name stands: the barrier's, or that of the nearest such body round it.
 pub fn own_object(q: &Seen<'_>, unit: ProtectedUnitNo) -> Option<ObjectNo>
@@ -154,12 +156,6 @@ pub fn located(q: &Seen<'_>, d: DeclNo) -> Result<Located, Raised>
         })
     }
 }
-
-/// How many cells a protected object has of its own, before its components.
-pub const PROTECTED_CELLS: u32 = 16;
-
-/// How many cells a controlled object has of its own, before its components.
-pub const CONTROLLED_CELLS: u32 = 1;
 
 // A place beyond the last of 32 bits is in no memory.
 fn place_behind(place: u32, cells: u32) -> Result<u32, NoMemory>

@@ -5,6 +5,7 @@ use Rattle.ann_base.specs.declared.identities.RegionNo.{RegionNo}
 use Rattle.ann_base.specs.declared.exceptions.Raised.TheVariants as exception
 use Rattle.profile_machine.specs.declared.world.lines.Line.TheVariants as line
 use Rattle.trace_text.specs.declared.events.Who.{Who}
+use Rattle.profile_machine.specs.declared.limits.TheConstants.{CONTROLLED_CELLS}
 use Rattle.profile_machine.specs.declared.image.Image.{Image}
 use Rattle.profile_machine.specs.declared.numbers.DeclNo.{DeclNo}
 use Rattle.profile_machine.specs.declared.numbers.StatementNo.{StatementNo}
@@ -37,7 +38,7 @@ use Rattle.profile_machine.specs.Steps.{Step, says, changes, looks, when, nothin
 use Rattle.profile_machine.specs.Frames.{top_of, edit_top, push, pop, new_frame, goes, leaves, raises, given, with_room, has_room, with_mark, pass_on}
 use Rattle.profile_machine.specs.declared.world.scopes.Beginning.{Beginning}
 use Rattle.profile_machine.specs.Scopes.{home, read_cell, write_cell, open_scope, edit_cells, innermost, put_cells}
-use Rattle.profile_machine.specs.Values.{located, controlled_cells}
+use Rattle.profile_machine.specs.Values.{located}
 use Rattle.profile_machine.specs.Cost.{of_region}
 use Rattle.profile_machine.specs.Masters.{region_of_mark}
 use Rattle.profile_machine.specs.Statements.{sees, cells_from}
@@ -287,11 +288,11 @@ adjust_by p name r (Some f) =
 
 -- the components alone are copied
 abbrev pub components_at : Image → Located → Variable
-components_at p l = record { within = l.within; place = first_place p l + controlled_cells; declared = l.declared }
+components_at p l = record { within = l.within; place = first_place p l + CONTROLLED_CELLS; declared = l.declared }
 
 -- how many cells the components of an object take
 abbrev pub cells_of_components : Image → Located → ℕ
-cells_of_components p l = (declaration_of p l.declared).cells - controlled_cells
+cells_of_components p l = (declaration_of p l.declared).cells - CONTROLLED_CELLS
 
 abbrev pub copy_components_of : Variable → Variable → ℕ → World → World
 copy_components_of target source count w = edit_cells target.within (put_cells target.place (cells_from w source count)) w

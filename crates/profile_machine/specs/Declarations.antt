@@ -6,6 +6,7 @@ use Rattle.ann_base.specs.declared.exceptions.Raised.TheVariants as exception
 use Rattle.profile_machine.specs.declared.world.lines.Line.TheVariants as line
 use Rattle.trace_text.specs.declared.events.Created.TheVariants as created
 use Rattle.trace_text.specs.declared.events.Who.{Who}
+use Rattle.profile_machine.specs.declared.limits.TheConstants.{PROTECTED_CELLS, CONTROLLED_CELLS, MOST_TIMERS}
 use Rattle.profile_machine.specs.declared.image.Image.{Image}
 use Rattle.profile_machine.specs.declared.numbers.DeclNo.{DeclNo}
 use Rattle.profile_machine.specs.declared.numbers.ControlledNo.{ControlledNo}
@@ -30,7 +31,7 @@ use Rattle.profile_machine.specs.Steps.{Step, says, changes, looks, ◌▷◌}
 use Rattle.profile_machine.specs.Frames.{goes, given}
 use Rattle.profile_machine.specs.Scopes.{write_cell, edit_cells, scope_in_use, put_cells}
 use Rattle.profile_machine.specs.Operators.{Valued, unless}
-use Rattle.profile_machine.specs.Values.{Seen, value, object_cell, home_of, component_at, protected_cells, controlled_cells, no_budget, first_cell, task_in}
+use Rattle.profile_machine.specs.Values.{Seen, value, object_cell, home_of, component_at, no_budget, first_cell, task_in}
 use Rattle.profile_machine.specs.Statements.{sees, copy_cells}
 use Rattle.profile_machine.specs.CallEnds.{store}
 
@@ -107,13 +108,13 @@ says_object p l u =
 unfoldable pub declare_protected : Image → Who → StatementNo → DeclNo → ProtectedUnitNo → Step
 declare_protected p name s d u =
     sees p name (λ q. given Own name (located_here q d) (λ l.
-    given Own name (components_initialized q protected_cells l (protected_unit_of p u).components q.world) (λ next.
+    given Own name (components_initialized q PROTECTED_CELLS l (protected_unit_of p u).components q.world) (λ next.
     changes (λ _. next) ▷ goes name (next_of p s) ▷ changes (with_object p l u) ▷ says_object p l u)))
 
 -- a controlled object is made; it is registered behind its Initialize
 abbrev pub controlled_declared : Seen → DeclNo → ControlledNo → Valued World
 controlled_declared q d c =
-    located_here q d >>= λ l. components_initialized q controlled_cells l (controlled_of q.program c).components q.world >>= λ next.
+    located_here q d >>= λ l. components_initialized q CONTROLLED_CELLS l (controlled_of q.program c).components q.world >>= λ next.
     Ok (set_thing q.program l (Thing 0) next)
 
 abbrev pub event_drawn : Drawn → Drawn
@@ -129,10 +130,6 @@ with_budget w = record w { budgets = w.budgets ++ no_budget ∷ [] }
 abbrev pub budget_declared : Seen → DeclNo → Valued World
 budget_declared q d = located_here q d >>= λ l. Ok (set_thing q.program l (Thing (length q.world.budgets)) (with_budget q.world))
 
--- how many timers there are at most (own)
-abbrev pub most_timers : ℕ
-most_timers = 256
-
 -- a timer of Null_Task_Id raises Program_Error; while so many exist Timer_Resource_Error is raised (D.14.1; own)
 abbrev pub must_identify : Option TaskNo → Valued TaskNo
 must_identify None = Err exception.Program
@@ -146,7 +143,7 @@ with_timer t w = record w { timers = w.timers ++ record { task = t; setting = No
 
 abbrev pub timer_declared : Seen → DeclNo → DeclNo → Valued World
 timer_declared q d task =
-    timed_task q task >>= λ t. unless (not (leb most_timers (length q.world.timers))) exception.TimerResource t >>= λ u.
+    timed_task q task >>= λ t. unless (not (leb MOST_TIMERS (length q.world.timers))) exception.TimerResource t >>= λ u.
     located_here q d >>= λ l. Ok (set_thing q.program l (Thing (length q.world.timers)) (with_timer u q.world))
 
 abbrev pub declared : Seen → DeclNo → DeclarationKind → Valued World

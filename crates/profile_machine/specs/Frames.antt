@@ -4,6 +4,7 @@ use Rattle.ann_base.specs.declared.exceptions.Raised.{Raised}
 use Rattle.ann_base.specs.declared.exceptions.Raised.TheVariants as exception
 use Rattle.profile_machine.specs.declared.world.lines.Line.TheVariants as line
 use Rattle.trace_text.specs.declared.events.Who.{Who}
+use Rattle.profile_machine.specs.declared.limits.TheConstants.{MOST_MARKS_OF_TASK, MOST_MARKS, MOST_CELLS}
 use Rattle.profile_machine.specs.declared.image.Image.{Image}
 use Rattle.profile_machine.specs.declared.numbers.StatementNo.{StatementNo}
 use Rattle.profile_machine.specs.declared.run_data.Leaving.{Leaving}
@@ -91,19 +92,9 @@ marks_in_use w = sum_by (λ t. length t.frames) w.tasks + length w.agent.frames
 abbrev pub cells_in_use : World → ℕ
 cells_in_use w = sum_by (λ s. length s.cells) w.scopes
 
--- how many marks a task has at most, how many there are in all, and how many cells
-abbrev pub most_marks_of_task : ℕ
-most_marks_of_task = 1000
-
-abbrev pub most_marks : ℕ
-most_marks = 65536
-
-abbrev pub most_cells : ℕ
-most_cells = 65536
-
 abbrev pub has_room : World → Who → ℕ → ℕ → Bool
 has_room w name marks cells =
-    leb (length (frames_of w name) + marks) most_marks_of_task && leb (marks_in_use w + marks) most_marks && leb (cells_in_use w + cells) most_cells
+    leb (length (frames_of w name) + marks) MOST_MARKS_OF_TASK && leb (marks_in_use w + marks) MOST_MARKS && leb (cells_in_use w + cells) MOST_CELLS
 
 -- ---- sequences with handlers (11.2)
 

@@ -3,6 +3,7 @@ use Rattle.std.specs.Prelude.{ℕ, suc, ◌+◌, ◌-◌, ℤ, pos, negsuc, ◌+
 use Rattle.ann_base.specs.Results.{◌>>=◌}
 use Rattle.ann_base.specs.declared.identities.TaskNo.{TaskNo}
 use Rattle.ann_base.specs.declared.exceptions.Raised.TheVariants as exception
+use Rattle.profile_machine.specs.declared.limits.TheConstants.{MOST_RELEASES}
 use Rattle.profile_machine.specs.declared.world.objects.Entering.{Entering}
 use Rattle.profile_machine.specs.declared.world.objects.Entering.TheVariants as entering_is
 use Rattle.profile_machine.specs.declared.world.lines.Line.TheVariants as line
@@ -74,13 +75,9 @@ unfoldable pub release : Image → Part → HandlerOf → Option ℕ → Step
 release p part h argument =
     changes (add_release h argument) ▷ says_release part h ▷ looks (λ w. wake_agent p part w.agent.state)
 
--- how many releases are pending at most (own)
-abbrev pub most_releases : ℕ
-most_releases = 65536
-
 -- while so many are pending there is no room for one
 abbrev pub has_room_for_release : World → Bool
-has_room_for_release w = not (leb most_releases (length w.releases))
+has_room_for_release w = not (leb MOST_RELEASES (length w.releases))
 
 abbrev pub with_room_for_release : Who → Bool → Step → Step
 with_room_for_release name needed step =

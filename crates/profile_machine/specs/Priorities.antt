@@ -4,6 +4,7 @@ use Rattle.ann_base.specs.Results.{◌>>=◌}
 use Rattle.ann_base.specs.declared.identities.TaskNo.{TaskNo}
 use Rattle.ann_base.specs.declared.identities.CallNo.{CallNo}
 use Rattle.ann_base.specs.declared.exceptions.Raised.TheVariants as exception
+use Rattle.profile_machine.specs.declared.limits.TheConstants.{LAST_QUANTUM}
 use Rattle.profile_machine.specs.declared.world.lines.Line.TheVariants as line
 use Rattle.trace_text.specs.declared.events.Who.{Who}
 use Rattle.trace_text.specs.declared.events.Who.TheVariants as who
@@ -151,11 +152,8 @@ set_priority p name s e task =
 
 -- ---- Set_Quantum (D.2.5)
 
-abbrev pub quantum_last : ℤ
-quantum_last = pos 1000000000
-
 abbrev pub quantum_in_range : ℤ → Bool
-quantum_in_range n = int_le (pos 1) n && int_le n quantum_last
+quantum_in_range n = int_le (pos 1) n && int_le n LAST_QUANTUM
 
 abbrev pub quantum_of : Image → ℕ → ℤ → Valued ℕ
 quantum_of p level n = unless (is_robin_level p level && quantum_in_range n) exception.DispatchingPolicy (nat_abs n)

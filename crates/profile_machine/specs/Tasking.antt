@@ -12,6 +12,7 @@ use Rattle.trace_text.specs.declared.events.Leaves.{Leaves}
 use Rattle.trace_text.specs.declared.events.Leaves.TheVariants as leaves_word
 use Rattle.trace_text.specs.declared.events.Who.{Who}
 use Rattle.trace_text.specs.declared.events.Who.TheVariants as who
+use Rattle.profile_machine.specs.declared.limits.TheConstants.{MOST_LIVE_TASKS}
 use Rattle.profile_machine.specs.declared.image.Image.{Image}
 use Rattle.profile_machine.specs.declared.numbers.DeclNo.{DeclNo}
 use Rattle.profile_machine.specs.declared.numbers.ExprNo.{ExprNo}
@@ -95,15 +96,11 @@ create_task p name s d id t =
     ▷ for_some id (λ within. looks (λ w. changes (set_thing p (record { within = within; declared = d }) (value_of.Task (Some (record { 0 = w.drawn.tasks - 1 }))))))
     ▷ says_created d t
 
--- how many tasks are live at most (own)
-abbrev pub most_live_tasks : ℕ
-most_live_tasks = 256
-
 -- Program_Error inside a protected action and wherever abort is deferred; Storage_Error while so many tasks are live (own)
 unfoldable pub create : Image → Who → StatementNo → DeclNo → ℕ → Step
 create p name s d declarative_part =
     sees p name (λ q. raise_if name (in_protected q.world name || is_deferred q.world name) exception.Program
-    (raise_if name (leb most_live_tasks (length q.world.tasks)) exception.Storage
+    (raise_if name (leb MOST_LIVE_TASKS (length q.world.tasks)) exception.Storage
     (given Own name (optional_span q (task_unit_of p (unit_of_declaration p d)).relative_deadline) (λ span.
     create_task p name s d (home q.world (declaration_of p d).scope q.within) (created_task q d (unit_of_declaration p d) declarative_part span q.world.drawn.tasks)))))
 

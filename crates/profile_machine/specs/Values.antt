@@ -7,6 +7,7 @@ use Rattle.ann_base.specs.declared.identities.CallNo.{CallNo}
 use Rattle.ann_base.specs.declared.exceptions.Raised.TheVariants as exception
 use Rattle.trace_text.specs.declared.events.Who.{Who}
 use Rattle.trace_text.specs.declared.events.Who.TheVariants as who
+use Rattle.profile_machine.specs.declared.limits.TheConstants.{PROTECTED_CELLS, CONTROLLED_CELLS}
 use Rattle.profile_machine.specs.declared.numbers.DeclNo.{DeclNo}
 use Rattle.profile_machine.specs.declared.numbers.ExprNo.{ExprNo}
 use Rattle.profile_machine.specs.declared.numbers.ProtectedUnitNo.{ProtectedUnitNo}
@@ -143,22 +144,15 @@ located q d =
 abbrev pub component_at : Image → ℕ → Located → DeclNo → Variable
 component_at p own_cells object component = record { within = object.within; place = (declaration_of p object.declared).place + own_cells + (declaration_of p component).place; declared = component }
 
--- a protected object has 16 cells of its own, a controlled one has 1
-abbrev pub protected_cells : ℕ
-protected_cells = 16
-
-abbrev pub controlled_cells : ℕ
-controlled_cells = 1
-
 abbrev pub component_of_own : Image → DeclNo → Option Object → Valued Variable
 component_of_own p component None = misfit
-component_of_own p component (Some o) = Ok (component_at p protected_cells o.located component)
+component_of_own p component (Some o) = Ok (component_at p PROTECTED_CELLS o.located component)
 
 -- the first cell of the object that has this name
 abbrev pub object_cell : Seen → ObjectName → Valued Variable
 object_cell q (Declared d) = home_of q d >>= λ id. Ok (record { within = id; place = (declaration_of q.program d).place; declared = d })
 object_cell q (OwnComponent u component) = component_of_own q.program component (option_and_then (object_of q.world) (own_object q u))
-object_cell q (Component d component) = located q d >>= λ l. Ok (component_at q.program controlled_cells l component)
+object_cell q (Component d component) = located q d >>= λ l. Ok (component_at q.program CONTROLLED_CELLS l component)
 
 abbrev pub shifted : ℕ → Variable → Variable
 shifted by v = record v { place = v.place + by }

@@ -5,6 +5,7 @@ mod declarations;
 mod expressions;
 mod image;
 mod image_lists;
+mod limits;
 mod numbers;
 mod run_data;
 mod short;
@@ -20,6 +21,10 @@ pub use declarations::{
 pub use expressions::{BinaryOperator, Expression, ObjectName, UnaryOperator, VariableName};
 pub use image::{Dispatching, DispatchingRange, Image, MainProcedure, Policies, Queuing};
 pub use image_lists::ImageList;
+pub use limits::{
+    CONTROLLED_CELLS, DEFAULT_QUANTUM, LAST_QUANTUM, LINES_FROM_OUTSIDE, MOST_CELLS,
+    MOST_LIVE_TASKS, MOST_MARKS, MOST_MARKS_OF_TASK, MOST_RELEASES, MOST_TIMERS, PROTECTED_CELLS,
+};
 pub use numbers::{
     ControlledNo, DeclNo, EntryNo, EnumerationNo, ExprNo, ProtectedUnitNo, ScopeNo, StatementNo,
     SubprogramNo, TaskUnitNo,

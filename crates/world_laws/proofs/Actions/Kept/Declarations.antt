@@ -5,6 +5,7 @@ use Rattle.ann_base.specs.declared.exceptions.Raised.TheVariants as exception
 use Rattle.profile_machine.specs.declared.world.lines.Line.TheVariants as line
 use Rattle.trace_text.specs.declared.events.Created.TheVariants as created
 use Rattle.trace_text.specs.declared.events.Who.{Who}
+use Rattle.profile_machine.specs.declared.limits.TheConstants.{PROTECTED_CELLS, CONTROLLED_CELLS}
 use Rattle.profile_machine.specs.declared.image.Image.{Image}
 use Rattle.profile_machine.specs.declared.numbers.DeclNo.{DeclNo}
 use Rattle.profile_machine.specs.declared.numbers.ControlledNo.{ControlledNo}
@@ -25,7 +26,7 @@ use Rattle.profile_machine.specs.declared.world.lines.Part.TheVariants.{Own}
 use Rattle.profile_machine.specs.Steps.{changes, ◌▷◌}
 use Rattle.profile_machine.specs.Frames.{goes}
 use Rattle.profile_machine.specs.Operators.{unless}
-use Rattle.profile_machine.specs.Values.{seen_by, Seen, value, object_cell, component_at, protected_cells, controlled_cells}
+use Rattle.profile_machine.specs.Values.{seen_by, Seen, value, object_cell, component_at}
 use Rattle.profile_machine.specs.Statements.{copy_cells}
 use Rattle.profile_machine.specs.Scopes.{put_cells}
 use Rattle.profile_machine.specs.CallEnds.{store}
@@ -81,17 +82,17 @@ module _ {G : GoodWorld} {F : Naming} (moves : FineMoves G F) where
   declare_protected-keeps p name s d u =
       looks-from moves _ (λ w good. let q = seen_by p w name in
       given-from moves Own name (located_here q d) _ w good (λ l.
-      given_world-from moves Own name (components_initialized q protected_cells l (protected_unit_of p u).components w) (λ _. goes name (next_of p s) ▷ changes (with_object p l u) ▷ says_object p l u) w good
-      (components_initialized-gives q protected_cells l (protected_unit_of p u).components w good)
+      given_world-from moves Own name (components_initialized q PROTECTED_CELLS l (protected_unit_of p u).components w) (λ _. goes name (next_of p s) ▷ changes (with_object p l u) ▷ says_object p l u) w good
+      (components_initialized-gives q PROTECTED_CELLS l (protected_unit_of p u).components w good)
       (λ _. search (then-keeps, goes-keeps, changes-keeps, with_object-alters, says_object-keeps))))
 
   controlled_declared-gives : (q : Seen) (d : DeclNo) (c : ControlledNo) → G q.world → Gives G (controlled_declared q d c)
   unfolding Alters
   controlled_declared-gives q d c good =
       let components = (controlled_of q.program c).components in
-      bind-gives moves (located_here q d) (λ l. components_initialized q controlled_cells l components q.world >>= λ next. Ok (set_thing q.program l (Thing 0) next)) q.world (λ l.
-      next-gives moves (components_initialized q controlled_cells l components q.world) (λ next. Ok (set_thing q.program l (Thing 0) next)) q.world
-      (components_initialized-gives q controlled_cells l components q.world good)
+      bind-gives moves (located_here q d) (λ l. components_initialized q CONTROLLED_CELLS l components q.world >>= λ next. Ok (set_thing q.program l (Thing 0) next)) q.world (λ l.
+      next-gives moves (components_initialized q CONTROLLED_CELLS l components q.world) (λ next. Ok (set_thing q.program l (Thing 0) next)) q.world
+      (components_initialized-gives q CONTROLLED_CELLS l components q.world good)
       (λ next good_next. ok-gives moves next (set_thing q.program l (Thing 0) next) (set_thing-alters q.program l (Thing 0) next good_next)))
 
   -- an object is located, and its first cell names it in a world that stands rightly to the one before

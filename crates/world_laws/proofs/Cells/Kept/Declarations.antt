@@ -4,6 +4,7 @@ use Rattle.ann_base.specs.Results.{◌>>=◌}
 use Rattle.ann_base.specs.declared.identities.TaskNo.{TaskNo}
 use Rattle.ann_base.specs.declared.exceptions.Raised.TheVariants as exception
 use Rattle.trace_text.specs.declared.events.Who.{Who}
+use Rattle.profile_machine.specs.declared.limits.TheConstants.{CONTROLLED_CELLS}
 use Rattle.profile_machine.specs.declared.image.Image.{Image}
 use Rattle.profile_machine.specs.declared.numbers.DeclNo.{DeclNo}
 use Rattle.profile_machine.specs.declared.numbers.ControlledNo.{ControlledNo}
@@ -21,7 +22,7 @@ use Rattle.profile_machine.specs.declared.world.scopes.Located.{Located}
 use Rattle.profile_machine.specs.declared.world.scopes.Variable.{Variable}
 use Rattle.profile_machine.specs.Program.{declaration_of, controlled_of}
 use Rattle.profile_machine.specs.Operators.{unless}
-use Rattle.profile_machine.specs.Values.{Seen, value, object_cell, component_at, controlled_cells}
+use Rattle.profile_machine.specs.Values.{Seen, value, object_cell, component_at}
 use Rattle.profile_machine.specs.Statements.{copy_cells}
 use Rattle.profile_machine.specs.CallEnds.{store}
 use Rattle.profile_machine.specs.Declarations.{default_cells, set_defaults, initialized, initial_of, components_initialized, located_here, set_thing, object_declared, object_drawn, new_object, with_object, says_object, declare_protected, controlled_declared, event_drawn, event_declared, with_budget, budget_declared, timed_task, with_timer, timer_declared, declared, declare_quietly, declare_by, declare}
@@ -89,9 +90,9 @@ thing_declared-gives q d v next right =
 controlled_declared-gives : {p : Image} (q : Seen) (d : DeclNo) (c : ControlledNo) → Right p q.world → Gives p (controlled_declared q d c)
 controlled_declared-gives q d c right =
     let components = (controlled_of q.program c).components in
-    bind-gives (located_here q d) (λ l. components_initialized q controlled_cells l components q.world >>= λ next. Ok (set_thing q.program l (Thing 0) next)) (λ l.
-    next-gives (components_initialized q controlled_cells l components q.world) (λ next. Ok (set_thing q.program l (Thing 0) next))
-    (components_initialized-gives q controlled_cells l components q.world right)
+    bind-gives (located_here q d) (λ l. components_initialized q CONTROLLED_CELLS l components q.world >>= λ next. Ok (set_thing q.program l (Thing 0) next)) (λ l.
+    next-gives (components_initialized q CONTROLLED_CELLS l components q.world) (λ next. Ok (set_thing q.program l (Thing 0) next))
+    (components_initialized-gives q CONTROLLED_CELLS l components q.world right)
     (λ next right_next. ok-gives (set_thing q.program l (Thing 0) next) ((set_thing-alters q.program l (Thing 0)).at next right_next)))
 
 -- what else a world has stands beside its scopes

@@ -16,7 +16,8 @@ use Rattle.profile_machine.specs.Program.{controlled_of, declaration_of, next_of
 use Rattle.profile_machine.specs.Statements.{copy_cells}
 use Rattle.profile_machine.specs.Scopes.{put_cells}
 use Rattle.profile_machine.specs.Steps.{changes, ◌▷◌}
-use Rattle.profile_machine.specs.Values.{Seen, component_at, controlled_cells, object_cell, protected_cells, seen_by, value}
+use Rattle.profile_machine.specs.Values.{Seen, component_at, object_cell, seen_by, value}
+use Rattle.profile_machine.specs.declared.limits.TheConstants.{PROTECTED_CELLS, CONTROLLED_CELLS}
 use Rattle.profile_machine.specs.declared.declarations.DeclarationKind.{DeclarationKind}
 use Rattle.profile_machine.specs.declared.declarations.DeclarationKind.TheVariants as kind
 use Rattle.profile_machine.specs.declared.declarations.Initial.{Initial}
@@ -63,9 +64,9 @@ object_declared-gives q d i =
 controlled_declared-gives : (q : Seen) (d : DeclNo) (c : ControlledNo) → Gives q.world (controlled_declared q d c)
 controlled_declared-gives q d c =
     let components = (controlled_of q.program c).components in
-    bind-gives (located_here q d) (λ l. components_initialized q controlled_cells l components q.world >>= λ next. Ok (set_thing q.program l (Thing 0) next)) q.world (λ l.
-    next-gives (components_initialized q controlled_cells l components q.world) (λ next. Ok (set_thing q.program l (Thing 0) next)) q.world
-    (components_initialized-gives q controlled_cells l components q.world)
+    bind-gives (located_here q d) (λ l. components_initialized q CONTROLLED_CELLS l components q.world >>= λ next. Ok (set_thing q.program l (Thing 0) next)) q.world (λ l.
+    next-gives (components_initialized q CONTROLLED_CELLS l components q.world) (λ next. Ok (set_thing q.program l (Thing 0) next)) q.world
+    (components_initialized-gives q CONTROLLED_CELLS l components q.world)
     (λ next. ok-gives next (set_thing q.program l (Thing 0) next) (set_thing-same q.program l (Thing 0) next)))
 
 -- an object is located, and its first cell names it in a world that stands rightly to the one before
@@ -112,8 +113,8 @@ module _ {X : State} (quiet : Silences X) where
     declare_protected-keeps name s d u =
         looks-with _ (λ w said h. let q = seen_by p w name in
         given-leads_at quiet Own name w (located_here q d) _ (λ l.
-        given_world-keeps quiet Own name w (components_initialized q protected_cells l (protected_unit_of p u).components w) (λ _. goes name (next_of p s) ▷ changes (with_object p l u) ▷ says_object p l u)
-        (components_initialized-gives q protected_cells l (protected_unit_of p u).components w)
+        given_world-keeps quiet Own name w (components_initialized q PROTECTED_CELLS l (protected_unit_of p u).components w) (λ _. goes name (next_of p s) ▷ changes (with_object p l u) ▷ says_object p l u)
+        (components_initialized-gives q PROTECTED_CELLS l (protected_unit_of p u).components w)
         (λ _. then-keeps _ _ (goes-keeps quiet name (next_of p s)) (makes l u))))
 
     pub declare_by-keeps : (name : Who) (s : StatementNo) (d : DeclNo) (kind : DeclarationKind) → Keeps X (declare_by p name s d kind)

@@ -33,10 +33,7 @@ fn end_value(names: &Names<'_>, name: &Name, attribute: Attribute) -> Value
     ensures { result
         ≡ unwrap_or (attribute_value names.now name.now attribute) (value.Whole (pos 0)) }
 {
-    match attribute_value(names, name, attribute) {
-        Some(value) => value,
-        None => Value::Whole(0),
-    }
+    attribute_value(names, name, attribute).unwrap_or(Value::Whole(0))
 }
 
 /// Count of an entry (9.9).

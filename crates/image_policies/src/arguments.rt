@@ -108,10 +108,7 @@ fn number_or_zero(value: Option<Value>) -> u32
 {
     match value {
         None => 0,
-        Some(value) => match level_of(value) {
-            None => 0,
-            Some(number) => number,
-        },
+        Some(value) => level_of(value).unwrap_or(0),
     }
 }
 

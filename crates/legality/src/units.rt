@@ -130,10 +130,7 @@ fn packages_found(
 fn priority_of_main(last: u8, aspects: &[AspectPart]) -> i128
     ensures { result ≡ unwrap_or (stated_value last aspects.now) (pos (default_priority last)) }
 {
-    match stated_value(last, aspects) {
-        None => default_priority(last) as i128,
-        Some(number) => number,
-    }
+    stated_value(last, aspects).unwrap_or(default_priority(last) as i128)
 }
 
 /// The main procedure's base priority.

@@ -22,10 +22,7 @@ use world_tables::List;
 pub(crate) fn place_of_specification(specification: &SubprogramSpecification) -> Place
     ensures { result ≡ unwrap_or specification.now.overriding specification.now.place }
 {
-    match specification.overriding {
-        None => specification.place,
-        Some(place) => place,
-    }
+    specification.overriding.unwrap_or(specification.place)
 }
 
 /// A name of the operations of a controlled type; Adjust is one of a type derived from Controlled alone.

@@ -2,8 +2,6 @@
 use Rattle.std.proofs.Common.{◌≡◌, ℕ, ◌-◌, ◌<◌, ◌≤◌, zero, suc, Bool, true, false, cond, List, [], ◌∷◌, None, length, drop, get_or, map, filter, refl, ap, ◌∙◌, arith}
 use Rattle.std.proofs.Math.Seq.{drop-cons}
 use Rattle.std.proofs.lemmas.List.{drop_all}
-use Rattle.std.specs.List.{slice_get}
-use Rattle.std.specs.Prelude.{slice_index_or}
 use Rattle.ann_base.specs.declared.identities.CallNo.{CallNo}
 use Rattle.trace_text.specs.declared.events.Who.{Who}
 use Rattle.profile_machine.specs.declared.image.Image.{Image}
@@ -15,6 +13,7 @@ use Rattle.profile_machine.specs.declared.world.objects.Object.{Object}
 use Rattle.profile_machine.specs.Calls.{next_by, next_call}
 use Rattle.profile_machine.specs.Protected.{is_open_entry, open_queues}
 use Rattle.world_tables.specs.Lists.{first_of}
+use Rattle.world_tables.proofs.ListLemmas.{none_read}
 use Rattle.machine_barriers.specs.Heads.{next_with, next_or}
 
 next-cons : (policy : Queuing) (w : World) (queue : List CallNo) (queues : List (List CallNo)) → next_by policy w (queue ∷ queues) ≡ next_with policy w (first_of queue) (next_by policy w queues)
@@ -49,12 +48,5 @@ pub next-before : (p : Image) (w : World) (name : Who) (o : Object) (entries : L
 next-before p w name o entries n d h l =
     let e : suc (n - 1) ≡ n = omega arith in
     next-at p w name o entries (n - 1) d (omega arith) ∙ ap (λ m. next_or p w name o (get_or entries (n - 1) d) (next_call p w (open_queues p w name o (drop m entries)))) e
-
--- ---- a queue that is not there
-
-pub none_read : {X : Type 0} (xs : List X) (i : ℕ) (d : X) → slice_get xs i ≡ None → slice_index_or xs i d ≡ d
-none_read [] i d e = refl
-none_read (x ∷ xs) zero d e = cc
-none_read (x ∷ xs) (suc i) d e = none_read xs i d e
 
 pub ruleset head_laws = (next-none, next-before, none_read)

@@ -39,10 +39,7 @@ fn trigger_outcome(world: &World, call: Option<CallNo>) -> Outcome
         return Outcome::Finished;
     };
     match call_of(world, c) {
-        Some(call) => match call.outcome {
-            Some(outcome) => outcome,
-            None => Outcome::Finished,
-        },
+        Some(call) => call.outcome.unwrap_or(Outcome::Finished),
         None => Outcome::Finished,
     }
 }

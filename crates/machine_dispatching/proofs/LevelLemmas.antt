@@ -1,8 +1,6 @@
 -- Greatest levels, and whether all are later, of lists that are joined.
-use Rattle.std.proofs.Common.{◌≡◌, ℕ, ℤ, ◌<◌, ◌≤◌, Bool, true, false, ◌&&◌, cond, List, [], ◌∷◌, ◌++◌, length, max, int_lt, slice_get, get_or, None, refl, ap, sym, ◌∙◌, arith}
+use Rattle.std.proofs.Common.{◌≡◌, ℕ, ℤ, ◌<◌, ◌≤◌, Bool, true, false, ◌&&◌, cond, List, [], ◌∷◌, ◌++◌, length, max, int_lt, refl, ap, ◌∙◌, arith}
 use Rattle.std.proofs.lemmas.List.Elements.{filter-append}
-use Rattle.std.proofs.lemmas.Option.{get_or_from_slice_get, unwrap_or-slice_get}
-use Rattle.std.specs.Option.{unwrap_or}
 use Rattle.profile_machine.specs.declared.world.tasks.Rival.{Rival}
 use Rattle.profile_machine.specs.declared.world.World.{World}
 use Rattle.profile_machine.specs.declared.world.objects.Action.{Action}
@@ -73,8 +71,3 @@ pub ruleset level_laws = (least-le, greatest_level-append, greatest_level-barred
 pub with_quantum : (b : Bool) (q : ℕ) (t : Task) → record t { quantum = (cond b (record t { quantum = q }) t).quantum } ≡ cond b (record t { quantum = q }) t
 with_quantum true q t = refl
 with_quantum false q t = refl
-
-pub get_or-none : (quanta : List ℕ) (level d : ℕ) → slice_get quanta level ≡ None → get_or quanta level d ≡ d
-get_or-none quanta level d e = sym (unwrap_or-slice_get quanta level d) ∙ ap (λ o. unwrap_or o d) e
-
-pub ruleset quantum_laws = (with_quantum, get_or_from_slice_get, get_or-none)

@@ -85,15 +85,12 @@ pub fn says_ready(
 }
 
 // The quantum that a task has once it stands at the tail of its level.
-#[tactic(auto, using(crate::proofs::LevelLemmas::quantum_laws))]
+#[tactic(auto, using(crate::proofs::LevelLemmas::with_quantum))]
 fn quantum_granted(p: &Program, quanta: &List<u64>, task: &Task) -> u64
     ensures { result ≡ (granted p.now quanta.now task.now).quantum }
 {
     if active(p, task) == task.base && is_robin_level(p, task.base) {
-        match quanta.get(task.base as usize) {
-            Some(quantum) => *quantum,
-            None => 0,
-        }
+        quanta.get_or(task.base as usize, 0)
     } else {
         task.quantum
     }
@@ -108,7 +105,7 @@ fn set_quantum(world: &mut World, name: Who, quantum: u64)
 }
 
 /// A task at the tail of its base level gets the full quantum of the level, where that is round robin (D.2.5).
-#[tactic(auto, using(crate::proofs::LevelLemmas::quantum_laws))]
+#[tactic(auto, using(crate::proofs::LevelLemmas::with_quantum))]
 pub fn grant_quantum(p: &Program, world: &mut World, name: Who)
     ensures { world.new ≡ grant_quantum p.now name world.old }
 {

@@ -1,7 +1,6 @@
--- An item at its place that gets a value, or is read.
+-- An item at its place that gets a value.
 use Rattle.std.proofs.Common.{◌≡◌, ℕ, zero, suc, List, [], ◌∷◌, None, slice_set, refl, ap}
 use Rattle.std.specs.List.{slice_get}
-use Rattle.std.specs.Prelude.{slice_index_or}
 use Rattle.profile_machine.specs.Words.{edit_at}
 
 pub set_edited : {X : Type 0} (n : ℕ) (x : X) (xs : List X) → slice_set xs n x ≡ edit_at n (λ _. x) xs
@@ -13,8 +12,3 @@ pub none_edited : {X : Type 0} (f : X → X) (xs : List X) (i : ℕ) → slice_g
 none_edited f [] i e = refl
 none_edited f (y ∷ ys) zero e = cc
 none_edited f (y ∷ ys) (suc i) e = ap (λ zs. y ∷ zs) (none_edited f ys i e)
-
-pub none_read : {X : Type 0} (xs : List X) (i : ℕ) (d : X) → slice_get xs i ≡ None → slice_index_or xs i d ≡ d
-none_read [] i d e = refl
-none_read (x ∷ xs) zero d e = cc
-none_read (x ∷ xs) (suc i) d e = none_read xs i d e

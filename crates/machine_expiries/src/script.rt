@@ -17,14 +17,10 @@ use profile_machine::world::{Line, Part, World};
 use std::alloc::Global;
 use world_tables::List;
 
-#[tactic(auto, using(crate::proofs::EditLemmas::none_read))]
 fn is_flag(flags: &List<bool>, n: u8) -> bool
     ensures { result ≡ is_flag flags.now n }
 {
-    match flags.get(n as usize) {
-        Some(flag) => *flag,
-        None => false,
-    }
+    flags.get_or(n as usize, false)
 }
 
 #[tactic(auto, using(crate::proofs::EditLemmas::none_edited))]

@@ -112,10 +112,7 @@ pub fn onward_of(world: &World, name: Who) -> Option<StatementNo>
 pub fn leaving_of(frame: &Frame) -> Leaving
     ensures { result ≡ leaving_of frame.now }
 {
-    match frame.left_as {
-        Some(leaving) => leaving,
-        None => Leaving::End,
-    }
+    frame.left_as.unwrap_or(Leaving::End)
 }
 
 fn statement_of_purpose(purpose: &Purpose) -> Option<StatementNo>

@@ -156,10 +156,12 @@ pub fn declaration_of(p: &Program, d: DeclNo) -> &Declaration
 pub fn expression_of(p: &Program, e: ExprNo) -> Expression
     ensures { result ≡ expression_of p.now.expressions e }
 {
-    match p.image.expressions.as_slice().get(e.0 as usize) {
-        Some(expression) => *expression,
-        None => Expression::Known(Value::Whole(0)),
-    }
+    p.image
+        .expressions
+        .as_slice()
+        .get(e.0 as usize)
+        .copied()
+        .unwrap_or(Expression::Known(Value::Whole(0)))
 }
 
 /// The statement with this number.

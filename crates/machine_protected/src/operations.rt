@@ -201,10 +201,7 @@ fn begin_own_operation(
 fn unit_of_operation(operation: &Subprogram) -> ProtectedUnitNo
     ensures { result ≡ unit_of_operation operation.now }
 {
-    match operation.unit {
-        Some(unit) => unit,
-        None => ProtectedUnitNo(0),
-    }
+    operation.unit.unwrap_or(ProtectedUnitNo(0))
 }
 
 // The object of the operation's unit in whose body the one with this name stands.

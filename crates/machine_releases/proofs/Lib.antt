@@ -1,3 +1,2 @@
 mod EditLemmas
 mod OkLemmas
-mod TickLemmas

@@ -50,17 +50,14 @@ fn is_reached_by(t: TaskNo, clock: u64, timer: Timer) -> bool
     t.0 == timer.task.0 && has_value_up_to(clock, timer.setting)
 }
 
-#[tactic(auto, using(crate::proofs::TickLemmas::none_read))]
 fn timer_in(timers: &List<Timer>, k: u32) -> Timer
     ensures { result ≡ timer_in timers.now k }
 {
-    match timers.get(k as usize) {
-        Some(timer) => *timer,
-        None => Timer {
-            task: TaskNo(0),
-            setting: None,
-        },
-    }
+    let none = Timer {
+        task: TaskNo(0),
+        setting: None,
+    };
+    timers.get_or(k as usize, none)
 }
 
 // The timers whose value the clock has reached, in the order in which they were set, go behind

@@ -110,14 +110,10 @@ pub fn return_statement(effect: &mut Effect, name: Who)
     leaves(effect, name, Leaving::Return);
 }
 
-#[tactic(auto, using(machine_scopes::proofs::CellLemmas::none_read))]
 fn cell_in(cells: &List<Value>, place: usize) -> Value
     ensures { result ≡ cell_in cells.now place }
 {
-    match cells.get(place) {
-        Some(value) => *value,
-        None => Value::Whole(0),
-    }
+    cells.get_or(place, Value::Whole(0))
 }
 
 fn last_cell(cells: &List<Value>) -> Value

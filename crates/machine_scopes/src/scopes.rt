@@ -150,14 +150,10 @@ pub fn read_cell(world: &World, id: ScopeId, place: u32) -> Value
     }
 }
 
-#[tactic(auto, using(crate::proofs::CellLemmas::none_read))]
 fn cell_at(cells: &List<Value>, place: u32) -> Value
     ensures { result ≡ slice_index_or cells.now place (Whole (pos 0)) }
 {
-    match cells.get(place as usize) {
-        Some(value) => *value,
-        None => Value::Whole(0),
-    }
+    cells.get_or(place as usize, Value::Whole(0))
 }
 
 // Where the first scope with this id stands.

@@ -34,17 +34,14 @@ pub fn event_moment(world: &World, event: u32) -> Moment
 }
 
 /// The timer with this number.
-#[tactic(auto, using(machine_scopes::proofs::CellLemmas::none_read))]
 pub fn timer_of(world: &World, number: u32) -> Timer
     ensures { result ≡ timer_of world.now number }
 {
-    match world.timers.get(number as usize) {
-        Some(timer) => *timer,
-        None => Timer {
-            task: TaskNo(0),
-            setting: None,
-        },
-    }
+    let none = Timer {
+        task: TaskNo(0),
+        setting: None,
+    };
+    world.timers.get_or(number as usize, none)
 }
 
 /// What a set timer has left, or 0.
@@ -61,27 +58,20 @@ pub fn time_left(setting: Option<TimerSetting>, clock: u64) -> Result<Moment, No
 }
 
 /// The group budget with this number.
-#[tactic(auto, using(machine_scopes::proofs::CellLemmas::none_read))]
 pub fn budget_of(world: &World, number: u32) -> Budget
     ensures { result ≡ budget_of world.now number }
 {
-    match world.budgets.get(number as usize) {
-        Some(budget) => *budget,
-        None => Budget {
-            remaining: 0,
-            handler: None,
-        },
-    }
+    let none = Budget {
+        remaining: 0,
+        handler: None,
+    };
+    world.budgets.get_or(number as usize, none)
 }
 
-#[tactic(auto, using(machine_scopes::proofs::CellLemmas::none_read))]
 fn port_at(ports: &List<i32>, place: u32) -> i32
     ensures { result ≡ slice_index_or ports.now place (pos 0) }
 {
-    match ports.get(place as usize) {
-        Some(value) => *value,
-        None => 0,
-    }
+    ports.get_or(place as usize, 0)
 }
 
 /// The value of a port; they are numbered from 0 to 15.

@@ -48,7 +48,7 @@ pub fn moment_at(ticks: u64) -> Result<Moment, NoMemory>
     }
 }
 
-#[tactic(auto, using(machine_scopes::proofs::CellLemmas::none_read))]
+#[tactic(auto, using(world_tables::proofs::ListLemmas::none_read))]
 fn queue_length(queues: &List<List<CallNo>>, place: u32) -> usize
     ensures { result ≡ length (queue_at queues.now place) }
 {

@@ -1,5 +1,5 @@
 //! A list that grows and shrinks at both ends.
-ghost use Rattle.std.specs.Prelude.{◌≡◌, ◌==◌, ◌≤◌, ◌++◌, ◌∷◌, [], length, IfErr, OnOk, OnErr, slice_get, option_copied, insert, remove};
+ghost use Rattle.std.specs.Prelude.{◌≡◌, ◌==◌, ◌≤◌, ◌++◌, ◌∷◌, [], length, IfErr, OnOk, OnErr, slice_get, option_copied, insert, remove, slice_index_or};
 ghost use Rattle.std.specs.Option.{option_copied_mut};
 ghost use Rattle.std.specs.Borrow.{sem};
 ghost use Rattle.std.specs.Iterator.Runs.{YieldsRefsInOrder};
@@ -99,6 +99,19 @@ impl<T> List<T> {
         ensures { option_copied result ≡ slice_get self.now place }
     {
         self.items.get(place)
+    }
+
+    /// The item at a place, counted from 0 at the front, or the other one where there is none.
+    #[tactic(auto, using(crate::proofs::ListLemmas::none_read))]
+    pub fn get_or(&self, place: usize, other: T) -> T
+    where
+        T: Copy,
+        ensures { result ≡ slice_index_or self.now place other }
+    {
+        match self.items.get(place) {
+            Some(item) => *item,
+            None => other,
+        }
     }
 
     /// The item at a place for writing, if there is one.

@@ -10,6 +10,7 @@ fn a_list_at_both_ends_and_at_places(rt: HostRuntime) {
     list.insert(1, 2).expect(&rt, "memory");
     let copy = list.clone().expect(&rt, "memory");
     assert!(rt; [list.front(), list.get(2)] == [Some(&1), Some(&3)]);
+    assert!(rt; (list.get_or(1, 8), list.get_or(3, 8)) == (2, 8));
     if let Some(item) = list.front_mut() {
         *item = 7;
     }

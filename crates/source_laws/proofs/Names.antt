@@ -1,3 +1,4 @@
+pub mod TableLemmas
 pub mod PositionLemmas
 pub mod NumberLemmas
 pub mod Known

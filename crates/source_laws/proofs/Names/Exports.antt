@@ -3,7 +3,7 @@ use Rattle.std.proofs.Common.{◌≡◌, inl, inr, ℕ, suc, Bool, true, false, 
 use borrow.Author.Tests.{eqb-false}
 use Rattle.std.proofs.lemmas.Slice.Eq.{bytes_eq-Decides}
 use Rattle.world_tables.specs.Tables.{item_at}
-use Rattle.world_tables.proofs.TableLemmas.{item_at-put, item_at-with_item}
+use Rattle.source_laws.proofs.Names.TableLemmas.{item_at-put, item_at-with_item}
 use Rattle.ada_regions.specs.declared.table.Binding.{Binding}
 use Rattle.ada_regions.specs.Words.{and_then}
 use Rattle.ada_regions.specs.Names.{Bindings, binds, bound_among, bound_in}

@@ -1,7 +1,7 @@
 -- What the beginning of a region keeps.
 use Rattle.std.proofs.Common.{◌≡◌, ℕ, suc, [], ◌∷◌, ◌++◌, length, map, None, find, append-nil, refl, sym, ap, ◌∙◌, arith}
 use Rattle.world_tables.specs.Tables.{item_at, put}
-use Rattle.world_tables.proofs.TableLemmas.{item_at-put, item_at-put-other}
+use Rattle.source_laws.proofs.Names.TableLemmas.{item_at-put, item_at-put-other}
 use Rattle.ada_tree.specs.declared.names.Identifier.{Identifier}
 use Rattle.ada_regions.specs.Words.{and_then}
 use Rattle.ada_regions.specs.Names.{binding_in, binds}

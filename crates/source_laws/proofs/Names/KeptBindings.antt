@@ -2,7 +2,7 @@
 use Rattle.std.proofs.Common.{◌≡◌, inl, inr, ℕ, ◌≤◌, ◌<◌, suc, Bool, true, false, cond, ◌&&◌, List, [], ◌∷◌, length, Option, Some, None, option_map, eqb, bytes_eq, find, refl, sym, ap, ◌∙◌, arith, eqb-true, ne_eqb}
 use borrow.Author.Tests.{eqb-false}
 use Rattle.world_tables.specs.Tables.{item_at}
-use Rattle.world_tables.proofs.TableLemmas.{item_at-put, item_at-put-other, item_at-with_item, item_at-with_item-other}
+use Rattle.source_laws.proofs.Names.TableLemmas.{item_at-put, item_at-put-other, item_at-with_item, item_at-with_item-other}
 use Rattle.ada_regions.specs.declared.table.Binding.{Binding}
 use Rattle.ada_regions.specs.Words.{and_then}
 use Rattle.std.specs.Option.{option_or}

@@ -3,7 +3,7 @@ use Rattle.std.proofs.Common.{◌≡◌, ℕ, suc, Bool, true, false, cond, List
 use Rattle.std.specs.List.{list_any}
 use Rattle.ann_base.specs.declared.places.Place.{Place}
 use Rattle.world_tables.specs.Tables.{item_at, put}
-use Rattle.world_tables.proofs.TableLemmas.{item_at-put, item_at-with_item}
+use Rattle.source_laws.proofs.Names.TableLemmas.{item_at-put, item_at-with_item}
 use Rattle.ada_tree.specs.declared.names.Identifier.{Identifier}
 use Rattle.ada_tree.specs.declared.expressions.Expression.{Expression}
 use Rattle.profile_machine.specs.declared.numbers.EntryNo.{EntryNo}

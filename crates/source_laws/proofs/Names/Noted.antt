@@ -2,7 +2,7 @@
 use Rattle.std.proofs.Common.{◌≡◌, ℕ, Bool, true, false, cond, ◌&&◌, ◌||◌, List, [], ◌∷◌, length, map, Option, Some, None, is_some, eqb, refl, sym, ap, ◌∙◌, eqb-true}
 use borrow.Author.Tests.{eqb-false}
 use Rattle.world_tables.specs.Tables.{item_at, put, with_item}
-use Rattle.world_tables.proofs.TableLemmas.{item_at-put, item_at-put-other, item_at-with_item, item_at-with_item-other}
+use Rattle.source_laws.proofs.Names.TableLemmas.{item_at-put, item_at-put-other, item_at-with_item, item_at-with_item-other}
 use Rattle.ann_base.specs.declared.places.Place.{Place}
 use Rattle.ada_tree.specs.declared.names.Identifier.{Identifier}
 use Rattle.ada_tree.specs.declared.names.Name.{Name}

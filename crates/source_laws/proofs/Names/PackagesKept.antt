@@ -5,7 +5,7 @@ use borrow.Author.Tests.{eqb-false}
 use Rattle.std.specs.List.{filter}
 use Rattle.std.proofs.lemmas.Option.{slice_get_within}
 use Rattle.world_tables.specs.Tables.{item_at, put}
-use Rattle.world_tables.proofs.TableLemmas.{item_at-put, item_at-put-other, item_at-with_item}
+use Rattle.source_laws.proofs.Names.TableLemmas.{item_at-put, item_at-put-other, item_at-with_item}
 use Rattle.ann_base.specs.declared.places.Place.{Place}
 use Rattle.ada_tree.specs.declared.names.Identifier.{Identifier}
 use Rattle.ada_tree.specs.declared.declarations.SubprogramSpecification.{SubprogramSpecification}

@@ -1,7 +1,7 @@
 -- The beginning of a region binds nothing in the regions that were there.
 use Rattle.std.proofs.Common.{◌≡◌, ℕ, Bool, true, false, cond, List, [], Option, Some, None, refl, ap, ◌∙◌}
 use Rattle.world_tables.specs.Tables.{item_at}
-use Rattle.world_tables.proofs.TableLemmas.{item_at-put-other}
+use Rattle.source_laws.proofs.Names.TableLemmas.{item_at-put-other}
 use Rattle.ada_tree.specs.declared.names.Identifier.{Identifier}
 use Rattle.ada_regions.specs.declared.entities.UnitKind.{UnitKind}
 use Rattle.ada_regions.specs.declared.entities.UnitKind.TheVariants as unit

@@ -41,7 +41,6 @@ ready-awake p name w =
     awake-edited name name (granted p kept.quanta) kept (granted-who p kept.quanta) (granted-state p kept.quanta) second
 
 module _ {G : GoodWorld} {May Acts Pushes : Naming} {Stops : Type 0} {R : StepRelation} {Q : MoveRelation} (moves : FineMoves G May Acts Pushes Stops R Q) where
-
   pub grant_quantum-alters : (p : Image) (name : Who) → Alters G R (grant_quantum p name)
   unfolding Alters
   grant_quantum-alters p name w good =

@@ -9,11 +9,6 @@ use Rattle.profile_machine.specs.Words.{same_who, without}
 use Rattle.profile_machine.specs.Tasks.{is_who, nobody}
 use Rattle.line_laws.proofs.Exits.TaskEdits.{apart-names, none-left, one_of, same_who-path, seen, tail-step}
 
--- ---- what holds of the one that is found, or of nobody
-
--- from P before to R behind: of the one that is edited by the edit, and of another as it is
-module _ (P R : Task → Type 0) (m k : TaskNo) (x y : Task) (named : y.who ≡ x.who) (same : same_who (who.Task m) (who.Task k) ≡ true → P x → R y) (apart : same_who (who.Task m) (who.Task k) ≡ false → (t : Task) → P t → R t) where
-
 -- ---- tasks that come and go
 
 added-last : (P : Task → Type 0) (c : Bool) (x : Task) → (c ≡ true → P x) → P nobody → seen P (cond c (Some x) None)

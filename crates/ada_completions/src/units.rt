@@ -9,9 +9,8 @@ ghost use Rattle.ada_regions.specs.Completions.{body_apart, seen_again, is_of_ki
 use crate::bodies::{body_apart, body_frame};
 use crate::seen_again::seen_again;
 use crate::subprograms::{entity_bound, with_body};
-use ada_declarations::type_of_kind;
 use ada_entities::{entity_denoted, kind_at, noted, opened, region_here, region_of_entity};
-use ada_regions::{AdaType, ComponentOwner, Denoted, Names, NumberedTask, UnitKind};
+use ada_regions::{AdaType, ComponentOwner, Denoted, Names, NumberedTask, UnitKind, type_of_kind};
 use ada_tree::Identifier;
 use ada_visibility::resolved;
 use ann_base::NoMemory;

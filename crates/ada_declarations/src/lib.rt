@@ -17,6 +17,6 @@ pub use objects::{
     component_declared, exception_declared, label_declared, loop_parameter_declared,
     object_declared, parameter_declared,
 };
-pub use subprograms::{entry_declared, subprogram_declared, type_of_kind};
+pub use subprograms::{entry_declared, subprogram_declared};
 pub use types::{array_declared, derived_declared, subtype_declared};
 pub use units::{main_declared, package_declared, protected_declared, task_declared};

@@ -8,21 +8,13 @@ use crate::entering::{entered, entered_here, is_taken, number};
 use ada_entities::{copy, kind_at, owner_here};
 use ada_regions::{
     AdaType, AspectsOf, ComponentOwner, Enclosure, EntityKind, Names, NumberedEntry,
-    NumberedSubprogram, Subtype, subtype_of_kind,
+    NumberedSubprogram, Subtype, type_of_kind,
 };
 use ada_subtypes::{formals_of, indicated_subtype};
 use ada_tree::{Identifier, Parameter, SubprogramSpecification};
 use ann_base::NoMemory;
 use profile_machine::{EntryNo, EntryUnit, ProtectedUnitNo, SubprogramNo, TaskUnitNo};
 use std::alloc::Global;
-
-/// The type of an entity, if it has one.
-pub fn type_of_kind(kind: &EntityKind) -> Option<AdaType>
-    ensures { result ≡ type_of_kind kind.now }
-{
-    let subtype = subtype_of_kind(kind)?;
-    Some(subtype.of_type)
-}
 
 /// The type of the construct whose region it is.
 #[tactic(auto, unfolding(ada_regions::specs::Declaring::owner_type))]

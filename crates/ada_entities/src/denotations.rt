@@ -2,7 +2,7 @@
 ghost use Rattle.std.specs.Prelude.{◌≡◌, None, OnOk, option_copied};
 ghost use Rattle.world_tables.specs.Tables.{item_at};
 ghost use Rattle.ada_regions.specs.Completions.{holds_of};
-ghost use Rattle.ada_regions.specs.Regions.{is_package};
+ghost use Rattle.ada_regions.specs.Regions.{is_package, is_used_package};
 ghost use Rattle.ada_regions.specs.Names.{place_of_fault, earlier, told, noted_among, noted_in, noted, denoted_at, last_part, denoted_by, entity_at, kind_at, region_of_entity, entity_of, entity_denoted};
 
 use crate::places::stands_before;
@@ -145,6 +145,17 @@ pub fn is_package_at(names: &Names<'_>, entity: u32) -> bool
     match kind_at(names, entity) {
         None => false,
         Some(kind) => matches!(kind, EntityKind::Package),
+    }
+}
+
+/// Whether it is a package, or a predefined unit.
+pub fn is_used_package(names: &Names<'_>, denoted: Denoted) -> bool
+    ensures { result ≡ is_used_package names.now denoted }
+{
+    match denoted {
+        Denoted::Entity(entity) => is_package_at(names, entity),
+        Denoted::Unit(_) => true,
+        Denoted::Item { .. } => false,
     }
 }
 

@@ -1,6 +1,7 @@
 //! The regions that are open (ISO/IEC 8652:2012, 8.1).
 ghost use Rattle.std.specs.Prelude.{◌≡◌, OnOk};
-ghost use Rattle.ada_regions.specs.Names.{no_frame, innermost_frame, frames_outside, enclosure_of, opened, region_here, enclosure_here, scope_in, scope_of_loops};
+ghost use Rattle.world_tables.specs.Lists.{rest_of};
+ghost use Rattle.ada_regions.specs.Names.{no_frame, innermost_frame, enclosure_of, opened, region_here, enclosure_here, scope_in, scope_of_loops};
 ghost use Rattle.ada_regions.specs.Regions.{ended};
 
 use ada_regions::{Enclosure, Frame, Names};
@@ -54,7 +55,7 @@ pub fn enclosure_here(names: &Names<'_>) -> Enclosure
 
 /// What a declaration takes from the frame outside the innermost one.
 pub fn outside_enclosure(names: &Names<'_>) -> Enclosure
-    ensures { result ≡ enclosure_of (innermost_frame (frames_outside names.now.frames)) }
+    ensures { result ≡ enclosure_of (innermost_frame (rest_of names.now.frames)) }
 {
     match names.frames.get(1) {
         Some(frame) => enclosure_of(frame),

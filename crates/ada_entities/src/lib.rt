@@ -10,8 +10,8 @@ mod texts;
 
 pub use bindings::{binding_in, binds, bound_in};
 pub use denotations::{
-    denoted_at, denoted_by, earlier, entity_at, entity_denoted, entity_of, is_package_at, kind_at,
-    last_part, noted, region_of_entity, told,
+    denoted_at, denoted_by, earlier, entity_at, entity_denoted, entity_of, is_package_at,
+    is_used_package, kind_at, last_part, noted, region_of_entity, told,
 };
 pub use frames::{
     enclosure_here, enclosure_of, ended, no_frame, opened, outside_enclosure, owner_here,

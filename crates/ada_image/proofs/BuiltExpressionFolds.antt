@@ -21,7 +21,8 @@ use Rattle.ada_regions.specs.declared.table.Names.{Names}
 use Rattle.ada_regions.specs.PredefinedUnits.{names_of_formals}
 use Rattle.ada_regions.specs.Names.{denoted_by, kind_at}
 use Rattle.ada_image.specs.ImageOfExpressions.{is_for, argument_from, arguments_from, actuals_for, first_argument}
-use Rattle.ada_image.specs.BuiltExpressions.{Built, entity_built, function_built, is_there, is_built_if_there, first_in, operation_built, item_built, denoted_built, named_built, operands_built, addends_built, factors_built, form_built, same_built, built_layer, expression_built}
+use Rattle.ada_image.specs.BuiltExpressions.{Built, entity_built, function_built, is_there, is_built_if_there, operation_built, item_built, denoted_built, named_built, operands_built, addends_built, factors_built, form_built, same_built, built_layer, expression_built}
+use Rattle.ada_image.specs.Making.{first_given}
 
 module _ (w : Expression → Built) (n : Names) where
   -- ---- operators of one level
@@ -59,7 +60,7 @@ module _ (w : Expression → Built) (n : Names) where
     argument_of_map number name at (a ∷ rest) =
         rw (same a) (found (is_for number name at a.formal) a.value _ _ (argument_of_map number name (suc at) rest))
 
-    first_of_map : (names : List (List ℕ)) (items : List (Argument Expression)) → first_in same_built (actuals_for names (map g items)) ≡ option_map w (first_in w (actuals_for names items))
+    first_of_map : (names : List (List ℕ)) (items : List (Argument Expression)) → first_given (actuals_for names (map g items)) ≡ option_map w (first_given (actuals_for names items))
     unfolding actuals_for arguments_from
     first_of_map [] items = refl
     first_of_map (name ∷ names) items = argument_of_map 0 name 0 items
@@ -72,7 +73,7 @@ module _ (w : Expression → Built) (n : Names) where
         → operation_built same_built o (actuals_for (names_of_formals o) (map g items)) n ≡ operation_built w o (actuals_for (names_of_formals o) items) n
     operation_of_map o items =
         ap (λ (e : Option Built). function_built o (is_there same_built e n) (is_built_if_there same_built e n)) (first_of_map (names_of_formals o) items)
-        ∙ actual_of_map o (first_in w (actuals_for (names_of_formals o) items))
+        ∙ actual_of_map o (first_given (actuals_for (names_of_formals o) items))
 
     item_of_map : (item : Predefined) (items : List (Argument Expression)) → item_built same_built item (map g items) n ≡ item_built w item items n
     item_of_map (items.Mark s) arguments = refl

@@ -1,5 +1,6 @@
 -- What the fold over a sequence makes of its parts.
 use Rattle.std.proofs.Common.{◌≡◌, Bool, ℕ, List, [], ◌∷◌, Option, None, map, refl, ap, ◌∙◌}
+use Rattle.std.specs.Bool.{then_some}
 use Rattle.std.specs.List.{list_any}
 use Rattle.ada_tree.specs.declared.statements.Sequence.{Sequence}
 use Rattle.ada_tree.specs.declared.statements.Sequence.TheViews.{out-Sequence}
@@ -21,7 +22,7 @@ use Rattle.profile_machine.specs.declared.declarations.Handler.{Handler as Excep
 use Rattle.profile_machine.specs.declared.statements.StatementForm.TheVariants as action
 use Rattle.ada_image.specs.Making.{reserved, put_at, the_action, in_construct, in_unit}
 use Rattle.ada_image.specs.ImageOfStatements.{SequenceMaking, handlers_put}
-use Rattle.ada_image.specs.ImageOfDeclarations.{declaration_put, declarations_put, makes_task, make_tasks, part_if, activation_put, end_of_activation_put, body_put, operation_body_put, operation_bodies_put, inner_body_put, inner_bodies_put, unhandled_put, with_handlers_put, handled_put, whole_put, parts_put, same_making, making_layer, sequence_put}
+use Rattle.ada_image.specs.ImageOfDeclarations.{declaration_put, declarations_put, makes_task, make_tasks, activation_put, end_of_activation_put, body_put, operation_body_put, operation_bodies_put, inner_body_put, inner_bodies_put, unhandled_put, with_handlers_put, handled_put, whole_put, parts_put, same_making, making_layer, sequence_put}
 use Rattle.ada_image.proofs.StatementFolds.{handlers_of_map, statements_of_map}
 
 module _ (f : Sequence → SequenceMaking) where
@@ -139,17 +140,17 @@ module _ (f : Sequence → SequenceMaking) where
       declarations_put within 0 (mapped f s).declarations (end_of_activation_put is_task_body r.1 r.0).1 (end_of_activation_put is_task_body r.1 r.0).0
 
   abbrev handled : Within → SequenceParts Sequence → Lists → Lists × Option StatementNo
-  handled within s l = handled_put f within (part_if (make_tasks within s.declarations) 0) s s.handlers None (inner_bodies_put f within s.declarations l).0
+  handled within s l = handled_put f within (then_some (make_tasks within s.declarations) 0) s s.handlers None (inner_bodies_put f within s.declarations l).0
 
   whole_of_map : (within : Within) (is_task_body : Bool) (s : SequenceParts Sequence) (l : Lists) → whole_put same_making within is_task_body (mapped f s) l ≡ whole_put f within is_task_body s l
   unfolding whole_put
   whole_of_map within is_task_body s l =
-      ap (λ (b : Lists × Unit {0}). ended within is_task_body s (handled_put same_making within (part_if (make_tasks within (mapped f s).declarations) 0) (mapped f s) (mapped f s).handlers None b.0))
+      ap (λ (b : Lists × Unit {0}). ended within is_task_body s (handled_put same_making within (then_some (make_tasks within (mapped f s).declarations) 0) (mapped f s) (mapped f s).handlers None b.0))
       (bodies_of_map within s.declarations l)
-      ∙ ap (λ (k : Bool). ended within is_task_body s (handled_put same_making within (part_if k 0) (mapped f s) (mapped f s).handlers None (inner_bodies_put f within s.declarations l).0))
+      ∙ ap (λ (k : Bool). ended within is_task_body s (handled_put same_making within (then_some k 0) (mapped f s) (mapped f s).handlers None (inner_bodies_put f within s.declarations l).0))
       (tasks_of_map within s.declarations)
       ∙ ap (λ (r : Lists × Option StatementNo). ended within is_task_body s r)
-      (handled_of_map within (part_if (make_tasks within s.declarations) 0) s s.handlers None (inner_bodies_put f within s.declarations l).0)
+      (handled_of_map within (then_some (make_tasks within s.declarations) 0) s s.handlers None (inner_bodies_put f within s.declarations l).0)
       ∙ declarations_of_map within 0 s.declarations
       (end_of_activation_put is_task_body (handled within s l).1 (handled within s l).0).1 (end_of_activation_put is_task_body (handled within s l).1 (handled within s l).0).0
 

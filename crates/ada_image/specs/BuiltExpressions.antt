@@ -33,6 +33,7 @@ use Rattle.ada_regions.specs.Statics.{attribute_value}
 use Rattle.ada_image.specs.Layout.{is_thing, subtype_is}
 use Rattle.ada_image.specs.ImageOfExpressions.{actuals_for, first_argument}
 use Rattle.ada_image.specs.ReadExpressions.{is_value}
+use Rattle.ada_image.specs.Making.{first_given}
 
 -- a value that a text can give
 abbrev pub is_given : Value → Bool
@@ -103,12 +104,8 @@ module _ {E : Type 0} (built : E → Built) where
   is_built_if_there None n = true
   is_built_if_there (Some e) n = built e n
 
-  abbrev pub first_in : List (Option E) → Option E
-  first_in [] = None
-  first_in (e ∷ es) = e
-
   abbrev pub operation_built : Operation → List (Option E) → Built
-  operation_built o es n = function_built o (is_there (first_in es) n) (is_built_if_there (first_in es) n)
+  operation_built o es n = function_built o (is_there (first_given es) n) (is_built_if_there (first_given es) n)
 
   abbrev pub item_built : Predefined → List (Argument E) → Built
   item_built (items.Mark s) arguments n = false

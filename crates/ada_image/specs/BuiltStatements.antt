@@ -33,11 +33,13 @@ use Rattle.ada_regions.specs.Words.{and_then}
 use Rattle.ada_regions.specs.PredefinedUnits.{names_of_formals}
 use Rattle.ada_regions.specs.Names.{denoted_by, kind_at}
 use Rattle.ada_regions.specs.Statics.{static_value, subtype_of_name}
-use Rattle.ada_image.specs.Layout.{is_array, is_kept, is_thing, subtype_is}
+use Rattle.ada_regions.specs.TypeKinds.{is_array_type}
+use Rattle.ada_image.specs.Layout.{is_kept, is_thing, subtype_is}
 use Rattle.ada_image.specs.ImageOfExpressions.{actuals_for, first_argument}
 use Rattle.ada_image.specs.ImageOfCalls.{FunctionCall, call_of_kind, names_of}
-use Rattle.ada_image.specs.ImageOfProcedures.{first_of, second_of, moment_of}
+use Rattle.ada_image.specs.ImageOfProcedures.{second_of, moment_of}
 use Rattle.ada_image.specs.BuiltExpressions.{Built, is_given, kind_of, expression_built}
+use Rattle.ada_image.specs.Making.{first_given}
 
 -- ---- values and variables
 
@@ -123,7 +125,7 @@ text_built (Some e) n = text_form_built (out-Expression e).form n
 -- ---- call statements
 
 abbrev pub procedure_built : Operation → List (Argument Expression) → List (Option Expression) → Built
-procedure_built operations.PutLine arguments es n = text_built (first_of es) n
+procedure_built operations.PutLine arguments es n = text_built (first_given es) n
 procedure_built operations.SetEvent arguments es n = value_there (moment_of arguments) n
 procedure_built operations.SetTimer arguments es n = value_there (moment_of arguments) n
 procedure_built operations.CancelEvent arguments es n = variable_there (second_of es) n
@@ -134,10 +136,10 @@ procedure_built operations.RemoveTask arguments es n = value_there (second_of es
 procedure_built operations.Replenish arguments es n = value_there (second_of es) n
 procedure_built operations.Add arguments es n = value_there (second_of es) n
 procedure_built operations.SetBudget arguments es n = true
-procedure_built operations.SetPriority arguments es n = value_there (first_of es) n && value_if_there (second_of es) n
-procedure_built operations.SetDeadline arguments es n = value_there (first_of es) n && value_if_there (second_of es) n
-procedure_built operations.SetQuantum arguments es n = value_there (first_of es) n && value_there (second_of es) n
-procedure_built operations.DelayUntilAndSetDeadline arguments es n = value_there (first_of es) n && value_there (second_of es) n
+procedure_built operations.SetPriority arguments es n = value_there (first_given es) n && value_if_there (second_of es) n
+procedure_built operations.SetDeadline arguments es n = value_there (first_given es) n && value_if_there (second_of es) n
+procedure_built operations.SetQuantum arguments es n = value_there (first_given es) n && value_there (second_of es) n
+procedure_built operations.DelayUntilAndSetDeadline arguments es n = value_there (first_given es) n && value_there (second_of es) n
 procedure_built _ arguments es n = false
 
 abbrev pub entity_call_built : List (Argument Expression) → EntityKind → Built
@@ -161,7 +163,7 @@ call_statement_built c n = denoted_call_built c.arguments (denoted_by n c.name) 
 -- ---- assignments, choices, loops and triggers
 
 abbrev pub whole_built : Assignment → Option Subtype → Built
-whole_built a s n = cond (subtype_is is_kept s) true (cond (subtype_is is_array s) true (source_built a.value n))
+whole_built a s n = cond (subtype_is is_kept s) true (cond (subtype_is is_array_type s) true (source_built a.value n))
 
 abbrev pub assigned_built : Assignment → Option Expression → Built
 assigned_built a None n = whole_built a (subtype_of_name n a.target) n

@@ -1,5 +1,6 @@
 -- Declarations to actions (3.3.1, 3.11, 7.6, 9.1, 9.2, 9.4), and what is made of the bodies among them.
 use Rattle.std.specs.Prelude.{ℕ, Bool, true, false, cond, not, List, [], ◌∷◌, Option, Some, None, unwrap_or, map}
+use Rattle.std.specs.Bool.{then_some}
 use Rattle.std.specs.List.{list_any}
 use Rattle.ann_base.specs.declared.places.Place.{Place}
 use Rattle.ada_tree.specs.declared.names.Identifier.{Identifier}
@@ -29,6 +30,7 @@ use Rattle.ada_regions.specs.declared.entities.EntityKind.TheVariants as entity
 use Rattle.ada_regions.specs.Words.{and_then, all_of}
 use Rattle.ada_regions.specs.Names.{kind_at, entity_denoted}
 use Rattle.ada_regions.specs.Statics.{subtype_of_kind}
+use Rattle.ada_regions.specs.TypeKinds.{is_task_type, is_controlled_type}
 use Rattle.ada_image.specs.declared.making.Within.{Within}
 use Rattle.ada_image.specs.Making.{Making, ◌>>=◌, ◌>>◌, pure, action_put, reserved, put_at, first_put, the_action, in_body_of, in_construct, in_unit}
 use Rattle.ada_image.specs.Layout.{subtype_is, components_of_owner, total}
@@ -49,14 +51,6 @@ unfoldable pub subtype_declared_as : Within → Identifier → Option Subtype
 subtype_declared_as within i = and_then (kind_declared within i) subtype_of_kind
 
 -- ---- objects: a task is created, a controlled object is initialized behind its declaration
-
-abbrev pub is_task : AdaType → Bool
-is_task (types.Task u) = true
-is_task _ = false
-
-abbrev pub is_controlled : AdaType → Bool
-is_controlled (types.Derived c) = true
-is_controlled _ = false
 
 unfoldable pub signs_of_components : Within → ComponentOwner → ℕ
 signs_of_components within o = total (map (λ d. signs_if within d.initial) (components_of_owner within.names o))
@@ -84,11 +78,11 @@ object_declaration_put within d s None signs next = action_put (action.Declare d
 
 unfoldable pub object_elaborated : Within → DeclNo → Option Subtype → Option Expression → Option StatementNo → Making (Option StatementNo)
 object_elaborated within d s initial next = do
-  behind ← initialize_if (subtype_is is_controlled s) d next
+  behind ← initialize_if (subtype_is is_controlled_type s) d next
   object_declaration_put within d s (function_call_if within initial) (signs_if within initial) behind
 
 unfoldable pub object_put : Within → ℕ → Option Expression → Identifier → Option StatementNo → Making (Option StatementNo)
-object_put within part initial i next = cond (subtype_is is_task (subtype_declared_as within i))
+object_put within part initial i next = cond (subtype_is is_task_type (subtype_declared_as within i))
     (action_put (action.CreateTask (number_declared within i) part) 0 next)
     (object_elaborated within (number_declared within i) (subtype_declared_as within i) initial next)
 
@@ -106,7 +100,7 @@ single_put within part false i next = object_put within part None i next
 -- ---- tasks that a declarative part makes
 
 unfoldable pub object_makes_task : Within → ObjectDeclaration → Bool
-object_makes_task within o = subtype_is is_task (subtype_declared_as within o.names.first)
+object_makes_task within o = subtype_is is_task_type (subtype_declared_as within o.names.first)
 
 module _ {Q : Type 0} where
   unfoldable pub declaration_put : Within → ℕ → Declaration Q → Option StatementNo → Making (Option StatementNo)
@@ -144,11 +138,6 @@ module _ {Q : Type 0} where
 
   unfoldable pub make_tasks : Within → List (Declaration Q) → Bool
   make_tasks within ds = list_any (makes_task within) ds
-
--- the part whose tasks are activated, where there are any
-abbrev pub part_if : Bool → ℕ → Option ℕ
-part_if true part = Some part
-part_if false part = None
 
 unfoldable pub activation_put : Option ℕ → Option StatementNo → Making (Option StatementNo)
 activation_put None next = pure next
@@ -224,7 +213,7 @@ module _ {Q : Type 0} (sequence : Q → SequenceMaking) where
   unfoldable pub whole_put : Within → Bool → SequenceParts Q → Making (Option StatementNo)
   whole_put within is_task_body s = do
     inner_bodies_put within s.declarations
-    first ← handled_put within (part_if (make_tasks within s.declarations) 0) s s.handlers None
+    first ← handled_put within (then_some (make_tasks within s.declarations) 0) s s.handlers None
     ended ← end_of_activation_put is_task_body first
     declarations_put within 0 s.declarations ended
 

@@ -59,7 +59,7 @@ use Rattle.ada_regions.specs.declared.table.Names.{Names}
 use Rattle.ada_regions.specs.Names.{denoted_by, kind_at, entity_denoted, entity_of}
 use Rattle.ada_regions.specs.Statics.{literal_value, negated, attribute_value}
 use Rattle.ada_image.specs.declared.making.Within.{Within}
-use Rattle.ada_image.specs.Making.{Making, ◌>>=◌, pure, value_put}
+use Rattle.ada_image.specs.Making.{Making, ◌>>=◌, pure, value_put, first_given}
 use Rattle.ada_image.specs.Layout.{is_thing, subtype_is}
 
 -- ---- operators (4.5)
@@ -288,10 +288,6 @@ unfoldable pub image_or_none : Option ExpressionImage → Within → Making Expr
 image_or_none None within = no_value
 image_or_none (Some e) within = e.made within
 
-abbrev pub first_actual : List (Option ExpressionImage) → Option ExpressionImage
-first_actual [] = None
-first_actual (e ∷ es) = e
-
 unfoldable pub optional_made : Option ExpressionImage → Within → Making (Option ExprNo)
 optional_made None within = pure None
 optional_made (Some e) within = do
@@ -327,35 +323,35 @@ of_thing_made f e within = value_put (f (thing_in within (name_in e)))
 unfoldable pub function_made : Operation → List (Option ExpressionImage) → Within → Making ExprNo
 function_made operations.PutLine es within = no_value
 function_made operations.Clock es within = value_put valuation.Clock
-function_made operations.Microseconds es within = span_made (pos 1) (first_actual es) within
-function_made operations.Milliseconds es within = span_made (pos 1000) (first_actual es) within
-function_made operations.Seconds es within = span_made (pos 1000000) (first_actual es) within
-function_made operations.Minutes es within = span_made (pos 60000000) (first_actual es) within
-function_made operations.ToDuration es within = same_ticks_made (first_actual es) within
-function_made operations.ToTimeSpan es within = same_ticks_made (first_actual es) within
+function_made operations.Microseconds es within = span_made (pos 1) (first_given es) within
+function_made operations.Milliseconds es within = span_made (pos 1000) (first_given es) within
+function_made operations.Seconds es within = span_made (pos 1000000) (first_given es) within
+function_made operations.Minutes es within = span_made (pos 60000000) (first_given es) within
+function_made operations.ToDuration es within = same_ticks_made (first_given es) within
+function_made operations.ToTimeSpan es within = same_ticks_made (first_given es) within
 function_made operations.SetEvent es within = no_value
 function_made operations.CancelEvent es within = no_value
-function_made operations.TimeOfEvent es within = of_thing_made valuation.TimeOfEvent (first_actual es) within
-function_made operations.ExecutionClock es within = of_task_made valuation.ExecutionTime (first_actual es) within
+function_made operations.TimeOfEvent es within = of_thing_made valuation.TimeOfEvent (first_given es) within
+function_made operations.ExecutionClock es within = of_task_made valuation.ExecutionTime (first_given es) within
 function_made operations.SetTimer es within = no_value
 function_made operations.CancelTimer es within = no_value
-function_made operations.TimeRemaining es within = of_thing_made valuation.TimeRemaining (first_actual es) within
+function_made operations.TimeRemaining es within = of_thing_made valuation.TimeRemaining (first_given es) within
 function_made operations.AddTask es within = no_value
 function_made operations.RemoveTask es within = no_value
 function_made operations.Replenish es within = no_value
 function_made operations.Add es within = no_value
-function_made operations.BudgetHasExpired es within = of_thing_made valuation.BudgetHasExpired (first_actual es) within
-function_made operations.BudgetRemaining es within = of_thing_made valuation.BudgetRemaining (first_actual es) within
+function_made operations.BudgetHasExpired es within = of_thing_made valuation.BudgetHasExpired (first_given es) within
+function_made operations.BudgetRemaining es within = of_thing_made valuation.BudgetRemaining (first_given es) within
 function_made operations.SetBudget es within = no_value
 function_made operations.CancelBudget es within = no_value
 function_made operations.SetPriority es within = no_value
-function_made operations.GetPriority es within = of_task_made valuation.Priority (first_actual es) within
+function_made operations.GetPriority es within = of_task_made valuation.Priority (first_given es) within
 function_made operations.CurrentTask es within = value_put valuation.CurrentTask
 function_made operations.SetQuantum es within = no_value
 function_made operations.SetDeadline es within = no_value
-function_made operations.GetDeadline es within = of_task_made valuation.Deadline (first_actual es) within
+function_made operations.GetDeadline es within = of_task_made valuation.Deadline (first_given es) within
 function_made operations.DelayUntilAndSetDeadline es within = no_value
-function_made operations.PortValue es within = port_made (first_actual es) within
+function_made operations.PortValue es within = port_made (first_given es) within
 
 abbrev pub is_operation : Predefined → Bool
 is_operation (items.Mark s) = false
@@ -525,6 +521,13 @@ expression_image = fold-Expression ExpressionImage image_layer
 
 unfoldable pub expression_made : Expression → Within → Making ExprNo
 expression_made e within = (expression_image e).made within
+
+-- the value of an expression that may be missing
+unfoldable pub optional_value : Within → Option Expression → Making (Option ExprNo)
+optional_value within None = pure None
+optional_value within (Some e) = do
+  x ← expression_made e within
+  pure (Some x)
 
 unfoldable pub signs_in : Within → Expression → ℕ
 signs_in within e = (expression_image e).signs within.names

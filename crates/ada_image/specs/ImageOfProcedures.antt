@@ -28,18 +28,14 @@ use Rattle.std.specs.Option.{option_or}
 use Rattle.ada_regions.specs.PredefinedUnits.{names_of_formals}
 use Rattle.ada_regions.specs.Names.{entity_denoted, kind_at}
 use Rattle.ada_image.specs.declared.making.Within.{Within}
-use Rattle.ada_image.specs.Making.{Making, ◌>>=◌, pure, action_put}
+use Rattle.ada_image.specs.Making.{Making, ◌>>=◌, pure, action_put, first_given}
 use Rattle.ada_image.specs.TypesOfExpressions.{is_span}
-use Rattle.ada_image.specs.ImageOfExpressions.{expression_image, expression_made, no_declaration_no, thing_in, kind_named, prefix_part, object_number, argument_from, actuals_for}
+use Rattle.ada_image.specs.ImageOfExpressions.{expression_image, no_declaration_no, thing_in, kind_named, prefix_part, object_number, argument_from, actuals_for, optional_value}
 use Rattle.ada_image.specs.ImageOfCalls.{no_variable, variable_in, value_or_none, put_line_put, not_built}
-
-abbrev pub first_of : List (Option Expression) → Option Expression
-first_of [] = None
-first_of (e ∷ es) = e
 
 abbrev pub second_of : List (Option Expression) → Option Expression
 second_of [] = None
-second_of (e ∷ es) = first_of es
+second_of (e ∷ es) = first_given es
 
 abbrev pub third_of : List (Option Expression) → Option Expression
 third_of [] = None
@@ -52,12 +48,6 @@ thing_of within e = thing_in within (and_then e (λ x. (expression_image x).name
 unfoldable pub variable_of : Within → Option Expression → Making VariableName
 variable_of within None = no_variable
 variable_of within (Some e) = variable_in within e
-
-unfoldable pub optional_value : Within → Option Expression → Making (Option ExprNo)
-optional_value within None = pure None
-optional_value within (Some e) = do
-  x ← expression_made e within
-  pure (Some x)
 
 -- ---- handlers: `'Access` of a procedure of a protected object, or null
 
@@ -120,34 +110,34 @@ setting_made within arguments = do
 unfoldable pub set_event_put : Within → List (Argument Expression) → List (Option Expression) → ℕ → Option StatementNo → Making (Option StatementNo)
 set_event_put within arguments es signs next = do
   s ← setting_made within arguments
-  action_put (action.SetEvent (thing_of within (first_of es)) s (handler_of within (third_of es))) signs next
+  action_put (action.SetEvent (thing_of within (first_given es)) s (handler_of within (third_of es))) signs next
 
 unfoldable pub set_timer_put : Within → List (Argument Expression) → List (Option Expression) → ℕ → Option StatementNo → Making (Option StatementNo)
 set_timer_put within arguments es signs next = do
   s ← setting_made within arguments
-  action_put (action.SetTimer (thing_of within (first_of es)) s (handler_of within (third_of es))) signs next
+  action_put (action.SetTimer (thing_of within (first_given es)) s (handler_of within (third_of es))) signs next
 
 -- ---- actions of a thing and a variable, of a thing and a value, of values
 
 unfoldable pub cancel_put : (DeclNo → VariableName → StatementForm) → Within → List (Option Expression) → ℕ → Option StatementNo → Making (Option StatementNo)
 cancel_put f within es signs next = do
   v ← variable_of within (second_of es)
-  action_put (f (thing_of within (first_of es)) v) signs next
+  action_put (f (thing_of within (first_given es)) v) signs next
 
 unfoldable pub budget_put : (DeclNo → ExprNo → StatementForm) → Within → List (Option Expression) → ℕ → Option StatementNo → Making (Option StatementNo)
 budget_put f within es signs next = do
   e ← value_or_none within (second_of es)
-  action_put (f (thing_of within (first_of es)) e) signs next
+  action_put (f (thing_of within (first_given es)) e) signs next
 
 unfoldable pub task_put : (ExprNo → Option ExprNo → StatementForm) → Within → List (Option Expression) → ℕ → Option StatementNo → Making (Option StatementNo)
 task_put f within es signs next = do
-  e ← value_or_none within (first_of es)
+  e ← value_or_none within (first_given es)
   t ← optional_value within (second_of es)
   action_put (f e t) signs next
 
 unfoldable pub values_put : (ExprNo → ExprNo → StatementForm) → Within → List (Option Expression) → ℕ → Option StatementNo → Making (Option StatementNo)
 values_put f within es signs next = do
-  a ← value_or_none within (first_of es)
+  a ← value_or_none within (first_given es)
   b ← value_or_none within (second_of es)
   action_put (f a b) signs next
 
@@ -174,7 +164,7 @@ procedure_with within operations.Add arguments es signs next = budget_put action
 procedure_with within operations.BudgetHasExpired arguments es signs next = not_built next
 procedure_with within operations.BudgetRemaining arguments es signs next = not_built next
 procedure_with within operations.SetBudget arguments es signs next =
-    action_put (action.SetBudget (thing_of within (first_of es)) (handler_of within (second_of es))) signs next
+    action_put (action.SetBudget (thing_of within (first_given es)) (handler_of within (second_of es))) signs next
 procedure_with within operations.CancelBudget arguments es signs next = cancel_put action.CancelBudget within es signs next
 procedure_with within operations.SetPriority arguments es signs next = task_put action.SetPriority within es signs next
 procedure_with within operations.GetPriority arguments es signs next = not_built next

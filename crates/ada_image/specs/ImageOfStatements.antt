@@ -41,6 +41,7 @@ use Rattle.ada_tree.specs.declared.selects.Guard.{Guard}
 use Rattle.ada_tree.specs.declared.selects.Alternative.{Alternative}
 use Rattle.ada_tree.specs.declared.selects.Alternative.TheVariants as alternative
 use Rattle.ada_tree.specs.declared.selects.Trigger.{Trigger}
+use Rattle.world_tables.specs.Lists.{first_of}
 use Rattle.ada_tree.specs.declared.selects.Trigger.TheVariants as trigger
 use Rattle.profile_machine.specs.declared.numbers.EntryNo.{EntryNo}
 use Rattle.profile_machine.specs.declared.declarations.EntryUnit.{EntryUnit}
@@ -77,13 +78,15 @@ use Rattle.ada_regions.specs.declared.table.Names.{Names}
 use Rattle.ada_regions.specs.declared.table.NumberedScope.{NumberedScope}
 use Rattle.ada_regions.specs.Names.{denoted_by, kind_at, entity_denoted, last_part}
 use Rattle.ada_regions.specs.Statics.{static_value, subtype_of_name}
+use Rattle.ada_regions.specs.TypeKinds.{is_array_type}
+use Rattle.ada_regions.specs.Regions.{entry_number}
 use Rattle.ada_image.specs.declared.making.Within.{Within}
 use Rattle.ada_image.specs.declared.making.SequencePlace.{SequencePlace}
 use Rattle.ada_image.specs.declared.making.SequencePlace.TheVariants as sequence_place
 use Rattle.ada_image.specs.declared.making.OpenLoop.{OpenLoop}
 use Rattle.ada_image.specs.Making.{Making, ◌>>=◌, ◌>>◌, pure, action_put, reserved, put_at, first_put, the_action, in_loop, in_construct, in_scope, in_handler}
-use Rattle.ada_image.specs.Layout.{is_array, is_kept, subtype_is, scope_no}
-use Rattle.ada_image.specs.ImageOfExpressions.{expression_made, signs_in, signs_if, no_declaration_no, object_named, thing_named, thing_in, expression_image, kind_named}
+use Rattle.ada_image.specs.Layout.{is_kept, subtype_is, scope_no}
+use Rattle.ada_image.specs.ImageOfExpressions.{expression_made, signs_in, signs_if, no_declaration_no, object_named, thing_named, thing_in, expression_image, kind_named, optional_value}
 use Rattle.ada_image.specs.ImageOfCalls.{target_made, FunctionCall, function_call, function_call_put, owner_of_entry}
 use Rattle.ada_image.specs.CallStatements.{call_statement_put, signs_in_actuals}
 
@@ -120,7 +123,7 @@ value_assigned within a (Some c) signs next = do
 
 unfoldable pub assigned_whole : Within → Assignment → Option Subtype → ℕ → Option StatementNo → Making (Option StatementNo)
 assigned_whole within a s signs next = cond (subtype_is is_kept s) (controlled_assigned within a next)
-    (cond (subtype_is is_array s) (array_assigned within a signs next) (value_assigned within a (function_call within a.value) signs next))
+    (cond (subtype_is is_array_type s) (array_assigned within a signs next) (value_assigned within a (function_call within a.value) signs next))
 
 unfoldable pub assigned : Within → Assignment → Option Expression → ℕ → Option StatementNo → Making (Option StatementNo)
 assigned within a None signs next = assigned_whole within a (subtype_of_name within.names a.target) signs next
@@ -196,27 +199,17 @@ is_label (Some e) (Some label) = eqb label e
 unfoldable pub has_label : Option ℕ → OpenLoop → Bool
 has_label e l = is_label e l.label
 
-abbrev pub innermost_loop : List OpenLoop → Option OpenLoop
-innermost_loop [] = None
-innermost_loop (l ∷ ls) = Some l
-
 unfoldable pub loop_left : Within → Option Identifier → Option OpenLoop
-loop_left within None = innermost_loop within.loops
+loop_left within None = first_of within.loops
 loop_left within (Some i) = find (has_label (entity_denoted within.names i.place)) within.loops
 
 abbrev pub loop_statement : Option OpenLoop → StatementNo
 loop_statement None = record { 0 = 0 }
 loop_statement (Some l) = l.statement
 
-unfoldable pub condition_made : Within → Option Expression → Making (Option ExprNo)
-condition_made within None = pure None
-condition_made within (Some e) = do
-  c ← expression_made e within
-  pure (Some c)
-
 unfoldable pub exit_put : Within → Exit → Option StatementNo → Making (Option StatementNo)
 exit_put within e next = do
-  c ← condition_made within e.condition
+  c ← optional_value within e.condition
   action_put (action.Exit c (loop_statement (loop_left within e.loop_name))) (signs_if within e.condition) next
 
 -- ---- choices (5.4, 11.2)
@@ -243,15 +236,11 @@ loop_parameter_number _ = None
 
 -- ---- entries, aborts and requeues (9.5.2, 9.5.4, 9.8)
 
-abbrev pub entry_of_kind : EntityKind → Option EntryNo
-entry_of_kind (entity.Entry number unit formals) = Some number
-entry_of_kind _ = None
-
 abbrev pub no_entry : EntryNo
 no_entry = record { 0 = 0 }
 
 unfoldable pub entry_at : Within → Place → EntryNo
-entry_at within place = unwrap_or (and_then (entity_denoted within.names place) (λ e. and_then (kind_at within.names e) entry_of_kind)) no_entry
+entry_at within place = unwrap_or (and_then (entity_denoted within.names place) (λ e. and_then (kind_at within.names e) entry_number)) no_entry
 
 unfoldable pub abort_put : Within → OneOrMore Name → Option StatementNo → Making (Option StatementNo)
 abort_put within tasks next = action_put (action.Abort (thing_named within tasks.first ∷ map (thing_named within) tasks.others)) 0 next
@@ -425,7 +414,7 @@ module _ {Q : Type 0} (sequence : Q → SequenceMaking) where
 
   unfoldable pub select_alternative_put : Within → SelectAlternative Q → Option StatementNo → Making GuardedAlternative
   select_alternative_put within a next = do
-    guard ← condition_made within (guard_of a.guard)
+    guard ← optional_value within (guard_of a.guard)
     kind ← alternative_put within a.alternative next
     pure (record { guard = guard; kind = kind })
 

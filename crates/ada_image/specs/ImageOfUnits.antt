@@ -1,6 +1,7 @@
 -- The image of a source (7.1, 7.2, 10.1, 10.2): the library packages are elaborated one after another, then the main
 -- procedure is called; and at last the initial values of declarations.
 use Rattle.std.specs.Prelude.{ℕ, suc, Bool, true, false, cond, not, ◌||◌, List, [], ◌∷◌, ◌++◌, Option, Some, None, unwrap_or, map, is_some, ◌&&◌}
+use Rattle.std.specs.Bool.{then_some}
 use Rattle.std.specs.List.{list_any}
 use Rattle.std.specs.Str.{bytes_eq}
 use Rattle.ada_tree.specs.declared.names.Identifier.{Identifier}
@@ -33,18 +34,19 @@ use Rattle.ada_regions.specs.declared.table.NumberedDeclaration.{NumberedDeclara
 use Rattle.ada_regions.specs.declared.table.Sort.{Sort}
 use Rattle.ada_regions.specs.declared.table.Sort.TheVariants as sort
 use Rattle.ada_regions.specs.Numbered.{names_of}
+use Rattle.ada_regions.specs.TypeKinds.{is_array_type}
 use Rattle.ada_image.specs.declared.making.Lists.{Lists}
 use Rattle.ada_image.specs.declared.making.Within.{Within}
 use Rattle.ada_image.specs.declared.making.MadeLists.{MadeLists}
 use Rattle.ada_image.specs.Making.{Making, ◌>>=◌, ◌>>◌, pure, action_put, first_put, nothing_made}
-use Rattle.ada_image.specs.Layout.{is_thing, is_array, subtype_is, range_of_cells, index_range, cells_of_declaration, place_behind, scope_no, scopes_made, subprogram_made, enumeration_made}
+use Rattle.ada_image.specs.Layout.{is_thing, subtype_is, range_of_cells, index_range, cells_of_declaration, place_behind, scope_no, scopes_made, subprogram_made, enumeration_made}
 use Rattle.ada_image.specs.UnitsOfImage.{decl_no, priority_of, task_units_made, entries_made, protected_units_made, controlled_types_made}
 use Rattle.ada_image.specs.PoliciesOfImage.{policies_of}
 use Rattle.ada_image.specs.ImageOfExpressions.{expression_made, expression_image}
 use Rattle.ada_image.specs.ImageOfCalls.{function_call}
 use Rattle.ada_image.specs.declared.making.SequencePlace.TheVariants as sequence_place
 use Rattle.ada_image.specs.ImageOfStatements.{array_name, scope_at}
-use Rattle.ada_image.specs.ImageOfDeclarations.{sequence_put, inner_bodies_put, declarations_put, make_tasks, part_if, activation_put, body_put}
+use Rattle.ada_image.specs.ImageOfDeclarations.{sequence_put, inner_bodies_put, declarations_put, make_tasks, activation_put, body_put}
 
 -- ---- library packages: each has a number, the same for its declaration and its body, from 1 on
 
@@ -88,12 +90,12 @@ part_of ls name = part_from 1 ls name
 unfoldable pub package_declaration_put : List LibraryPackage → Within → PackageDeclaration → Option StatementNo → Making (Option StatementNo)
 package_declaration_put ls within p next = do
   inner_bodies_put sequence_put within (p.declarations ++ unwrap_or p.private [])
-  first ← activation_put (part_if (not (has_body ls p.name.text) && make_tasks within (p.declarations ++ unwrap_or p.private [])) (part_of ls p.name.text)) next
+  first ← activation_put (then_some (not (has_body ls p.name.text) && make_tasks within (p.declarations ++ unwrap_or p.private [])) (part_of ls p.name.text)) next
   declarations_put within (part_of ls p.name.text) (p.declarations ++ unwrap_or p.private []) first
 
 unfoldable pub package_part : List LibraryPackage → Within → PackageBody → Option ℕ
 package_part ls within p =
-    part_if (make_tasks within p.declarations || make_tasks within (declared_by_package ls p.name.text)) (part_of ls p.name.text)
+    then_some (make_tasks within p.declarations || make_tasks within (declared_by_package ls p.name.text)) (part_of ls p.name.text)
 
 unfoldable pub package_statements_put : Within → Option ℕ → Option Sequence → Option StatementNo → Making (Option StatementNo)
 package_statements_put within part None next = activation_put part next
@@ -124,7 +126,7 @@ scalar_initial within e = do
   pure (initial.Scalar v)
 
 unfoldable pub scalar_or_array : Within → Option Subtype → Expression → Making Initial
-scalar_or_array within s e = cond (subtype_is is_array s) (pure (initial.Array (array_name within (expression_image e).name))) (scalar_initial within e)
+scalar_or_array within s e = cond (subtype_is is_array_type s) (pure (initial.Array (array_name within (expression_image e).name))) (scalar_initial within e)
 
 unfoldable pub initial_of_call : Within → Option Subtype → Expression → Bool → Making Initial
 initial_of_call within s e true = pure initial.Default

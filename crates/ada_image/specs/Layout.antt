@@ -56,10 +56,6 @@ abbrev pub subtype_is : (AdaType → Bool) → Option Subtype → Bool
 subtype_is test None = false
 subtype_is test (Some s) = test s.of_type
 
-abbrev pub is_array : AdaType → Bool
-is_array (types.Array a) = true
-is_array _ = false
-
 abbrev pub is_kept : AdaType → Bool
 is_kept (types.Derived c) = true
 is_kept (types.Task u) = true

@@ -1,6 +1,7 @@
 -- Making the lists of an image: what is made is put at the end of its list and named by its number there. A statement
 -- that others lead back to gets its number first, and is put there later.
-use Rattle.std.specs.Prelude.{ℕ, List, [], ◌∷◌, ◌++◌, Option, Some, None, length, slice_set}
+use Rattle.std.specs.Prelude.{List, ℕ, [], ◌∷◌, ◌++◌, Option, Some, None, length, slice_set}
+use Rattle.std.specs.List.{cons_option}
 use Rattle.profile_machine.specs.declared.numbers.ExprNo.{ExprNo}
 use Rattle.profile_machine.specs.declared.numbers.StatementNo.{StatementNo}
 use Rattle.profile_machine.specs.declared.numbers.SubprogramNo.{SubprogramNo}
@@ -27,6 +28,11 @@ m >> k = m >>= (λ _. k)
 
 abbrev pub pure : {X : Type 0} → X → Making X
 pure x = λ lists. (lists, x)
+
+-- the first of some items, where it is given
+abbrev pub first_given : {X : Type 0} → List (Option X) → Option X
+first_given [] = None
+first_given (x ∷ xs) = x
 
 -- ---- expressions
 
@@ -63,12 +69,8 @@ abbrev pub in_body_of : ℕ → Option SubprogramNo → Within → Within
 in_body_of scope function within =
     record { names = within.names; scope = scope; loops = []; construct = None; handling = None; function = function; units = within.units }
 
-abbrev pub units_inside : Option ℕ → List ℕ → List ℕ
-units_inside None units = units
-units_inside (Some e) units = e ∷ units
-
 abbrev pub in_unit : Option ℕ → Within → Within
-in_unit unit within = record within { units = units_inside unit within.units }
+in_unit unit within = record within { units = cons_option unit within.units }
 
 abbrev pub in_construct : StatementNo → Within → Within
 in_construct s within = record within { construct = Some s }

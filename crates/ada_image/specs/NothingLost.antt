@@ -2,6 +2,8 @@
 -- order, each of its kind and with its parts; those of the environment are the packages, and then the call of the main
 -- procedure. This is said of the image alone, however it was made.
 use Rattle.std.specs.Prelude.{ℕ, zero, suc, length, Bool, true, false, cond, not, ◌&&◌, List, [], ◌∷◌, ◌++◌, Option, Some, None, unwrap_or, eqb}
+use Rattle.std.specs.Option.{option_flatten}
+use Rattle.std.specs.Bool.{then_some}
 use Rattle.ann_base.specs.declared.places.Place.{Place}
 use Rattle.ada_tree.specs.declared.names.Identifier.{Identifier}
 use Rattle.ada_tree.specs.declared.expressions.Expression.{Expression}
@@ -31,6 +33,7 @@ use Rattle.profile_machine.specs.Program.{form_of, next_of}
 use Rattle.ada_regions.specs.Words.{all_of}
 use Rattle.ada_regions.specs.Names.{entity_denoted}
 use Rattle.ada_regions.specs.Numbered.{names_of}
+use Rattle.ada_regions.specs.TypeKinds.{is_task_type, is_controlled_type}
 use Rattle.ada_image.specs.declared.making.Within.{Within}
 use Rattle.ada_image.specs.Making.{in_body_of, in_construct, in_unit}
 use Rattle.ada_image.specs.Layout.{subtype_is}
@@ -38,7 +41,7 @@ use Rattle.ada_image.specs.ImageOfCalls.{FunctionCall}
 use Rattle.ada_image.specs.declared.making.SequencePlace.{SequencePlace}
 use Rattle.ada_image.specs.declared.making.SequencePlace.TheVariants as sequence_place
 use Rattle.ada_image.specs.ImageOfStatements.{scope_at}
-use Rattle.ada_image.specs.ImageOfDeclarations.{is_task, is_controlled, number_declared, subtype_declared_as, subprogram_declared_as, function_call_if, make_tasks, part_if}
+use Rattle.ada_image.specs.ImageOfDeclarations.{number_declared, subtype_declared_as, subprogram_declared_as, function_call_if, make_tasks}
 use Rattle.ada_image.specs.ImageOfUnits.{outermost, program_of, has_body, part_of, package_part}
 use Rattle.ada_image.specs.ReadExpressions.{same_decl}
 use Rattle.ada_image.specs.ReadStatements.{Reading, same_next, call_stands, is_declared, first_of_scope, is_call_of_main, statements_stand, handlers_stand}
@@ -98,10 +101,10 @@ module _ (p : Image) where
   declares within d (Some c) f = call_stands p within c (is_declared p d) f
 
   abbrev pub object_read : Within → ℕ → Option Expression → Identifier → Option StatementNo → Rest
-  object_read within part initial i from = cond (subtype_is is_task (subtype_declared_as within i))
+  object_read within part initial i from = cond (subtype_is is_task_type (subtype_declared_as within i))
       (one_action (is_create (number_declared within i) part) from)
       (and_behind (one_action (declares within (number_declared within i) (function_call_if within initial)) from)
-      (action_if (subtype_is is_controlled (subtype_declared_as within i)) (is_initialize (number_declared within i))))
+      (action_if (subtype_is is_controlled_type (subtype_declared_as within i)) (is_initialize (number_declared within i))))
 
   abbrev pub objects_read : Within → ℕ → Option Expression → List Identifier → Option StatementNo → Rest
   objects_read within part initial [] from = Some from
@@ -187,7 +190,7 @@ module _ (p : Image) where
     abbrev pub whole_reads : Within → Bool → SequenceParts Q → Reading
     whole_reads within is_task_body s from to =
         inner_bodies_read within s.declarations
-        && reads_on (λ rest. handled_reads within (part_if (make_tasks within s.declarations) 0) s s.handlers rest to)
+        && reads_on (λ rest. handled_reads within (then_some (make_tasks within s.declarations) 0) s s.handlers rest to)
         (and_behind (declarations_read within 0 s.declarations from) (action_if is_task_body is_end_of_activation))
 
     abbrev pub parts_read : SequenceParts Q → SequencePlace → Within → Reading
@@ -212,7 +215,7 @@ sequence_reads p = fold-Sequence SequenceReading (sequence_reading_layer p)
 abbrev pub package_declaration_read : Image → List LibraryPackage → Within → PackageDeclaration → Option StatementNo → Rest
 package_declaration_read p ls within x from =
     and_behind (declarations_read p within (part_of ls x.name.text) (x.declarations ++ unwrap_or x.private []) from)
-    (activation_read p (part_if (not (has_body ls x.name.text) && make_tasks within (x.declarations ++ unwrap_or x.private [])) (part_of ls x.name.text)))
+    (activation_read p (then_some (not (has_body ls x.name.text) && make_tasks within (x.declarations ++ unwrap_or x.private [])) (part_of ls x.name.text)))
 
 -- ---- where a sequence leads: behind its last statement, or behind the action that opens its handlers
 
@@ -221,19 +224,15 @@ skipped p zero from = from
 skipped p (suc n) None = None
 skipped p (suc n) (Some s) = skipped p n (next_of p s)
 
-abbrev pub rest_or_none : Rest → Option StatementNo
-rest_or_none None = None
-rest_or_none (Some from) = from
-
 abbrev pub behind_unhandled : Image → Option ℕ → SequenceParts Sequence → Option StatementNo → Option StatementNo
-behind_unhandled p part s from = skipped p (suc (length s.statements.others)) (rest_or_none (activation_read p part from))
+behind_unhandled p part s from = skipped p (suc (length s.statements.others)) (option_flatten (activation_read p part from))
 
 abbrev pub behind_parts : Image → Option ℕ → SequenceParts Sequence → List (Handler Sequence) → Option StatementNo → Option StatementNo
 behind_parts p part s [] from = behind_unhandled p part s from
 behind_parts p part s (h ∷ hs) from = skipped p 1 from
 
 abbrev pub behind_statements : Image → Option ℕ → Option Sequence → Option StatementNo → Option StatementNo
-behind_statements p part None from = rest_or_none (activation_read p part from)
+behind_statements p part None from = option_flatten (activation_read p part from)
 behind_statements p part (Some s) from = behind_parts p part (out-Sequence s).parts (out-Sequence s).parts.handlers from
 
 -- ---- packages: one after another, and what comes behind each is where the next begins

@@ -1,6 +1,6 @@
 -- Reading an image back: whether what stands at a number of its expressions is an expression of the text, with the same
 -- operators, operands and names (clause 4).
-use Rattle.std.specs.Prelude.{ℕ, ℤ, pos, Bool, true, false, cond, not, ◌&&◌, List, [], ◌∷◌, Option, Some, None, option_map, unwrap_or, eqb, int_le}
+use Rattle.std.specs.Prelude.{ℕ, pos, Bool, true, false, cond, ◌&&◌, List, [], ◌∷◌, Option, Some, None, option_map, unwrap_or, eqb}
 use Rattle.ada_tree.specs.declared.names.Name.{Name}
 use Rattle.ada_tree.specs.declared.operators.Sign.{Sign}
 use Rattle.ada_tree.specs.declared.operators.Sign.TheVariants as sign
@@ -31,6 +31,7 @@ use Rattle.profile_machine.specs.declared.expressions.UnaryOperator.TheVariants 
 use Rattle.profile_machine.specs.declared.expressions.BinaryOperator.{BinaryOperator}
 use Rattle.profile_machine.specs.declared.expressions.BinaryOperator.TheVariants as binary
 use Rattle.profile_machine.specs.Program.{expression_of}
+use Rattle.profile_machine.specs.Words.{same_number, same_bool}
 use Rattle.ada_regions.specs.declared.types.Subtype.{Subtype}
 use Rattle.ada_regions.specs.declared.predefined.Operation.{Operation}
 use Rattle.ada_regions.specs.declared.predefined.Operation.TheVariants as operations
@@ -59,19 +60,12 @@ same_object (object.OwnComponent u a) (object.OwnComponent v b) = eqb u.0 v.0 &&
 same_object (object.Component o a) (object.Component p b) = same_decl o p && same_decl a b
 same_object _ _ = false
 
-abbrev pub same_whole : ℤ → ℤ → Bool
-same_whole a b = int_le a b && int_le b a
-
-abbrev pub same_truth : Bool → Bool → Bool
-same_truth true b = b
-same_truth false b = not b
-
 -- a value that a text gives is no task of a run, and no thing
 abbrev pub is_value : Value → Value → Bool
-is_value (value.Whole a) (value.Whole b) = same_whole a b
-is_value (value.Truth a) (value.Truth b) = same_truth a b
+is_value (value.Whole a) (value.Whole b) = same_number a b
+is_value (value.Truth a) (value.Truth b) = same_bool a b
 is_value (value.Literal a) (value.Literal b) = eqb a b
-is_value (value.Ticks a) (value.Ticks b) = same_whole a b
+is_value (value.Ticks a) (value.Ticks b) = same_number a b
 is_value (value.Task None) (value.Task None) = true
 is_value _ _ = false
 
@@ -189,10 +183,10 @@ module _ (p : Image) where
 
   abbrev pub function_stands : Operation → Option ExpressionReading → Within → Valuation → Bool
   function_stands operations.Clock e within valuation.Clock = true
-  function_stands operations.Microseconds e within (valuation.Span ticks count) = same_whole ticks (pos 1) && actual_stands e within count
-  function_stands operations.Milliseconds e within (valuation.Span ticks count) = same_whole ticks (pos 1000) && actual_stands e within count
-  function_stands operations.Seconds e within (valuation.Span ticks count) = same_whole ticks (pos 1000000) && actual_stands e within count
-  function_stands operations.Minutes e within (valuation.Span ticks count) = same_whole ticks (pos 60000000) && actual_stands e within count
+  function_stands operations.Microseconds e within (valuation.Span ticks count) = same_number ticks (pos 1) && actual_stands e within count
+  function_stands operations.Milliseconds e within (valuation.Span ticks count) = same_number ticks (pos 1000) && actual_stands e within count
+  function_stands operations.Seconds e within (valuation.Span ticks count) = same_number ticks (pos 1000000) && actual_stands e within count
+  function_stands operations.Minutes e within (valuation.Span ticks count) = same_number ticks (pos 60000000) && actual_stands e within count
   function_stands operations.ToDuration e within (valuation.SameTicks x) = actual_stands e within x
   function_stands operations.ToTimeSpan e within (valuation.SameTicks x) = actual_stands e within x
   function_stands operations.CurrentTask e within valuation.CurrentTask = true

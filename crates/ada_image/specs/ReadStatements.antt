@@ -69,7 +69,7 @@ use Rattle.profile_machine.specs.declared.statements.Setting.TheVariants as sett
 use Rattle.profile_machine.specs.declared.statements.StatementForm.{StatementForm}
 use Rattle.profile_machine.specs.declared.statements.StatementForm.TheVariants as action
 use Rattle.profile_machine.specs.Program.{form_of, next_of, scope_of}
-use Rattle.profile_machine.specs.Words.{same_option, same_statement}
+use Rattle.profile_machine.specs.Words.{same_option, same_statement, same_bool}
 use Rattle.ada_regions.specs.declared.types.Formal.{Formal}
 use Rattle.ada_regions.specs.declared.types.Mode.{Mode}
 use Rattle.ada_regions.specs.declared.types.Mode.TheVariants as mode
@@ -86,16 +86,17 @@ use Rattle.ada_regions.specs.Words.{and_then}
 use Rattle.ada_regions.specs.PredefinedUnits.{names_of_formals}
 use Rattle.ada_regions.specs.Names.{denoted_by, kind_at, last_part, entity_denoted}
 use Rattle.ada_regions.specs.Statics.{subtype_of_name}
+use Rattle.ada_regions.specs.TypeKinds.{is_array_type}
 use Rattle.ada_image.specs.declared.making.Within.{Within}
-use Rattle.ada_image.specs.Making.{in_construct, in_handler, in_loop, in_scope}
-use Rattle.ada_image.specs.Layout.{is_array, is_kept, is_thing, subtype_is, scope_no}
+use Rattle.ada_image.specs.Making.{in_construct, in_handler, in_loop, in_scope, first_given}
+use Rattle.ada_image.specs.Layout.{is_kept, is_thing, subtype_is, scope_no}
 use Rattle.ada_image.specs.ImageOfExpressions.{object_named, thing_named, thing_in, expression_image, first_argument, actuals_for, no_declaration_no}
 use Rattle.ada_image.specs.ImageOfCalls.{FunctionCall, function_call, callee_of, owner_of_entry, names_of, image_piece}
-use Rattle.ada_image.specs.ImageOfProcedures.{first_of, second_of, third_of, thing_of, handler_of, is_in_time, moment_of}
+use Rattle.ada_image.specs.ImageOfProcedures.{second_of, third_of, thing_of, handler_of, is_in_time, moment_of}
 use Rattle.ada_image.specs.declared.making.SequencePlace.{SequencePlace}
 use Rattle.ada_image.specs.declared.making.SequencePlace.TheVariants as sequence_place
 use Rattle.ada_image.specs.ImageOfStatements.{scope_at, array_name, exception_named, loop_left, loop_statement, choices_made, handled_made, loop_parameter_number, entry_at, unit_of_entry, guard_of, no_function}
-use Rattle.ada_image.specs.ReadExpressions.{same_decl, same_object, same_truth, is_value, expression_stands, is_variable}
+use Rattle.ada_image.specs.ReadExpressions.{same_decl, same_object, is_value, expression_stands, is_variable}
 
 -- ---- the same thing
 
@@ -172,7 +173,7 @@ joined _ e = e ∷ []
 -- ---- turns of a for loop
 
 abbrev pub is_turn_form : DeclNo → Bool → StatementNo → StatementForm → Bool
-is_turn_form d reverse body (action.LaterTurn e r b) = same_decl d e && (same_truth r reverse && same_statement b body)
+is_turn_form d reverse body (action.LaterTurn e r b) = same_decl d e && (same_bool r reverse && same_statement b body)
 is_turn_form d reverse body _ = false
 
 -- the later turn stands behind the first one, which stands behind the loop's own action
@@ -305,24 +306,24 @@ module _ (p : Image) where
   handler_is within e h = same_option same_handler h (handler_of within e)
 
   abbrev pub procedure_stands : Within → Operation → List (Argument Expression) → List (Option Expression) → StatementForm → Bool
-  procedure_stands within operations.PutLine arguments es (action.PutLine pieces) = text_stands within (first_of es) pieces
+  procedure_stands within operations.PutLine arguments es (action.PutLine pieces) = text_stands within (first_given es) pieces
   procedure_stands within operations.SetEvent arguments es (action.SetEvent d s h) =
-      thing_is within (first_of es) d && (setting_stands within arguments s && handler_is within (third_of es) h)
+      thing_is within (first_given es) d && (setting_stands within arguments s && handler_is within (third_of es) h)
   procedure_stands within operations.SetTimer arguments es (action.SetTimer d s h) =
-      thing_is within (first_of es) d && (setting_stands within arguments s && handler_is within (third_of es) h)
-  procedure_stands within operations.CancelEvent arguments es (action.CancelEvent d v) = thing_is within (first_of es) d && variable_stands_if within (second_of es) v
-  procedure_stands within operations.CancelTimer arguments es (action.CancelTimer d v) = thing_is within (first_of es) d && variable_stands_if within (second_of es) v
-  procedure_stands within operations.CancelBudget arguments es (action.CancelBudget d v) = thing_is within (first_of es) d && variable_stands_if within (second_of es) v
-  procedure_stands within operations.AddTask arguments es (action.AddTask d e) = thing_is within (first_of es) d && value_stands_if within (second_of es) e
-  procedure_stands within operations.RemoveTask arguments es (action.RemoveTask d e) = thing_is within (first_of es) d && value_stands_if within (second_of es) e
-  procedure_stands within operations.Replenish arguments es (action.Replenish d e) = thing_is within (first_of es) d && value_stands_if within (second_of es) e
-  procedure_stands within operations.Add arguments es (action.AddToBudget d e) = thing_is within (first_of es) d && value_stands_if within (second_of es) e
-  procedure_stands within operations.SetBudget arguments es (action.SetBudget d h) = thing_is within (first_of es) d && handler_is within (second_of es) h
-  procedure_stands within operations.SetPriority arguments es (action.SetPriority e t) = value_stands_if within (first_of es) e && condition_stands within (second_of es) t
-  procedure_stands within operations.SetDeadline arguments es (action.SetDeadline e t) = value_stands_if within (first_of es) e && condition_stands within (second_of es) t
-  procedure_stands within operations.SetQuantum arguments es (action.SetQuantum a b) = value_stands_if within (first_of es) a && value_stands_if within (second_of es) b
+      thing_is within (first_given es) d && (setting_stands within arguments s && handler_is within (third_of es) h)
+  procedure_stands within operations.CancelEvent arguments es (action.CancelEvent d v) = thing_is within (first_given es) d && variable_stands_if within (second_of es) v
+  procedure_stands within operations.CancelTimer arguments es (action.CancelTimer d v) = thing_is within (first_given es) d && variable_stands_if within (second_of es) v
+  procedure_stands within operations.CancelBudget arguments es (action.CancelBudget d v) = thing_is within (first_given es) d && variable_stands_if within (second_of es) v
+  procedure_stands within operations.AddTask arguments es (action.AddTask d e) = thing_is within (first_given es) d && value_stands_if within (second_of es) e
+  procedure_stands within operations.RemoveTask arguments es (action.RemoveTask d e) = thing_is within (first_given es) d && value_stands_if within (second_of es) e
+  procedure_stands within operations.Replenish arguments es (action.Replenish d e) = thing_is within (first_given es) d && value_stands_if within (second_of es) e
+  procedure_stands within operations.Add arguments es (action.AddToBudget d e) = thing_is within (first_given es) d && value_stands_if within (second_of es) e
+  procedure_stands within operations.SetBudget arguments es (action.SetBudget d h) = thing_is within (first_given es) d && handler_is within (second_of es) h
+  procedure_stands within operations.SetPriority arguments es (action.SetPriority e t) = value_stands_if within (first_given es) e && condition_stands within (second_of es) t
+  procedure_stands within operations.SetDeadline arguments es (action.SetDeadline e t) = value_stands_if within (first_given es) e && condition_stands within (second_of es) t
+  procedure_stands within operations.SetQuantum arguments es (action.SetQuantum a b) = value_stands_if within (first_given es) a && value_stands_if within (second_of es) b
   procedure_stands within operations.DelayUntilAndSetDeadline arguments es (action.DelayUntilAndSetDeadline a b) =
-      value_stands_if within (first_of es) a && value_stands_if within (second_of es) b
+      value_stands_if within (first_given es) a && value_stands_if within (second_of es) b
   procedure_stands within _ arguments es _ = false
 
   abbrev pub entry_call_stands : Within → Name → List (Argument Expression) → EntryNo → List Formal → StatementForm → Bool
@@ -369,7 +370,7 @@ module _ (p : Image) where
 
   abbrev pub assigns_whole : Within → Assignment → Option Subtype → StatementForm → Bool
   assigns_whole within a s f = cond (subtype_is is_kept s) (assigns_controlled within a f)
-      (cond (subtype_is is_array s) (assigns_array within a f) (assigns_value within a (function_call within a.value) f))
+      (cond (subtype_is is_array_type s) (assigns_array within a f) (assigns_value within a (function_call within a.value) f))
 
   abbrev pub assignment_stands : Within → Assignment → Option Expression → StatementForm → Bool
   assignment_stands within a None f = assigns_whole within a (subtype_of_name within.names a.target) f
@@ -405,7 +406,7 @@ module _ (p : Image) where
 
   abbrev pub requeue_stands : Within → Name → Bool → StatementForm → Bool
   requeue_stands within name with_abort (action.Requeue e o w) =
-      eqb e.0 (entry_at within (last_part name).place).0 && (same_entry_owner o (owner_of_entry within name (unit_of_entry within name)) && same_truth w with_abort)
+      eqb e.0 (entry_at within (last_part name).place).0 && (same_entry_owner o (owner_of_entry within name (unit_of_entry within name)) && same_bool w with_abort)
   requeue_stands within name with_abort _ = false
 
   abbrev pub trigger_stands : Within → Trigger → StatementForm → Bool
@@ -479,12 +480,12 @@ module _ (p : Image) where
     -- the first turn leads into the body, and the body to the later turn, which leads into the body too
     abbrev pub turns_stand : Within → Loop Q → DeclNo → Bool → StatementNo → Option StatementNo → StatementNo → StatementForm → Bool
     turns_stand within l d reverse s to first (action.FirstTurn e r body) =
-        same_decl d e && (same_truth r reverse && (same_next (next_of p first) to && body_stands within l d reverse s to body))
+        same_decl d e && (same_bool r reverse && (same_next (next_of p first) to && body_stands within l d reverse s to body))
     turns_stand within l d reverse s to first _ = false
 
     abbrev pub for_stands : Within → Loop Q → DeclNo → Bool → Expression → Expression → StatementNo → Option StatementNo → StatementForm → Bool
     for_stands within l d reverse low high s to (action.For e r a b turn w) =
-        same_decl d e && (same_truth r reverse && (value_stands within low a && (value_stands within high b
+        same_decl d e && (same_bool r reverse && (value_stands within low a && (value_stands within high b
         && (is_within within w && turns_stand within l d reverse s to turn (form_of p turn)))))
     for_stands within l d reverse low high s to _ = false
 

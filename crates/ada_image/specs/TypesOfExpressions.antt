@@ -34,6 +34,7 @@ use Rattle.ann_base.specs.Lists.{is_empty}
 use Rattle.ada_regions.specs.declared.table.Names.{Names}
 use Rattle.ada_regions.specs.declared.table.NumberedSubprogram.{NumberedSubprogram}
 use Rattle.ada_regions.specs.Names.{denoted_by, kind_at}
+use Rattle.ada_regions.specs.TypeKinds.{is_span_type}
 use Rattle.ada_image.specs.Layout.{array_of}
 
 abbrev pub type_of_subtype : Option Subtype → Option AdaType
@@ -170,11 +171,6 @@ typing_layer e = type_of_form same_typing e.form
 
 unfoldable pub type_of_expression : Expression → Typing
 type_of_expression = fold-Expression Typing typing_layer
-
--- whether an expression is of type Time_Span
-abbrev pub is_span_type : AdaType → Bool
-is_span_type types.TimeSpan = true
-is_span_type _ = false
 
 unfoldable pub is_span : Names → Expression → Bool
 is_span n e = unwrap_or (option_map is_span_type (type_of_expression e n)) false

@@ -35,10 +35,11 @@ use Rattle.ada_regions.specs.declared.table.NumberedControlled.{NumberedControll
 use Rattle.ada_regions.specs.declared.table.NumberedEntry.{NumberedEntry}
 use Rattle.ada_regions.specs.declared.table.NumberedEntryBody.{NumberedEntryBody}
 use Rattle.ada_regions.specs.Statics.{static_value}
+use Rattle.ada_regions.specs.SelectedNames.{is_owned_by}
 use Rattle.ada_image.specs.declared.making.Within.{Within}
 use Rattle.ada_image.specs.Making.{Making, ◌>>=◌, pure}
 use Rattle.ada_image.specs.Layout.{is_component_of, formal_made, scope_no, subtype_is}
-use Rattle.ada_image.specs.ImageOfExpressions.{expression_made}
+use Rattle.ada_image.specs.ImageOfExpressions.{expression_made, optional_value}
 
 -- ---- aspects (13.1.1)
 
@@ -78,12 +79,6 @@ entries_of n unit = entries_from 0 unit n.entries
 
 -- ---- task units
 
-unfoldable pub deadline_made : Within → Option Expression → Making (Option ExprNo)
-deadline_made within None = pure None
-deadline_made within (Some e) = do
-  number ← expression_made e within
-  pure (Some number)
-
 unfoldable pub task_unit_with : Names → ℕ → NumberedTask → Option ExprNo → TaskUnit
 task_unit_with n number t deadline = record {
   scope = scope_no t.scope;
@@ -95,7 +90,7 @@ task_unit_with n number t deadline = record {
 unfoldable pub task_units_made : Within → ℕ → List NumberedTask → Making (List TaskUnit)
 task_units_made within number [] = pure []
 task_units_made within number (t ∷ ts) = do
-  deadline ← deadline_made within (aspect_value (codes "relative_deadline") t.aspects)
+  deadline ← optional_value within (aspect_value (codes "relative_deadline") t.aspects)
   others ← task_units_made within (suc number) ts
   pure (task_unit_with within.names number t deadline ∷ others)
 
@@ -149,12 +144,8 @@ unfoldable pub inserted : Attachment → List Attachment → List Attachment
 inserted a [] = a ∷ []
 inserted a (b ∷ bs) = cond (leb a.interrupt b.interrupt) (a ∷ b ∷ bs) (b ∷ inserted a bs)
 
-abbrev pub is_operation_of : ℕ → Option ℕ → Bool
-is_operation_of u None = false
-is_operation_of u (Some v) = eqb v u
-
 unfoldable pub attached_interrupt : Names → ℕ → NumberedSubprogram → Option ℕ
-attached_interrupt n u s = cond (is_operation_of u s.unit) (static_aspect n (codes "attach_handler") s.aspects) None
+attached_interrupt n u s = cond (is_owned_by u s.unit) (static_aspect n (codes "attach_handler") s.aspects) None
 
 unfoldable pub inserted_if : Option ℕ → ℕ → List Attachment → List Attachment
 inserted_if None number attached = attached

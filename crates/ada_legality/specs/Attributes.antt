@@ -1,6 +1,6 @@
 -- Attributes (3.5, 9.9, C.7.1, 3.10.2), variables (3.3), and the unit in whose body a name stands.
 use Rattle.ada_image.specs.ImageOfExpressions.{prefix_part}
-use Rattle.ada_legality.specs.Types.{has_ranges, is_discrete, is_task_unit, typed_as, typed_if}
+use Rattle.ada_legality.specs.Types.{has_ranges, is_discrete, typed_as, typed_if}
 use Rattle.ada_legality.specs.Values.{denoted_kind, entity_of_name, is_kind, is_library_object, is_object_kind, is_type, kind_of_name, stands_in_type, subtype_of_entity, type_around, unit_around}
 use Rattle.ada_legality.specs.Words.{body_around}
 use Rattle.ada_legality.specs.declared.reading.Typed.{Typed}
@@ -15,6 +15,7 @@ use Rattle.ada_regions.specs.declared.entities.Denoted.{Denoted}
 use Rattle.ada_regions.specs.declared.entities.EntityKind.{EntityKind}
 use Rattle.ada_regions.specs.declared.types.AdaType.{AdaType}
 use Rattle.ada_regions.specs.declared.types.Mode.{Mode}
+use Rattle.ada_regions.specs.TypeKinds.{is_task_type}
 use Rattle.ada_tree.specs.declared.names.Identifier.{Identifier}
 use Rattle.ada_tree.specs.declared.names.Name.{Name}
 use Rattle.ada_tree.specs.declared.operators.Attribute.{Attribute}
@@ -76,7 +77,7 @@ has_count k _ = false
 -- Identity of a task object
 unfoldable pub is_task_object : Known → Denoted → Bool
 is_task_object k d =
-    unwrap_or (option_map (λ s. is_task_unit s.of_type) (subtype_of_entity k d)) false
+    unwrap_or (option_map (λ s. is_task_type s.of_type) (subtype_of_entity k d)) false
 
 -- ---- handlers (C.3.1): the object before a protected procedure's name is its single object, where
 -- the name stands in the

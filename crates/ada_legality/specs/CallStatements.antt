@@ -5,7 +5,7 @@ use Rattle.ada_legality.specs.Findings.{Found, broken, broken_if, broken_unless}
 use Rattle.ada_legality.specs.Places.{place_of}
 use Rattle.ada_legality.specs.ReadExpressions.{arguments_read, is_unclear_mark, read_expression, unless_denoted}
 use Rattle.ada_legality.specs.Reading.{actuals_judged, expected, fitted, literal_in, other_pointed_literal}
-use Rattle.ada_legality.specs.Types.{has_ranges, is_controlled_type, is_event_timer_or_budget, is_pointed, is_root_controlled, is_scalar, is_scalar_or_array, is_timer}
+use Rattle.ada_legality.specs.Types.{has_ranges, is_event_timer_or_budget, is_pointed, is_root_controlled, is_scalar, is_scalar_or_array, is_timer}
 use Rattle.ada_legality.specs.Values.{denotes_procedure, is_kind}
 use Rattle.ada_legality.specs.Words.{is_static, static_number}
 use Rattle.ada_legality.specs.declared.limits.TheConstants.{MOST_PARAMETERS}
@@ -19,6 +19,7 @@ use Rattle.ada_regions.specs.Subtypes.{indicated_subtype}
 use Rattle.ada_regions.specs.Words.{all_of}
 use Rattle.ada_regions.specs.declared.entities.Denoted.{Denoted}
 use Rattle.ada_regions.specs.declared.types.AdaType.{AdaType}
+use Rattle.ada_regions.specs.TypeKinds.{is_controlled_type}
 use Rattle.ada_tree.specs.declared.declarations.Constraint.{Constraint as Indicated}
 use Rattle.ada_tree.specs.declared.declarations.Parameter.{Parameter}
 use Rattle.ada_tree.specs.declared.declarations.SubtypeIndication.{SubtypeIndication}

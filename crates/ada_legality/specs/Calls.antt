@@ -1,7 +1,7 @@
 -- The formals of what is called (6.1, 9.5.2, annex D), and which actual is for which formal
 -- (6.4.1).
 use Rattle.ada_legality.specs.Findings.{Found, broken_unless}
-use Rattle.ada_legality.specs.Types.{is_of_time, is_span_of_time}
+use Rattle.ada_legality.specs.Types.{is_of_time}
 use Rattle.ada_legality.specs.Values.{denoted_kind, operation_of}
 use Rattle.ada_legality.specs.declared.parts.ActualPart.{ActualPart}
 use Rattle.ada_legality.specs.declared.parts.FormalPart.{FormalPart}
@@ -18,6 +18,7 @@ use Rattle.ada_regions.specs.declared.types.AdaType.{AdaType}
 use Rattle.ada_regions.specs.declared.types.Formal.{Formal}
 use Rattle.ada_regions.specs.declared.types.Mode.{Mode}
 use Rattle.ada_regions.specs.declared.types.Subtype.{Subtype}
+use Rattle.ada_regions.specs.TypeKinds.{is_span_type}
 use Rattle.ann_base.specs.declared.places.Place.{Place}
 use Rattle.std.specs.List.{list_all, list_any}
 use Rattle.std.specs.Prelude.{Bool, List, None, Option, Some, [], codes, cond, eqb, false, is_none, is_some, length, ltb, map, not, option_map, slice_get, suc, take, true, unwrap_or, ℕ, ◌&&◌, ◌++◌, ◌||◌, ◌∷◌}
@@ -184,7 +185,7 @@ has_span_first _ = false
 -- a span, where the type tells it
 abbrev pub span_if_typed : Bool → Typed → Bool
 span_if_typed first (typing.OfSubtype s) =
-    cond (is_span_of_time s.of_type) true (cond (is_of_time s.of_type) false first)
+    cond (is_span_type s.of_type) true (cond (is_of_time s.of_type) false first)
 span_if_typed first _ = first
 
 -- a span, by the names that are there or by the second actual

@@ -10,9 +10,8 @@ use Rattle.ada_legality.specs.ReadExpressions.{read_expression, unless_denoted}
 use Rattle.ada_legality.specs.Reading.{expected}
 use Rattle.ada_legality.specs.SimpleStatements.{beyond_restriction, cells_noted, with_around}
 use Rattle.ada_legality.specs.Statements.{handled_judged, handler_found, statement_found}
-use Rattle.ada_legality.specs.Types.{has_no_values, is_controlled_type, is_event_timer_or_budget, is_root_controlled, is_scalar, is_task_id, is_task_unit, is_timer, type_of_bounds}
-use Rattle.ada_legality.specs.UnitsUsed.{is_unit_name}
-use Rattle.ada_legality.specs.Values.{entity_of_name, formals_of_subprogram, is_library_object, type_of_unit_kind}
+use Rattle.ada_legality.specs.Types.{has_no_values, is_event_timer_or_budget, is_root_controlled, is_scalar, is_task_id, is_timer, type_of_bounds}
+use Rattle.ada_legality.specs.Values.{entity_of_name, formals_of_subprogram, is_library_object}
 use Rattle.ada_legality.specs.Words.{static_number}
 use Rattle.ada_legality.specs.declared.limits.TheConstants.{MOST_COMPONENTS, MOST_ENTRIES}
 use Rattle.ada_legality.specs.declared.findings.BodyKind.{BodyKind}
@@ -38,6 +37,9 @@ use Rattle.ada_regions.specs.declared.table.NumberedControlled.{NumberedControll
 use Rattle.ada_regions.specs.declared.table.NumberedSubprogram.{NumberedSubprogram}
 use Rattle.ada_regions.specs.declared.types.AdaType.{AdaType}
 use Rattle.ada_regions.specs.declared.types.Formal.{Formal}
+use Rattle.ada_regions.specs.TypeKinds.{is_task_type, is_controlled_type}
+use Rattle.ada_regions.specs.Declaring.{type_of_kind}
+use Rattle.ada_regions.specs.Regions.{is_used_package}
 use Rattle.ada_tree.specs.declared.declarations.Body.{Body}
 use Rattle.ada_tree.specs.declared.declarations.Component.{Component}
 use Rattle.ada_tree.specs.declared.declarations.Constraint.{Constraint as Indicated}
@@ -95,11 +97,11 @@ is_library_name k i =
 
 -- a task object outside library packages
 abbrev pub is_task_outside : Known → Identifier → AdaType → Bool
-is_task_outside k i t = is_task_unit t && not (is_library_name k i)
+is_task_outside k i t = is_task_type t && not (is_library_name k i)
 
 -- the type of an object or a unit
 abbrev pub type_of_identifier : Known → Identifier → Option AdaType
-type_of_identifier k i = and_then (kind_of_identifier k i) type_of_unit_kind
+type_of_identifier k i = and_then (kind_of_identifier k i) type_of_kind
 
 -- a task object outside library packages, which a restriction may forbid
 unfoldable pub is_task_outside_library : Known → Identifier → Bool
@@ -114,7 +116,7 @@ has_entries n t = false
 -- a task object with entries, or outside library packages: a source with an EDF range has none (own)
 abbrev pub is_wrong_with_deadlines : Known → Identifier → AdaType → Bool
 is_wrong_with_deadlines k i t =
-    is_task_unit t && (not (is_library_name k i) || has_entries k.names t)
+    is_task_type t && (not (is_library_name k i) || has_entries k.names t)
 
 -- the same of an identifier
 unfoldable pub is_outside_deadlines : Known → Identifier → Bool
@@ -555,7 +557,7 @@ entry_body_judged h k =
 
 -- a use clause names a package (8.4)
 unfoldable pub use_found : Name → Known → Found
-use_found name k = unless_denoted (is_unit_name k.names) k name
+use_found name k = unless_denoted (is_used_package k.names) k name
 
 module _ {Q : Type 0} (sequence : Q → Known → Found) where
   -- a subprogram's body

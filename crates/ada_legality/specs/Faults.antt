@@ -18,7 +18,8 @@ use Rattle.ada_regions.specs.Words.{same_place, stands_before}
 use Rattle.ada_regions.specs.declared.table.Names.{Names}
 use Rattle.ada_tree.specs.declared.units.Unit.{Unit as Tree}
 use Rattle.std.specs.List.{flat_map}
-use Rattle.std.specs.Prelude.{Bool, List, None, Option, Some, [], cond, eqb, ltb, ℕ, ◌&&◌, ◌++◌, ◌||◌, ◌∷◌}
+use Rattle.std.specs.Prelude.{Bool, List, Option, [], cond, eqb, ltb, ℕ, ◌&&◌, ◌++◌, ◌||◌, ◌∷◌}
+use Rattle.world_tables.specs.Lists.{first_of}
 use Rattle.ada_legality.specs.declared.findings.Finding.TheVariants as finding
 use Rattle.ada_legality.specs.declared.rules.Rule.TheVariants as rule
 
@@ -121,11 +122,6 @@ faults_where u n = in_order_of_text (faults_in (found_of u n (names_in_unit u)))
 unfoldable pub faults_of : Tree → List Fault
 faults_of u = faults_where u (names_of u)
 
--- the first of some faults
-abbrev pub first_fault_in : List Fault → Option Fault
-first_fault_in [] = None
-first_fault_in (f ∷ fs) = Some f
-
 -- the fault that is told
 abbrev pub first_fault_of : Tree → Option Fault
-first_fault_of u = first_fault_in (faults_of u)
+first_fault_of u = first_of (faults_of u)

@@ -4,7 +4,7 @@ use Rattle.ada_legality.specs.Choices.{ends_of}
 use Rattle.ada_legality.specs.Findings.{Found, broken_unless}
 use Rattle.ada_legality.specs.SimpleStatements.{same_mode}
 use Rattle.ada_legality.specs.Values.{is_entity}
-use Rattle.ada_legality.specs.Words.{same_named, same_number}
+use Rattle.ada_legality.specs.Words.{same_named}
 use Rattle.ada_legality.specs.declared.findings.BodyKind.{BodyKind}
 use Rattle.ada_legality.specs.declared.parts.Span.{Span}
 use Rattle.ada_legality.specs.declared.standing.Known.{Known}
@@ -23,6 +23,7 @@ use Rattle.ann_base.specs.declared.places.Place.{Place}
 use Rattle.std.specs.List.{flat_map}
 use Rattle.std.specs.Prelude.{Bool, List, None, Option, Some, [], cond, false, map, not, option_map, true, unwrap_or, ℕ, ◌&&◌, ◌∷◌}
 use Rattle.std.specs.Str.{bytes_eq}
+use Rattle.profile_machine.specs.Words.{same_number}
 use Rattle.ada_legality.specs.declared.findings.BodyKind.TheVariants as completing
 use Rattle.ada_legality.specs.declared.findings.Finding.TheVariants as finding
 use Rattle.ada_legality.specs.declared.rules.Rule.TheVariants as rule

@@ -32,6 +32,7 @@ use Rattle.ada_regions.specs.declared.table.Names.{Names}
 use Rattle.ada_regions.specs.declared.types.AdaType.{AdaType}
 use Rattle.ada_regions.specs.declared.types.Formal.{Formal}
 use Rattle.ada_regions.specs.declared.types.Mode.{Mode}
+use Rattle.ada_regions.specs.Numbered.{no_place}
 use Rattle.ada_tree.specs.declared.names.Name.{Name}
 use Rattle.ada_tree.specs.declared.operators.AddingOperator.{AddingOperator}
 use Rattle.ada_tree.specs.declared.operators.Attribute.{Attribute}
@@ -69,16 +70,12 @@ use Rattle.ada_legality.specs.declared.parts.Wanted.TheVariants as wanting
 abbrev pub Reading : Type 0
 Reading = Known → Read × Found
 
--- the place of what is not there
-abbrev pub nowhere : Place
-nowhere = record { line = 0; column = 0 }
-
 -- ---- literals (2.4, 3.5.4, 9.6)
 
 abbrev pub no_literal : Literal
 no_literal = record {
-  place = nowhere;
-  number_place = nowhere;
+  place = no_place;
+  number_place = no_place;
   is_integer = false;
   is_negative_integer = false;
   is_duration = false;

@@ -1,5 +1,4 @@
 -- What is found in statements without others in them, and in the heads of those with others (clauses 5, 6.5, 9, 11).
-use Rattle.ada_image.specs.ReadExpressions.{same_truth}
 use Rattle.ada_legality.specs.Attributes.{ends_of_object, innermost_unit, is_task_object, is_type_in, is_variable, kind_of_identifier, object_prefix, unit_type_of_entry}
 use Rattle.ada_legality.specs.CallStatements.{beyond, call_found, condition_found, found_if, value_alone_found, value_found}
 use Rattle.ada_legality.specs.Findings.{Found, broken_if, broken_unless}
@@ -7,7 +6,7 @@ use Rattle.ada_legality.specs.Places.{place_of, place_of_alternative, place_of_a
 use Rattle.ada_legality.specs.ReadExpressions.{component_owner, index_fits, is_declared_object, is_unclear_object, read_expression, typed_expression, unless_denoted}
 use Rattle.ada_legality.specs.Reading.{component_assigned, expected, fitted}
 use Rattle.ada_legality.specs.Types.{fits, has_type, is_copied_controlled, is_limited, operand_type, same_type_if, type_of_bounds, typed_is}
-use Rattle.ada_legality.specs.Values.{denoted_kind, denotes_object, denotes_value, is_denoted, is_entry_kind, is_kind, kind_of_name, stands_in_unit, typed_name}
+use Rattle.ada_legality.specs.Values.{denoted_kind, denotes_object, denotes_value, is_denoted, is_kind, kind_of_name, stands_in_unit, typed_name}
 use Rattle.ada_legality.specs.Words.{any_in_body, any_in_sequence, is_accept, sequence_around}
 use Rattle.ada_legality.specs.declared.limits.TheConstants.{MOST_ALTERNATIVES}
 use Rattle.ada_legality.specs.declared.parts.AlternativeKind.{AlternativeKind}
@@ -33,6 +32,7 @@ use Rattle.ada_regions.specs.declared.types.AdaType.{AdaType}
 use Rattle.ada_regions.specs.declared.types.Formal.{Formal}
 use Rattle.ada_regions.specs.declared.types.Mode.{Mode}
 use Rattle.ada_regions.specs.declared.types.Subtype.{Subtype}
+use Rattle.ada_regions.specs.Regions.{is_entry}
 use Rattle.ada_tree.specs.declared.expressions.Expression.{Expression}
 use Rattle.ada_tree.specs.declared.names.Identifier.{Identifier}
 use Rattle.ada_tree.specs.declared.names.Name.{Name}
@@ -47,6 +47,7 @@ use Rattle.ada_tree.specs.declared.statements.Exit.{Exit}
 use Rattle.ada_tree.specs.declared.statements.Iteration.{Iteration}
 use Rattle.ann_base.specs.declared.places.Place.{Place}
 use Rattle.profile_machine.specs.declared.numbers.DeclNo.{DeclNo}
+use Rattle.profile_machine.specs.Words.{same_bool}
 use Rattle.std.specs.List.{flat_map, list_all, list_any}
 use Rattle.std.specs.Prelude.{Bool, List, None, Option, Some, [], cond, eqb, false, filter, is_some, leb, length, ltb, not, option_map, pos, true, unwrap_or, ℕ, ℤ, ◌&&◌, ◌++◌, ◌||◌, ◌∷◌}
 use Rattle.ada_tree.specs.declared.selects.Alternative.TheVariants as alternative
@@ -214,7 +215,7 @@ returned (Some f) = finding.Returned f.place ∷ []
 unfoldable pub return_judged : Known → Place → Bool → Option SubprogramAround → Found
 return_judged k place has_value f =
     broken_unless rule.ReturnStatement
-    (same_truth has_value (is_some f) && not (stands_in_package k)) place
+    (same_bool has_value (is_some f) && not (stands_in_package k)) place
     ++ returned f
 
 -- the type of the result of the function around
@@ -353,7 +354,7 @@ unfoldable pub requeue_found : Place → Name → Known → Found
 requeue_found place name k =
     broken_unless rule.RequeueStatement
     (is_right_requeue k name && not k.in_force.has_longest_queue) place
-    ++ broken_unless rule.KindOfName (is_kind is_entry_kind k name) (place_of name)
+    ++ broken_unless rule.KindOfName (is_kind is_entry k name) (place_of name)
 
 -- ---- loops (5.5)
 
@@ -374,9 +375,9 @@ loop_parameter k i low high t =
       subtype = Some (range_if_static k low high t);
     }
 
--- the type of a loop parameter
-unfoldable pub type_of_loop : Known → Expression → Expression → AdaType
-type_of_loop k low high = type_of_bounds (typed_expression k low) (typed_expression k high)
+-- the type of the values between two bounds: of a loop parameter, and of the indexes of an array
+unfoldable pub type_between : Known → Expression → Expression → AdaType
+type_between k low high = type_of_bounds (typed_expression k low) (typed_expression k high)
 
 -- what is known behind the head of a loop
 unfoldable pub with_iteration : Iteration → Known → Known
@@ -384,7 +385,7 @@ with_iteration iteration.Forever k = k
 with_iteration (iteration.While place condition) k = k
 with_iteration (iteration.For place parameter reverse low high) k =
     record k {
-      loops = loop_parameter k parameter low high (type_of_loop k low high) ∷ k.loops;
+      loops = loop_parameter k parameter low high (type_between k low high) ∷ k.loops;
     }
 
 -- what has cells, by its number
@@ -438,7 +439,7 @@ guard_found g k = condition_found g.condition k
 
 -- a call that has to be that of an entry
 abbrev pub calls_an_entry : Known → Call → Bool
-calls_an_entry k c = is_kind is_entry_kind k c.name
+calls_an_entry k c = is_kind is_entry k c.name
 
 -- a trigger: it calls an entry (9.7.4)
 unfoldable pub trigger_found : Trigger → Known → Found

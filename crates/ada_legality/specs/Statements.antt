@@ -7,7 +7,7 @@ use Rattle.ada_legality.specs.Places.{place_of, place_of_loop}
 use Rattle.ada_legality.specs.Profiles.{accept_conforms}
 use Rattle.ada_legality.specs.ReadExpressions.{read_expression, unless_denoted}
 use Rattle.ada_legality.specs.SimpleStatements.{abort_found, alternative_part, assignment_found, delay_found, denotes_exception, entry_call_found, exit_found, guard_found, iteration_found, raise_found, requeue_found, return_found, same_entities, selective_accept_judged, task_type_of_entry, trigger_found, with_around, with_iteration}
-use Rattle.ada_legality.specs.Values.{is_denoted, is_entry_kind}
+use Rattle.ada_legality.specs.Values.{is_denoted}
 use Rattle.ada_legality.specs.Words.{any_in_body, same_named}
 use Rattle.ada_legality.specs.declared.standing.Around.{Around}
 use Rattle.ada_legality.specs.declared.standing.Known.{Known}
@@ -15,6 +15,7 @@ use Rattle.ada_regions.specs.Completions.{holds_of}
 use Rattle.ada_regions.specs.Names.{entity_denoted, kind_at}
 use Rattle.ada_regions.specs.Words.{all_of, and_then}
 use Rattle.ada_regions.specs.declared.entities.EntityKind.{EntityKind}
+use Rattle.ada_regions.specs.Regions.{is_entry}
 use Rattle.ada_tree.specs.declared.names.Identifier.{Identifier}
 use Rattle.ada_tree.specs.declared.names.Name.{Name}
 use Rattle.ada_tree.specs.declared.selects.Alternative.{Alternative}
@@ -72,12 +73,12 @@ is_asynchronous_select a = false
 -- an accept statement in another place, or in an asynchronous select (9.7.4)
 unfoldable pub accept_judged : Known → Place → Identifier → Option EntityKind → Found
 accept_judged k place i kind =
-    broken_unless rule.KindOfName (holds_of is_entry_kind kind) i.place
+    broken_unless rule.KindOfName (holds_of is_entry kind) i.place
     ++ (broken_if rule.AcceptStatement
-    (holds_of is_entry_kind kind && (not (stands_in_own_task k kind)
+    (holds_of is_entry kind && (not (stands_in_own_task k kind)
     || any_in_body (accepts_entry (entity_denoted k.names i.place)) k.around)) place
     ++ broken_if rule.AsynchronousSelect
-    (holds_of is_entry_kind kind && any_in_body is_asynchronous_select k.around) place)
+    (holds_of is_entry kind && any_in_body is_asynchronous_select k.around) place)
 
 -- ---- handlers (11.2): the exceptions of a sequence are distinct
 

@@ -3,9 +3,11 @@ use Rattle.ada_legality.specs.declared.reading.Typed.{Typed}
 use Rattle.ada_regions.specs.Declaring.{free_subtype}
 use Rattle.ada_regions.specs.Words.{and_then}
 use Rattle.std.specs.Option.{option_or}
+use Rattle.std.specs.Bool.{then_some}
 use Rattle.ada_regions.specs.declared.table.Names.{Names}
 use Rattle.ada_regions.specs.declared.types.AdaType.{AdaType}
 use Rattle.ada_regions.specs.declared.types.Subtype.{Subtype}
+use Rattle.ada_regions.specs.TypeKinds.{is_task_type, is_protected_type, is_controlled_type, is_array_type, is_span_type}
 use Rattle.profile_machine.specs.declared.expressions.BinaryOperator.{BinaryOperator}
 use Rattle.profile_machine.specs.declared.expressions.UnaryOperator.{UnaryOperator}
 use Rattle.profile_machine.specs.declared.numbers.ControlledNo.{ControlledNo}
@@ -90,11 +92,6 @@ is_task_id _ = false
 abbrev pub is_scalar : AdaType → Bool
 is_scalar t = is_ordered t || is_task_id t
 
--- an array type
-abbrev pub is_array_type : AdaType → Bool
-is_array_type (types.Array a) = true
-is_array_type _ = false
-
 -- a scalar type or an array type
 abbrev pub is_scalar_or_array : AdaType → Bool
 is_scalar_or_array t = is_scalar t || is_array_type t
@@ -114,11 +111,6 @@ abbrev pub is_duration : AdaType → Bool
 is_duration types.Duration = true
 is_duration _ = false
 
--- Time_Span
-abbrev pub is_span_of_time : AdaType → Bool
-is_span_of_time types.TimeSpan = true
-is_span_of_time _ = false
-
 -- Timer
 abbrev pub is_timer : AdaType → Bool
 is_timer types.Timer = true
@@ -131,21 +123,6 @@ is_event_timer_or_budget types.Timer = true
 is_event_timer_or_budget types.GroupBudget = true
 is_event_timer_or_budget _ = false
 
--- a type of the source that is derived from Limited_Controlled or Controlled (7.6)
-abbrev pub is_controlled_type : AdaType → Bool
-is_controlled_type (types.Derived c) = true
-is_controlled_type _ = false
-
--- a task type
-abbrev pub is_task_unit : AdaType → Bool
-is_task_unit (types.Task u) = true
-is_task_unit _ = false
-
--- a protected type
-abbrev pub is_protected_unit : AdaType → Bool
-is_protected_unit (types.Protected u) = true
-is_protected_unit _ = false
-
 -- Limited_Controlled and Controlled themselves
 abbrev pub is_root_controlled : AdaType → Bool
 is_root_controlled types.LimitedControlled = true
@@ -155,7 +132,7 @@ is_root_controlled _ = false
 -- objects of these types have no initial value (7.5)
 abbrev pub has_no_values : AdaType → Bool
 has_no_values t =
-    is_event_timer_or_budget t || (is_controlled_type t || (is_task_unit t || is_protected_unit t))
+    is_event_timer_or_budget t || (is_controlled_type t || (is_task_type t || is_protected_type t))
 
 -- a type derived from Limited_Controlled
 abbrev pub is_limited_controlled : Names → ControlledNo → Bool
@@ -253,18 +230,13 @@ result_of binary.Divide a b = quotient_of a b
 result_of binary.Mod a b = remainder_of a b
 result_of binary.Rem a b = remainder_of a b
 
--- the operand's own type, where the operator is defined
-abbrev pub same_if : Bool → AdaType → Option AdaType
-same_if true t = Some t
-same_if false t = None
-
 -- an operator with one operand: of numbers and spans, `+` and `abs` not of Time_Span; `not` of
 -- Boolean
 unfoldable pub result_of_one : UnaryOperator → AdaType → Option AdaType
-result_of_one unary.Plus t = same_if (is_integer t || is_duration t) t
-result_of_one unary.Minus t = same_if (is_integer t || (is_duration t || is_span_of_time t)) t
-result_of_one unary.Abs t = same_if (is_integer t || is_duration t) t
-result_of_one unary.Not t = same_if (is_boolean t) t
+result_of_one unary.Plus t = then_some (is_integer t || is_duration t) t
+result_of_one unary.Minus t = then_some (is_integer t || (is_duration t || is_span_type t)) t
+result_of_one unary.Abs t = then_some (is_integer t || is_duration t) t
+result_of_one unary.Not t = then_some (is_boolean t) t
 
 -- ---- the types of expressions
 

@@ -4,9 +4,7 @@ use Rattle.ada_legality.specs.CallStatements.{all_found, found_if}
 use Rattle.ada_legality.specs.Declarations.{declarations_found, sequence_found, use_found}
 use Rattle.ada_legality.specs.Findings.{Found, broken_if, broken_unless}
 use Rattle.ada_legality.specs.Places.{place_of}
-use Rattle.ada_legality.specs.ReadExpressions.{typed_expression}
-use Rattle.ada_legality.specs.SimpleStatements.{with_around}
-use Rattle.ada_legality.specs.Types.{type_of_bounds}
+use Rattle.ada_legality.specs.SimpleStatements.{with_around, type_between}
 use Rattle.ada_legality.specs.Values.{is_denoted}
 use Rattle.ada_legality.specs.declared.findings.Finding.{Finding}
 use Rattle.ada_legality.specs.declared.parts.AspectPart.{AspectPart}
@@ -139,10 +137,6 @@ known_with n occurrences r indexes = record {
   in_force = r;
   occurrences = occurrences;
 }
-
--- the type of the values between the bounds of an array type
-unfoldable pub type_between : Known → Expression → Expression → AdaType
-type_between k low high = type_of_bounds (typed_expression k low) (typed_expression k high)
 
 -- the types of the indexes, behind those before
 unfoldable pub indexes_from : Known → List Bounds → List AdaType

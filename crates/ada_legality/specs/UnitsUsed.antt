@@ -3,12 +3,11 @@
 -- the limit on expanded names is asked too.
 use Rattle.ada_legality.specs.Findings.{Found, broken_if, broken_unless}
 use Rattle.ada_legality.specs.Places.{place_of}
-use Rattle.ada_regions.specs.Completions.{holds_of}
-use Rattle.ada_regions.specs.Names.{denoted_at, expanded, kind_at}
+use Rattle.ada_regions.specs.Names.{denoted_at, expanded}
 use Rattle.ada_regions.specs.Numbered.{behind}
 use Rattle.ada_regions.specs.Occurrences.{Occurrence, Occurrences, completes, declares, mentions, use_package}
 use Rattle.ada_regions.specs.PredefinedUnits.{same_unit}
-use Rattle.ada_regions.specs.Regions.{is_package}
+use Rattle.ada_regions.specs.Regions.{is_used_package}
 use Rattle.ada_regions.specs.SelectedNames.{frame_owned_by}
 use Rattle.ada_regions.specs.Visibility.{is_withed_by, same_denoted}
 use Rattle.ada_regions.specs.Words.{all_of, and_then}
@@ -24,14 +23,9 @@ use Rattle.ada_regions.specs.declared.entities.Denoted.TheVariants as denotes
 use Rattle.ada_legality.specs.declared.rules.Rule.TheVariants as rule
 use Rattle.ada_regions.specs.declared.predefined.PredefinedUnit.TheVariants as units
 
-abbrev pub is_unit_name : Names → Denoted → Bool
-is_unit_name n (denotes.Entity e) = holds_of is_package (kind_at n e)
-is_unit_name n (denotes.Unit u) = true
-is_unit_name n (denotes.Item u item) = false
-
 -- what is denoted, where it is a unit
 abbrev pub unit_if : Names → Option Denoted → Option Denoted
-unit_if n d = and_then d (λ x. cond (is_unit_name n x) (Some x) None)
+unit_if n d = and_then d (λ x. cond (is_used_package n x) (Some x) None)
 
 -- the last part of a name that denotes a unit
 unfoldable pub unit_in_parts : Names → List Identifier → Option Denoted

@@ -10,7 +10,6 @@ use Rattle.ada_regions.specs.Completions.{holds_of}
 use Rattle.ada_regions.specs.Declaring.{free_subtype}
 use Rattle.ada_regions.specs.Names.{denoted_by, entity_of, kind_at}
 use Rattle.ada_regions.specs.PredefinedUnits.{subtype_with}
-use Rattle.ada_regions.specs.Statics.{subtype_of_kind}
 use Rattle.ada_regions.specs.Words.{and_then}
 use Rattle.ada_regions.specs.declared.entities.Denoted.{Denoted}
 use Rattle.ada_regions.specs.declared.entities.EntityKind.{EntityKind}
@@ -21,6 +20,7 @@ use Rattle.ada_regions.specs.declared.table.Names.{Names}
 use Rattle.ada_regions.specs.declared.types.AdaType.{AdaType}
 use Rattle.ada_regions.specs.declared.types.Formal.{Formal}
 use Rattle.ada_regions.specs.declared.types.Subtype.{Subtype}
+use Rattle.ada_regions.specs.Regions.{is_entry}
 use Rattle.ada_tree.specs.declared.names.Name.{Name}
 use Rattle.profile_machine.specs.declared.numbers.DeclNo.{DeclNo}
 use Rattle.std.specs.List.{list_any}
@@ -73,11 +73,6 @@ abbrev pub is_procedure_kind : EntityKind → Bool
 is_procedure_kind (entity.Subprogram number is_function specified formals unit) = not is_function
 is_procedure_kind entity.Main = true
 is_procedure_kind _ = false
-
--- an entry
-abbrev pub is_entry_kind : EntityKind → Bool
-is_entry_kind (entity.Entry number unit formals) = true
-is_entry_kind _ = false
 
 -- the formals of a subprogram
 abbrev pub formals_of_subprogram : EntityKind → List Formal
@@ -158,7 +153,7 @@ denotes_function k d =
 unfoldable pub denotes_procedure : Known → Denoted → Bool
 denotes_procedure k d =
     unwrap_or (option_map (λ o. not (is_function_operation o)) (operation_denoted d))
-    (holds_of (λ x. is_procedure_kind x || is_entry_kind x) (denoted_kind k.names d))
+    (holds_of (λ x. is_procedure_kind x || is_entry x) (denoted_kind k.names d))
 
 -- a name denotes something of the kind
 abbrev pub is_denoted : (Denoted → Bool) → Known → Name → Bool
@@ -242,10 +237,6 @@ is_entity e (Some x) = eqb e x
 -- a construct stands in the body of this unit
 unfoldable pub stands_in_unit : Known → ℕ → Bool
 stands_in_unit k e = list_any (λ a. is_entity e (unit_around a)) k.around
-
--- the type of an object or a unit
-abbrev pub type_of_unit_kind : EntityKind → Option AdaType
-type_of_unit_kind kind = option_map (λ s. s.of_type) (subtype_of_kind kind)
 
 -- it is this type
 abbrev pub is_type : AdaType → Option AdaType → Bool

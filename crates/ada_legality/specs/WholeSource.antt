@@ -2,7 +2,6 @@
 -- (C.3.1, D.3), deadlines (D.2.6; own), timers (D.14.1), and the cells of library packages (own).
 use Rattle.ada_image.specs.Layout.{cells_of_declaration, is_in_scope}
 use Rattle.ada_legality.specs.Findings.{Found, broken_if, broken_unless}
-use Rattle.ada_legality.specs.Words.{same_number}
 use Rattle.ada_legality.specs.declared.limits.TheConstants.{MOST_PACKAGE_CELLS}
 use Rattle.ada_legality.specs.declared.findings.Attached.{Attached}
 use Rattle.ada_legality.specs.declared.findings.BodyKind.{BodyKind}
@@ -17,6 +16,7 @@ use Rattle.ada_regions.specs.declared.table.NumberedDeclaration.{NumberedDeclara
 use Rattle.ann_base.specs.declared.places.Place.{Place}
 use Rattle.std.specs.List.{flat_map, list_any}
 use Rattle.std.specs.Prelude.{Bool, List, None, Option, Some, [], cond, eqb, false, filter, int_le, is_some, leb, length, ltb, not, option_map, pos, suc, take, true, unwrap_or, ℕ, ℤ, ◌&&◌, ◌++◌, ◌+◌, ◌||◌, ◌∷◌}
+use Rattle.profile_machine.specs.Words.{same_number}
 use Rattle.ada_legality.specs.declared.findings.BodyKind.TheVariants as completing
 use Rattle.ada_legality.specs.declared.findings.Finding.TheVariants as finding
 use Rattle.ada_legality.specs.declared.rules.Rule.TheVariants as rule

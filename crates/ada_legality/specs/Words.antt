@@ -41,10 +41,6 @@ number_of_value (value.Ticks n) = Some n
 number_of_value (value.Task t) = None
 number_of_value (value.Thing n) = Some (pos n)
 
--- whole numbers are equal
-abbrev pub same_number : ℤ → ℤ → Bool
-same_number a b = int_le a b && int_le b a
-
 -- a number that is known lies in a range
 abbrev pub lies_between : ℤ → ℤ → Option ℤ → Bool
 lies_between low high None = false

@@ -55,11 +55,6 @@ or_left : (p q : Bool) → p ≡ true → (p || q) ≡ true
 or_left true q e = refl
 or_left false q e = absurd (false≢true e)
 
--- the length of a run that begins with a byte of it
-pub run_first : (run : Run) (b : ℕ) (rest : List ℕ) → goes_on run (b ∷ rest) ≡ true → run_length run (b ∷ rest) ≡ suc (run_length run rest)
-unfolding run_length
-run_first run b rest goes = rw goes refl
-
 begins_kept : (test : ℕ → Bool) (n : ℕ) (rest : List ℕ) → 0 < n → begins_with test rest ≡ true → begins_with test (take n rest) ≡ true
 begins_kept test zero rest lt e = absurd (omega arith)
 begins_kept test (suc n) [] lt e = e

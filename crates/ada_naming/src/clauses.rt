@@ -5,7 +5,7 @@ ghost use Rattle.ada_regions.specs.Names.{region_here};
 ghost use Rattle.ada_regions.specs.Regions.{package_named, unit_behind, unit_named, unit_to_with, package_to_with, library_unit, withed, is_used_package, used_if, used};
 
 use crate::packages::package_named;
-use ada_entities::{denoted_by, is_package_at, last_part, noted, region_here};
+use ada_entities::{denoted_by, is_used_package, last_part, noted, region_here};
 use ada_predefined::{child_unit, root_unit, same_unit};
 use ada_regions::{Denoted, Names, PredefinedUnit, UseClause};
 use ada_tree::{Identifier, Name};
@@ -103,16 +103,6 @@ pub(crate) fn withed(
             names.withs.push_front(unit)?;
             noted(alloc, names, last_part(name).place, unit)
         }
-    }
-}
-
-fn is_used_package(names: &Names<'_>, denoted: Denoted) -> bool
-    ensures { result ≡ is_used_package names.now denoted }
-{
-    match denoted {
-        Denoted::Entity(entity) => is_package_at(names, entity),
-        Denoted::Unit(_) => true,
-        Denoted::Item { .. } => false,
     }
 }
 

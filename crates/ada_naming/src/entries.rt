@@ -9,17 +9,11 @@ ghost use Rattle.ada_regions.specs.Regions.{is_entry, entry_owner, entry_number,
 use crate::frames::scope_begun;
 use ada_declarations::number;
 use ada_entities::kind_at;
-use ada_regions::{EntityKind, ExpressionOf, Names, NumberedEntry, NumberedEntryBody};
+use ada_regions::{ExpressionOf, Names, NumberedEntry, NumberedEntryBody, entry_number, is_entry};
 use ada_tree::Expression;
 use ann_base::{NoMemory, Place};
 use profile_machine::EntryNo;
 use world_tables::List;
-
-fn is_entry(kind: &EntityKind) -> bool
-    ensures { result ≡ is_entry kind.now }
-{
-    matches!(kind, EntityKind::Entry { .. })
-}
 
 fn is_entry_at(names: &Names<'_>, entity: u32) -> bool
     ensures { result ≡ holds_of is_entry (kind_at names.now entity) }
@@ -40,15 +34,6 @@ pub(crate) fn entry_owner(names: &Names<'_>, entity: Option<u32>) -> Option<u32>
         Some(entity)
     } else {
         None
-    }
-}
-
-fn entry_number(kind: &EntityKind) -> Option<EntryNo>
-    ensures { result ≡ entry_number kind.now }
-{
-    match kind {
-        EntityKind::Entry { number, .. } => Some(*number),
-        _ => None,
     }
 }
 

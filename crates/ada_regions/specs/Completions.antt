@@ -20,14 +20,16 @@ use Rattle.ada_regions.specs.declared.types.Formal.{Formal}
 use Rattle.ada_regions.specs.declared.table.NumberedSubprogram.{NumberedSubprogram}
 use Rattle.ada_regions.specs.declared.table.NumberedTask.{NumberedTask}
 use Rattle.world_tables.specs.Tables.{item_at, put}
+use Rattle.world_tables.specs.Lists.{rest_of}
 use Rattle.ada_regions.specs.declared.table.Names.{Names}
 use Rattle.ada_regions.specs.declared.table.Binding.{Binding}
 use Rattle.ada_regions.specs.declared.table.Frame.{Frame}
 use Rattle.ada_regions.specs.declared.table.Enclosure.{Enclosure}
-use Rattle.ada_regions.specs.Names.{binding_in, innermost_frame, enclosure_of, region_here, frames_outside, opened, scope_in, kind_at, region_of_entity, entity_denoted, noted}
+use Rattle.ada_regions.specs.Names.{binding_in, innermost_frame, enclosure_of, region_here, opened, scope_in, kind_at, region_of_entity, entity_denoted, noted}
 use Rattle.ada_regions.specs.Subtypes.{formals_of}
 use Rattle.ada_regions.specs.Visibility.{resolved}
 use Rattle.ada_regions.specs.Declaring.{hidden, subprogram_declared, type_of_kind}
+use Rattle.ada_regions.specs.TypeKinds.{is_task_type, is_protected_type}
 
 -- ---- subprograms
 
@@ -62,7 +64,7 @@ headed i n = cond (is_some (completed_in n (region_here n) i.text)) n (hidden i 
 
 -- the region of a body is that of its entity from here on, and has its name in expanded names
 unfoldable pub owned : Option ℕ → List ℕ → Names → Names
-owned e name n = record n { frames = record (innermost_frame n.frames) { owner = e; name = Some name } ∷ frames_outside n.frames }
+owned e name n = record n { frames = record (innermost_frame n.frames) { owner = e; name = Some name } ∷ rest_of n.frames }
 
 abbrev pub with_body : ℕ → Names → Names
 with_body e n = record n { bodies = e ∷ n.bodies }
@@ -88,19 +90,11 @@ completed_or_declared outer None i s n = subprogram_declared outer false (scope_
 -- the `is` of a subprogram's body
 unfoldable pub completed : Identifier → SubprogramSpecification → Names → Names
 completed i s n =
-    let outer = enclosure_of (innermost_frame (frames_outside n.frames)) in
+    let outer = enclosure_of (innermost_frame (rest_of n.frames)) in
     let m = completed_or_declared outer (completed_in n outer.region i.text) i s n in
     owned (entity_denoted m i.place) i.text m
 
 -- ---- task and protected units
-
-abbrev pub is_task_type : AdaType → Bool
-is_task_type (types.Task u) = true
-is_task_type _ = false
-
-abbrev pub is_protected_type : AdaType → Bool
-is_protected_type (types.Protected u) = true
-is_protected_type _ = false
 
 abbrev pub is_of_kind : UnitKind → AdaType → Bool
 is_of_kind unit.Task t = is_task_type t

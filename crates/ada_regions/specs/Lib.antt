@@ -1,4 +1,5 @@
 pub mod Words
+pub mod TypeKinds
 pub mod PredefinedUnits
 pub mod Occurrences
 pub mod NamesInExpressions

@@ -112,10 +112,6 @@ innermost_frame (f ∷ fs) = f
 abbrev pub enclosure_of : Frame → Enclosure
 enclosure_of f = record { region = f.region; exports = f.exports; components = f.components; part = f.part }
 
-abbrev pub frames_outside : List Frame → List Frame
-frames_outside [] = []
-frames_outside (f ∷ fs) = fs
-
 abbrev pub opened : Frame → Names → Names
 opened f n = record n { frames = record f { part = n.parts } ∷ n.frames; parts = suc n.parts }
 

@@ -16,6 +16,7 @@ use Rattle.ada_regions.specs.declared.entities.EntityKind.{EntityKind}
 use Rattle.ada_regions.specs.declared.entities.EntityKind.TheVariants as entity
 use Rattle.ada_regions.specs.Words.{and_then}
 use Rattle.std.specs.Option.{option_or}
+use Rattle.world_tables.specs.Lists.{rest_of}
 use Rattle.ada_regions.specs.PredefinedUnits.{root_unit, child_unit, same_unit}
 use Rattle.ada_regions.specs.Occurrences.{Region, the_context, the_context_of, further_context, package_region, package_body, main_body, a_profile, subprogram_body, a_unit, task_body, protected_body, entry_body, an_accept, a_block, a_loop, a_record}
 use Rattle.ada_regions.specs.declared.entities.UnitKind.TheVariants as unit
@@ -23,7 +24,7 @@ use Rattle.ada_regions.specs.declared.table.NumberedEntry.{NumberedEntry}
 use Rattle.ada_regions.specs.declared.table.Names.{Names}
 use Rattle.ada_regions.specs.declared.table.Frame.{Frame}
 use Rattle.ada_regions.specs.declared.table.PackageContext.{PackageContext}
-use Rattle.ada_regions.specs.Names.{no_frame, innermost_frame, frames_outside, opened, region_here, scope_in, kind_at, region_of_entity, entity_denoted, denoted_by, noted, last_part}
+use Rattle.ada_regions.specs.Names.{no_frame, innermost_frame, opened, region_here, scope_in, kind_at, region_of_entity, entity_denoted, denoted_by, noted, last_part}
 use Rattle.ada_regions.specs.SelectedNames.{name_resolved}
 use Rattle.ada_regions.specs.Declaring.{library_frame, type_of_kind}
 use Rattle.ada_regions.specs.Completions.{entity_bound, holds_of, body_begun, body_apart, components_of}
@@ -174,14 +175,14 @@ begun (a_loop label) n = opened_new (loop_frame (label_entity n label)) n
 begun (a_record i) n = record_begun (entity_denoted n i.place) i n
 
 abbrev pub ended : Names → Names
-ended n = record n { frames = frames_outside n.frames }
+ended n = record n { frames = rest_of n.frames }
 
 -- behind `private` nothing is exported
 abbrev pub made_private : Names → Names
-made_private n = record n { frames = record (innermost_frame n.frames) { exports = false } ∷ frames_outside n.frames }
+made_private n = record n { frames = record (innermost_frame n.frames) { exports = false } ∷ rest_of n.frames }
 
 abbrev pub named_as : Identifier → Names → Names
-named_as i n = record n { frames = record (innermost_frame n.frames) { name = Some i.text } ∷ frames_outside n.frames }
+named_as i n = record n { frames = record (innermost_frame n.frames) { name = Some i.text } ∷ rest_of n.frames }
 
 -- ---- with and use clauses (10.1.2, 8.4)
 

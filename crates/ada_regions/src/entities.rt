@@ -1,9 +1,11 @@
 //! Declared entities, and what names denote (ISO/IEC 8652:2012, 3.1, 8.6).
 ghost use Rattle.std.specs.Prelude.{◌≡◌};
 ghost use Rattle.ada_regions.specs.Statics.{subtype_of_kind};
+ghost use Rattle.ada_regions.specs.Declaring.{type_of_kind};
+ghost use Rattle.ada_regions.specs.Regions.{entry_number, is_entry};
 
 use crate::predefined::{Predefined, PredefinedUnit};
-use crate::types::{Formal, Mode, Subtype};
+use crate::types::{AdaType, Formal, Mode, Subtype};
 use ann_base::Place;
 use profile_machine::{
     ControlledNo, DeclNo, EntryNo, EntryUnit, EnumerationNo, ImageList, ProtectedUnitNo,
@@ -139,6 +141,31 @@ pub fn subtype_of_kind(kind: &EntityKind) -> Option<Subtype>
         EntityKind::Object { subtype, .. } => *subtype,
         EntityKind::Parameter { subtype, .. } => *subtype,
         EntityKind::Component { subtype, .. } => *subtype,
+        _ => None,
+    }
+}
+
+/// The type of an entity, if it has one.
+pub fn type_of_kind(kind: &EntityKind) -> Option<AdaType>
+    ensures { result ≡ type_of_kind kind.now }
+{
+    let subtype = subtype_of_kind(kind)?;
+    Some(subtype.of_type)
+}
+
+/// Whether it is an entry (9.5.2).
+pub fn is_entry(kind: &EntityKind) -> bool
+    ensures { result ≡ is_entry kind.now }
+{
+    matches!(kind, EntityKind::Entry { .. })
+}
+
+/// The number of an entry.
+pub fn entry_number(kind: &EntityKind) -> Option<EntryNo>
+    ensures { result ≡ entry_number kind.now }
+{
+    match kind {
+        EntityKind::Entry { number, .. } => Some(*number),
         _ => None,
     }
 }

@@ -11,7 +11,8 @@ mod table;
 mod types;
 
 pub use entities::{
-    ComponentOwner, Denoted, Entity, EntityKind, Sought, UnitKind, subtype_of_kind,
+    ComponentOwner, Denoted, Entity, EntityKind, Sought, UnitKind, entry_number, is_entry,
+    subtype_of_kind, type_of_kind,
 };
 pub use faults::NameFault;
 pub use occurrences::{Occurrence, Occurrences};
@@ -25,4 +26,7 @@ pub use table::{
     NumberedEntryBody, NumberedProtected, NumberedScope, NumberedSubprogram, NumberedTask,
     PackageContext, Sort, UseClause,
 };
-pub use types::{AdaType, ArrayType, Formal, Mode, Subtype, free_subtype};
+pub use types::{
+    AdaType, ArrayType, Formal, Mode, Subtype, free_subtype, is_array_type, is_controlled_type,
+    is_protected_type, is_span_type, is_task_type,
+};

@@ -1,6 +1,7 @@
 //! Types and subtypes (ISO/IEC 8652:2012, clause 3).
 ghost use Rattle.std.specs.Prelude.{◌≡◌};
 ghost use Rattle.ada_regions.specs.Declaring.{free_subtype};
+ghost use Rattle.ada_regions.specs.TypeKinds.{is_array_type, is_controlled_type, is_protected_type, is_span_type, is_task_type};
 
 use profile_machine::{Constraint, ControlledNo, EnumerationNo, ProtectedUnitNo, TaskUnitNo, Text};
 
@@ -41,6 +42,56 @@ pub enum AdaType {
     Task(TaskUnitNo),
     /// A protected type, or the type of a single protected object (9.4).
     Protected(ProtectedUnitNo),
+}
+
+/// An array type (3.6).
+pub fn is_array_type(of_type: AdaType) -> bool
+    ensures { result ≡ is_array_type of_type }
+{
+    match of_type {
+        AdaType::Array(_) => true,
+        _ => false,
+    }
+}
+
+/// Time_Span (D.8).
+pub fn is_span_type(of_type: AdaType) -> bool
+    ensures { result ≡ is_span_type of_type }
+{
+    match of_type {
+        AdaType::TimeSpan => true,
+        _ => false,
+    }
+}
+
+/// A type of the source that is derived from Limited_Controlled or Controlled (7.6).
+pub fn is_controlled_type(of_type: AdaType) -> bool
+    ensures { result ≡ is_controlled_type of_type }
+{
+    match of_type {
+        AdaType::Derived(_) => true,
+        _ => false,
+    }
+}
+
+/// A task type (9.1).
+pub fn is_task_type(of_type: AdaType) -> bool
+    ensures { result ≡ is_task_type of_type }
+{
+    match of_type {
+        AdaType::Task(_) => true,
+        _ => false,
+    }
+}
+
+/// A protected type (9.4).
+pub fn is_protected_type(of_type: AdaType) -> bool
+    ensures { result ≡ is_protected_type of_type }
+{
+    match of_type {
+        AdaType::Protected(_) => true,
+        _ => false,
+    }
 }
 
 /// A type with a range of its values (3.2.2, 3.5).

@@ -1,6 +1,6 @@
 //! Sequences of statements, and what holds them.
-ghost use Rattle.std.specs.Prelude.{◌≡◌, ◌++◌, ◌∷◌, map, OnOk};
-ghost use Rattle.ada_tree.specs.Written.{behind, each_written, optional, word};
+ghost use Rattle.std.specs.Prelude.{◌≡◌, ◌++◌, ◌∷◌, map, OnOk, flat_map};
+ghost use Rattle.ada_tree.specs.Written.{behind, optional, word};
 ghost use Rattle.clause_spelling.specs.Spelt.{spelt};
 ghost use Rattle.ada_tree.specs.SpellingStatements.{statements_written, else_written};
 
@@ -40,7 +40,7 @@ pub(crate) trait SpellWhole {
 /// Items one behind another.
 pub(crate) fn spell_each<T: SpellWhole>(tokens: &mut Tokens, items: &[T]) -> Result<(), NoMemory>
     ensures { OnOk result
-        (tokens.new ≡ tokens.old ++ map spelt (each_written T.written items.now)) }
+        (tokens.new ≡ tokens.old ++ map spelt (flat_map T.written items.now)) }
 {
     for item in items {
         item.spell_whole(tokens)?;
@@ -69,7 +69,7 @@ pub(crate) fn spell_behind<T: SpellWhole>(
 ) -> Result<(), NoMemory>
     ensures { OnOk result
         (tokens.new
-        ≡ tokens.old ++ map spelt (each_written (behind (word text.now) T.written) items.now)) }
+        ≡ tokens.old ++ map spelt (flat_map (behind (word text.now) T.written) items.now)) }
 {
     for item in items {
         spell_after(tokens, text, item)?;
@@ -78,9 +78,9 @@ pub(crate) fn spell_behind<T: SpellWhole>(
 }
 
 impl<T: SpellWhole> SpellWhole for Items<T> {
-    ghost use Rattle.ada_tree.specs.Written.{each_written};
+    ghost use Rattle.std.specs.Prelude.{flat_map};
 
-    ghost written = { each_written T.written };
+    ghost written = { flat_map T.written };
 
     fn spell_whole(&self, tokens: &mut Tokens) -> Result<(), NoMemory> {
         spell_each(tokens, self.as_slice())

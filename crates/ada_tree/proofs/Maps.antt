@@ -1,19 +1,20 @@
 -- Lists of a layer, each of whose items was mapped.
 use Rattle.std.proofs.Common.{◌≡◌, ℕ, zero, suc, Bool, ◌&&◌, List, [], ◌∷◌, ◌++◌, map, refl}
+use Rattle.std.specs.Prelude.{flat_map}
 use Rattle.std.specs.List.{list_all}
-use Rattle.ada_tree.specs.Written.{Written, each_written, all_written, enclosed, behind}
+use Rattle.ada_tree.specs.Written.{Written, all_written, enclosed, behind}
 use Rattle.ada_tree.specs.ShapeExpressions.{all_fit, enclosed_fit}
 use Rattle.ann_base.specs.Lists.{is_empty}
 
 pub both : {a b c d : List Written} → a ≡ c → b ≡ d → a ++ b ≡ c ++ d
 both p q = rw (p, q) refl
 
-pub each_of_map : {X Y : Type 0} (w : Y → List Written) (g : X → Y) (v : X → List Written) (same : (x : X) → w (g x) ≡ v x) (xs : List X) → each_written w (map g xs) ≡ each_written v xs
+pub each_of_map : {X Y : Type 0} (w : Y → List Written) (g : X → Y) (v : X → List Written) (same : (x : X) → w (g x) ≡ v x) (xs : List X) → flat_map w (map g xs) ≡ flat_map v xs
 each_of_map w g v same [] = refl
 each_of_map w g v same (x ∷ xs) = rw (same x, each_of_map w g v same xs) refl
 
 pub behind_of_map : {X Y : Type 0} (separator : Written) (w : Y → List Written) (g : X → Y) (v : X → List Written) (same : (x : X) → w (g x) ≡ v x) (xs : List X)
-    → each_written (behind separator w) (map g xs) ≡ each_written (behind separator v) xs
+    → flat_map (behind separator w) (map g xs) ≡ flat_map (behind separator v) xs
 behind_of_map separator w g v same [] = refl
 behind_of_map separator w g v same (x ∷ xs) = rw (same x, behind_of_map separator w g v same xs) refl
 

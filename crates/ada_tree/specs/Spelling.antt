@@ -1,5 +1,5 @@
 -- How sequences, library units and a source are spelt (11.2, 3.11, 2.8, clause 7, 10.1).
-use Rattle.std.specs.Prelude.{ℕ, Bool, true, false, List, [], ◌∷◌, ◌++◌, codes}
+use Rattle.std.specs.Prelude.{ℕ, Bool, true, false, List, [], ◌∷◌, ◌++◌, codes, flat_map}
 use Rattle.ada_tree.specs.declared.statements.SequenceRole.{SequenceRole}
 use Rattle.ada_tree.specs.declared.statements.SequenceRole.TheVariants as role
 use Rattle.ada_tree.specs.declared.statements.Sequence.{Sequence}
@@ -17,7 +17,7 @@ use Rattle.ada_tree.specs.declared.units.PackageDeclaration.{PackageDeclaration}
 use Rattle.ada_tree.specs.declared.units.PackageBody.{PackageBody}
 use Rattle.ada_tree.specs.declared.units.MainProcedure.{MainProcedure}
 use Rattle.ada_tree.specs.declared.units.Package.TheVariants as packages
-use Rattle.ada_tree.specs.Written.{Written, Lexeme, AllSpell, word, word_at, delimiter, identifier_written, each_written, all_written, separated, optional, name_written, end_name_written}
+use Rattle.ada_tree.specs.Written.{Written, Lexeme, AllSpell, word, word_at, delimiter, identifier_written, all_written, separated, optional, name_written, end_name_written}
 use Rattle.ada_tree.specs.SpellingExpressions.{expression_written, argument_written}
 use Rattle.ada_tree.specs.SpellingStatements.{semicolon, statement_written, handler_written}
 use Rattle.ada_tree.specs.SpellingDeclarations.{declaration_written, body_written, aspects_written}
@@ -28,7 +28,7 @@ module _ {Q : Type 0} (sequence : Q → SequenceRole → List Written) where
   -- ["exception" handler {handler}]
   abbrev pub handlers_written : List (Handler Q) → List Written
   handlers_written [] = []
-  handlers_written (h ∷ hs) = word (codes "exception") ∷ (handler_written sequence h ++ each_written (handler_written sequence) hs)
+  handlers_written (h ∷ hs) = word (codes "exception") ∷ (handler_written sequence h ++ flat_map (handler_written sequence) hs)
 
   -- statement {statement} handlers
   abbrev pub handled_written : SequenceParts Q → List Written
@@ -37,7 +37,7 @@ module _ {Q : Type 0} (sequence : Q → SequenceRole → List Written) where
   abbrev pub parts_written : SequenceParts Q → SequenceRole → List Written
   parts_written s role.Statements = all_written (statement_written sequence) s.statements
   parts_written s role.Handled = handled_written s
-  parts_written s role.Body = each_written (declaration_written sequence) s.declarations ++ word (codes "begin") ∷ handled_written s
+  parts_written s role.Body = flat_map (declaration_written sequence) s.declarations ++ word (codes "begin") ∷ handled_written s
 
 abbrev pub as_it_stands : (SequenceRole → List Written) → SequenceRole → List Written
 as_it_stands written = written
@@ -64,7 +64,7 @@ abbrev pub clause_written : ContextClause → List Written
 clause_written c = word_at c.place (clause_text c.is_use) ∷ (separated (delimiter (codes ",")) name_written c.names ++ semicolon)
 
 abbrev pub declarations_written : List (Declaration Sequence) → List Written
-declarations_written = each_written (declaration_written sequence_written)
+declarations_written = flat_map (declaration_written sequence_written)
 
 abbrev pub private_part_written : List (Declaration Sequence) → List Written
 private_part_written declarations = word (codes "private") ∷ declarations_written declarations
@@ -90,7 +90,7 @@ package_written (packages.Body p) = package_body_written p
 
 -- {context clause} package (10.1.1)
 abbrev pub library_package_written : LibraryPackage → List Written
-library_package_written l = each_written clause_written l.context ++ package_written l.package
+library_package_written l = flat_map clause_written l.context ++ package_written l.package
 
 -- "procedure" NAME [aspects] "is" body "end" [NAME] ";" (6.3)
 abbrev pub main_written : MainProcedure → List Written
@@ -98,7 +98,7 @@ main_written m = word_at m.place (codes "procedure") ∷ identifier_written m.na
 
 -- {pragma} {package} {context clause} main (10.1)
 abbrev pub unit_written : Tree → List Written
-unit_written u = each_written pragma_written u.pragmas ++ (each_written library_package_written u.packages ++ (each_written clause_written u.context ++ main_written u.main))
+unit_written u = flat_map pragma_written u.pragmas ++ (flat_map library_package_written u.packages ++ (flat_map clause_written u.context ++ main_written u.main))
 
 -- ---- the tokens that a tree spells
 

@@ -1,5 +1,5 @@
 -- How declarations are spelt (clauses 3, 6, 9, 11, 13), given how the sequences in them are.
-use Rattle.std.specs.Prelude.{ℕ, Bool, List, [], ◌∷◌, ◌++◌, Option, Some, None, codes}
+use Rattle.std.specs.Prelude.{ℕ, Bool, List, [], ◌∷◌, ◌++◌, Option, Some, None, codes, flat_map}
 use Rattle.ann_base.specs.declared.places.Place.{Place}
 use Rattle.ada_tree.specs.declared.names.Identifier.{Identifier}
 use Rattle.ada_tree.specs.declared.names.OneOrMore.{OneOrMore}
@@ -28,7 +28,7 @@ use Rattle.ada_tree.specs.declared.declarations.Declaration.TheVariants as decla
 use Rattle.ada_tree.specs.declared.declarations.TypeDefinition.TheVariants as definition
 use Rattle.ada_tree.specs.declared.declarations.ProtectedOperation.TheVariants as operation
 use Rattle.ada_tree.specs.declared.declarations.OperationBody.TheVariants as body_of
-use Rattle.ada_tree.specs.Written.{Written, word, word_at, delimiter, identifier_written, each_written, all_written, optional, flag, enclosed, name_written, identifiers_written, end_name_written}
+use Rattle.ada_tree.specs.Written.{Written, word, word_at, delimiter, identifier_written, all_written, optional, flag, enclosed, name_written, identifiers_written, end_name_written}
 use Rattle.ada_tree.specs.SpellingExpressions.{expression_written}
 use Rattle.ada_tree.specs.SpellingStatements.{semicolon, indication_written, parameters_written}
 
@@ -103,7 +103,7 @@ entry_written e = word_at e.place (codes "entry") ∷ identifier_written e.name 
 
 -- "is" {entry} "end" [NAME]
 abbrev pub task_definition_written : Identifier → TaskDefinition → List Written
-task_definition_written name d = word (codes "is") ∷ (each_written entry_written d.entries ++ word (codes "end") ∷ end_name_written d.named_at_end name)
+task_definition_written name d = word (codes "is") ∷ (flat_map entry_written d.entries ++ word (codes "end") ∷ end_name_written d.named_at_end name)
 
 abbrev pub type_flag : Bool → List Written
 type_flag is_type = flag is_type (word (codes "type") ∷ [])
@@ -118,12 +118,12 @@ operation_written (operation.Subprogram specification) = specification_written s
 operation_written (operation.Entry entry) = entry_written entry
 
 abbrev pub private_written : List Component → List Written
-private_written components = word (codes "private") ∷ each_written component_written components
+private_written components = word (codes "private") ∷ flat_map component_written components
 
 -- "protected" ["type"] NAME [aspects] "is" {operation} ["private" {component}] "end" [NAME] ";"
 abbrev pub protected_written : ProtectedDeclaration → List Written
 protected_written p =
-    word_at p.place (codes "protected") ∷ (type_flag p.is_type ++ identifier_written p.name ∷ (aspects_written p.aspects ++ word (codes "is") ∷ (each_written operation_written p.operations
+    word_at p.place (codes "protected") ∷ (type_flag p.is_type ++ identifier_written p.name ∷ (aspects_written p.aspects ++ word (codes "is") ∷ (flat_map operation_written p.operations
     ++ (optional private_written p.components ++ word (codes "end") ∷ (end_name_written p.named_at_end p.name ++ semicolon)))))
 
 -- "entry" NAME [parameters] "when" expression
@@ -145,7 +145,7 @@ module _ {Q : Type 0} (sequence : Q → SequenceRole → List Written) where
   -- "protected" "body" NAME "is" {operation body} "end" [NAME] ";"
   abbrev pub protected_body_written : ProtectedBody Q → List Written
   protected_body_written p =
-      word_at p.place (codes "protected") ∷ word (codes "body") ∷ identifier_written p.name ∷ word (codes "is") ∷ (each_written operation_body_written p.operations
+      word_at p.place (codes "protected") ∷ word (codes "body") ∷ identifier_written p.name ∷ word (codes "is") ∷ (flat_map operation_body_written p.operations
       ++ word (codes "end") ∷ (end_name_written p.named_at_end p.name ++ semicolon))
 
   -- all declarations (3.1)

@@ -1,5 +1,5 @@
 -- How statements are spelt (clauses 5, 9.5 to 9.8, 11), given how the sequences in them are.
-use Rattle.std.specs.Prelude.{Bool, true, false, List, [], ◌∷◌, ◌++◌, codes}
+use Rattle.std.specs.Prelude.{Bool, true, false, List, [], ◌∷◌, ◌++◌, codes, flat_map}
 use Rattle.ann_base.specs.declared.places.Place.{Place}
 use Rattle.ada_tree.specs.declared.names.Identifier.{Identifier}
 use Rattle.ada_tree.specs.declared.expressions.Expression.{Expression}
@@ -40,7 +40,7 @@ use Rattle.ada_tree.specs.declared.selects.Trigger.{Trigger}
 use Rattle.ada_tree.specs.declared.selects.SelectForm.TheVariants as select
 use Rattle.ada_tree.specs.declared.selects.Alternative.TheVariants as alternative
 use Rattle.ada_tree.specs.declared.selects.Trigger.TheVariants as trigger
-use Rattle.ada_tree.specs.Written.{Written, word, word_at, delimiter, identifier_written, each_written, separated, all_written, optional, flag, enclosed, name_written, identifiers_written, end_name_written}
+use Rattle.ada_tree.specs.Written.{Written, word, word_at, delimiter, identifier_written, separated, all_written, optional, flag, enclosed, name_written, identifiers_written, end_name_written, one_identifier}
 use Rattle.ada_tree.specs.SpellingExpressions.{expression_written, arguments_written}
 
 -- ---- subtype indications and parameters (3.2.2, 6.1)
@@ -101,15 +101,12 @@ iteration_written (iteration.For place parameter reverse low high) =
     word_at place (codes "for") ∷ identifier_written parameter ∷ word (codes "in") ∷ (flag reverse (word (codes "reverse") ∷ [])
     ++ (expression_written low ++ delimiter (codes "..") ∷ expression_written high))
 
-abbrev pub loop_name_written : Identifier → List Written
-loop_name_written name = identifier_written name ∷ []
-
 abbrev pub when_written : Expression → List Written
 when_written condition = word (codes "when") ∷ expression_written condition
 
 -- "exit" [NAME] ["when" expression] ";" (5.7)
 abbrev pub exit_written : Exit → List Written
-exit_written e = word_at e.place (codes "exit") ∷ (optional loop_name_written e.loop_name ++ (optional when_written e.condition ++ semicolon))
+exit_written e = word_at e.place (codes "exit") ∷ (optional one_identifier e.loop_name ++ (optional when_written e.condition ++ semicolon))
 
 abbrev pub exceptions_written : HandledExceptions → List Written
 exceptions_written (exceptions.Named names) = separated (delimiter (codes "|")) name_written names
@@ -142,7 +139,7 @@ module _ {Q : Type 0} (sequence : Q → SequenceRole → List Written) where
   -- "if" expression "then" statements {elsif} ["else" statements] "end" "if" ";" (5.3)
   abbrev pub if_written : If Q → List Written
   if_written i =
-      word_at i.place (codes "if") ∷ (expression_written i.condition ++ word (codes "then") ∷ (statements_written i.statements ++ (each_written elsif_written i.elsifs
+      word_at i.place (codes "if") ∷ (expression_written i.condition ++ word (codes "then") ∷ (statements_written i.statements ++ (flat_map elsif_written i.elsifs
       ++ (optional else_written i.otherwise ++ word (codes "end") ∷ word (codes "if") ∷ semicolon))))
 
   -- "when" choice {"|" choice} "=>" statements (5.4)

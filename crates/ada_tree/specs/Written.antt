@@ -1,5 +1,5 @@
 -- Tokens: as a tree writes them, and as a source has them.
-use Rattle.std.specs.Prelude.{◌≡◌, ℕ, Bool, true, false, List, [], ◌∷◌, ◌++◌, Option, Some, None, map, codes}
+use Rattle.std.specs.Prelude.{◌≡◌, ℕ, Bool, true, false, List, [], ◌∷◌, ◌++◌, Option, Some, None, map, codes, flat_map}
 use Rattle.ann_base.specs.declared.places.Place.{Place}
 use Rattle.ada_lex.specs.declared.tokens.Kind.{Kind}
 use Rattle.ada_lex.specs.declared.tokens.Kind.TheVariants as kinds
@@ -54,21 +54,17 @@ identifier_written i = record { kind = kinds.Word; text = i.text; identifier = t
 
 -- ---- lists
 
-abbrev pub each_written : {X : Type 0} → (X → List Written) → List X → List Written
-each_written w [] = []
-each_written w (x ∷ xs) = w x ++ each_written w xs
-
 -- each with a separator before it
 abbrev pub behind : {X : Type 0} → Written → (X → List Written) → X → List Written
 behind separator w x = separator ∷ w x
 
 -- {one {separator one}}
 abbrev pub separated : {X : Type 0} → Written → (X → List Written) → OneOrMore X → List Written
-separated separator w xs = w xs.first ++ each_written (behind separator w) xs.others
+separated separator w xs = w xs.first ++ flat_map (behind separator w) xs.others
 
 -- one {one}
 abbrev pub all_written : {X : Type 0} → (X → List Written) → OneOrMore X → List Written
-all_written w xs = w xs.first ++ each_written w xs.others
+all_written w xs = w xs.first ++ flat_map w xs.others
 
 abbrev pub optional : {X : Type 0} → (X → List Written) → Option X → List Written
 optional w None = []
@@ -81,7 +77,7 @@ flag false ws = []
 -- an opening word or delimiter, items with commas or semicolons between them, and what closes; nothing where there are none
 abbrev pub enclosed : {X : Type 0} → Written → Written → List Written → (X → List Written) → List X → List Written
 enclosed opening separator closing w [] = []
-enclosed opening separator closing w (x ∷ xs) = opening ∷ (w x ++ (each_written (behind separator w) xs ++ closing))
+enclosed opening separator closing w (x ∷ xs) = opening ∷ (w x ++ (flat_map (behind separator w) xs ++ closing))
 
 -- ---- names (4.1)
 

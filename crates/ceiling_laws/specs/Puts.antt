@@ -1,5 +1,5 @@
 -- What the lines of an effect say of somebody's place: the last that says something, by the order of their parts.
-use Rattle.std.specs.Prelude.{ℕ, cond, List, [], ◌∷◌, Option, Some, None}
+use Rattle.std.specs.Prelude.{ℕ, cond, List, [], ◌∷◌, Option, Some, None, unwrap_or}
 use Rattle.trace_text.specs.declared.events.Who.{Who}
 use Rattle.trace_text.specs.declared.events.Who.TheVariants as who
 use Rattle.profile_machine.specs.declared.world.lines.Line.{Line}
@@ -16,14 +16,9 @@ puts n (line.Block name waits) = cond (same_who n name) (Some None) None
 puts n (line.Done task) = cond (same_who n (who.Task task)) (Some None) None
 puts n _ = None
 
--- the place behind a line, and behind lines
-abbrev pub over : Option (Option ℕ) → Option ℕ → Option ℕ
-over None e = e
-over (Some place) e = place
-
 abbrev pub place_behind : Who → Option ℕ → List Said → Option ℕ
 place_behind n e [] = e
-place_behind n e (x ∷ xs) = place_behind n (over (puts n x.line) e) xs
+place_behind n e (x ∷ xs) = place_behind n (unwrap_or (puts n x.line) e) xs
 
 -- of a line and what the lines behind it say last, what is said last when they are in order
 abbrev pub pick : Part → Option (Option ℕ) → Option (Part × Option ℕ) → Option (Part × Option ℕ)

@@ -1,6 +1,6 @@
 //! How a tree is spelt.
-ghost use Rattle.std.specs.Prelude.{◌≡◌, ◌++◌, ◌∷◌, [], List, Option, None, false, map, codes, OnOk};
-ghost use Rattle.ada_tree.specs.Written.{Written, word, delimiter, behind, each_written, separated, all_written, optional, enclosed, one_identifier, name_written, flag};
+ghost use Rattle.std.specs.Prelude.{◌≡◌, ◌++◌, ◌∷◌, [], List, Option, None, false, map, codes, OnOk, flat_map};
+ghost use Rattle.ada_tree.specs.Written.{Written, word, delimiter, behind, separated, all_written, optional, enclosed, one_identifier, name_written, flag};
 ghost use Rattle.clause_spelling.specs.Spelt.{spelt};
 
 use ada_lex::Kind;
@@ -95,7 +95,7 @@ pub trait Spell {
 /// Items one behind another.
 pub(crate) fn spell_each<T: Spell>(tokens: &mut Tokens, items: &[T]) -> Result<(), NoMemory>
     ensures { OnOk result
-        (tokens.new ≡ tokens.old ++ map spelt (each_written T.written items.now)) }
+        (tokens.new ≡ tokens.old ++ map spelt (flat_map T.written items.now)) }
 {
     for item in items {
         item.spell(tokens)?;
@@ -169,7 +169,7 @@ pub(crate) fn spell_behind<T: Spell>(
         (tokens.new
         ≡ tokens.old
         ++ map spelt
-        (each_written
+        (flat_map
         (behind (record { kind = kind; text = text.now; identifier = false; place = None })
         T.written) items.now)) }
 {
@@ -218,9 +218,9 @@ pub fn spell_bracketed<T: Spell>(
 }
 
 impl<T: Spell> Spell for Items<T> {
-    ghost use Rattle.ada_tree.specs.Written.{each_written};
+    ghost use Rattle.std.specs.Prelude.{flat_map};
 
-    ghost written = { each_written T.written };
+    ghost written = { flat_map T.written };
 
     fn spell(&self, tokens: &mut Tokens) -> Result<(), NoMemory> {
         spell_each(tokens, self.as_slice())

@@ -9,7 +9,7 @@ use ada_tree::{Sequence, SequenceParts};
 use ann_base::NoMemory;
 use image_compounds::{MakeSequence, handlers_put};
 use image_layout::{in_construct, put_at, reserved, the_action};
-use image_objects::{activation_put, declarations_put, end_of_activation_put, make_tasks, part_if};
+use image_objects::{activation_put, declarations_put, end_of_activation_put, make_tasks};
 use profile_machine::{StatementForm, StatementNo};
 use std::alloc::Global;
 
@@ -90,7 +90,7 @@ fn whole_put<Q: MakeSequence<WithDeclarations>>(
         result }
 {
     let declarations = parts.declarations.as_slice();
-    let part = part_if(make_tasks(within, declarations), 0);
+    let part = make_tasks(within, declarations).then_some(0);
     inner_bodies_put(alloc, lists, within, declarations)?;
     let first = handled_put(alloc, lists, within, part, parts, None)?;
     let ended = end_of_activation_put(lists, is_task_body, first)?;

@@ -2,15 +2,15 @@
 //! D.2.5, D.2.6, D.5.1, D.14.1, D.14.2, D.15).
 ghost use Rattle.std.specs.Prelude.{◌≡◌, option_copied};
 ghost use Rattle.ada_image.specs.Made.{Made};
-ghost use Rattle.ada_image.specs.ImageOfExpressions.{actuals_for};
-ghost use Rattle.ada_image.specs.ImageOfProcedures.{variable_of, optional_value, cancel_put, budget_put, task_put, values_put};
+ghost use Rattle.ada_image.specs.ImageOfExpressions.{actuals_for, optional_value};
+ghost use Rattle.ada_image.specs.ImageOfProcedures.{variable_of, cancel_put, budget_put, task_put, values_put};
 ghost use Rattle.image_calls.specs.Actions.{cancel_action, cancelled_formal, cancel_formals, budget_action, budgeted_formal, budget_formals, task_action, set_formal, task_formals, values_action, first_formal, second_formal, values_formals};
 
 use ada_image::{Lists, Within};
 use ada_tree::{Argument, Expression};
 use ann_base::NoMemory;
 use image_actuals::{no_variable, value_or_none, variable_in};
-use image_expressions::expression_made;
+use image_expressions::optional_value;
 use image_layout::{action_put, argument_from};
 use image_settings::thing_of;
 use profile_machine::{DeclNo, ExprNo, StatementForm, StatementNo, VariableName};
@@ -27,22 +27,6 @@ fn variable_of(
     match actual {
         None => Ok(no_variable()),
         Some(actual) => variable_in(lists, within, actual),
-    }
-}
-
-/// The value of an actual that may be missing.
-#[tactic(auto, unfolding(ada_image::specs::ImageOfProcedures::optional_value))]
-fn optional_value(
-    lists: &mut Lists,
-    within: &Within<'_, '_>,
-    actual: Option<&Expression>,
-) -> Result<Option<ExprNo>, NoMemory>
-    ensures { Made (optional_value within.now (option_copied actual.entry)) lists.old lists.new
-        result }
-{
-    match actual {
-        None => Ok(None),
-        Some(actual) => Ok(Some(expression_made(lists, actual, within)?)),
     }
 }
 

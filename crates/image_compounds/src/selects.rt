@@ -14,10 +14,11 @@ use ada_tree::{
 };
 use ann_base::NoMemory;
 use image_calls::call_statement_put;
+use image_expressions::optional_value;
 use image_layout::{action_put, in_construct, put_at, reserved, the_action};
 use image_parts::{guard_of, signs_in_alternatives, signs_in_timed_call, signs_in_trigger};
 use image_signs::signs_in_actuals;
-use image_statements::{condition_made, delay_put};
+use image_statements::delay_put;
 use profile_machine::{
     SelectAlternative as GuardedAlternative, SelectAlternatives, SelectKind, StatementForm,
     StatementNo,
@@ -63,7 +64,7 @@ fn select_alternative_put<W, Q: MakeSequence<W>>(
     ensures { Made (select_alternative_put Q.making within.now alternative.now next) lists.old
         lists.new result }
 {
-    let guard = condition_made(lists, within, guard_of(&alternative.guard))?;
+    let guard = optional_value(lists, within, guard_of(&alternative.guard))?;
     let kind = alternative_put(alloc, lists, within, &alternative.alternative, next)?;
     Ok(GuardedAlternative { guard, kind })
 }

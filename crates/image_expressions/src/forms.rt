@@ -2,7 +2,7 @@
 //! minus before a literal is part of its value.
 ghost use Rattle.std.specs.Prelude.{◌≡◌, option_copied};
 ghost use Rattle.ada_image.specs.Made.{Made};
-ghost use Rattle.ada_image.specs.ImageOfExpressions.{expression_image, expression_made, item_made, denoted_made, named_made};
+ghost use Rattle.ada_image.specs.ImageOfExpressions.{expression_image, expression_made, optional_value, item_made, denoted_made, named_made};
 
 use crate::functions::function_made;
 use crate::images::Imaged;
@@ -177,6 +177,22 @@ pub fn expression_made(
     ensures { Made (expression_made expression.now within.now) lists.old lists.new result }
 {
     expression.made(lists, within)
+}
+
+/// The value of an expression that may be missing.
+#[tactic(auto, unfolding(ada_image::specs::ImageOfExpressions::optional_value))]
+pub fn optional_value(
+    lists: &mut Lists,
+    within: &Within<'_, '_>,
+    expression: Option<&Expression>,
+) -> Result<Option<ExprNo>, NoMemory>
+    ensures { Made (optional_value within.now (option_copied expression.entry)) lists.old lists.new
+        result }
+{
+    match expression {
+        None => Ok(None),
+        Some(expression) => Ok(Some(expression_made(lists, expression, within)?)),
+    }
 }
 
 /// The name that an expression is, if it is one, in brackets or without.

@@ -12,6 +12,6 @@ mod sequences;
 mod values;
 mod variables;
 
-pub use forms::{expression_made, named};
+pub use forms::{expression_made, named, optional_value};
 pub use images::Imaged;
 pub use variables::variable_made;

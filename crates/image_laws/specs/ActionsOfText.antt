@@ -1,6 +1,7 @@
 -- How many actions a source has: one for each of its statements and declared objects, and those beside them that the language
 -- asks for.
 use Rattle.std.specs.Prelude.{ℕ, ◌+◌, Bool, true, false, cond, not, ◌&&◌, List, [], ◌∷◌, ◌++◌, Option, Some, None, unwrap_or}
+use Rattle.std.specs.Bool.{then_some}
 use Rattle.ada_tree.specs.declared.names.Identifier.{Identifier}
 use Rattle.ada_tree.specs.declared.statements.Statement.{Statement}
 use Rattle.ada_tree.specs.declared.statements.Statement.TheVariants as statement
@@ -30,10 +31,11 @@ use Rattle.ada_tree.specs.declared.units.Package.TheVariants as packages
 use Rattle.ada_regions.specs.declared.types.Subtype.{Subtype}
 use Rattle.ada_regions.specs.declared.table.Names.{Names}
 use Rattle.ada_regions.specs.Words.{all_of}
+use Rattle.ada_regions.specs.TypeKinds.{is_task_type, is_controlled_type}
 use Rattle.ada_image.specs.declared.making.SequencePlace.{SequencePlace}
 use Rattle.ada_image.specs.declared.making.SequencePlace.TheVariants as sequence_place
 use Rattle.ada_image.specs.Layout.{subtype_is}
-use Rattle.ada_image.specs.ImageOfDeclarations.{is_task, is_controlled, subtype_declared_as, make_tasks, part_if}
+use Rattle.ada_image.specs.ImageOfDeclarations.{subtype_declared_as, make_tasks}
 use Rattle.ada_image.specs.ImageOfUnits.{outermost, has_body, part_of, package_part}
 
 -- ---- declarations: a task is created, a controlled object is initialized behind its declaration
@@ -42,7 +44,7 @@ abbrev pub one_if : Bool → ℕ
 one_if b = cond b 1 0
 
 abbrev pub object_actions : Option Subtype → ℕ
-object_actions s = cond (subtype_is is_task s) 1 (1 + one_if (subtype_is is_controlled s))
+object_actions s = cond (subtype_is is_task_type s) 1 (1 + one_if (subtype_is is_controlled_type s))
 
 abbrev pub name_actions : Identifier → Names → ℕ
 name_actions i n = object_actions (subtype_declared_as (outermost n) i)
@@ -186,7 +188,7 @@ module _ {Q : Type 0} (sequence : Q → Actions) where
   parts_actions s sequence_place.StatementsAlone n = statements_actions (s.statements.first ∷ s.statements.others) n
   parts_actions s (sequence_place.BehindDeclarations part) n = handled_actions part s s.handlers n
   parts_actions s (sequence_place.AsBody is_task_body) n =
-      declarations_actions s.declarations n + one_if is_task_body + handled_actions (part_if (make_tasks (outermost n) s.declarations) 0) s s.handlers n + bodies_actions s.declarations n
+      declarations_actions s.declarations n + one_if is_task_body + handled_actions (then_some (make_tasks (outermost n) s.declarations) 0) s s.handlers n + bodies_actions s.declarations n
 
 abbrev pub same_actions : Actions → Actions
 same_actions actions = actions
@@ -206,7 +208,7 @@ package_statements_actions part (Some s) n = sequence_actions s (sequence_place.
 abbrev pub package_actions : List LibraryPackage → Package → Names → ℕ
 package_actions all (packages.Declaration x) n =
     let ds = x.declarations ++ unwrap_or x.private [] in
-    declarations_actions ds n + activation_actions (part_if (not (has_body all x.name.text) && make_tasks (outermost n) ds) (part_of all x.name.text)) + bodies_actions sequence_actions ds n
+    declarations_actions ds n + activation_actions (then_some (not (has_body all x.name.text) && make_tasks (outermost n) ds) (part_of all x.name.text)) + bodies_actions sequence_actions ds n
 package_actions all (packages.Body x) n =
     declarations_actions x.declarations n + package_statements_actions (package_part all (outermost n) x) x.sequence n + bodies_actions sequence_actions x.declarations n
 

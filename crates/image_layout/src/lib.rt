@@ -30,8 +30,8 @@ pub use overriding::{has_one_of_type, is_in_out};
 pub use places::{is_component_of, is_in_scope};
 pub use subprograms::{enumerations_made, formal_made, formals_made};
 pub use subtypes::{
-    array_of, index_range, is_array, is_kept, is_thing, range_of_cells, subtype_is_array,
-    subtype_is_kept, subtype_is_thing,
+    array_of, index_range, is_kept, is_thing, range_of_cells, subtype_is_array, subtype_is_kept,
+    subtype_is_thing,
 };
 pub use widths::{added, cells_of_declaration, width_of_object, width_of_subtype};
 pub use within::{

@@ -1,8 +1,9 @@
 //! Kinds of types, and the ranges of cells (ISO/IEC 8652:2012, 3.5, 3.6).
 ghost use Rattle.std.specs.Prelude.{◌≡◌, slice_get};
-ghost use Rattle.ada_image.specs.Layout.{is_thing, is_array, is_kept, subtype_is, array_of, cell_subtype, range_of_cells, index_range};
+ghost use Rattle.ada_regions.specs.TypeKinds.{is_array_type};
+ghost use Rattle.ada_image.specs.Layout.{is_thing, is_kept, subtype_is, array_of, cell_subtype, range_of_cells, index_range};
 
-use ada_regions::{AdaType, ArrayType, Names, Subtype};
+use ada_regions::{AdaType, ArrayType, Names, Subtype, is_array_type};
 use profile_machine::Constraint;
 
 /// Whether objects of this type stand for themselves, and are named rather than copied.
@@ -18,16 +19,6 @@ pub fn is_thing(of_type: AdaType) -> bool
         AdaType::Derived(_) => true,
         AdaType::Task(_) => true,
         AdaType::Protected(_) => true,
-        _ => false,
-    }
-}
-
-/// Whether it is an array type (3.6).
-pub fn is_array(of_type: AdaType) -> bool
-    ensures { result ≡ is_array of_type }
-{
-    match of_type {
-        AdaType::Array(_) => true,
         _ => false,
     }
 }
@@ -55,11 +46,11 @@ pub fn subtype_is_thing(subtype: Option<Subtype>) -> bool
 
 /// Whether it is a subtype of an array type.
 pub fn subtype_is_array(subtype: Option<Subtype>) -> bool
-    ensures { result ≡ subtype_is is_array subtype }
+    ensures { result ≡ subtype_is is_array_type subtype }
 {
     match subtype {
         None => false,
-        Some(subtype) => is_array(subtype.of_type),
+        Some(subtype) => is_array_type(subtype.of_type),
     }
 }
 

@@ -1,6 +1,7 @@
 //! Where a statement stands.
 ghost use Rattle.std.specs.Prelude.{◌≡◌, ◌∷◌, IfOk};
-ghost use Rattle.ada_image.specs.Making.{nothing_made, in_body_of, units_inside, in_construct, in_scope, in_handler};
+ghost use Rattle.std.specs.List.{cons_option};
+ghost use Rattle.ada_image.specs.Making.{nothing_made, in_body_of, in_construct, in_scope, in_handler};
 ghost use Rattle.ada_image.specs.ImageOfUnits.{outermost};
 
 use ada_image::{ListOf, Lists, NamesOf, OpenLoop, Within};
@@ -77,7 +78,7 @@ pub fn in_body_of<'n, 't>(
 
 /// The units around, and this one where its entity is told (9.1, 9.4).
 pub fn units_inside(within: &Within<'_, '_>, unit: Option<u32>) -> Result<List<u32>, NoMemory>
-    ensures { IfOk result (λ units. units ≡ units_inside unit within.now.units) }
+    ensures { IfOk result (λ units. units ≡ cons_option unit within.now.units) }
 {
     let mut units = within.units.get().clone()?;
     match unit {

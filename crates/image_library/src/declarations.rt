@@ -8,7 +8,7 @@ use crate::packages::part_of;
 use ada_image::{Lists, Within};
 use ada_tree::{LibraryPackage, Package, PackageBody, PackageDeclaration};
 use ann_base::NoMemory;
-use image_objects::{declarations_put, make_tasks, part_if};
+use image_objects::{declarations_put, make_tasks};
 use profile_machine::StatementNo;
 use std::alloc::Global;
 
@@ -109,5 +109,5 @@ pub fn package_part(
     let part = part_of(packages, name)?;
     let activates = make_tasks(within, body.declarations.as_slice())
         || declared_tasks(within, packages, name);
-    Ok(part_if(activates, part))
+    Ok(activates.then_some(part))
 }

@@ -1,19 +1,11 @@
 //! The activation of tasks, and its end (ISO/IEC 8652:2012, 9.2).
-ghost use Rattle.std.specs.Prelude.{◌≡◌};
 ghost use Rattle.ada_image.specs.Made.{Made};
-ghost use Rattle.ada_image.specs.ImageOfDeclarations.{part_if, activation_put, end_of_activation_put};
+ghost use Rattle.ada_image.specs.ImageOfDeclarations.{activation_put, end_of_activation_put};
 
 use ada_image::Lists;
 use ann_base::NoMemory;
 use image_layout::action_put;
 use profile_machine::{StatementForm, StatementNo};
-
-/// The part whose tasks are activated, where it makes any.
-pub fn part_if(makes_tasks: bool, part: u32) -> Option<u32>
-    ensures { result ≡ part_if makes_tasks part }
-{
-    if makes_tasks { Some(part) } else { None }
-}
 
 /// The activation of the tasks of a part.
 #[tactic(auto, unfolding(ada_image::specs::ImageOfDeclarations::activation_put))]

@@ -1,11 +1,12 @@
 //! What a defining name declares (ISO/IEC 8652:2012, 3.1).
 ghost use Rattle.std.specs.Prelude.{◌≡◌, option_copied};
+ghost use Rattle.ada_regions.specs.TypeKinds.{is_task_type, is_controlled_type};
 ghost use Rattle.ada_image.specs.Layout.{subtype_is};
-ghost use Rattle.ada_image.specs.ImageOfDeclarations.{kind_declared, number_declared, subtype_declared_as, is_task, is_controlled, subprogram_of_kind, subprogram_declared_as};
+ghost use Rattle.ada_image.specs.ImageOfDeclarations.{kind_declared, number_declared, subtype_declared_as, subprogram_of_kind, subprogram_declared_as};
 
 use ada_entities::{entity_denoted, kind_at};
 use ada_image::Within;
-use ada_regions::{AdaType, EntityKind, Subtype, subtype_of_kind};
+use ada_regions::{EntityKind, Subtype, is_controlled_type, is_task_type, subtype_of_kind};
 use ada_tree::Identifier;
 use image_names::object_number;
 use profile_machine::{DeclNo, SubprogramNo};
@@ -41,41 +42,23 @@ pub(crate) fn subtype_declared_as(
     subtype_of_kind(kind)
 }
 
-fn is_task(of_type: AdaType) -> bool
-    ensures { result ≡ is_task of_type }
-{
-    match of_type {
-        AdaType::Task(_) => true,
-        _ => false,
-    }
-}
-
-fn is_controlled(of_type: AdaType) -> bool
-    ensures { result ≡ is_controlled of_type }
-{
-    match of_type {
-        AdaType::Derived(_) => true,
-        _ => false,
-    }
-}
-
 /// Whether objects of a subtype are tasks (9.1).
 pub(crate) fn has_task_type(subtype: Option<Subtype>) -> bool
-    ensures { result ≡ subtype_is is_task subtype }
+    ensures { result ≡ subtype_is is_task_type subtype }
 {
     match subtype {
         None => false,
-        Some(subtype) => is_task(subtype.of_type),
+        Some(subtype) => is_task_type(subtype.of_type),
     }
 }
 
 /// Whether objects of a subtype are controlled (7.6).
 pub(crate) fn has_controlled_type(subtype: Option<Subtype>) -> bool
-    ensures { result ≡ subtype_is is_controlled subtype }
+    ensures { result ≡ subtype_is is_controlled_type subtype }
 {
     match subtype {
         None => false,
-        Some(subtype) => is_controlled(subtype.of_type),
+        Some(subtype) => is_controlled_type(subtype.of_type),
     }
 }
 

@@ -8,6 +8,6 @@ mod declarations;
 mod declared;
 mod objects;
 
-pub use activations::{activation_put, end_of_activation_put, part_if};
+pub use activations::{activation_put, end_of_activation_put};
 pub use declarations::{declarations_put, make_tasks};
 pub use declared::subprogram_declared_as;

@@ -13,7 +13,7 @@ use image_layout::{action_put, first_put};
 use image_library::{
     declaration_makes_tasks, has_body, package_declarations_put, package_part, part_of,
 };
-use image_objects::{activation_put, declarations_put, part_if};
+use image_objects::{activation_put, declarations_put};
 use profile_machine::{StatementForm, StatementNo};
 use std::alloc::Global;
 
@@ -69,7 +69,7 @@ fn package_declaration_put(
     let part = part_of(packages, name)?;
     let activates = !has_body(packages, name) && declaration_makes_tasks(within, declaration);
     package_bodies_put(alloc, lists, within, declaration)?;
-    let first = activation_put(lists, part_if(activates, part), next)?;
+    let first = activation_put(lists, activates.then_some(part), next)?;
     package_declarations_put(alloc, lists, within, part, declaration, first)
 }
 

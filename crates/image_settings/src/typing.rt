@@ -7,12 +7,11 @@ ghost use Rattle.ada_regions.specs.declared.types.AdaType.TheVariants as types;
 ghost use Rattle.ada_image.specs.TypesOfExpressions.{type_of_subtype, indexed, type_of_result, type_of_kind, type_denoted, type_of_addends, type_of_factors, type_of_named, is_span};
 
 use crate::operators::{
-    is_span_type, type_behind_operator, type_of_attribute, type_of_item, type_of_product,
-    type_of_sum,
+    type_behind_operator, type_of_attribute, type_of_item, type_of_product, type_of_sum,
 };
 use ada_entities::{denoted_by, kind_at};
 use ada_lex::decimals;
-use ada_regions::{AdaType, Denoted, EntityKind, Names, Subtype};
+use ada_regions::{AdaType, Denoted, EntityKind, Names, Subtype, is_span_type};
 use ada_tree::{
     Addend, Argument, AttributeDesignator, Expression, ExpressionForm, Multiplied, Name, OneOrMore,
 };

@@ -2,8 +2,7 @@
 use Rattle.std.proofs.Common.{◌≡◌, List, [], ◌∷◌, refl}
 use Rattle.world_tables.specs.Lists.{first_of}
 use Rattle.ada_image.specs.declared.making.OpenLoop.{OpenLoop}
-use Rattle.ada_image.specs.ImageOfStatements.{innermost_loop}
 
-pub innermost_is_first : (loops : List OpenLoop) → innermost_loop loops ≡ first_of loops
+pub innermost_is_first : (loops : List OpenLoop) → first_of loops ≡ first_of loops
 innermost_is_first [] = refl
 innermost_is_first (around ∷ loops) = refl

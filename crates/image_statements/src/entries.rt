@@ -1,12 +1,13 @@
 //! Entries, abort statements and requeue statements (ISO/IEC 8652:2012, 9.5.2, 9.5.4, 9.8).
 ghost use Rattle.std.specs.Prelude.{◌≡◌, ◌∷◌, map, IfOk};
+ghost use Rattle.ada_regions.specs.Regions.{entry_number};
 ghost use Rattle.ada_image.specs.Made.{Made};
 ghost use Rattle.ada_image.specs.ImageOfExpressions.{thing_named};
-ghost use Rattle.ada_image.specs.ImageOfStatements.{entry_of_kind, entry_at, abort_put, unit_of_kind, unit_of_entry, requeue_put};
+ghost use Rattle.ada_image.specs.ImageOfStatements.{entry_at, abort_put, unit_of_kind, unit_of_entry, requeue_put};
 
 use ada_entities::{entity_denoted, kind_at, last_part};
 use ada_image::{Lists, Within};
-use ada_regions::EntityKind;
+use ada_regions::{EntityKind, entry_number};
 use ada_tree::{Name, OneOrMore};
 use ann_base::{NoMemory, Place};
 use image_actuals::owner_of_entry;
@@ -17,15 +18,6 @@ use profile_machine::{
 };
 use std::alloc::Global;
 
-fn entry_of_kind(kind: &EntityKind) -> Option<EntryNo>
-    ensures { result ≡ entry_of_kind kind.now }
-{
-    match kind {
-        EntityKind::Entry { number, .. } => Some(*number),
-        _ => None,
-    }
-}
-
 /// The entry that the name at a place denotes.
 #[tactic(auto, unfolding(ada_image::specs::ImageOfStatements::entry_at))]
 pub fn entry_at(within: &Within<'_, '_>, place: Place) -> EntryNo
@@ -35,7 +27,7 @@ pub fn entry_at(within: &Within<'_, '_>, place: Place) -> EntryNo
         None => EntryNo(0),
         Some(entity) => match kind_at(within.names.get(), entity) {
             None => EntryNo(0),
-            Some(kind) => entry_of_kind(kind).unwrap_or(EntryNo(0)),
+            Some(kind) => entry_number(kind).unwrap_or(EntryNo(0)),
         },
     }
 }

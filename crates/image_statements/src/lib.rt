@@ -15,4 +15,4 @@ pub use choices::choices_made;
 pub use entries::{abort_put, entry_at, requeue_put};
 pub use exceptions::{handled_made, raise_put};
 pub use scopes::scope_at;
-pub use simple::{condition_made, delay_put, exit_put, return_put};
+pub use simple::{delay_put, exit_put, return_put};

@@ -2,7 +2,8 @@
 ghost use Rattle.std.specs.Prelude.{◌≡◌, option_copied, option_map};
 ghost use Rattle.std.specs.List.{find};
 ghost use Rattle.ada_image.specs.Made.{Made};
-ghost use Rattle.ada_image.specs.ImageOfStatements.{delay_form, delay_put, value_returned, return_put, has_label, loop_left, loop_statement, condition_made, exit_put};
+ghost use Rattle.ada_image.specs.ImageOfStatements.{delay_form, delay_put, value_returned, return_put, has_label, loop_left, loop_statement, exit_put};
+ghost use Rattle.ada_image.specs.ImageOfExpressions.{optional_value};
 ghost use Rattle.image_actuals.specs.Shown.{call_shown};
 
 use ada_entities::entity_denoted;
@@ -10,7 +11,7 @@ use ada_image::{Lists, OpenLoop, Within};
 use ada_tree::{Delay, Exit, Expression, Identifier};
 use ann_base::NoMemory;
 use image_actuals::{FunctionCall, function_call, function_call_put};
-use image_expressions::expression_made;
+use image_expressions::{expression_made, optional_value};
 use image_layout::action_put;
 use image_signs::{signs_if, signs_in};
 use profile_machine::{Destination, ExprNo, StatementForm, StatementNo, SubprogramNo};
@@ -138,25 +139,6 @@ fn loop_statement(left: Option<&OpenLoop>) -> StatementNo
     }
 }
 
-/// A condition, where one stands there.
-#[tactic(auto, unfolding(ada_image::specs::ImageOfStatements::condition_made))]
-pub fn condition_made(
-    lists: &mut Lists,
-    within: &Within<'_, '_>,
-    condition: Option<&Expression>,
-) -> Result<Option<ExprNo>, NoMemory>
-    ensures { Made (condition_made within.now (option_copied condition.entry)) lists.old lists.new
-        result }
-{
-    match condition {
-        None => Ok(None),
-        Some(condition) => {
-            let condition = expression_made(lists, condition, within)?;
-            Ok(Some(condition))
-        }
-    }
-}
-
 /// An exit statement (5.7).
 #[tactic(auto, unfolding(ada_image::specs::ImageOfStatements::exit_put))]
 pub fn exit_put(
@@ -169,7 +151,7 @@ pub fn exit_put(
 {
     let signs = signs_if(within, &exit.condition)?;
     let of_loop = loop_statement(loop_left(within, &exit.loop_name));
-    let condition = condition_made(lists, within, exit.condition.as_ref())?;
+    let condition = optional_value(lists, within, exit.condition.as_ref())?;
     action_put(
         lists,
         StatementForm::Exit { condition, of_loop },

@@ -1,36 +1,20 @@
 //! Task units (ISO/IEC 8652:2012, 9.1, D.1, D.2.6).
-ghost use Rattle.std.specs.Prelude.{◌≡◌, option_copied, IfOk};
+ghost use Rattle.std.specs.Prelude.{◌≡◌, IfOk};
 ghost use Rattle.ada_image.specs.Made.{Made};
-ghost use Rattle.ada_image.specs.UnitsOfImage.{deadline_made, task_unit_with, task_units_made};
+ghost use Rattle.ada_image.specs.UnitsOfImage.{task_unit_with, task_units_made};
+ghost use Rattle.ada_image.specs.ImageOfExpressions.{optional_value};
 ghost use Rattle.image_units.specs.Parts.{task_unit_made};
 
 use crate::aspects::{aspect_value, priority_given};
 use crate::unit_entries::entries_of;
 use ada_image::{Lists, Within};
 use ada_regions::{Names, NumberedTask};
-use ada_tree::Expression;
 use ann_base::NoMemory;
-use image_expressions::expression_made;
+use image_expressions::optional_value;
 use image_layout::added;
 use image_scopes::scope_no;
 use profile_machine::{EntryUnit, ExprNo, ImageList, TaskUnit, TaskUnitNo};
 use std::alloc::Global;
-
-/// The relative deadline of a task unit, where it has one (D.2.6).
-#[tactic(auto, unfolding(ada_image::specs::UnitsOfImage::deadline_made))]
-fn deadline_made(
-    lists: &mut Lists,
-    within: &Within<'_, '_>,
-    deadline: Option<&Expression>,
-) -> Result<Option<ExprNo>, NoMemory>
-    ensures { Made (deadline_made within.now (option_copied deadline.entry)) lists.old lists.new
-        result }
-{
-    match deadline {
-        None => Ok(None),
-        Some(deadline) => Ok(Some(expression_made(lists, deadline, within)?)),
-    }
-}
 
 /// A task unit, given the number of its deadline.
 #[tactic(auto, unfolding(ada_image::specs::UnitsOfImage::task_unit_with))]
@@ -63,7 +47,7 @@ fn task_unit_made(
     ensures { Made (task_unit_made within.now number task.now) lists.old lists.new result }
 {
     let deadline = aspect_value(b"relative_deadline", task.aspects.as_slice());
-    let number_of_deadline = deadline_made(lists, within, deadline)?;
+    let number_of_deadline = optional_value(lists, within, deadline)?;
     task_unit_with(alloc, within.names.get(), number, task, number_of_deadline)
 }
 

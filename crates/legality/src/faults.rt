@@ -1,6 +1,7 @@
 //! The faults of a source (ISO/IEC 8652:2012, 1.1.5).
 ghost use Rattle.std.specs.Prelude.{◌≡◌, ◌++◌, IfOk, OnOk};
-ghost use Rattle.ada_legality.specs.Faults.{faults_where, first_fault_in, found_of, walked};
+ghost use Rattle.world_tables.specs.Lists.{first_of};
+ghost use Rattle.ada_legality.specs.Faults.{faults_where, found_of, walked};
 ghost use Rattle.ada_legality.specs.Units.{known_with, units_found};
 ghost use Rattle.legality.specs.Behind.{found_behind};
 
@@ -118,7 +119,7 @@ pub fn first_fault<'t>(
 ) -> Result<Option<Fault>, NoMemory>
     // It is the first of those that the definitions find; none where the source breaks no rule.
     ensures fault { IfOk result
-        (λ fault. fault ≡ first_fault_in (faults_where unit.now names.now)) }
+        (λ fault. fault ≡ first_of (faults_where unit.now names.now)) }
 {
     let occurrences = occurrences_of(alloc, unit)?;
     let found = found_of(alloc, unit, names, &occurrences)?;

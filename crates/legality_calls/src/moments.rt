@@ -3,8 +3,8 @@ ghost use Rattle.std.specs.Prelude.{◌≡◌};
 ghost use Rattle.ada_legality.specs.Calls.{gives_name, moment_name, has_named, positional, second_positional, has_span_first, span_if_typed, span_by, moment_is_span};
 
 use ada_legality::{ActualPart, Typed};
-use ada_regions::Operation;
-use legality_types::{is_of_time, is_span_of_time};
+use ada_regions::{Operation, is_span_type};
+use legality_types::is_of_time;
 
 /// The name of the moment: for a span, or for a moment.
 pub(crate) fn moment_name(is_span: bool) -> &'static [u8]
@@ -63,7 +63,7 @@ fn span_if_typed(first: bool, typed: Typed) -> bool
 {
     match typed {
         Typed::OfSubtype(subtype) => {
-            if is_span_of_time(subtype.of_type) {
+            if is_span_type(subtype.of_type) {
                 true
             } else if is_of_time(subtype.of_type) {
                 false

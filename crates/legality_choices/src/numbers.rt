@@ -1,6 +1,7 @@
 //! Values as numbers (ISO/IEC 8652:2012, 3.5).
 ghost use Rattle.std.specs.Prelude.{◌≡◌};
-ghost use Rattle.ada_legality.specs.Words.{truth_number, number_of_value, same_number, lies_between};
+ghost use Rattle.profile_machine.specs.Words.{same_number};
+ghost use Rattle.ada_legality.specs.Words.{truth_number, number_of_value, lies_between};
 
 use profile_machine::Value;
 

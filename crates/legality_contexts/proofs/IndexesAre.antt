@@ -1,7 +1,8 @@
 -- The types of the indexes of array types, one occurrence at a time.
 use Rattle.std.proofs.Common.{◌≡◌, ◌++◌, ◌∷◌, ◌∙◌, [], List, refl}
 use Rattle.std.specs.List.{flat_map}
-use Rattle.ada_legality.specs.Units.{Bounds, bounds_in, indexes_from, indexes_of, known_with, type_between}
+use Rattle.ada_legality.specs.SimpleStatements.{type_between}
+use Rattle.ada_legality.specs.Units.{Bounds, bounds_in, indexes_from, indexes_of, known_with}
 use Rattle.ada_legality.specs.declared.standing.InForce.{InForce}
 use Rattle.ada_regions.specs.Occurrences.{Occurrences}
 use Rattle.ada_regions.specs.declared.table.Names.{Names}

@@ -1,6 +1,7 @@
 -- The types of the indexes of array types, one occurrence at a time.
 use Rattle.std.specs.Prelude.{List, [], ◌++◌, ◌∷◌}
-use Rattle.ada_legality.specs.Units.{Bounds, bounds_in, known_with, type_between}
+use Rattle.ada_legality.specs.SimpleStatements.{type_between}
+use Rattle.ada_legality.specs.Units.{Bounds, bounds_in, known_with}
 use Rattle.ada_legality.specs.declared.standing.InForce.{InForce}
 use Rattle.ada_regions.specs.Occurrences.{Occurrence, Occurrences}
 use Rattle.ada_regions.specs.declared.table.Names.{Names}

@@ -1,7 +1,8 @@
 //! The types of the indexes of array types (ISO/IEC 8652:2012, 3.6): each array type stands behind those that its bounds name.
 ghost use Rattle.std.specs.Prelude.{◌≡◌, IfOk, OnOk, map};
 ghost use Rattle.ada_regions.specs.Shown.{occurrence_shown};
-ghost use Rattle.ada_legality.specs.Units.{indexes_of, known_with, type_between};
+ghost use Rattle.ada_legality.specs.SimpleStatements.{type_between};
+ghost use Rattle.ada_legality.specs.Units.{indexes_of, known_with};
 ghost use Rattle.legality_contexts.specs.Along.{index_put, indexes_along};
 
 use ada_image::{ListOf, NamesOf};
@@ -9,8 +10,7 @@ use ada_legality::{InForce, Known, OccurrencesOf};
 use ada_regions::{AdaType, Names, Occurrence, Occurrences};
 use ada_tree::Expression;
 use ann_base::NoMemory;
-use legality_expressions::legality_types::type_of_bounds;
-use legality_expressions::typed_expression;
+use legality_expressions::type_between;
 use std::alloc::Global;
 use world_tables::List;
 
@@ -33,21 +33,6 @@ pub fn known_with<'n, 't>(
         in_force,
         occurrences: OccurrencesOf::new(occurrences),
     }
-}
-
-/// The type of the values between the bounds of an array type.
-#[tactic(auto, unfolding(ada_legality::specs::Units::type_between))]
-fn type_between(
-    alloc: Global,
-    known: &Known<'_, '_>,
-    low: &Expression,
-    high: &Expression,
-) -> Result<AdaType, NoMemory>
-    ensures { IfOk result (λ t. t ≡ type_between known.now low.now high.now) }
-{
-    let first = typed_expression(alloc, known, low)?;
-    let last = typed_expression(alloc, known, high)?;
-    Ok(type_of_bounds(first, last))
 }
 
 /// The type of the index of an array type, behind those before it.

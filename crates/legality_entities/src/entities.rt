@@ -1,12 +1,12 @@
 //! What names denote, and subtypes of entities (ISO/IEC 8652:2012, 3.3, 4.1, 8.6).
 ghost use Rattle.std.specs.Prelude.{◌≡◌, eqb, find, option_copied};
-ghost use Rattle.ada_legality.specs.Values.{subtype_of_loop, subtype_of_object, denoted_kind, kind_of_name, entity_of_name, subtype_of_entity, type_of_unit_kind, is_library_declaration, is_library_object, is_entry_kind, is_kind};
+ghost use Rattle.ada_regions.specs.Regions.{is_entry};
+ghost use Rattle.ada_legality.specs.Values.{subtype_of_loop, subtype_of_object, denoted_kind, kind_of_name, entity_of_name, subtype_of_entity, is_library_declaration, is_library_object, is_kind};
 ghost use Rattle.ada_legality.specs.Attributes.{kind_of_identifier};
 
-use crate::kinds::is_entry_kind;
 use ada_entities::{denoted_by, entity_denoted, entity_of, kind_at};
 use ada_legality::{Known, LoopParameter};
-use ada_regions::{AdaType, Denoted, EntityKind, Names, Subtype, free_subtype, subtype_of_kind};
+use ada_regions::{AdaType, Denoted, EntityKind, Names, Subtype, free_subtype, is_entry};
 use ada_tree::{Identifier, Name};
 use profile_machine::DeclNo;
 use world_tables::List;
@@ -60,11 +60,11 @@ pub fn kind_of_name<'n>(known: &'n Known<'_, '_>, name: &Name) -> Option<&'n Ent
 
 /// A name denotes an entry.
 pub fn names_entry(known: &Known<'_, '_>, name: &Name) -> bool
-    ensures { result ≡ is_kind is_entry_kind known.now name.now }
+    ensures { result ≡ is_kind is_entry known.now name.now }
 {
     match kind_of_name(known, name) {
         None => false,
-        Some(kind) => is_entry_kind(kind),
+        Some(kind) => is_entry(kind),
     }
 }
 
@@ -96,14 +96,6 @@ pub fn subtype_of_entity(known: &Known<'_, '_>, denoted: Denoted) -> Option<Subt
     let entity = entity_of(denoted)?;
     let kind = kind_at(known.names.get(), entity)?;
     subtype_of_object(known, entity, kind)
-}
-
-/// The type of an object or a unit.
-pub fn type_of_unit_kind(kind: &EntityKind) -> Option<AdaType>
-    ensures { result ≡ type_of_unit_kind kind.now }
-{
-    let subtype = subtype_of_kind(kind)?;
-    Some(subtype.of_type)
 }
 
 /// Whether a declaration has its cells in the environment's scope (10.2).

@@ -1,6 +1,6 @@
 //! Kinds of entities (ISO/IEC 8652:2012, 3.1, 3.3, 6.1, 9.5.2).
 ghost use Rattle.std.specs.Prelude.{◌≡◌};
-ghost use Rattle.ada_legality.specs.Values.{is_object_kind, is_literal_kind, is_function_kind, is_procedure_kind, is_entry_kind, formals_of_subprogram};
+ghost use Rattle.ada_legality.specs.Values.{is_object_kind, is_literal_kind, is_function_kind, is_procedure_kind, formals_of_subprogram};
 ghost use Rattle.ada_legality.specs.SimpleStatements.{task_type_of_entry};
 ghost use Rattle.ada_legality.specs.Attributes.{protected_procedure, is_in_mode, is_variable_kind, type_of_entry_unit, unit_type_of_entry};
 
@@ -47,16 +47,6 @@ pub fn is_procedure_kind(kind: &EntityKind) -> bool
     match kind {
         EntityKind::Subprogram { is_function, .. } => !*is_function,
         EntityKind::Main => true,
-        _ => false,
-    }
-}
-
-/// An entry.
-pub fn is_entry_kind(kind: &EntityKind) -> bool
-    ensures { result ≡ is_entry_kind kind.now }
-{
-    match kind {
-        EntityKind::Entry { .. } => true,
         _ => false,
     }
 }

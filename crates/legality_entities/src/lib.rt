@@ -10,7 +10,6 @@ mod kinds;
 mod named;
 mod predefined;
 mod standing;
-mod units;
 
 pub use around::{
     body_around, in_own_task, innermost_unit, is_accept, is_body, is_entity, is_type, is_type_in,
@@ -19,13 +18,12 @@ pub use around::{
 };
 pub use entities::{
     denoted_kind, entity_of_name, is_library_object, kind_of_identifier, kind_of_name, names_entry,
-    subtype_of_entity, type_of_unit_kind,
+    subtype_of_entity,
 };
 pub use exceptions::names_exception;
 pub use kinds::{
-    formals_of_subprogram, is_entry_kind, is_function_kind, is_literal_kind, is_object_kind,
-    is_procedure_kind, is_variable_kind, protected_procedure, task_type_of_entry,
-    unit_type_of_entry,
+    formals_of_subprogram, is_function_kind, is_literal_kind, is_object_kind, is_procedure_kind,
+    is_variable_kind, protected_procedure, task_type_of_entry, unit_type_of_entry,
 };
 pub use named::same_named;
 pub use predefined::{
@@ -33,4 +31,3 @@ pub use predefined::{
     type_of_constant,
 };
 pub use standing::{copy_of, with_around, with_loop};
-pub use units::is_unit_name;

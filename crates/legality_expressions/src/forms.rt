@@ -2,6 +2,7 @@
 ghost use Rattle.std.specs.Prelude.{◌≡◌, IfOk, option_map, unwrap_or};
 ghost use Rattle.ada_legality.specs.Findings.{Reads};
 ghost use Rattle.ada_legality.specs.ReadExpressions.{signed_expression, highest_expression, bracketed_expression, argument_part, arguments_read, named_expression, typed_expression};
+ghost use Rattle.ada_legality.specs.SimpleStatements.{type_between};
 
 use crate::chains::{
     adding_expression, logical_expression, multiplying_expression, relational_expression,
@@ -9,6 +10,7 @@ use crate::chains::{
 use crate::readable::{Readable, operand_read};
 use ada_entities::copy;
 use ada_legality::{ActualPart, Finding, Known, Read, Typed};
+use ada_regions::AdaType;
 use ada_tree::{
     Argument, AttributeDesignator, Expression, ExpressionForm, HighestOperator, Identifier, Name,
     Sign,
@@ -19,6 +21,7 @@ use legality_actuals::legality_reads::{
     bracketed_read, call_inside, highest_read, number_read, operation_of_one_judged, plain_read,
     signed_judged, signed_read, text_read,
 };
+use legality_actuals::legality_types::type_of_bounds;
 use legality_actuals::legality_values::{attribute_read, name_read};
 use legality_actuals::{attribute_judged, name_judged};
 use profile_machine::{ImageList, Text};
@@ -244,4 +247,19 @@ pub fn typed_expression(
     let mut found = List::new(alloc);
     let read = expression.read(alloc, &mut found, known)?;
     Ok(read.typed)
+}
+
+/// The type of the values between two bounds: of a loop parameter, and of the indexes of an array.
+#[tactic(auto, unfolding(ada_legality::specs::SimpleStatements::type_between))]
+pub fn type_between(
+    alloc: Global,
+    known: &Known<'_, '_>,
+    low: &Expression,
+    high: &Expression,
+) -> Result<AdaType, NoMemory>
+    ensures { IfOk result (λ t. t ≡ type_between known.now low.now high.now) }
+{
+    let first = typed_expression(alloc, known, low)?;
+    let last = typed_expression(alloc, known, high)?;
+    Ok(type_of_bounds(first, last))
 }

@@ -6,7 +6,7 @@ mod chains;
 mod forms;
 mod readable;
 
-pub use forms::{arguments_read, typed_expression};
+pub use forms::{arguments_read, type_between, typed_expression};
 pub use readable::Readable;
 
 // What stands below, for the crates above.

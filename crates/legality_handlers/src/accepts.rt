@@ -4,19 +4,17 @@ ghost use Rattle.std.specs.Prelude.{◌≡◌, ◌++◌, OnOk, option_copied};
 ghost use Rattle.ada_regions.specs.Completions.{holds_of};
 ghost use Rattle.ada_regions.specs.Names.{kind_at};
 ghost use Rattle.ada_regions.specs.Words.{and_then};
+ghost use Rattle.ada_regions.specs.Regions.{is_entry};
 ghost use Rattle.ada_legality.specs.SimpleStatements.{task_type_of_entry};
-ghost use Rattle.ada_legality.specs.Values.{is_entry_kind};
 ghost use Rattle.ada_legality.specs.Words.{any_in_body};
 ghost use Rattle.ada_legality.specs.Statements.{accept_judged, accepts_entry, is_asynchronous_select, stands_in_own_task};
 
 use ada_entities::{entity_denoted, kind_at};
 use ada_legality::{Around, Finding, Known, Rule};
-use ada_regions::{AdaType, EntityKind};
+use ada_regions::{AdaType, EntityKind, is_entry};
 use ada_tree::Identifier;
 use ann_base::{NoMemory, Place};
-use legality_values::legality_entities::{
-    in_own_task, is_body, is_entry_kind, same_entities, task_type_of_entry,
-};
+use legality_values::legality_entities::{in_own_task, is_body, same_entities, task_type_of_entry};
 use legality_values::legality_types::{broken_if, broken_unless};
 use world_tables::List;
 
@@ -37,12 +35,12 @@ fn task_type_if(kind: Option<&EntityKind>) -> Option<AdaType>
 }
 
 /// An entry.
-fn is_entry(kind: Option<&EntityKind>) -> bool
-    ensures { result ≡ holds_of is_entry_kind (option_copied kind.entry) }
+fn names_entry(kind: Option<&EntityKind>) -> bool
+    ensures { result ≡ holds_of is_entry (option_copied kind.entry) }
 {
     match kind {
         None => false,
-        Some(kind) => is_entry_kind(kind),
+        Some(kind) => is_entry(kind),
     }
 }
 
@@ -122,22 +120,22 @@ pub fn accept_judged(
         (found.new
         ≡ found.old ++ accept_judged known.now place name.now (option_copied kind.entry)) }
 {
-    let names_entry = is_entry(kind);
-    broken_unless(found, Rule::KindOfName, names_entry, name.place)?;
+    let is_named = names_entry(kind);
+    broken_unless(found, Rule::KindOfName, is_named, name.place)?;
     let entity = entity_denoted(known.names.get(), name.place);
     let is_misplaced = !stands_in_own_task(known, kind)
         || stands_in_accept_of(entity, &known.around);
     broken_if(
         found,
         Rule::AcceptStatement,
-        names_entry && is_misplaced,
+        is_named && is_misplaced,
         place,
     )?;
     let is_inside = stands_in_asynchronous_select(&known.around);
     broken_if(
         found,
         Rule::AsynchronousSelect,
-        names_entry && is_inside,
+        is_named && is_inside,
         place,
     )
 }

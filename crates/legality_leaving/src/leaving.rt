@@ -1,10 +1,10 @@
 //! Exits, returns and raises (ISO/IEC 8652:2012, 5.7, 6.5, 11.3).
 ghost use Rattle.std.specs.Prelude.{◌≡◌, ◌++◌, OnOk};
+ghost use Rattle.profile_machine.specs.Words.{same_bool};
 ghost use Rattle.ada_legality.specs.Attributes.{kind_of_identifier};
 ghost use Rattle.ada_regions.specs.Completions.{holds_of};
 ghost use Rattle.ada_legality.specs.Words.{any_in_body, any_in_sequence};
 ghost use Rattle.ada_legality.specs.CallStatements.{condition_found, found_if};
-ghost use Rattle.ada_image.specs.ReadExpressions.{same_truth};
 ghost use Rattle.ada_legality.specs.SimpleStatements.{is_loop, same_entities, is_loop_named, is_label_kind, exit_judged, exit_found, function_of, function_around, is_package_around, stands_in_package, returned, return_judged, result_expected, return_found, is_handler, raise_found};
 
 use ada_entities::entity_denoted;
@@ -196,8 +196,8 @@ fn stands_in_package(known: &Known<'_, '_>) -> bool
     }
 }
 
-fn same_truth(a: bool, b: bool) -> bool
-    ensures { result ≡ same_truth a b }
+fn same_bool(a: bool, b: bool) -> bool
+    ensures { result ≡ same_bool a b }
 {
     if a { b } else { !b }
 }
@@ -229,7 +229,7 @@ fn return_judged(
     ensures { OnOk result
         (found.new ≡ found.old ++ return_judged known.now place has_value function) }
 {
-    let kept = same_truth(has_value, function.is_some()) && !stands_in_package(known);
+    let kept = same_bool(has_value, function.is_some()) && !stands_in_package(known);
     broken_unless(found, Rule::ReturnStatement, kept, place)?;
     returned(found, function)
 }

@@ -7,11 +7,11 @@ ghost use Rattle.ada_legality.specs.Attributes.{type_of_index, type_of_mark_ends
 use crate::prefixes::typed_access;
 use ada_entities::denoted_by;
 use ada_legality::{Known, Typed};
-use ada_regions::{AdaType, Denoted, EntityKind};
+use ada_regions::{AdaType, Denoted, EntityKind, is_task_type};
 use ada_subtypes::mark_denoted;
 use ada_tree::{Attribute, Name};
 use legality_entities::{denoted_kind, in_own_task, stands_in_type, subtype_of_entity};
-use legality_types::{has_ranges, is_discrete, is_task_unit, typed_as, typed_if};
+use legality_types::{has_ranges, is_discrete, typed_as, typed_if};
 use profile_machine::EntryUnit;
 
 /// The type of an array's index.
@@ -101,7 +101,7 @@ pub fn is_task_object(known: &Known<'_, '_>, denoted: Denoted) -> bool
 {
     match subtype_of_entity(known, denoted) {
         None => false,
-        Some(subtype) => is_task_unit(subtype.of_type),
+        Some(subtype) => is_task_type(subtype.of_type),
     }
 }
 

@@ -9,13 +9,15 @@ ghost use Rattle.ada_legality.specs.Values.{denotes_value, denotes_object, denot
 use ada_entities::denoted_by;
 use ada_image::type_of_operation;
 use ada_legality::{Known, Typed};
-use ada_regions::{AdaType, Denoted, EntityKind, Names, Operation, PredefinedUnit, Subtype};
+use ada_regions::{
+    AdaType, Denoted, EntityKind, Names, Operation, PredefinedUnit, Subtype, is_entry,
+};
 use ada_tree::Name;
 use image_layout::array_of;
 use legality_entities::{
-    constant_type, denoted_kind, is_entry_kind, is_function_kind, is_function_operation,
-    is_literal_kind, is_object_kind, is_predefined_constant, is_procedure_kind, operation_denoted,
-    operation_of, subtype_of_entity, type_of_constant,
+    constant_type, denoted_kind, is_function_kind, is_function_operation, is_literal_kind,
+    is_object_kind, is_predefined_constant, is_procedure_kind, operation_denoted, operation_of,
+    subtype_of_entity, type_of_constant,
 };
 use legality_types::{typed_as, typed_by, typed_if};
 use profile_machine::Constraint;
@@ -72,7 +74,7 @@ pub fn denotes_procedure(known: &Known<'_, '_>, denoted: Denoted) -> bool
         Some(operation) => !is_function_operation(operation),
         None => match denoted_kind(known.names.get(), denoted) {
             None => false,
-            Some(kind) => is_procedure_kind(kind) || is_entry_kind(kind),
+            Some(kind) => is_procedure_kind(kind) || is_entry(kind),
         },
     }
 }

@@ -6,14 +6,14 @@ ghost use Rattle.ada_legality.specs.CallStatements.{type_of_mark, constraint_fou
 
 use crate::bounds::bounds_if;
 use ada_legality::{Finding, IndicationUse, Known, Rule};
-use ada_regions::AdaType;
+use ada_regions::{AdaType, is_controlled_type};
 use ada_subtypes::indicated_subtype;
 use ada_tree::{Constraint as Indicated, Name, Parameter, SubtypeIndication};
 use ann_base::NoMemory;
 use legality_conditions::legality_entities::kind_of_name;
 use legality_conditions::legality_types::{
-    broken_if, broken_unless, has_ranges, is_controlled_type, is_event_timer_or_budget,
-    is_root_controlled, is_scalar, is_scalar_or_array, is_timer,
+    broken_if, broken_unless, has_ranges, is_event_timer_or_budget, is_root_controlled, is_scalar,
+    is_scalar_or_array, is_timer,
 };
 use legality_conditions::legality_values::{is_unclear_mark, place_of};
 use std::alloc::Global;

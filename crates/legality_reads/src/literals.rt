@@ -1,7 +1,8 @@
 //! Numeric literals (ISO/IEC 8652:2012, 2.4, 3.5.4, 9.6).
 ghost use Rattle.std.specs.Prelude.{◌≡◌, ◌++◌, ◌<◌, ◌^◌, leb, OnOk};
+ghost use Rattle.ada_regions.specs.Numbered.{no_place};
 ghost use Rattle.ada_lex.specs.Meaning.{whole_of};
-ghost use Rattle.ada_legality.specs.Reading.{nowhere, no_literal, literal_in, lies_in_duration, literal_at, with_minus, integer_literal, duration_literal, other_pointed_literal};
+ghost use Rattle.ada_legality.specs.Reading.{no_literal, literal_in, lies_in_duration, literal_at, with_minus, integer_literal, duration_literal, other_pointed_literal};
 
 use ada_legality::{Finding, Literal, Read, Rule};
 use ada_lex::{decimals, whole_value};
@@ -13,10 +14,10 @@ use world_tables::List;
 fn no_literal() -> Literal
     ensures { result ≡ no_literal }
 {
-    let nowhere = Place { line: 0, column: 0 };
+    let no_place = Place { line: 0, column: 0 };
     Literal {
-        place: nowhere,
-        number_place: nowhere,
+        place: no_place,
+        number_place: no_place,
         is_integer: false,
         is_negative_integer: false,
         is_duration: false,

@@ -1,7 +1,7 @@
 //! The heads of loops and selects (ISO/IEC 8652:2012, 5.5, 9.7).
 ghost use Rattle.std.specs.Prelude.{◌≡◌, ◌++◌, OnOk, IfOk, false};
 ghost use Rattle.ada_tree.specs.declared.statements.Iteration.TheVariants as iteration;
-ghost use Rattle.ada_legality.specs.SimpleStatements.{range_if_static, loop_parameter, type_of_loop, with_iteration, iteration_found, guard_found, trigger_found, entry_call_found};
+ghost use Rattle.ada_legality.specs.SimpleStatements.{range_if_static, loop_parameter, with_iteration, iteration_found, guard_found, trigger_found, entry_call_found};
 
 use crate::assignments::delay_found;
 use crate::calls::call_found;
@@ -12,7 +12,7 @@ use ada_subtypes::{range_between, static_value};
 use ada_tree::{Call, Expression, Guard, Identifier, Iteration, Trigger};
 use ann_base::{NoMemory, Place};
 use legality_conditions::legality_entities::{copy_of, names_entry, with_loop};
-use legality_conditions::legality_expressions::{Readable, typed_expression};
+use legality_conditions::legality_expressions::{Readable, type_between};
 use legality_conditions::legality_reads::expected;
 use legality_conditions::legality_types::{broken_unless, type_of_bounds};
 use legality_conditions::legality_values::place_of;
@@ -58,21 +58,6 @@ fn loop_parameter(
     }
 }
 
-/// The type of a loop parameter.
-#[tactic(auto, unfolding(ada_legality::specs::SimpleStatements::type_of_loop))]
-fn type_of_loop(
-    alloc: Global,
-    known: &Known<'_, '_>,
-    low: &Expression,
-    high: &Expression,
-) -> Result<AdaType, NoMemory>
-    ensures { IfOk result (λ t. t ≡ type_of_loop known.now low.now high.now) }
-{
-    let first = typed_expression(alloc, known, low)?;
-    let last = typed_expression(alloc, known, high)?;
-    Ok(type_of_bounds(first, last))
-}
-
 /// What is known behind the head of a loop.
 #[tactic(auto, unfolding(ada_legality::specs::SimpleStatements::with_iteration))]
 pub fn with_iteration<'n, 't>(
@@ -91,7 +76,7 @@ pub fn with_iteration<'n, 't>(
             high,
             ..
         } => {
-            let t = type_of_loop(alloc, known, low, high)?;
+            let t = type_between(alloc, known, low, high)?;
             with_loop(known, loop_parameter(known, parameter, low, high, t))
         }
     }

@@ -9,12 +9,14 @@ ghost use Rattle.ada_legality.specs.Declarations.{completes_declaration, control
 use ada_completions::is_specified;
 use ada_entities::{entity_at, entity_denoted, same_place};
 use ada_legality::{Finding, Known, Rule};
-use ada_regions::{EntityKind, Formal, Names, NumberedControlled, NumberedSubprogram};
+use ada_regions::{
+    EntityKind, Formal, Names, NumberedControlled, NumberedSubprogram, is_controlled_type,
+};
 use ada_tree::{Identifier, Parameter, SubprogramSpecification};
 use ann_base::{NoMemory, Place};
 use image_layout::{added, has_one_of_type};
 use legality_parts::legality_entities::{formals_of_subprogram, kind_of_identifier};
-use legality_parts::legality_types::{broken_if, is_controlled_type};
+use legality_parts::legality_types::broken_if;
 use legality_parts::type_of_mark;
 use world_tables::List;
 

@@ -5,14 +5,12 @@ ghost use Rattle.ada_image.specs.UnitsOfImage.{same_entry_unit};
 ghost use Rattle.ada_legality.specs.Declarations.{has_entries, is_library_name, is_outside_deadlines, is_task_outside, is_task_outside_library, is_wrong_with_deadlines, single_task_judged, task_judged, type_of_identifier};
 
 use ada_legality::{Finding, Known, Rule};
-use ada_regions::{AdaType, Names, NumberedEntry};
+use ada_regions::{AdaType, Names, NumberedEntry, is_task_type, type_of_kind};
 use ada_tree::Identifier;
 use ann_base::{NoMemory, Place};
 use image_layout::same_entry_unit;
-use legality_expressions::legality_entities::{
-    is_library_object, kind_of_identifier, type_of_unit_kind,
-};
-use legality_expressions::legality_types::{broken_if, is_task_unit};
+use legality_expressions::legality_entities::{is_library_object, kind_of_identifier};
+use legality_expressions::legality_types::broken_if;
 use profile_machine::EntryUnit;
 use world_tables::List;
 
@@ -32,14 +30,14 @@ pub(crate) fn type_of_identifier(known: &Known<'_, '_>, name: &Identifier) -> Op
     ensures { result ≡ type_of_identifier known.now name.now }
 {
     let kind = kind_of_identifier(known, name)?;
-    type_of_unit_kind(kind)
+    type_of_kind(kind)
 }
 
 /// A task object outside library packages.
 fn is_task_outside(known: &Known<'_, '_>, name: &Identifier, t: AdaType) -> bool
     ensures { result ≡ is_task_outside known.now name.now t }
 {
-    is_task_unit(t) && !is_library_name(known, name)
+    is_task_type(t) && !is_library_name(known, name)
 }
 
 /// A task object outside library packages, which a restriction may forbid.
@@ -80,7 +78,7 @@ fn has_entries(names: &Names<'_>, t: AdaType) -> bool
 fn is_wrong_with_deadlines(known: &Known<'_, '_>, name: &Identifier, t: AdaType) -> bool
     ensures { result ≡ is_wrong_with_deadlines known.now name.now t }
 {
-    is_task_unit(t) && (!is_library_name(known, name) || has_entries(known.names.get(), t))
+    is_task_type(t) && (!is_library_name(known, name) || has_entries(known.names.get(), t))
 }
 
 /// The same of an identifier.

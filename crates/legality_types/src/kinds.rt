@@ -1,9 +1,10 @@
 //! Kinds of types (ISO/IEC 8652:2012, 3.2, 3.5, 7.5, 7.6, D.8, D.14, D.15).
 ghost use Rattle.std.specs.Prelude.{◌≡◌};
-ghost use Rattle.ada_legality.specs.Types.{same_type_if, has_ranges, is_ordered, is_scalar, is_scalar_or_array, has_no_values, is_discrete, is_of_time, is_task_id, is_array_type, is_integer, is_boolean, is_duration, is_span_of_time, is_timer, is_event_timer_or_budget, is_controlled_type, is_task_unit, is_protected_unit, is_root_controlled};
+ghost use Rattle.ada_regions.specs.TypeKinds.{is_task_type, is_protected_type, is_controlled_type, is_array_type};
+ghost use Rattle.ada_legality.specs.Types.{same_type_if, has_ranges, is_ordered, is_scalar, is_scalar_or_array, has_no_values, is_discrete, is_of_time, is_task_id, is_integer, is_boolean, is_duration, is_timer, is_event_timer_or_budget, is_root_controlled};
 
 use ada_legality::same_type;
-use ada_regions::AdaType;
+use ada_regions::{AdaType, is_array_type, is_controlled_type, is_protected_type, is_task_type};
 
 /// Two types are the same, or both are none.
 pub fn same_type_if(a: Option<AdaType>, b: Option<AdaType>) -> bool
@@ -56,16 +57,6 @@ pub fn is_task_id(t: AdaType) -> bool
     }
 }
 
-/// An array type (3.6).
-pub fn is_array_type(t: AdaType) -> bool
-    ensures { result ≡ is_array_type t }
-{
-    match t {
-        AdaType::Array(_) => true,
-        _ => false,
-    }
-}
-
 /// Integer (3.5.4).
 pub fn is_integer(t: AdaType) -> bool
     ensures { result ≡ is_integer t }
@@ -96,16 +87,6 @@ pub fn is_duration(t: AdaType) -> bool
     }
 }
 
-/// Time_Span (D.8).
-pub fn is_span_of_time(t: AdaType) -> bool
-    ensures { result ≡ is_span_of_time t }
-{
-    match t {
-        AdaType::TimeSpan => true,
-        _ => false,
-    }
-}
-
 /// Timer (D.14.1).
 pub fn is_timer(t: AdaType) -> bool
     ensures { result ≡ is_timer t }
@@ -124,36 +105,6 @@ pub fn is_event_timer_or_budget(t: AdaType) -> bool
         AdaType::TimingEvent => true,
         AdaType::Timer => true,
         AdaType::GroupBudget => true,
-        _ => false,
-    }
-}
-
-/// A type of the source that is derived from Limited_Controlled or Controlled (7.6).
-pub fn is_controlled_type(t: AdaType) -> bool
-    ensures { result ≡ is_controlled_type t }
-{
-    match t {
-        AdaType::Derived(_) => true,
-        _ => false,
-    }
-}
-
-/// A task type (9.1).
-pub fn is_task_unit(t: AdaType) -> bool
-    ensures { result ≡ is_task_unit t }
-{
-    match t {
-        AdaType::Task(_) => true,
-        _ => false,
-    }
-}
-
-/// A protected type (9.4).
-pub fn is_protected_unit(t: AdaType) -> bool
-    ensures { result ≡ is_protected_unit t }
-{
-    match t {
-        AdaType::Protected(_) => true,
         _ => false,
     }
 }
@@ -205,5 +156,5 @@ pub fn has_no_values(t: AdaType) -> bool
     ensures { result ≡ has_no_values t }
 {
     is_event_timer_or_budget(t)
-        || (is_controlled_type(t) || (is_task_unit(t) || is_protected_unit(t)))
+        || (is_controlled_type(t) || (is_task_type(t) || is_protected_type(t)))
 }

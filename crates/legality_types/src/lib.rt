@@ -15,10 +15,9 @@ pub use expressions::{
 };
 pub use findings::{broken_if, broken_unless, note};
 pub use kinds::{
-    has_no_values, has_ranges, is_array_type, is_boolean, is_controlled_type, is_discrete,
-    is_duration, is_event_timer_or_budget, is_integer, is_of_time, is_ordered, is_protected_unit,
-    is_root_controlled, is_scalar, is_scalar_or_array, is_span_of_time, is_task_id, is_task_unit,
-    is_timer, same_type_if,
+    has_no_values, has_ranges, is_boolean, is_discrete, is_duration, is_event_timer_or_budget,
+    is_integer, is_of_time, is_ordered, is_root_controlled, is_scalar, is_scalar_or_array,
+    is_task_id, is_timer, same_type_if,
 };
 pub use limited::{is_copied_controlled, is_limited};
 pub use operators::{result_of, result_of_one};

@@ -2,8 +2,8 @@
 ghost use Rattle.std.specs.Prelude.{◌≡◌};
 ghost use Rattle.ada_legality.specs.Types.{is_limited_controlled, is_limited, is_copied_controlled};
 
-use crate::kinds::{has_no_values, is_controlled_type};
-use ada_regions::{AdaType, Names};
+use crate::kinds::has_no_values;
+use ada_regions::{AdaType, Names, is_controlled_type};
 use profile_machine::ControlledNo;
 
 /// A type derived from Limited_Controlled.

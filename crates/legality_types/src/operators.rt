@@ -1,10 +1,10 @@
 //! For which types each operator is defined (ISO/IEC 8652:2012, 4.5, D.8, D.14).
 ghost use Rattle.std.specs.Prelude.{◌≡◌};
-ghost use Rattle.ada_legality.specs.Types.{sum_of, difference_of, product_of, quotient_of, remainder_of, boolean_if, logical_of, equality_of, ordering_of, result_of, same_if, result_of_one};
+ghost use Rattle.ada_legality.specs.Types.{sum_of, difference_of, product_of, quotient_of, remainder_of, boolean_if, logical_of, equality_of, ordering_of, result_of, result_of_one};
 
-use crate::kinds::{is_boolean, is_duration, is_integer, is_ordered, is_scalar, is_span_of_time};
+use crate::kinds::{is_boolean, is_duration, is_integer, is_ordered, is_scalar};
 use ada_legality::same_type;
-use ada_regions::AdaType;
+use ada_regions::{AdaType, is_span_type};
 use profile_machine::{BinaryOperator, UnaryOperator};
 
 /// A sum.
@@ -135,24 +135,17 @@ pub fn result_of(operator: BinaryOperator, a: AdaType, b: AdaType) -> Option<Ada
     }
 }
 
-/// The operand's own type, where the operator is defined.
-fn same_if(defined: bool, t: AdaType) -> Option<AdaType>
-    ensures { result ≡ same_if defined t }
-{
-    if defined { Some(t) } else { None }
-}
-
 /// The type of the result of an operator with one operand, where it is defined for it.
 #[tactic(auto, unfolding(ada_legality::specs::Types::result_of_one))]
 pub fn result_of_one(operator: UnaryOperator, t: AdaType) -> Option<AdaType>
     ensures { result ≡ result_of_one operator t }
 {
     match operator {
-        UnaryOperator::Plus => same_if(is_integer(t) || is_duration(t), t),
+        UnaryOperator::Plus => (is_integer(t) || is_duration(t)).then_some(t),
         UnaryOperator::Minus => {
-            same_if(is_integer(t) || (is_duration(t) || is_span_of_time(t)), t)
+            (is_integer(t) || (is_duration(t) || is_span_type(t))).then_some(t)
         }
-        UnaryOperator::Abs => same_if(is_integer(t) || is_duration(t), t),
-        UnaryOperator::Not => same_if(is_boolean(t), t),
+        UnaryOperator::Abs => (is_integer(t) || is_duration(t)).then_some(t),
+        UnaryOperator::Not => is_boolean(t).then_some(t),
     }
 }

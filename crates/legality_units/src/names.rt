@@ -6,12 +6,11 @@ ghost use Rattle.ada_legality.specs.UnitsUsed.{is_usable_unit, unit_if, unit_in_
 ghost use Rattle.legality_units.specs.Parts.{unit_along};
 
 use crate::units::is_usable_unit;
-use ada_entities::denoted_at;
+use ada_entities::{denoted_at, is_used_package};
 use ada_legality::{Finding, Rule};
 use ada_regions::{Denoted, Names};
 use ada_tree::{Identifier, Name};
 use ann_base::{NoMemory, Place};
-use legality_entities::is_unit_name;
 use legality_types::broken_unless;
 use world_tables::List;
 
@@ -20,7 +19,7 @@ fn unit_if(names: &Names<'_>, denoted: Option<Denoted>) -> Option<Denoted>
     ensures { result ≡ unit_if names.now denoted }
 {
     let denoted = denoted?;
-    if is_unit_name(names, denoted) {
+    if is_used_package(names, denoted) {
         Some(denoted)
     } else {
         None

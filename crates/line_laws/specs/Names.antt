@@ -10,7 +10,7 @@ use Rattle.trace_text.specs.declared.events.Ended.{Ended}
 use Rattle.trace_text.specs.declared.events.Ended.TheVariants as why
 use Rattle.trace_text.specs.declared.events.Event.{Event}
 use Rattle.trace_text.specs.declared.events.Event.TheVariants as line
-use Rattle.trace_text.specs.Text.{is_name_from, IsName, IsExceptionName, IsPutText, IsPrintable, IsWithin, ArePrintable}
+use Rattle.trace_text.specs.Text.{is_name_from, IsName, IsExceptionName, IsPutText, IsPrintable, IsWithin, ArePrintable, IsFinishedWithin}
 use Rattle.profile_machine.specs.declared.image.Image.{Image}
 use Rattle.profile_machine.specs.declared.run_data.Item.{Item}
 use Rattle.profile_machine.specs.declared.world.lines.Line.{Line}
@@ -72,11 +72,6 @@ abbrev pub HasRoomForEntry : EntryName → Type 0
 HasRoomForEntry (called.OfTask task name) = length name ≤ NAME_BYTES
 HasRoomForEntry (called.OfObject object name) = length name ≤ NAME_BYTES
 
-abbrev pub HasRoomForFinished : Finished → Type 0
-HasRoomForFinished finished.Ok = Unit {0}
-HasRoomForFinished (finished.Raised name) = length name ≤ NAME_BYTES
-HasRoomForFinished finished.Requeue = Unit {0}
-
 abbrev pub HasRoomForEnded : Ended → Type 0
 HasRoomForEnded why.Completed = Unit {0}
 HasRoomForEnded (why.Exception name) = length name ≤ NAME_BYTES
@@ -88,7 +83,7 @@ HasRoom (line.New what name level) = length name ≤ NAME_BYTES
 HasRoom (line.Raise who name) = length name ≤ NAME_BYTES
 HasRoom (line.Put who text) = length text ≤ NAME_BYTES
 HasRoom (line.Call task call entry priority) = HasRoomForEntry entry
-HasRoom (line.Finish who call how) = HasRoomForFinished how
+HasRoom (line.Finish who call how) = IsFinishedWithin how
 HasRoom (line.Init who object region name) = length name ≤ NAME_BYTES
 HasRoom (line.Release release object handler) = length handler ≤ NAME_BYTES
 HasRoom (line.End why) = HasRoomForEnded why

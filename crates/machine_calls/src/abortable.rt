@@ -1,7 +1,8 @@
 //! How an abortable part is triggered, and how it ends (ISO/IEC 8652:2012, 9.7.4).
 ghost use Rattle.std.specs.Prelude.{◌≡◌, OnOk};
+ghost use Rattle.world_tables.specs.Lists.{rest_of};
 ghost use Rattle.profile_machine.specs.CallEnds.{trigger_at, trigger_outcome, forget_trigger, run_triggered, is_end, is_own_abort, behind_abortable, end_top_abortable};
-ghost use Rattle.profile_machine.specs.Frames.{frames_of, without_first};
+ghost use Rattle.profile_machine.specs.Frames.{frames_of};
 ghost use Rattle.profile_machine.specs.Steps.{looks};
 ghost use Rattle.profile_machine.specs.Unwinding.{any_struck};
 ghost use Rattle.machine_frames.specs.Did.{Did};
@@ -113,7 +114,7 @@ fn is_own_abort(leaving: Leaving, struck: bool, outer: bool) -> bool
 
 // Whether any construct below the top is struck.
 fn any_struck_below(frames: &List<Frame>) -> bool
-    ensures { result ≡ any_struck (without_first frames.now) }
+    ensures { result ≡ any_struck (rest_of frames.now) }
 {
     let mut below = frames.iter();
     below.next();

@@ -1,9 +1,9 @@
 //! The declaration of an object, by its kind (ISO/IEC 8652:2012, 3.3.1, 7.6, 9.4, D.14, D.15).
 ghost use Rattle.std.specs.Prelude.{OnOk};
+ghost use Rattle.machine_scopes.specs.Stored.{Stores};
 ghost use Rattle.profile_machine.specs.Declarations.{object_declared, controlled_declared, declared, declare_quietly, declare_by, declare};
 ghost use Rattle.profile_machine.specs.Values.{seen_by};
 ghost use Rattle.machine_frames.specs.Did.{Did};
-ghost use Rattle.machine_values.specs.Becomes.{Becomes};
 
 use crate::initial_values::{components_initialized, initialized};
 use crate::objects::{declare_protected, located_here, set_thing};
@@ -28,7 +28,7 @@ fn object_declared(
     initial: Initial,
     world: &mut World,
 ) -> Result<(), OrMemory<Raised>>
-    ensures { Becomes result (object_declared (seen_by p.now world.old name) d initial) world.old
+    ensures { Stores result (object_declared (seen_by p.now world.old name) d initial) world.old
         world.new }
 {
     let v = object_cell(&seen_by(p, world, name), ObjectName::Declared(d))?;
@@ -44,7 +44,7 @@ fn controlled_declared(
     c: ControlledNo,
     world: &mut World,
 ) -> Result<(), OrMemory<Raised>>
-    ensures { Becomes result (controlled_declared (seen_by p.now world.old name) d c) world.old
+    ensures { Stores result (controlled_declared (seen_by p.now world.old name) d c) world.old
         world.new }
 {
     let object = or_raised(located_here(&seen_by(p, world, name), d))?;
@@ -62,7 +62,7 @@ fn declared(
     kind: DeclarationKind,
     world: &mut World,
 ) -> Result<(), OrMemory<Raised>>
-    ensures { Becomes result (declared (seen_by p.now world.old name) d kind) world.old world.new }
+    ensures { Stores result (declared (seen_by p.now world.old name) d kind) world.old world.new }
 {
     match kind {
         DeclarationKind::Object(initial) => object_declared(alloc, p, name, d, initial, world),

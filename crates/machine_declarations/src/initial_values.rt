@@ -2,11 +2,11 @@
 //! raises an exception, none is written.
 ghost use Rattle.std.specs.Prelude.{◌≡◌, IfOk, OnOk, [], take, drop};
 ghost use Rattle.ann_base.specs.Answers.{Answers};
+ghost use Rattle.machine_scopes.specs.Stored.{Stores};
 ghost use Rattle.profile_machine.specs.Declarations.{default_cells, set_defaults, initial_of, initialized, components_initialized};
 ghost use Rattle.profile_machine.specs.declared.declarations.Initial.TheVariants as initially;
 ghost use Rattle.profile_machine.specs.Values.{seen_by};
 ghost use Rattle.machine_declarations.specs.FirstValues.{first_value, written, first_of_component, first_values, all_written, value_set, components_set};
-ghost use Rattle.machine_values.specs.Becomes.{Becomes};
 
 use ann_base::{NoMemory, OrMemory, Raised};
 use machine_parameters::{checked_for, copy_cells};
@@ -166,7 +166,7 @@ fn value_set(
     initial: Initial,
     world: &mut World,
 ) -> Result<(), OrMemory<Raised>>
-    ensures { Becomes result (value_set (seen_by p.now world.old name) v initial world.old)
+    ensures { Stores result (value_set (seen_by p.now world.old name) v initial world.old)
         world.old world.new }
 {
     let value = first_value(&seen_by(p, world, name), v, initial)?;
@@ -186,7 +186,7 @@ pub(crate) fn initialized(
     initial: Initial,
     world: &mut World,
 ) -> Result<(), OrMemory<Raised>>
-    ensures { Becomes result (initialized (seen_by p.now world.old name) v initial world.old)
+    ensures { Stores result (initialized (seen_by p.now world.old name) v initial world.old)
         world.old world.new }
 {
     value_set(alloc, p, name, v, initial, world)
@@ -248,7 +248,7 @@ fn components_set(
     components: &[DeclNo],
     world: &mut World,
 ) -> Result<(), OrMemory<Raised>>
-    ensures { Becomes result
+    ensures { Stores result
         (components_set (seen_by p.now world.old name) own_cells object components.now world.old)
         world.old world.new }
 {
@@ -275,7 +275,7 @@ pub(crate) fn components_initialized(
     components: &[DeclNo],
     world: &mut World,
 ) -> Result<(), OrMemory<Raised>>
-    ensures { Becomes result
+    ensures { Stores result
         (components_initialized (seen_by p.now world.old name) own_cells object components.now
         world.old) world.old world.new }
 {

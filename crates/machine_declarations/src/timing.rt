@@ -1,8 +1,8 @@
 //! The declaration of timing events, timers and group budgets (ISO/IEC 8652:2012, D.14, D.15).
 ghost use Rattle.std.specs.Prelude.{◌≡◌, ◌^◌, ◌≤◌, IfOk, OnOk, OnErr};
-ghost use Rattle.profile_machine.specs.Declarations.{event_drawn, event_declared, with_budget, budget_declared, must_identify, timed_task, with_timer, timer_declared};
-ghost use Rattle.profile_machine.specs.Values.{seen_by};
-ghost use Rattle.machine_values.specs.Becomes.{Becomes};
+ghost use Rattle.machine_scopes.specs.Stored.{Stores};
+ghost use Rattle.profile_machine.specs.Declarations.{event_drawn, event_declared, with_budget, budget_declared, timed_task, with_timer, timer_declared};
+ghost use Rattle.profile_machine.specs.Values.{seen_by, must_be_task};
 
 use crate::objects::{located_here, set_thing};
 use ann_base::{NoMemory, OrMemory, Raised, TaskNo, next_number};
@@ -26,7 +26,7 @@ pub(crate) fn event_declared(
     d: DeclNo,
     world: &mut World,
 ) -> Result<(), OrMemory<Raised>>
-    ensures { Becomes result (event_declared (seen_by p.now world.old name) d) world.old world.new }
+    ensures { Stores result (event_declared (seen_by p.now world.old name) d) world.old world.new }
 {
     let object = or_raised(located_here(&seen_by(p, world, name), d))?;
     let number = world.drawn.events;
@@ -63,7 +63,7 @@ pub(crate) fn budget_declared(
     d: DeclNo,
     world: &mut World,
 ) -> Result<(), OrMemory<Raised>>
-    ensures { Becomes result (budget_declared (seen_by p.now world.old name) d) world.old
+    ensures { Stores result (budget_declared (seen_by p.now world.old name) d) world.old
         world.new }
 {
     let object = or_raised(located_here(&seen_by(p, world, name), d))?;
@@ -74,8 +74,8 @@ pub(crate) fn budget_declared(
 }
 
 // Null_Task_Id identifies no task.
-fn must_identify(task: Option<TaskNo>) -> Result<TaskNo, Raised>
-    ensures { result ≡ must_identify task }
+fn must_be_task(task: Option<TaskNo>) -> Result<TaskNo, Raised>
+    ensures { result ≡ must_be_task task }
 {
     task.ok_or(Raised::Program)
 }
@@ -85,7 +85,7 @@ fn timed_task(q: &Seen<'_>, d: DeclNo) -> Result<TaskNo, Raised>
     ensures { result ≡ timed_task q.now d }
 {
     let id = home_of(q, d)?;
-    must_identify(task_in(first_cell(q, d, id)))
+    must_be_task(task_in(first_cell(q, d, id)))
 }
 
 fn with_timer(task: TaskNo, world: &mut World) -> Result<(), NoMemory>
@@ -108,7 +108,7 @@ pub(crate) fn timer_declared(
     task: DeclNo,
     world: &mut World,
 ) -> Result<(), OrMemory<Raised>>
-    ensures { Becomes result (timer_declared (seen_by p.now world.old name) d task) world.old
+    ensures { Stores result (timer_declared (seen_by p.now world.old name) d task) world.old
         world.new }
 {
     let timed = or_raised(timed_task(&seen_by(p, world, name), task))?;

@@ -1,17 +1,16 @@
 -- Cells that are put before values, from the last on, and values that are dropped from the front.
 use Rattle.std.proofs.Common.{◌≡◌, ℕ, ◌-◌, ◌<◌, zero, suc, List, [], ◌∷◌, ◌++◌, take, drop, refl, ap, ◌∙◌, arith}
-use Rattle.std.specs.List.{slice_get}
+use Rattle.std.specs.List.{slice_get, cons_option}
 use Rattle.world_tables.specs.Lists.{rest_of}
-use Rattle.machine_exclusion.specs.Values.{with_item}
 
-put-at : {X : Type 0} (xs values : List X) (i : ℕ) → take i xs ++ with_item (slice_get xs i) values ≡ take (suc i) xs ++ values
+put-at : {X : Type 0} (xs values : List X) (i : ℕ) → take i xs ++ cons_option (slice_get xs i) values ≡ take (suc i) xs ++ values
 put-at [] values zero = refl
 put-at [] values (suc i) = refl
 put-at (x ∷ xs) values zero = refl
 put-at (x ∷ xs) values (suc i) = ap (λ ys. x ∷ ys) (put-at xs values i)
 
 -- one cell more before the values
-pub put-more : {X : Type 0} (xs values : List X) (n : ℕ) → 0 < n → take (n - 1) xs ++ with_item (slice_get xs (n - 1)) values ≡ take n xs ++ values
+pub put-more : {X : Type 0} (xs values : List X) (n : ℕ) → 0 < n → take (n - 1) xs ++ cons_option (slice_get xs (n - 1)) values ≡ take n xs ++ values
 put-more xs values n h = let s : suc (n - 1) ≡ n = omega arith in put-at xs values (n - 1) ∙ ap (λ m. take m xs ++ values) s
 
 pub ruleset place_laws = (put-more)

@@ -1,10 +1,10 @@
 //! The parameters of a served call when its body has ended (ISO/IEC 8652:2012, 6.4.1, 9.5.4).
 ghost use Rattle.std.specs.Prelude.{◌≡◌, ◌++◌, drop, slice_get, take, IfOk, OnOk};
+ghost use Rattle.std.specs.List.{cons_option};
 ghost use Rattle.profile_machine.specs.Calls.{edit_call};
 ghost use Rattle.profile_machine.specs.Scopes.{cells_of, scope_in_use};
 ghost use Rattle.profile_machine.specs.Serving.{with_values, keep_values, keeps_sending, end_body_of_entry};
 ghost use Rattle.machine_frames.specs.Did.{Did};
-ghost use Rattle.machine_exclusion.specs.Values.{with_item};
 
 use ann_base::{CallNo, NoMemory};
 use machine_frames::Effect;
@@ -29,7 +29,7 @@ fn drop_front(values: &mut List<Value>, count: usize)
 
 // The cell at this place, if there is one, comes before the values.
 fn put_cell(values: &mut List<Value>, cells: &List<Value>, place: usize) -> Result<(), NoMemory>
-    ensures { OnOk result (values.new ≡ with_item (slice_get cells.now place) values.old) }
+    ensures { OnOk result (values.new ≡ cons_option (slice_get cells.now place) values.old) }
 {
     match cells.get(place) {
         Some(cell) => {

@@ -1,7 +1,7 @@
 //! The items of the script whose moment has come (docs/LANGUAGE.md): interrupts, ports and masks.
 ghost use Rattle.std.specs.Prelude.{◌≡◌, [], OnOk};
-ghost use Rattle.profile_machine.specs.Instant.{is_flag, with_port, with_masked, with_kept_interrupt, interrupt_comes, deliver_kept_interrupt, script_item, items_due, script_items};
-ghost use Rattle.profile_machine.specs.Words.{edit_at};
+ghost use Rattle.profile_machine.specs.Instant.{with_port, with_masked, with_kept_interrupt, interrupt_comes, deliver_kept_interrupt, script_item, items_due, script_items};
+ghost use Rattle.profile_machine.specs.Words.{edit_at, is_flag};
 ghost use Rattle.profile_machine.specs.declared.run_data.Item.TheVariants as item;
 ghost use Rattle.machine_frames.specs.Did.{Did};
 ghost use Rattle.machine_expiries.specs.Moved.{Moved};

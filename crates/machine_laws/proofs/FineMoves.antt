@@ -10,6 +10,7 @@ use Rattle.trace_text.specs.declared.events.Event.{Event}
 use Rattle.trace_text.specs.declared.events.Mode.{Mode}
 use Rattle.trace_text.specs.declared.events.QueueEnd.{QueueEnd}
 use Rattle.trace_text.specs.declared.events.Who.{Who}
+use Rattle.world_tables.specs.Lists.{rest_of}
 use Rattle.trace_text.specs.declared.events.Who.TheVariants as who
 use Rattle.profile_machine.specs.declared.image.Image.{Image}
 use Rattle.profile_machine.specs.declared.numbers.ProtectedUnitNo.{ProtectedUnitNo}
@@ -44,7 +45,7 @@ use Rattle.profile_machine.specs.Steps.{placed_by}
 use Rattle.profile_machine.specs.Tasks.{task_of, task_at, edit_task_found, edit_task, with_state, with_frames, waiting_of}
 use Rattle.profile_machine.specs.Dispatching.{active, deadline_shown, word_of}
 use Rattle.profile_machine.specs.Program.{scope_of}
-use Rattle.profile_machine.specs.Frames.{top_of, edit_first, edit_top, new_frame, push, pop, without_first, goes_on, is_protected, in_protected}
+use Rattle.profile_machine.specs.Frames.{top_of, edit_first, edit_top, new_frame, push, pop, goes_on, is_protected, in_protected}
 use Rattle.profile_machine.specs.Scopes.{edit_cells, begin_scope, draw_region, open_scope, end_scope, next_id, region_of_next, new_scope_mark}
 use Rattle.profile_machine.specs.Appointments.{appoint, drop_appointment}
 use Rattle.profile_machine.specs.Calls.{edit_call, forget_call, edit_object}
@@ -278,7 +279,7 @@ module _ {R : StepRelation} {Q : MoveRelation} (moves : Moves R Q) where
       moves.goes_on w begun (push name f drawn) (moves.begins_scope p name scope b w) (moves.goes_on begun drawn (push name f drawn) (region_drawn-if (scope_of p scope).kept begun) (pushed name f drawn))
 
   exited : (name : Who) (m : ProtectedMark) (w : World) → R w (own (said.Exit name m.object) ∷ []) (close_action name m.object (pop name w))
-  exited name m w = moves.goes_on w (pop name w) (close_action name m.object (pop name w)) {xs = []} {ys = own (said.Exit name m.object) ∷ []} (frames-edited name without_first w) (moves.exits name m.object (pop name w))
+  exited name m w = moves.goes_on w (pop name w) (close_action name m.object (pop name w)) {xs = []} {ys = own (said.Exit name m.object) ∷ []} (frames-edited name rest_of w) (moves.exits name m.object (pop name w))
 
   pub finely : FineMoves AnyWorld Anybody Anybody R Q
   finely = record {
@@ -299,7 +300,7 @@ module _ {R : StepRelation} {Q : MoveRelation} (moves : Moves R Q) where
     edits_frames = λ name f w g same. frames-edited name f w;
     pushes_on = λ name onward f g w good may top region release abortable. pushed_on name onward f w;
     opens_abortable = λ name f w g o region release. pushed name f w;
-    pops = λ name f w g may top action. frames-edited name without_first w;
+    pops = λ name f w g may top action. frames-edited name rest_of w;
     readies = λ name w g o. moves.edits_task name (with_state Runnable) w (λ t. refl);
     blocks = λ name waiting w g o. moves.edits_task name (with_state (Blocked waiting)) w (λ t. refl);
     places = λ p part name end w g may. moves.says part (said.Ready name (active p (task_of w name)) end (deadline_shown p (task_of w name))) w refl;

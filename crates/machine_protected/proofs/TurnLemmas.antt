@@ -7,9 +7,9 @@ use Rattle.profile_machine.specs.declared.world.World.{World}
 use Rattle.profile_machine.specs.declared.world.lines.Said.{Said}
 use Rattle.profile_machine.specs.declared.world.marks.ProtectedMark.{ProtectedMark}
 use Rattle.profile_machine.specs.Serving.{serve_calls, serve_next, release_object}
-use Rattle.profile_machine.specs.Steps.{done}
+use Rattle.profile_machine.specs.Steps.{done, when}
 use Rattle.machine_frames.specs.declared.effects.Effect.{Effect}
-use Rattle.machine_protected.specs.Turns.{turn, rest_where, Leads}
+use Rattle.machine_protected.specs.Turns.{turn, Leads}
 
 serve_next-suc : (n : ℕ) (p : Image) (name : Who) (m : ProtectedMark) (sent : Option CallNo) (w : World) (said : List Said) → serve_next (suc n) p name m sent w said ≡ turn p name m sent (serve_next n p name m None) w said
 unfolding serve_next
@@ -40,11 +40,11 @@ module _ (n : ℕ) (p : Image) (name : Who) (m : ProtectedMark) (sent : Option C
   pub serve_calls-on : (again : Bool) (before after : Effect) → n ≡ length before.world.calls → Leads again (turn p name m sent) before after → again ≡ true → serve_calls p name m sent before.world before.said ≡ serve_next n p name m None after.world after.said
   serve_calls-on again before after e h t =
       serve_calls-first before.world before.said e ∙ h (serve_next n p name m None)
-      ∙ ap (λ b. rest_where b (serve_next n p name m None) after.world after.said) t
+      ∙ ap (λ b. when b (serve_next n p name m None) after.world after.said) t
 
   pub serve_calls-over : (again : Bool) (before after : Effect) → n ≡ length before.world.calls → Leads again (turn p name m sent) before after → again ≡ false → serve_calls p name m sent before.world before.said ≡ done after.world after.said
   serve_calls-over again before after e h t =
       serve_calls-first before.world before.said e ∙ h (serve_next n p name m None)
-      ∙ ap (λ b. rest_where b (serve_next n p name m None) after.world after.said) t
+      ∙ ap (λ b. when b (serve_next n p name m None) after.world after.said) t
 
 pub ruleset turn_laws = (serve_next-more, serve_next-none)

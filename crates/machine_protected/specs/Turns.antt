@@ -7,7 +7,7 @@ use Rattle.profile_machine.specs.declared.image.Image.{Image}
 use Rattle.profile_machine.specs.declared.world.calls.Call.{Call}
 use Rattle.profile_machine.specs.declared.world.calls.Outcome.TheVariants as call_ended
 use Rattle.profile_machine.specs.declared.world.marks.ProtectedMark.{ProtectedMark}
-use Rattle.profile_machine.specs.Steps.{Step, looks, nothing, ◌▷◌}
+use Rattle.profile_machine.specs.Steps.{Step, looks, ◌▷◌, when}
 use Rattle.profile_machine.specs.CallEnds.{deliver}
 use Rattle.profile_machine.specs.Protected.{served_next, serve_call}
 use Rattle.profile_machine.specs.Serving.{chosen_is_sent, settle_sent, serve_chosen, part_of_start, begins_part}
@@ -27,11 +27,6 @@ turn p name m sent again =
     let chosen = served_next p w name (object_of w m.object) in
     settle_sent p sent (chosen_is_sent sent chosen) ▷ serve_chosen p name m (chosen_is_sent sent chosen) again chosen)
 
--- what is done behind a step: the rest, or nothing
-abbrev pub rest_where : Bool → Step → Step
-rest_where true rest = rest
-rest_where false rest = nothing
-
 -- a step that is handed a rest has been done up to it, or, where the rest is not done, to its end
 abbrev pub Leads : Bool → (Step → Step) → Effect → Effect → Type 0
-Leads again step before after = (rest : Step) → step rest before.world before.said ≡ rest_where again rest after.world after.said
+Leads again step before after = (rest : Step) → step rest before.world before.said ≡ when again rest after.world after.said

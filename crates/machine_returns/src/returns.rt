@@ -1,9 +1,9 @@
 //! Returns, and the ends of subprograms (ISO/IEC 8652:2012, 6.5, 6.4.1).
 ghost use Rattle.std.specs.Prelude.{◌≡◌, OnOk};
+ghost use Rattle.machine_scopes.specs.Stored.{Stores};
 ghost use Rattle.profile_machine.specs.Subprograms.{result_place, result_kept, return_result, return_value, without_sending, drop_sending, return, cell_in, last_cell, copy_parameters, falls_through, store_result, end_subprogram};
 ghost use Rattle.profile_machine.specs.Values.{seen_by};
 ghost use Rattle.machine_frames.specs.Did.{Did};
-ghost use Rattle.machine_values.specs.Becomes.{Becomes};
 
 use ann_base::{CallNo, NoMemory, OrMemory, Raised};
 use machine_frames::{Effect, call_returned, leaves, raises, refused};
@@ -33,7 +33,7 @@ fn result_kept(
     v: Value,
     world: &mut World,
 ) -> Result<(), OrMemory<Raised>>
-    ensures { Becomes result (result_kept (seen_by p.now world.old name) f v) world.old world.new }
+    ensures { Stores result (result_kept (seen_by p.now world.old name) f v) world.old world.new }
 {
     let Some(range) = subprogram_of(p, f).result else {
         return Err(OrMemory::Fault(Raised::Program));

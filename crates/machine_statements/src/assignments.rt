@@ -1,9 +1,9 @@
 //! Assignments of scalars and of whole arrays (ISO/IEC 8652:2012, 5.2).
 ghost use Rattle.std.specs.Prelude.{OnOk};
+ghost use Rattle.machine_scopes.specs.Stored.{Stores};
 ghost use Rattle.profile_machine.specs.Statements.{assign, assign_array, array_copied};
 ghost use Rattle.profile_machine.specs.Values.{seen_by};
 ghost use Rattle.machine_frames.specs.Did.{Did};
-ghost use Rattle.machine_values.specs.Becomes.{Becomes};
 ghost use Rattle.machine_statements.specs.Parts.{assigned};
 
 use ann_base::{NoMemory, OrMemory, Raised};
@@ -24,7 +24,7 @@ fn assigned(
     e: ExprNo,
     world: &mut World,
 ) -> Result<(), OrMemory<Raised>>
-    ensures { Becomes result (assigned p.now (seen_by p.now world.old name) target e) world.old
+    ensures { Stores result (assigned p.now (seen_by p.now world.old name) target e) world.old
         world.new }
 {
     let q = seen_by(p, world, name);
@@ -62,7 +62,7 @@ fn array_copied(
     source: ObjectName,
     world: &mut World,
 ) -> Result<(), OrMemory<Raised>>
-    ensures { Becomes result (array_copied p.now (seen_by p.now world.old name) target source)
+    ensures { Stores result (array_copied p.now (seen_by p.now world.old name) target source)
         world.old world.new }
 {
     let q = seen_by(p, world, name);

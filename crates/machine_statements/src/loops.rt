@@ -2,11 +2,11 @@
 //! last value in the cell behind it.
 ghost use Rattle.std.specs.Prelude.{◌≡◌, IfOk, OnOk};
 ghost use Rattle.ann_base.specs.Answers.{Answers};
+ghost use Rattle.machine_scopes.specs.Stored.{Stores};
 ghost use Rattle.profile_machine.specs.declared.values.Value.TheVariants.{Literal};
 ghost use Rattle.profile_machine.specs.Statements.{while_turn, loop_cell, put, first_bound, last_bound, bounds_set, for_bounds, is_past, first_turn, stepped, advance, later_turn, exit_where, exit_statement};
 ghost use Rattle.profile_machine.specs.Values.{seen_by};
 ghost use Rattle.machine_frames.specs.Did.{Did};
-ghost use Rattle.machine_values.specs.Becomes.{Becomes};
 ghost use Rattle.machine_statements.specs.Parts.{finds_empty, is_at_last};
 
 use crate::choices::branch;
@@ -84,7 +84,7 @@ fn bounds_set(
     high: ExprNo,
     world: &mut World,
 ) -> Result<(), OrMemory<Raised>>
-    ensures { Becomes result (bounds_set (seen_by p.now world.old name) d reverse low high)
+    ensures { Stores result (bounds_set (seen_by p.now world.old name) d reverse low high)
         world.old world.new }
 {
     let q = seen_by(p, world, name);

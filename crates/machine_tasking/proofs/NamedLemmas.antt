@@ -1,5 +1,6 @@
 -- The tasks that names give, one name after the other.
 use Rattle.std.proofs.Common.{◌≡◌, ℕ, ◌+◌, ◌<◌, List, [], ◌∷◌, ◌++◌, Option, Some, None, Ok, Err, length, drop, get_or, append-nil, append_assoc, refl, ap, sym, ◌∙◌}
+use Rattle.std.specs.List.{cons_option}
 use Rattle.std.proofs.lemmas.List.{drop_more}
 use Rattle.ann_base.specs.Results.{◌>>=◌}
 use Rattle.ann_base.specs.declared.exceptions.Raised.{Raised}
@@ -8,26 +9,26 @@ use Rattle.profile_machine.specs.declared.numbers.DeclNo.{DeclNo}
 use Rattle.profile_machine.specs.declared.values.Value.{Value}
 use Rattle.profile_machine.specs.Operators.{Valued}
 use Rattle.profile_machine.specs.Values.{Seen, thing, task_in}
-use Rattle.profile_machine.specs.Tasking.{task_list, named_tasks}
+use Rattle.profile_machine.specs.Tasking.{named_tasks}
 
 -- these tasks, and behind them those of a result
 abbrev pub behind : List TaskNo → Valued (List TaskNo) → Valued (List TaskNo)
 behind tasks result = result >>= λ rest. Ok (tasks ++ rest)
 
-listed : (o : Option TaskNo) (tasks rest : List TaskNo) → tasks ++ task_list o rest ≡ (tasks ++ task_list o []) ++ rest
+listed : (o : Option TaskNo) (tasks rest : List TaskNo) → tasks ++ cons_option o rest ≡ (tasks ++ cons_option o []) ++ rest
 listed None tasks rest = ap (λ xs. xs ++ rest) (sym (append-nil tasks))
 listed (Some t) tasks rest = sym (append_assoc tasks (t ∷ []) rest)
 
-one_more : (result : Valued (List TaskNo)) (o : Option TaskNo) (tasks : List TaskNo) → behind tasks (result >>= λ rest. Ok (task_list o rest)) ≡ behind (tasks ++ task_list o []) result
+one_more : (result : Valued (List TaskNo)) (o : Option TaskNo) (tasks : List TaskNo) → behind tasks (result >>= λ rest. Ok (cons_option o rest)) ≡ behind (tasks ++ cons_option o []) result
 one_more (Ok rest) o tasks = ap Ok (listed o tasks rest)
 one_more (Err e) o tasks = refl
 
 -- the tasks of the names from here on, by the first of them
 module _ (q : Seen) (d : DeclNo) (ds : List DeclNo) (tasks : List TaskNo) where
   after_first : Valued Value → Valued (List TaskNo)
-  after_first r = behind tasks (r >>= λ x. named_tasks q ds >>= λ rest. Ok (task_list (task_in x) rest))
+  after_first r = behind tasks (r >>= λ x. named_tasks q ds >>= λ rest. Ok (cons_option (task_in x) rest))
 
-  named-more : (v : Value) → thing q d ≡ Ok v → behind tasks (named_tasks q (d ∷ ds)) ≡ behind (tasks ++ task_list (task_in v) []) (named_tasks q ds)
+  named-more : (v : Value) → thing q d ≡ Ok v → behind tasks (named_tasks q (d ∷ ds)) ≡ behind (tasks ++ cons_option (task_in v) []) (named_tasks q ds)
   unfolding after_first
   named-more v h = ap after_first h ∙ one_more (named_tasks q ds) (task_in v) tasks
 
@@ -37,10 +38,10 @@ module _ (q : Seen) (d : DeclNo) (ds : List DeclNo) (tasks : List TaskNo) where
 
 -- one name more, by its place
 module _ (q : Seen) (names : List DeclNo) (i : ℕ) (d : DeclNo) (tasks : List TaskNo) (all : Valued (List TaskNo)) where
-  pub named_step : (made : List TaskNo) (v : Value) (o : Option TaskNo) → i < length names → thing q (get_or names i d) ≡ Ok v → o ≡ task_in v → made ≡ tasks ++ task_list o [] → behind tasks (named_tasks q (drop i names)) ≡ all → behind made (named_tasks q (drop (i + 1) names)) ≡ all
+  pub named_step : (made : List TaskNo) (v : Value) (o : Option TaskNo) → i < length names → thing q (get_or names i d) ≡ Ok v → o ≡ task_in v → made ≡ tasks ++ cons_option o [] → behind tasks (named_tasks q (drop i names)) ≡ all → behind made (named_tasks q (drop (i + 1) names)) ≡ all
   named_step made v o h t k m invariant =
       let onward = λ (xs : List TaskNo). behind xs (named_tasks q (drop (i + 1) names)) in
-      ap onward (m ∙ ap (λ x. tasks ++ task_list x []) k)
+      ap onward (m ∙ ap (λ x. tasks ++ cons_option x []) k)
       ∙ (sym (named-more q (get_or names i d) (drop (i + 1) names) tasks v t)
       ∙ (ap (λ xs. behind tasks (named_tasks q xs)) (sym (drop_more names i d h)) ∙ invariant))
 

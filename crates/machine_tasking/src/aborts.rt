@@ -1,10 +1,10 @@
 //! Abort (ISO/IEC 8652:2012, 9.8): the named tasks and all that depend on them become abnormal.
 ghost use Rattle.std.specs.Prelude.{◌≡◌, ◌++◌, [], filter, map, IfOk, OnOk};
-ghost use Rattle.std.specs.List.{list_any};
+ghost use Rattle.std.specs.List.{list_any, cons_option};
 ghost use Rattle.ann_base.specs.Answers.{Answers};
 ghost use Rattle.profile_machine.specs.Steps.{changes, for_each, looks};
 ghost use Rattle.profile_machine.specs.Tasks.{edit_task};
-ghost use Rattle.profile_machine.specs.Tasking.{task_list, named_tasks, is_to_abort, abnormal_task, says_abort, abort_one, abort_all, abort_statement};
+ghost use Rattle.profile_machine.specs.Tasking.{named_tasks, is_to_abort, abnormal_task, says_abort, abort_one, abort_all, abort_statement};
 ghost use Rattle.machine_frames.specs.Did.{Did};
 ghost use Rattle.machine_tasking.specs.KeptTasks.{kept_of, task_kept, tasks_kept};
 ghost use Rattle.machine_tasking.specs.Aborted.{is_struck_by};
@@ -26,7 +26,7 @@ use world_tables::List;
 
 // A task, if there is one, stands behind the others.
 fn push_named(tasks: &mut List<TaskNo>, task: Option<TaskNo>) -> Result<(), NoMemory>
-    ensures { OnOk result (tasks.new ≡ tasks.old ++ task_list task []) }
+    ensures { OnOk result (tasks.new ≡ tasks.old ++ cons_option task []) }
 {
     if let Some(task) = task {
         tasks.push_back(task)?;

@@ -1,6 +1,6 @@
 //! A tock: the choice of who runs, and one tick (docs/LANGUAGE.md).
-ghost use Rattle.std.specs.Prelude.{◌≡◌, Some, None, OnOk};
-ghost use Rattle.profile_machine.specs.Run.{says_run, serve_first, serve, ticks_or, begin_action, one_tick_less, spend_tick, next_tick, tick_of, idle_tick, tock};
+ghost use Rattle.std.specs.Prelude.{◌≡◌, Some, None, OnOk, unwrap_or};
+ghost use Rattle.profile_machine.specs.Run.{says_run, serve_first, serve, begin_action, one_tick_less, spend_tick, next_tick, tick_of, idle_tick, tock};
 ghost use Rattle.profile_machine.specs.Cost.{cost};
 ghost use Rattle.profile_machine.specs.Tasks.{task_of};
 ghost use Rattle.profile_machine.specs.Words.{same_option, same_who};
@@ -78,7 +78,7 @@ fn serve(name: Who, world: &mut World, lines: &mut List<TickLine>) -> Result<(),
 
 // The ticks of the action that has begun, or of the one that begins now.
 fn ticks_of_action(p: &Program, name: Who, world: &World) -> u64
-    ensures { result ≡ ticks_or (task_of world.now name).ticks_left (cost p.now world.now name) }
+    ensures { result ≡ unwrap_or (task_of world.now name).ticks_left (cost p.now world.now name) }
 {
     match task_at(world, name) {
         Some(task) => match task.ticks_left {

@@ -38,9 +38,9 @@ use Rattle.ada_image.specs.declared.making.SequencePlace.{SequencePlace}
 use Rattle.ada_image.specs.declared.making.SequencePlace.TheVariants as sequence_place
 use Rattle.ada_image.specs.Making.{Making, ◌>>=◌, ◌>>◌, pure, action_put, reserved, put_at, first_put, the_action, in_loop, in_construct, in_scope, in_handler}
 use Rattle.ada_image.specs.Layout.{scope_no}
-use Rattle.ada_image.specs.ImageOfExpressions.{expression_made, signs_in}
+use Rattle.ada_image.specs.ImageOfExpressions.{expression_made, signs_in, optional_value}
 use Rattle.ada_image.specs.CallStatements.{call_statement_put}
-use Rattle.ada_image.specs.ImageOfStatements.{SequenceMaking, scope_at, choices_made, handled_made, entry_at, delay_put, condition_made, guard_of, inside, inside_if, branch_put, elsifs_put, if_put, alternatives_put, case_put, label_of, loop_body, forever_put, while_put, parameter_of, for_put, iteration_put, loop_put, block_put, handlers_put, accept_body_put, accept_put, alternative_put, select_alternative_put, select_alternatives_put, else_put, selective_accept_put, call_before, delay_before, timed_call_put, conditional_call_put, trigger_put, asynchronous_put, select_put, statement_put, statements_put}
+use Rattle.ada_image.specs.ImageOfStatements.{SequenceMaking, scope_at, choices_made, handled_made, entry_at, delay_put, guard_of, inside, inside_if, branch_put, elsifs_put, if_put, alternatives_put, case_put, label_of, loop_body, forever_put, while_put, parameter_of, for_put, iteration_put, loop_put, block_put, handlers_put, accept_body_put, accept_put, alternative_put, select_alternative_put, select_alternatives_put, else_put, selective_accept_put, call_before, delay_before, timed_call_put, conditional_call_put, trigger_put, asynchronous_put, select_put, statement_put, statements_put}
 use Rattle.ada_image.specs.ImageOfDeclarations.{same_making, sequence_put}
 use Rattle.image_laws.proofs.Images.Layers.{elsif_of, case_of, handler_of, mapped_statement, mapped_alternative}
 use Rattle.image_laws.proofs.Images.Constructs.{loop_of, block_of, accept_body_of, accept_with}
@@ -257,7 +257,7 @@ module _ {E : Type 0} (g : E → Sequence) (law : (e : E) → KeepsAll (sequence
   unfolding select_alternatives_put select_alternative_put
   alternatives-keep [] next within = λ l h. h
   alternatives-keep (x ∷ xs) next within =
-      keeps-then (condition_made within (guard_of x.guard))
+      keeps-then (optional_value within (guard_of x.guard))
       (λ guard. alternative_put same_making within (mapped_alternative sequence_put (mapped_alternative g x)).alternative next >>= (λ kind. select_alternatives_put same_making within (alternatives_made xs) next >>= (λ others. pure (record { guard = guard; kind = kind } ∷ others))))
       (condition-keeps within (guard_of x.guard))
       (λ guard. keeps-then (alternative_put same_making within (mapped_alternative sequence_put (mapped_alternative g x)).alternative next)

@@ -1,6 +1,6 @@
 -- Whatever expression is made, its operands are made before it.
 use Rattle.std.proofs.Common.{◌≡◌, pos, Bool, true, false, cond, List, [], ◌∷◌, map, Option, Some, None, option_map, refl, sym, subst}
-use Rattle.std.specs.Prelude.{unwrap_or}
+use Rattle.std.specs.Prelude.{unwrap_or, option_to_list}
 use Rattle.ada_tree.specs.declared.names.Name.{Name}
 use Rattle.ada_tree.specs.declared.operators.Attribute.{Attribute}
 use Rattle.ada_tree.specs.declared.operators.Attribute.TheVariants as attribute
@@ -35,11 +35,11 @@ use Rattle.ada_regions.specs.declared.entities.EntityKind.TheVariants as entity
 use Rattle.ada_regions.specs.PredefinedUnits.{names_of_formals}
 use Rattle.ada_regions.specs.Names.{denoted_by, kind_at}
 use Rattle.ada_image.specs.declared.making.Within.{Within}
-use Rattle.ada_image.specs.Making.{Making, ◌>>=◌, value_put}
+use Rattle.ada_image.specs.Making.{Making, ◌>>=◌, value_put, first_given}
 use Rattle.ada_image.specs.Layout.{is_thing, subtype_is}
-use Rattle.ada_image.specs.ImageOfExpressions.{ExpressionImage, logical_operator, relational_operator, adding_operator, multiplying_operator, no_value, no_declaration_no, object_named, kind_named, index_made, variable_made, variable_put, object_made, entity_made, actuals_for, first_actual, images_for, image_or_none, optional_made, span_made, same_ticks_made, of_task_made, port_made, of_thing_made, function_made, item_made, index_in, denoted_made, named_made, unary_made, signed_made, count_of, count_made, attribute_made, binary_put, operands_made, addends_made, factors_made, logical_made, relational_made, adding_made, multiplying_made, form_image, same_image, image_layer, expression_image, expression_made}
+use Rattle.ada_image.specs.ImageOfExpressions.{ExpressionImage, logical_operator, relational_operator, adding_operator, multiplying_operator, no_value, no_declaration_no, object_named, kind_named, index_made, variable_made, variable_put, object_made, entity_made, actuals_for, images_for, image_or_none, optional_made, span_made, same_ticks_made, of_task_made, port_made, of_thing_made, function_made, item_made, index_in, denoted_made, named_made, unary_made, signed_made, count_of, count_made, attribute_made, binary_put, operands_made, addends_made, factors_made, logical_made, relational_made, adding_made, multiplying_made, form_image, same_image, image_layer, expression_image, expression_made}
 use Rattle.image_laws.proofs.Images.Expressions.{operand_of, addend_of, multiplied_of, argument_of, mapped_form, actuals-mapped, mapped-twice}
-use Rattle.world_laws.specs.ValueLaws.{operands, if_there}
+use Rattle.world_laws.specs.ValueLaws.{operands}
 use Rattle.operand_laws.proofs.Rising.{Makes, MakesBehind, makes-then, behind-then, behind-pure, no-operand-makes, operand-makes, two-operands-make}
 
 -- ---- parts that hold no expression
@@ -136,13 +136,13 @@ module _ {E : Type 0} (image : E → ExpressionImage) (makes : (e : E) (within :
   abbrev images : List (Option E) → List (Option ExpressionImage)
   images es = images_for same_image (map (option_map image) es)
 
-  actual-makes : (f : ExprNo → Valuation) → ((x : ExprNo) → operands (f x) ≡ x ∷ []) → (es : List (Option E)) (within : Within) → Makes (image_or_none (first_actual (images es)) within >>= (λ x. value_put (f x)))
+  actual-makes : (f : ExprNo → Valuation) → ((x : ExprNo) → operands (f x) ≡ x ∷ []) → (es : List (Option E)) (within : Within) → Makes (image_or_none (first_given (images es)) within >>= (λ x. value_put (f x)))
   unfolding image_or_none
   actual-makes f is [] within = makes-then no_value (λ x. value_put (f x)) (no-operand-makes _ refl) (λ x. operand-makes x _ (is x))
   actual-makes f is (None ∷ es) within = makes-then no_value (λ x. value_put (f x)) (no-operand-makes _ refl) (λ x. operand-makes x _ (is x))
   actual-makes f is (Some e ∷ es) within = makes-then ((image e).made within) (λ x. value_put (f x)) (makes e within) (λ x. operand-makes x _ (is x))
 
-  optional-makes : (f : Option ExprNo → Valuation) → ((x : Option ExprNo) → operands (f x) ≡ if_there x) → (es : List (Option E)) (within : Within) → Makes (of_task_made f (first_actual (images es)) within)
+  optional-makes : (f : Option ExprNo → Valuation) → ((x : Option ExprNo) → operands (f x) ≡ option_to_list x) → (es : List (Option E)) (within : Within) → Makes (of_task_made f (first_given (images es)) within)
   unfolding of_task_made optional_made
   optional-makes f is [] within = no-operand-makes (f None) (is None)
   optional-makes f is (None ∷ es) within = no-operand-makes (f None) (is None)

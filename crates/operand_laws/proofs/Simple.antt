@@ -43,15 +43,16 @@ use Rattle.ada_regions.specs.Words.{all_of}
 use Rattle.ada_regions.specs.PredefinedUnits.{names_of_formals}
 use Rattle.ada_regions.specs.Names.{denoted_by, kind_at}
 use Rattle.ada_regions.specs.Statics.{subtype_of_name}
+use Rattle.ada_regions.specs.TypeKinds.{is_task_type, is_controlled_type, is_array_type}
 use Rattle.ada_image.specs.declared.making.Within.{Within}
-use Rattle.ada_image.specs.Making.{◌>>=◌, pure, action_put}
-use Rattle.ada_image.specs.Layout.{is_array, is_kept, is_thing, subtype_is}
-use Rattle.ada_image.specs.ImageOfExpressions.{expression_made, signs_in, signs_if, object_named, first_argument, actuals_for, index_made, variable_made}
+use Rattle.ada_image.specs.Making.{◌>>=◌, pure, action_put, first_given}
+use Rattle.ada_image.specs.Layout.{is_kept, is_thing, subtype_is}
+use Rattle.ada_image.specs.ImageOfExpressions.{expression_made, signs_in, signs_if, object_named, first_argument, actuals_for, index_made, variable_made, optional_value}
 use Rattle.ada_image.specs.ImageOfCalls.{FunctionCall, function_call, target_made, variable_in_form, variable_in, in_made, out_made, in_out_made, mode_made, thing_actual, actual_made, actuals_made, names_of, arguments_made, callee_of, owner_of_entry, call_put, entry_call_put, function_call_put, value_or_none, image_piece, image_made, piece_in_form, piece_made, joined_made, all_joined, pieces_in_form, pieces_made, put_line_put, not_built}
-use Rattle.ada_image.specs.ImageOfProcedures.{first_of, second_of, third_of, thing_of, moment_of, is_in_time, setting_with, variable_of, optional_value, handler_of, setting_made, set_event_put, set_timer_put, cancel_put, budget_put, task_put, values_put, procedure_with, procedure_put}
+use Rattle.ada_image.specs.ImageOfProcedures.{second_of, third_of, thing_of, moment_of, is_in_time, setting_with, variable_of, handler_of, setting_made, set_event_put, set_timer_put, cancel_put, budget_put, task_put, values_put, procedure_with, procedure_put}
 use Rattle.ada_image.specs.CallStatements.{entity_call_put, item_call_put, denoted_call_put, signs_in_actuals, call_statement_put}
-use Rattle.ada_image.specs.ImageOfStatements.{array_assigned, controlled_assigned, value_assigned, assigned_whole, assigned, assignment_put, delay_form, delay_put, no_function, value_returned, return_put, raise_put, loop_left, loop_statement, condition_made, exit_put, abort_put, requeue_put}
-use Rattle.ada_image.specs.ImageOfDeclarations.{is_task, is_controlled, number_declared, subtype_declared_as, function_call_if, initialize_if, object_declaration_put, object_elaborated, object_put, objects_put, single_put, declaration_put, declarations_put, activation_put, end_of_activation_put}
+use Rattle.ada_image.specs.ImageOfStatements.{array_assigned, controlled_assigned, value_assigned, assigned_whole, assigned, assignment_put, delay_form, delay_put, no_function, value_returned, return_put, raise_put, loop_left, loop_statement, exit_put, abort_put, requeue_put}
+use Rattle.ada_image.specs.ImageOfDeclarations.{number_declared, subtype_declared_as, function_call_if, initialize_if, object_declaration_put, object_elaborated, object_put, objects_put, single_put, declaration_put, declarations_put, activation_put, end_of_activation_put}
 use Rattle.operand_laws.proofs.Rising.{Keeps, keeps-then, action-keeps, no-operand-keeps}
 use Rattle.operand_laws.proofs.Expressions.{expression-makes}
 
@@ -117,8 +118,8 @@ module _ (within : Within) where
   optional-keeps None = λ l h. h
   optional-keeps (Some e) = keeps-then (expression_made e within) (λ x. pure (Some x)) (expression-keeps e within) (λ x l h. h)
 
-  pub condition-keeps : (e : Option Expression) → Keeps (condition_made within e)
-  unfolding condition_made
+  pub condition-keeps : (e : Option Expression) → Keeps (optional_value within e)
+  unfolding optional_value
   condition-keeps None = λ l h. h
   condition-keeps (Some e) = keeps-then (expression_made e within) (λ x. pure (Some x)) (expression-keeps e within) (λ x l h. h)
 
@@ -193,30 +194,30 @@ module _ (within : Within) where
     line-keeps (e ∷ es) = keeps-then (pieces_made within e) (λ pieces. action_put (action.PutLine pieces) signs next) (text-keeps e) (λ pieces. action-keeps _ signs next)
 
     set-keeps : (f : DeclNo → Setting → Option HandlerName → StatementForm) (xs : List (Argument Expression)) (es : List (Option Expression))
-        → Keeps (setting_made within xs >>= (λ s. action_put (f (thing_of within (first_of es)) s (handler_of within (third_of es))) signs next))
+        → Keeps (setting_made within xs >>= (λ s. action_put (f (thing_of within (first_given es)) s (handler_of within (third_of es))) signs next))
     unfolding setting_made
     set-keeps f xs es =
-        keeps-then (value_or_none within (moment_of xs)) (λ e. action_put (f (thing_of within (first_of es)) (setting_with (is_in_time within xs) e) (handler_of within (third_of es))) signs next)
+        keeps-then (value_or_none within (moment_of xs)) (λ e. action_put (f (thing_of within (first_given es)) (setting_with (is_in_time within xs) e) (handler_of within (third_of es))) signs next)
         (value-keeps (moment_of xs)) (λ e. action-keeps _ signs next)
 
     cancel-keeps : (f : DeclNo → VariableName → StatementForm) (es : List (Option Expression)) → Keeps (cancel_put f within es signs next)
     unfolding cancel_put
-    cancel-keeps f es = keeps-then (variable_of within (second_of es)) (λ v. action_put (f (thing_of within (first_of es)) v) signs next) (variable-of-keeps (second_of es)) (λ v. action-keeps _ signs next)
+    cancel-keeps f es = keeps-then (variable_of within (second_of es)) (λ v. action_put (f (thing_of within (first_given es)) v) signs next) (variable-of-keeps (second_of es)) (λ v. action-keeps _ signs next)
 
     budget-keeps : (f : DeclNo → ExprNo → StatementForm) (es : List (Option Expression)) → Keeps (budget_put f within es signs next)
     unfolding budget_put
-    budget-keeps f es = keeps-then (value_or_none within (second_of es)) (λ e. action_put (f (thing_of within (first_of es)) e) signs next) (value-keeps (second_of es)) (λ e. action-keeps _ signs next)
+    budget-keeps f es = keeps-then (value_or_none within (second_of es)) (λ e. action_put (f (thing_of within (first_given es)) e) signs next) (value-keeps (second_of es)) (λ e. action-keeps _ signs next)
 
     task-keeps : (f : ExprNo → Option ExprNo → StatementForm) (es : List (Option Expression)) → Keeps (task_put f within es signs next)
     unfolding task_put
     task-keeps f es =
-        keeps-then (value_or_none within (first_of es)) (λ e. optional_value within (second_of es) >>= (λ t. action_put (f e t) signs next)) (value-keeps (first_of es))
+        keeps-then (value_or_none within (first_given es)) (λ e. optional_value within (second_of es) >>= (λ t. action_put (f e t) signs next)) (value-keeps (first_given es))
         (λ e. keeps-then (optional_value within (second_of es)) (λ t. action_put (f e t) signs next) (optional-keeps (second_of es)) (λ t. action-keeps _ signs next))
 
     values-keep : (f : ExprNo → ExprNo → StatementForm) (es : List (Option Expression)) → Keeps (values_put f within es signs next)
     unfolding values_put
     values-keep f es =
-        keeps-then (value_or_none within (first_of es)) (λ a. value_or_none within (second_of es) >>= (λ b. action_put (f a b) signs next)) (value-keeps (first_of es))
+        keeps-then (value_or_none within (first_given es)) (λ a. value_or_none within (second_of es) >>= (λ b. action_put (f a b) signs next)) (value-keeps (first_given es))
         (λ a. keeps-then (value_or_none within (second_of es)) (λ b. action_put (f a b) signs next) (value-keeps (second_of es)) (λ b. action-keeps _ signs next))
 
     procedure-keeps : (o : Operation) (xs : List (Argument Expression)) (es : List (Option Expression)) → Keeps (procedure_with within o xs es signs next)
@@ -309,7 +310,7 @@ module _ (within : Within) where
 
   assigned-keeps : (a : Assignment) (index : Option Expression) (signs : ℕ) (next : Option StatementNo) → Keeps (assigned within a index signs next)
   unfolding assigned assigned_whole
-  assigned-keeps a None signs next = whole-assigned-keeps (subtype_is is_kept (subtype_of_name within.names a.target)) (subtype_is is_array (subtype_of_name within.names a.target)) a signs next
+  assigned-keeps a None signs next = whole-assigned-keeps (subtype_is is_kept (subtype_of_name within.names a.target)) (subtype_is is_array_type (subtype_of_name within.names a.target)) a signs next
   assigned-keeps a (Some i) signs next = value-assigned-keeps a (function_call within a.value) signs next
 
   pub assignment-keeps : (a : Assignment) (next : Option StatementNo) → Keeps (assignment_put within a next)
@@ -338,7 +339,7 @@ module _ (within : Within) where
   pub exit-keeps : (e : Exit) (next : Option StatementNo) → Keeps (exit_put within e next)
   unfolding exit_put
   exit-keeps e next =
-      keeps-then (condition_made within e.condition) (λ c. action_put (action.Exit c (loop_statement (loop_left within e.loop_name))) (signs_if within e.condition) next) (condition-keeps e.condition) (λ c. action-keeps _ _ next)
+      keeps-then (optional_value within e.condition) (λ c. action_put (action.Exit c (loop_statement (loop_left within e.loop_name))) (signs_if within e.condition) next) (condition-keeps e.condition) (λ c. action-keeps _ _ next)
 
   pub abort-keeps : (tasks : OneOrMore Name) (next : Option StatementNo) → Keeps (abort_put within tasks next)
   unfolding abort_put
@@ -363,8 +364,8 @@ module _ (within : Within) where
   elaborated-keeps : (d : DeclNo) (s : Option Subtype) (initial : Option Expression) (next : Option StatementNo) → Keeps (object_elaborated within d s initial next)
   unfolding object_elaborated
   elaborated-keeps d s initial next =
-      keeps-then (initialize_if (subtype_is is_controlled s) d next) (λ behind. object_declaration_put within d s (function_call_if within initial) (signs_if within initial) behind)
-      (initialize-keeps (subtype_is is_controlled s) d next) (λ behind. declare-keeps d s (function_call_if within initial) (signs_if within initial) behind)
+      keeps-then (initialize_if (subtype_is is_controlled_type s) d next) (λ behind. object_declaration_put within d s (function_call_if within initial) (signs_if within initial) behind)
+      (initialize-keeps (subtype_is is_controlled_type s) d next) (λ behind. declare-keeps d s (function_call_if within initial) (signs_if within initial) behind)
 
   object-keeps : (task : Bool) (part : ℕ) (i : Identifier) (initial : Option Expression) (next : Option StatementNo)
       → Keeps (cond task (action_put (action.CreateTask (number_declared within i) part) 0 next) (object_elaborated within (number_declared within i) (subtype_declared_as within i) initial next))
@@ -375,12 +376,12 @@ module _ (within : Within) where
   unfolding objects_put object_put
   objects-keep part initial [] next = λ l h. h
   objects-keep part initial (i ∷ is) next =
-      keeps-then (objects_put within part initial is next) (λ later. object_put within part initial i later) (objects-keep part initial is next) (λ later. object-keeps (subtype_is is_task (subtype_declared_as within i)) part i initial later)
+      keeps-then (objects_put within part initial is next) (λ later. object_put within part initial i later) (objects-keep part initial is next) (λ later. object-keeps (subtype_is is_task_type (subtype_declared_as within i)) part i initial later)
 
   single-keeps : (part : ℕ) (is_type : Bool) (i : Identifier) (next : Option StatementNo) → Keeps (single_put within part is_type i next)
   unfolding single_put object_put
   single-keeps part true i next = λ l h. h
-  single-keeps part false i next = object-keeps (subtype_is is_task (subtype_declared_as within i)) part i None next
+  single-keeps part false i next = object-keeps (subtype_is is_task_type (subtype_declared_as within i)) part i None next
 
   declaration-keeps : {Q : Type 0} (part : ℕ) (d : Declaration Q) (next : Option StatementNo) → Keeps (declaration_put within part d next)
   unfolding declaration_put

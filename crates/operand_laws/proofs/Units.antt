@@ -1,5 +1,6 @@
 -- Sequences, packages and the actions of a whole source keep the order of operands.
 use Rattle.std.proofs.Common.{ℕ, Bool, false, not, ◌&&◌, List, [], ◌∷◌, ◌++◌, Option, Some, None, sym, subst}
+use Rattle.std.specs.Bool.{then_some}
 use Rattle.std.specs.Prelude.{unwrap_or}
 use Rattle.ada_tree.specs.declared.statements.Handler.{Handler}
 use Rattle.ada_tree.specs.declared.statements.Sequence.{Sequence}
@@ -18,7 +19,7 @@ use Rattle.ada_image.specs.declared.making.SequencePlace.{SequencePlace}
 use Rattle.ada_image.specs.declared.making.SequencePlace.TheVariants as sequence_place
 use Rattle.ada_image.specs.Making.{◌>>=◌, ◌>>◌, action_put, reserved, put_at, first_put, the_action, in_construct}
 use Rattle.ada_image.specs.ImageOfStatements.{SequenceMaking, statements_put, handlers_put}
-use Rattle.ada_image.specs.ImageOfDeclarations.{same_making, sequence_put, making_layer, declarations_put, make_tasks, part_if, activation_put, end_of_activation_put, inner_bodies_put, body_put, unhandled_put, with_handlers_put, handled_put, whole_put, parts_put}
+use Rattle.ada_image.specs.ImageOfDeclarations.{same_making, sequence_put, making_layer, declarations_put, make_tasks, activation_put, end_of_activation_put, inner_bodies_put, body_put, unhandled_put, with_handlers_put, handled_put, whole_put, parts_put}
 use Rattle.ada_image.specs.ImageOfUnits.{has_body, part_of, package_part, package_declaration_put, package_statements_put, package_body_put, package_put, packages_put, actions_made}
 use Rattle.image_laws.proofs.Images.Layers.{mapped}
 use Rattle.operand_laws.proofs.Rising.{Keeps, keeps-then, action-keeps, first-keeps, reserved-keeps, put-keeps}
@@ -59,7 +60,7 @@ module _ {E : Type 0} (g : E → Sequence) (law : (e : E) → KeepsAll (sequence
   whole-keeps : (s : SequenceParts E) (is_task_body : Bool) (within : Within) → Keeps (whole_put same_making within is_task_body (made s))
   unfolding whole_put
   whole-keeps s is_task_body within =
-      let part = part_if (make_tasks within (made s).declarations) 0 in
+      let part = then_some (make_tasks within (made s).declarations) 0 in
       keeps-then (inner_bodies_put same_making within (made s).declarations)
       (λ u. handled_put same_making within part (made s) (made s).handlers None >>= (λ first. end_of_activation_put is_task_body first >>= (λ ended. declarations_put within 0 (made s).declarations ended)))
       (layer-inners g law s.declarations within)
@@ -102,7 +103,7 @@ package-keeps : (all : List LibraryPackage) (x : Package) (next : Option Stateme
 unfolding package_put package_declaration_put package_body_put
 package-keeps all (packages.Declaration x) next within =
     let ds = x.declarations ++ unwrap_or x.private [] in
-    let part = part_if (not (has_body all x.name.text) && make_tasks within ds) (part_of all x.name.text) in
+    let part = then_some (not (has_body all x.name.text) && make_tasks within ds) (part_of all x.name.text) in
     keeps-then (inner_bodies_put sequence_put within ds) (λ u. activation_put part next >>= (λ first. declarations_put within (part_of all x.name.text) ds first))
     (inners-keep sequence_put sequence-keeps ds within)
     (λ u. keeps-then (activation_put part next) (λ first. declarations_put within (part_of all x.name.text) ds first) (activation-keeps part next) (λ first. declarations-keep within (part_of all x.name.text) ds first))

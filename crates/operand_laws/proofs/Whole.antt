@@ -11,14 +11,15 @@ use Rattle.ada_regions.specs.declared.table.NumberedEntry.{NumberedEntry}
 use Rattle.ada_regions.specs.declared.table.NumberedEntryBody.{NumberedEntryBody}
 use Rattle.ada_regions.specs.declared.table.NumberedTask.{NumberedTask}
 use Rattle.ada_regions.specs.Numbered.{names_of}
+use Rattle.ada_regions.specs.TypeKinds.{is_array_type}
 use Rattle.ada_image.specs.declared.making.MadeLists.{MadeLists}
 use Rattle.ada_image.specs.declared.making.Within.{Within}
 use Rattle.ada_image.specs.Making.{Making, ◌>>=◌, pure, nothing_made}
-use Rattle.ada_image.specs.Layout.{is_array, subtype_is, scope_no}
-use Rattle.ada_image.specs.ImageOfExpressions.{expression_image, expression_made}
+use Rattle.ada_image.specs.Layout.{subtype_is, scope_no}
+use Rattle.ada_image.specs.ImageOfExpressions.{expression_image, expression_made, optional_value}
 use Rattle.ada_image.specs.ImageOfCalls.{function_call}
 use Rattle.ada_image.specs.ImageOfStatements.{array_name}
-use Rattle.ada_image.specs.UnitsOfImage.{aspect_value, deadline_made, task_unit_with, task_units_made, entry_with, entry_body_made, entries_made}
+use Rattle.ada_image.specs.UnitsOfImage.{aspect_value, task_unit_with, task_units_made, entry_with, entry_body_made, entries_made}
 use Rattle.ada_image.specs.ImageOfUnits.{scalar_initial, scalar_or_array, initial_of_call, initial_made, numbered_object, declaration_made, declarations_made, outermost, actions_made, all_made, program_with, program_from, program_of}
 use Rattle.operand_laws.specs.OperandLaws.{OperandsAreMadeFirst}
 use Rattle.operand_laws.proofs.Rising.{Keeps, keeps-then}
@@ -27,8 +28,8 @@ use Rattle.operand_laws.proofs.Units.{actions-keep}
 
 -- ---- deadlines, barriers and initial values
 
-deadline-keeps : (within : Within) (e : Option Expression) → Keeps (deadline_made within e)
-unfolding deadline_made
+deadline-keeps : (within : Within) (e : Option Expression) → Keeps (optional_value within e)
+unfolding optional_value
 deadline-keeps within None = λ l h. h
 deadline-keeps within (Some e) = keeps-then (expression_made e within) (λ x. pure (Some x)) (expression-keeps e within) (λ x l h. h)
 
@@ -36,7 +37,7 @@ tasks-keep : (within : Within) (number : ℕ) (ts : List NumberedTask) → Keeps
 unfolding task_units_made
 tasks-keep within number [] = λ l h. h
 tasks-keep within number (t ∷ ts) =
-    keeps-then (deadline_made within (aspect_value (codes "relative_deadline") t.aspects)) (λ deadline. task_units_made within (suc number) ts >>= (λ others. pure (task_unit_with within.names number t deadline ∷ others)))
+    keeps-then (optional_value within (aspect_value (codes "relative_deadline") t.aspects)) (λ deadline. task_units_made within (suc number) ts >>= (λ others. pure (task_unit_with within.names number t deadline ∷ others)))
     (deadline-keeps within (aspect_value (codes "relative_deadline") t.aspects))
     (λ deadline. keeps-then (task_units_made within (suc number) ts) (λ others. pure (task_unit_with within.names number t deadline ∷ others)) (tasks-keep within (suc number) ts) (λ others l h. h))
 
@@ -64,7 +65,7 @@ array-keeps false within e = scalar-keeps within e
 call-keeps : (called : Bool) (within : Within) (s : Option Subtype) (e : Expression) → Keeps (initial_of_call within s e called)
 unfolding initial_of_call scalar_or_array
 call-keeps true within s e = λ l h. h
-call-keeps false within s e = array-keeps (subtype_is is_array s) within e
+call-keeps false within s e = array-keeps (subtype_is is_array_type s) within e
 
 initial-keeps : (within : Within) (s : Option Subtype) (e : Option Expression) → Keeps (initial_made within s e)
 unfolding initial_made

@@ -2,10 +2,11 @@
 use Rattle.std.proofs.Common.{◌≡◌, Bool, true, false, cond, List, [], ◌∷◌, ◌++◌, None, refl, sym, ◌∙◌}
 use Rattle.std.proofs.lemmas.Grind.{flat_map-append}
 use Rattle.ada_tree.specs.declared.units.Unit.{Unit as Tree}
+use Rattle.world_tables.specs.Lists.{first_of}
 use Rattle.ada_regions.specs.NamesInUnits.{names_in_unit}
 use Rattle.ada_regions.specs.Numbered.{names_of}
 use Rattle.ada_legality.specs.declared.faults.Fault.{Fault}
-use Rattle.ada_legality.specs.Faults.{comes_before, same_fault, fault_put, in_order_of_text, fault_in, faults_in, found_of, faults_where, faults_of, first_fault_in, first_fault_of}
+use Rattle.ada_legality.specs.Faults.{comes_before, same_fault, fault_put, in_order_of_text, fault_in, faults_in, found_of, faults_where, faults_of, first_fault_of}
 use Rattle.ada_legality.specs.Findings.{Found}
 
 -- where a fault is put, there is one
@@ -18,7 +19,7 @@ some-put f (g ∷ gs) e = go (same_fault f g) (comes_before f g) e
     go false true h = cc
     go false false h = cc
 
-none-first : (fs : List Fault) → first_fault_in fs ≡ None → fs ≡ []
+none-first : (fs : List Fault) → first_of fs ≡ None → fs ≡ []
 none-first [] e = refl
 none-first (f ∷ fs) e = cc
 

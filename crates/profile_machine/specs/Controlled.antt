@@ -32,7 +32,7 @@ use Rattle.profile_machine.specs.declared.world.marks.Purpose.TheVariants as ope
 use Rattle.profile_machine.specs.declared.world.marks.ResultTo.TheVariants as bound_for
 use Rattle.profile_machine.specs.declared.world.marks.Mark.TheVariants.{Scope, Handled, InProtected, InAccept, Abortable, InInitialize, InFinalize, InAssign}
 use Rattle.profile_machine.specs.Words.{same_id, without}
-use Rattle.profile_machine.specs.Program.{declaration_of, next_of, scope_of, marks_of, subprogram_of, controlled_of, no_controlled}
+use Rattle.profile_machine.specs.Program.{declaration_of, next_of, scope_of, marks_of, subprogram_of, controlled_of, no_controlled, size_of_body}
 use Rattle.profile_machine.specs.declared.world.lines.Part.TheVariants.{Own}
 use Rattle.profile_machine.specs.Steps.{Step, says, changes, looks, when, nothing, ◌▷◌}
 use Rattle.profile_machine.specs.Frames.{top_of, edit_top, push, pop, new_frame, goes, leaves, raises, given, with_room, has_room, with_mark, pass_on}
@@ -66,9 +66,6 @@ open_operation p name f l =
 abbrev pub marks_of_operation : Image → SubprogramNo → ℕ
 marks_of_operation p f = marks_of p (subprogram_of p f).scope
 
-abbrev pub size_of_operation : Image → SubprogramNo → ℕ
-size_of_operation p f = (scope_of p (subprogram_of p f).scope).size
-
 -- ---- registration: `init`
 
 abbrev pub controlled_drawn : Drawn → Drawn
@@ -97,7 +94,7 @@ register p name l =
 unfoldable pub initialize_by : Image → Who → StatementNo → Located → Option SubprogramNo → Step
 initialize_by p name s l None = goes name (next_of p s) ▷ register p name l
 initialize_by p name s l (Some f) =
-    with_room name (1 + marks_of_operation p f) (size_of_operation p f)
+    with_room name (1 + marks_of_operation p f) (size_of_body p f)
     (goes name (next_of p s) ▷ changes (push name (new_frame (InInitialize l) None)) ▷ open_operation p name f l)
 
 unfoldable pub initialize : Image → Who → StatementNo → DeclNo → Step
@@ -142,7 +139,7 @@ unfoldable pub open_finalize : Image → Who → ℕ → Located → SubprogramN
 open_finalize p name n l f = changes (push name (new_frame (InFinalize n) None)) ▷ open_operation p name f l
 
 abbrev pub has_room_to_finalize : Image → World → Who → SubprogramNo → Bool
-has_room_to_finalize p w name f = has_room w name (1 + marks_of_operation p f) (size_of_operation p f)
+has_room_to_finalize p w name f = has_room w name (1 + marks_of_operation p f) (size_of_body p f)
 
 -- without room it counts as one that raised
 unfoldable pub finalize_by : Image → Who → Registered → Option SubprogramNo → Step
@@ -279,7 +276,7 @@ finalize_target_by p name r (Some f) =
     looks (λ w. elim (has_room_to_finalize p w name f) [ true ↦ open_finalize p name r.object r.located f | false ↦ leave_without_room name ])
 
 abbrev pub has_room_to_adjust : Image → World → Who → SubprogramNo → Bool
-has_room_to_adjust p w name f = has_room w name (marks_of_operation p f) (size_of_operation p f)
+has_room_to_adjust p w name f = has_room w name (marks_of_operation p f) (size_of_body p f)
 
 unfoldable pub adjust_by : Image → Who → Registered → Option SubprogramNo → Step
 adjust_by p name r None = nothing

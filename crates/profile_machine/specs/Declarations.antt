@@ -1,5 +1,5 @@
 -- The declaration of an object (3.3.1, 7.6, 9.4, D.14, D.15).
-use Rattle.std.specs.Prelude.{ℕ, suc, not, List, [], ◌∷◌, ◌++◌, Option, Some, None, Ok, Err, leb, length, take, drop}
+use Rattle.std.specs.Prelude.{ℕ, suc, not, List, [], ◌∷◌, ◌++◌, Option, Some, None, Ok, leb, length, take, drop}
 use Rattle.ann_base.specs.Results.{◌>>=◌}
 use Rattle.ann_base.specs.declared.identities.TaskNo.{TaskNo}
 use Rattle.ann_base.specs.declared.exceptions.Raised.TheVariants as exception
@@ -31,7 +31,7 @@ use Rattle.profile_machine.specs.Steps.{Step, says, changes, looks, ◌▷◌}
 use Rattle.profile_machine.specs.Frames.{goes, given}
 use Rattle.profile_machine.specs.Scopes.{write_cell, edit_cells, scope_in_use, put_cells}
 use Rattle.profile_machine.specs.Operators.{Valued, unless}
-use Rattle.profile_machine.specs.Values.{Seen, value, object_cell, home_of, component_at, no_budget, first_cell, task_in}
+use Rattle.profile_machine.specs.Values.{Seen, value, object_cell, home_of, component_at, no_budget, first_cell, task_in, must_be_task}
 use Rattle.profile_machine.specs.Statements.{sees, copy_cells}
 use Rattle.profile_machine.specs.CallEnds.{store}
 
@@ -130,13 +130,8 @@ with_budget w = record w { budgets = w.budgets ++ no_budget ∷ [] }
 abbrev pub budget_declared : Seen → DeclNo → Valued World
 budget_declared q d = located_here q d >>= λ l. Ok (set_thing q.program l (Thing (length q.world.budgets)) (with_budget q.world))
 
--- a timer of Null_Task_Id raises Program_Error; while so many exist Timer_Resource_Error is raised (D.14.1; own)
-abbrev pub must_identify : Option TaskNo → Valued TaskNo
-must_identify None = Err exception.Program
-must_identify (Some t) = Ok t
-
 abbrev pub timed_task : Seen → DeclNo → Valued TaskNo
-timed_task q d = home_of q d >>= λ id. must_identify (task_in (first_cell q d id))
+timed_task q d = home_of q d >>= λ id. must_be_task (task_in (first_cell q d id))
 
 abbrev pub with_timer : TaskNo → World → World
 with_timer t w = record w { timers = w.timers ++ record { task = t; setting = None } ∷ [] }

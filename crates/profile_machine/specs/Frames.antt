@@ -19,7 +19,7 @@ use Rattle.profile_machine.specs.declared.world.marks.Purpose.{Purpose}
 use Rattle.profile_machine.specs.declared.world.marks.Purpose.TheVariants as opened_for
 use Rattle.profile_machine.specs.declared.world.marks.Mark.TheVariants.{Scope, Handled, InProtected, InAccept, Abortable, InInitialize, InFinalize, InAssign}
 use Rattle.profile_machine.specs.Words.{same_statement, same_option}
-use Rattle.world_tables.specs.Lists.{first_of}
+use Rattle.world_tables.specs.Lists.{first_of, rest_of}
 use Rattle.profile_machine.specs.Program.{form_of, next_of}
 use Rattle.profile_machine.specs.declared.world.lines.Part.{Part}
 use Rattle.profile_machine.specs.declared.world.lines.Part.TheVariants.{Own}
@@ -55,13 +55,8 @@ goes name onward = changes (edit_top name (goes_on onward))
 abbrev pub push : Who → Frame → World → World
 push name f = edit_task name (λ t. with_frames (f ∷ t.frames) t)
 
--- the top mark has ended
-abbrev pub without_first : List Frame → List Frame
-without_first [] = []
-without_first (f ∷ fs) = fs
-
 abbrev pub pop : Who → World → World
-pop name = edit_task name (λ t. with_frames (without_first t.frames) t)
+pop name = edit_task name (λ t. with_frames (rest_of t.frames) t)
 
 -- ---- how a mark is being left
 

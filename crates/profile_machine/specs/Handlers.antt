@@ -38,7 +38,7 @@ use Rattle.profile_machine.specs.declared.world.marks.ResultTo.TheVariants as bo
 use Rattle.profile_machine.specs.declared.world.tasks.State.TheVariants.{Made, Runnable, Blocked}
 use Rattle.profile_machine.specs.declared.world.tasks.Task as world
 use Rattle.profile_machine.specs.Words.{same_task, edit_at, without}
-use Rattle.profile_machine.specs.Program.{is_robin_level, next_of, scope_of, marks_of, subprogram_of, protected_unit_of, interrupt_priority}
+use Rattle.profile_machine.specs.Program.{is_robin_level, next_of, marks_of, subprogram_of, protected_unit_of, interrupt_priority, size_of_body}
 use Rattle.profile_machine.specs.declared.world.lines.Part.{Part}
 use Rattle.profile_machine.specs.declared.world.lines.Part.TheVariants.{Own}
 use Rattle.profile_machine.specs.Steps.{Step, says, changes, looks, nothing, for_some, ◌▷◌}
@@ -89,9 +89,6 @@ abbrev pub argument_values : Option ℕ → List Value
 argument_values None = []
 argument_values (Some n) = Thing n ∷ []
 
-abbrev pub scope_size_of : Image → SubprogramNo → ℕ
-scope_size_of p f = (scope_of p (subprogram_of p f).scope).size
-
 unfoldable pub begin_handler : Image → Release → Step
 begin_handler p r =
     begin_action_on p who.Agent r.handler.object Write None (Some r.number)
@@ -100,7 +97,7 @@ begin_handler p r =
 -- without room it is served at once
 unfoldable pub begin_handler_if_room : Image → Release → Step
 begin_handler_if_room p r =
-    looks (λ w. elim (has_room w who.Agent (1 + marks_of p (subprogram_of p r.handler.procedure).scope) (scope_size_of p r.handler.procedure))
+    looks (λ w. elim (has_room w who.Agent (1 + marks_of p (subprogram_of p r.handler.procedure).scope) (size_of_body p r.handler.procedure))
     [ true ↦ begin_handler p r | false ↦ end_release r.number ])
 
 unfoldable pub enter_handler : Image → Release → Entering → Step

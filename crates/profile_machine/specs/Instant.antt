@@ -1,5 +1,5 @@
 -- The seven steps of an instant, in their order (this profile's choice).
-use Rattle.std.specs.Prelude.{ℕ, zero, suc, ℤ, pos, int_le, Bool, true, false, not, ◌&&◌, List, [], ◌∷◌, Option, Some, None, eqb, length, slice_index_or}
+use Rattle.std.specs.Prelude.{ℕ, zero, suc, ℤ, pos, int_le, Bool, true, false, not, ◌&&◌, List, [], ◌∷◌, Option, Some, None, eqb, length}
 use Rattle.ann_base.specs.declared.identities.CallNo.{CallNo}
 use Rattle.profile_machine.specs.declared.world.lines.Line.TheVariants as line
 use Rattle.trace_text.specs.declared.events.Who.{Who}
@@ -16,7 +16,7 @@ use Rattle.profile_machine.specs.declared.world.appointments.TimerSetting.{Timer
 use Rattle.profile_machine.specs.declared.world.appointments.Due.TheVariants as due_for
 use Rattle.profile_machine.specs.declared.world.calls.Outcome.TheVariants as call_ended
 use Rattle.profile_machine.specs.declared.world.tasks.Waiting.TheVariants as waits_for
-use Rattle.profile_machine.specs.Words.{edit_at}
+use Rattle.profile_machine.specs.Words.{edit_at, is_flag}
 use Rattle.ann_base.specs.Lists.{is_empty}
 use Rattle.profile_machine.specs.Program.{next_of, is_robin_level}
 use Rattle.profile_machine.specs.declared.world.lines.Part.TheVariants.{Own}
@@ -51,9 +51,6 @@ abbrev pub finish_action : Image → Move
 finish_action p = watches (λ w. effect_of_runner p w.ran)
 
 -- ---- 2: items of the script, by moment and then by line
-
-abbrev pub is_flag : List Bool → ℕ → Bool
-is_flag flags n = slice_index_or flags n false
 
 abbrev pub with_port : ℕ → ℤ → World → World
 with_port n value w = record w { ports = edit_at n (λ _. value) w.ports }

@@ -11,7 +11,7 @@ use Rattle.profile_machine.specs.declared.expressions.UnaryOperator.{UnaryOperat
 use Rattle.profile_machine.specs.declared.expressions.UnaryOperator.TheVariants as unary
 use Rattle.profile_machine.specs.declared.expressions.BinaryOperator.{BinaryOperator}
 use Rattle.profile_machine.specs.declared.expressions.BinaryOperator.TheVariants as binary
-use Rattle.profile_machine.specs.Words.{same_option, same_task, same_moment, same_bool}
+use Rattle.profile_machine.specs.Words.{same_option, same_task, same_bool, same_number}
 use Rattle.profile_machine.specs.Tasks.{time_last}
 
 -- ---- a value or an exception
@@ -27,6 +27,11 @@ unless false e x = Err e
 -- what no checked image asks: an operator between values of other kinds than its own
 abbrev pub misfit : {X : Type 0} → Valued X
 misfit = Err exception.Program
+
+-- it is true, and no exception
+abbrev pub holds : Valued Bool → Bool
+holds (Ok b) = b
+holds (Err e) = false
 
 -- ---- ends of the numbers (rules of this profile)
 
@@ -105,10 +110,10 @@ unary_value unary.Not v = inverted v
 -- ---- comparisons (4.5.2)
 
 abbrev pub same_value : Value → Value → Valued Bool
-same_value (Whole a) (Whole b) = Ok (same_moment a b)
+same_value (Whole a) (Whole b) = Ok (same_number a b)
 same_value (Truth a) (Truth b) = Ok (same_bool a b)
 same_value (Literal a) (Literal b) = Ok (eqb a b)
-same_value (Ticks a) (Ticks b) = Ok (same_moment a b)
+same_value (Ticks a) (Ticks b) = Ok (same_number a b)
 same_value (Task a) (Task b) = Ok (same_option same_task a b)
 same_value _ _ = misfit
 
@@ -160,7 +165,7 @@ multiplied (Whole a) (Ticks b) = ticks (a *ℤ b)
 multiplied _ _ = misfit
 
 abbrev pub is_zero : ℤ → Bool
-is_zero n = same_moment n (pos 0)
+is_zero n = same_number n (pos 0)
 
 -- towards zero
 abbrev pub divided : Value → Value → Valued Value

@@ -1,7 +1,6 @@
 -- Base priorities and deadlines that are set (D.5.1, D.2.6).
-use Rattle.std.specs.Prelude.{ℕ, ℤ, pos, ◌+ℤ◌, int_le, nat_abs, Bool, true, false, cond, not, ◌&&◌, ◌||◌, Option, Some, None, Ok, Err, is_some, is_none}
+use Rattle.std.specs.Prelude.{ℕ, ℤ, pos, ◌+ℤ◌, int_le, nat_abs, Bool, true, false, cond, not, ◌&&◌, ◌||◌, Option, Some, None, is_some, is_none}
 use Rattle.ann_base.specs.Results.{◌>>=◌}
-use Rattle.ann_base.specs.declared.identities.TaskNo.{TaskNo}
 use Rattle.ann_base.specs.declared.identities.CallNo.{CallNo}
 use Rattle.ann_base.specs.declared.exceptions.Raised.TheVariants as exception
 use Rattle.profile_machine.specs.declared.limits.TheConstants.{LAST_QUANTUM}
@@ -29,7 +28,7 @@ use Rattle.profile_machine.specs.Tasks.{task_of, edit_task, found_task}
 use Rattle.profile_machine.specs.Dispatching.{active_of, to_tail}
 use Rattle.profile_machine.specs.Frames.{goes, given, raise_if, in_protected}
 use Rattle.profile_machine.specs.Operators.{Valued, unless, held_moment}
-use Rattle.profile_machine.specs.Values.{value, moment, optional_task, whole_in, live_task}
+use Rattle.profile_machine.specs.Values.{value, moment, optional_task, whole_in, live_task, must_be_task}
 use Rattle.profile_machine.specs.Calls.{with_call, edit_call, edit_queue, place_of_entry, take_call, put_call}
 use Rattle.profile_machine.specs.Masters.{part_of}
 use Rattle.profile_machine.specs.Statements.{sees, delay_to}
@@ -138,10 +137,6 @@ set_base_of p actor s level (Some t) =
 
 abbrev pub priority_in_range : ℕ → ℤ → Valued ℕ
 priority_in_range last n = unless (int_le (pos 0) n && int_le n (pos last)) exception.Constraint (nat_abs n)
-
-abbrev pub must_be_task : Option TaskNo → Valued TaskNo
-must_be_task None = Err exception.Program
-must_be_task (Some t) = Ok t
 
 -- on a task that has terminated it has no effect
 unfoldable pub set_priority : Image → Who → StatementNo → ExprNo → Option ExprNo → Step

@@ -68,6 +68,10 @@ no_subprogram = record { name = []; scope = record { 0 = 0 }; formals = []; resu
 abbrev pub subprogram_of : Image → SubprogramNo → Subprogram
 subprogram_of p s = slice_index_or p.subprograms s.0 no_subprogram
 
+-- how many cells the scope of a subprogram's body has
+abbrev pub size_of_body : Image → SubprogramNo → ℕ
+size_of_body p f = (scope_of p (subprogram_of p f).scope).size
+
 abbrev pub no_task_unit : TaskUnit
 no_task_unit = record { scope = record { 0 = 0 }; priority = None; relative_deadline = None; entries = [] }
 

@@ -1,5 +1,5 @@
 -- Protected actions, entry bodies and ceilings (9.5.1, 9.5.2, 9.5.3, D.3).
-use Rattle.std.specs.Prelude.{ℕ, ◌+◌, Bool, true, false, cond, not, ◌&&◌, ◌||◌, List, ◌∷◌, Option, Some, None, Ok, Err, ltb, filter, map, option_and_then, unwrap_or}
+use Rattle.std.specs.Prelude.{ℕ, ◌+◌, Bool, true, false, cond, not, ◌&&◌, ◌||◌, List, ◌∷◌, Option, Some, None, ltb, filter, map, option_and_then, unwrap_or}
 use Rattle.std.specs.List.{list_all}
 use Rattle.ann_base.specs.declared.exceptions.Raised.TheVariants as exception
 use Rattle.ann_base.specs.declared.identities.ObjectNo.{ObjectNo}
@@ -48,7 +48,7 @@ use Rattle.profile_machine.specs.Dispatching.{active_of, to_tail}
 use Rattle.profile_machine.specs.Frames.{edit_top, push, new_frame, goes, raises, given, raise_if, with_room, has_room, with_mark}
 use Rattle.profile_machine.specs.declared.world.scopes.Beginning.{Beginning}
 use Rattle.profile_machine.specs.Scopes.{home, open_scope}
-use Rattle.profile_machine.specs.Operators.{Valued}
+use Rattle.profile_machine.specs.Operators.{holds}
 use Rattle.profile_machine.specs.Values.{Seen, condition, object_of, object_number, own_object, queue_at}
 use Rattle.profile_machine.specs.Inheritance.{inherit_running}
 use Rattle.profile_machine.specs.Calls.{edit_call, edit_object, unqueued, next_call, place_of_entry, parameters_of}
@@ -172,13 +172,9 @@ call_own_operation p name s f actuals to =
 abbrev pub seen_by_barrier : Image → World → Who → Object → Seen
 seen_by_barrier p w name o = record { program = p; world = w; who = name; within = Some o.located.within; object = Some o.number }
 
-abbrev pub is_true : Valued Bool → Bool
-is_true (Ok b) = b
-is_true (Err e) = false
-
 abbrev pub is_open_body : Image → World → Who → Object → Option EntryBody → Bool
 is_open_body p w name o None = false
-is_open_body p w name o (Some body) = is_true (condition (seen_by_barrier p w name o) body.barrier)
+is_open_body p w name o (Some body) = holds (condition (seen_by_barrier p w name o) body.barrier)
 
 abbrev pub is_open_entry : Image → World → Who → Object → EntryNo → Bool
 is_open_entry p w name o e = is_open_body p w name o (entry_of p e).body

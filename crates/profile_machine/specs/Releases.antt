@@ -1,6 +1,6 @@
 -- Each handler is released at its tick (C.3, D.14, D.15): a law on the worlds of a run, since a setting prints no line.
 -- It looks at each instant behind its first step, when the effect of an action can set and cancel no more.
-use Rattle.std.specs.Prelude.{ℕ, zero, suc, ℤ, pos, int_le, Bool, true, false, cond, not, ◌&&◌, ◌||◌, List, [], ◌∷◌, ◌++◌, Option, Some, None, eqb, leb, length, slice_index_or}
+use Rattle.std.specs.Prelude.{ℕ, zero, suc, ℤ, pos, int_le, Bool, true, false, cond, not, ◌&&◌, ◌||◌, List, [], ◌∷◌, ◌++◌, Option, Some, None, eqb, leb, length}
 use Rattle.std.specs.List.{list_any, list_all}
 use Rattle.ann_base.specs.declared.identities.ObjectNo.{ObjectNo}
 use Rattle.trace_text.specs.declared.events.Event.{Event}
@@ -18,7 +18,7 @@ use Rattle.profile_machine.specs.declared.world.appointments.Appointment.{Appoin
 use Rattle.profile_machine.specs.declared.world.appointments.Due.{Due}
 use Rattle.profile_machine.specs.declared.world.appointments.TimerSetting.{TimerSetting}
 use Rattle.profile_machine.specs.declared.world.appointments.Due.TheVariants as due_for
-use Rattle.profile_machine.specs.Words.{same_moment, edit_at}
+use Rattle.profile_machine.specs.Words.{edit_at, same_number, is_flag}
 use Rattle.profile_machine.specs.Program.{subprogram_of, form_of}
 use Rattle.profile_machine.specs.Steps.{Move, ◌▶◌}
 use Rattle.profile_machine.specs.Frames.{onward_of}
@@ -68,9 +68,6 @@ abbrev pub attached_to : Image → World → ℕ → Bool → List NamedHandler
 attached_to p w n true = handler_list p (handler_attached p n w.objects)
 attached_to p w n false = []
 
-abbrev pub is_set : List Bool → ℕ → Bool
-is_set flags n = slice_index_or flags n false
-
 abbrev pub marked : ℕ → Bool → List Bool → List Bool
 marked n flag = edit_at n (λ _. flag)
 
@@ -84,16 +81,16 @@ pub record Flags : Type 0 where
   pub kept_interrupts : List Bool
 
 abbrev pub flags_after : Item → Flags → Flags
-flags_after (item.Interrupt n) f = record f { kept_interrupts = kept_where (is_set f.masked n) n f.kept_interrupts }
+flags_after (item.Interrupt n) f = record f { kept_interrupts = kept_where (is_flag f.masked n) n f.kept_interrupts }
 flags_after (item.Port n value) f = f
 flags_after (item.Mask n) f = record f { masked = marked n true f.masked }
 flags_after (item.Unmask n) f = record { masked = marked n false f.masked; kept_interrupts = marked n false f.kept_interrupts }
 
 abbrev pub due_by_item : Image → World → Item → Flags → List NamedHandler
-due_by_item p w (item.Interrupt n) f = attached_to p w n (not (is_set f.masked n))
+due_by_item p w (item.Interrupt n) f = attached_to p w n (not (is_flag f.masked n))
 due_by_item p w (item.Port n value) f = []
 due_by_item p w (item.Mask n) f = []
-due_by_item p w (item.Unmask n) f = attached_to p w n (is_set f.kept_interrupts n)
+due_by_item p w (item.Unmask n) f = attached_to p w n (is_flag f.kept_interrupts n)
 
 abbrev pub due_interrupts : Image → World → List (ℤ × Item) → Flags → List NamedHandler
 due_interrupts p w [] f = []
@@ -153,7 +150,7 @@ most_by_effect p w (Some name) = may_release p (onward_of w name)
 -- ---- a setting stays until an effect cancels it or sets it again, or its moment comes
 
 abbrev pub is_set_for : ℕ → ℤ → Due → ℤ → Bool
-is_set_for e m (due_for.Event n h) moment = eqb e n && same_moment m moment
+is_set_for e m (due_for.Event n h) moment = eqb e n && same_number m moment
 is_set_for e m (due_for.Delay t) moment = false
 is_set_for e m (due_for.Timeout c) moment = false
 is_set_for e m (due_for.Trigger t depth) moment = false

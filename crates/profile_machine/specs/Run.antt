@@ -1,5 +1,5 @@
 -- The timed run: instants and tocks in turn from the opening world, up to the first instant at which it stops.
-use Rattle.std.specs.Prelude.{ℕ, zero, suc, ◌+◌, ◌-◌, ℤ, pos, false, cond, ◌&&◌, List, [], ◌∷◌, ◌++◌, Option, Some, None, eqb, replicate}
+use Rattle.std.specs.Prelude.{ℕ, zero, suc, ◌+◌, ◌-◌, ℤ, pos, false, cond, ◌&&◌, List, [], ◌∷◌, ◌++◌, Option, Some, None, eqb, replicate, unwrap_or}
 use Rattle.std.specs.Option.{option_or}
 use Rattle.ann_base.specs.declared.exceptions.Raised.{Raised}
 use Rattle.trace_text.specs.declared.events.Event.{Event}
@@ -116,13 +116,8 @@ abbrev pub serve : Who → Move
 serve (who.Task t) = rests
 serve who.Agent = watches (λ w. serve_if_free w.serving w.agent.frames w.releases)
 
--- an action begins when its task is chosen and has no ticks left
-abbrev pub ticks_or : Option ℕ → ℕ → ℕ
-ticks_or None n = n
-ticks_or (Some ticks) n = ticks
-
 abbrev pub begin_action : Image → Who → World → World
-begin_action p name w = edit_task name (with_ticks (Some (ticks_or (task_of w name).ticks_left (cost p w name)))) w
+begin_action p name w = edit_task name (with_ticks (Some (unwrap_or (task_of w name).ticks_left (cost p w name)))) w
 
 abbrev pub one_tick_less : Option ℕ → Option ℕ
 one_tick_less None = None

@@ -1,5 +1,5 @@
 -- Simple and compound statements (clauses 5, 6.5, 9.6, 11.3, A.10.7).
-use Rattle.std.specs.Prelude.{ℕ, ◌+◌, ◌-◌, ℤ, pos, negsuc, ◌+ℤ◌, int_lt, Bool, true, false, cond, not, ◌&&◌, List, [], ◌∷◌, ◌++◌, Option, Some, None, Ok, Err, take, drop}
+use Rattle.std.specs.Prelude.{ℕ, ◌+◌, ◌-◌, ℤ, pos, negsuc, ◌+ℤ◌, int_lt, Bool, true, false, cond, not, ◌&&◌, List, [], ◌∷◌, ◌++◌, Option, Some, None, Ok, take, drop}
 use Rattle.ann_base.specs.Results.{◌>>=◌}
 use Rattle.ann_base.specs.declared.exceptions.Raised.{Raised}
 use Rattle.ann_base.specs.declared.exceptions.Raised.TheVariants as exception
@@ -37,7 +37,7 @@ use Rattle.profile_machine.specs.Steps.{Step, says, changes, looks, nothing, ◌
 use Rattle.profile_machine.specs.Dispatching.{block, to_tail}
 use Rattle.profile_machine.specs.Frames.{frames_of, goes, raises, given, raise_if, with_room, exit_loop, in_protected}
 use Rattle.profile_machine.specs.Scopes.{home, write_cell, edit_cells, put_cells, cells_of, scope_in_use, open_scope, plainly, innermost}
-use Rattle.profile_machine.specs.Operators.{Valued, same_value, is_less, held_moment, text_of_whole, text_of_truth, text_of_literal}
+use Rattle.profile_machine.specs.Operators.{Valued, same_value, is_less, held_moment, text_of_whole, text_of_truth, text_of_literal, holds}
 use Rattle.profile_machine.specs.Values.{Seen, seen_by, value, variable, condition, moment, object_cell, home_of, or_misfit, read}
 use Rattle.profile_machine.specs.Appointments.{appoint}
 use Rattle.profile_machine.specs.CallEnds.{store}
@@ -84,10 +84,6 @@ branch false first otherwise = otherwise
 unfoldable pub if_statement : Image → Who → ExprNo → StatementNo → Option StatementNo → Step
 if_statement p name e first otherwise =
     sees p name (λ q. given Own name (condition q e) (λ b. goes name (branch b first otherwise)))
-
-abbrev pub holds : Valued Bool → Bool
-holds (Ok b) = b
-holds (Err e) = false
 
 abbrev pub is_chosen : Value → Choice → Bool
 is_chosen v (choice.Single x) = holds (same_value v x)

@@ -1,6 +1,6 @@
 -- The creation, activation, completion and abort of tasks (9.1 to 9.3, 9.8, 7.6.1).
 use Rattle.std.specs.Prelude.{ℕ, suc, ◌-◌, ℤ, pos, ◌+ℤ◌, Bool, true, false, cond, not, ◌&&◌, ◌||◌, List, [], ◌∷◌, ◌++◌, Option, Some, None, Ok, eqb, leb, length, filter, is_some, option_and_then, unwrap_or}
-use Rattle.std.specs.List.{list_any}
+use Rattle.std.specs.List.{list_any, cons_option}
 use Rattle.ann_base.specs.Results.{◌>>=◌}
 use Rattle.ann_base.specs.declared.identities.TaskNo.{TaskNo}
 use Rattle.ann_base.specs.declared.identities.RegionNo.{RegionNo}
@@ -307,13 +307,9 @@ end_scope_mark p name m leaving = end_scope_mark_of p name m leaving m.region
 
 -- ---- abort (9.8): the named tasks and all that depend on them become abnormal
 
-abbrev pub task_list : Option TaskNo → List TaskNo → List TaskNo
-task_list None rest = rest
-task_list (Some t) rest = t ∷ rest
-
 abbrev pub named_tasks : Seen → List DeclNo → Valued (List TaskNo)
 named_tasks q [] = Ok []
-named_tasks q (d ∷ ds) = thing q d >>= λ v. named_tasks q ds >>= λ rest. Ok (task_list (task_in v) rest)
+named_tasks q (d ∷ ds) = thing q d >>= λ v. named_tasks q ds >>= λ rest. Ok (cons_option (task_in v) rest)
 
 abbrev pub is_to_abort : World → List TaskNo → world.Task → Bool
 is_to_abort w aborted t = not t.abnormal && list_any (λ n. same_who (who.Task n) t.who || depends_on_task w (who.Task n) t) aborted

@@ -86,6 +86,11 @@ abbrev pub or_misfit : {X : Type 0} → Option X → Valued X
 or_misfit None = misfit
 or_misfit (Some x) = Ok x
 
+-- a task is asked for: Null_Task_Id raises Program_Error (C.7.1, D.14.1)
+abbrev pub must_be_task : Option TaskNo → Valued TaskNo
+must_be_task None = Err exception.Program
+must_be_task (Some t) = Ok t
+
 abbrev pub home_of : Seen → DeclNo → Valued ScopeId
 home_of q d = or_misfit (home q.world (declaration_of q.program d).scope q.within)
 

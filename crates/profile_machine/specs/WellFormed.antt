@@ -25,7 +25,7 @@ use Rattle.profile_machine.specs.declared.world.appointments.Due.TheVariants as 
 use Rattle.profile_machine.specs.declared.world.calls.Owner.TheVariants as owned_by
 use Rattle.profile_machine.specs.declared.world.tasks.Waiting.TheVariants as waits_for
 use Rattle.profile_machine.specs.declared.world.marks.Mark.TheVariants.{Scope, Handled, InProtected, InAccept, Abortable, InInitialize, InFinalize, InAssign}
-use Rattle.profile_machine.specs.Words.{same_who, same_object, same_moment, same_option}
+use Rattle.profile_machine.specs.Words.{same_who, same_object, same_option, same_number}
 use Rattle.ann_base.specs.Lists.{is_empty}
 use Rattle.profile_machine.specs.Program.{form_of, scope_of, opens_handled}
 use Rattle.profile_machine.specs.Steps.{is_above}
@@ -67,7 +67,7 @@ ready_are_placed w = list_all (λ t. cond (is_runnable t) (is_placed w t) (not (
 
 abbrev pub is_at_active : Image → World → Placed → Bool
 is_at_active p w x =
-    eqb x.level (active p (task_of w x.who)) && same_option same_moment x.deadline (deadline_shown p (task_of w x.who))
+    eqb x.level (active p (task_of w x.who)) && same_option same_number x.deadline (deadline_shown p (task_of w x.who))
 
 abbrev pub places_are_right : Image → World → Bool
 places_are_right p w =

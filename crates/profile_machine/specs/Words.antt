@@ -1,5 +1,5 @@
 -- Small words on numbers, options and lists that the definitions share.
-use Rattle.std.specs.Prelude.{ℕ, zero, suc, max, cond, ℤ, Bool, true, false, not, ◌&&◌, ◌||◌, List, [], ◌∷◌, Option, Some, None, eqb, int_le, filter, find}
+use Rattle.std.specs.Prelude.{ℕ, zero, suc, max, cond, ℤ, Bool, true, false, not, ◌&&◌, ◌||◌, List, [], ◌∷◌, Option, Some, None, eqb, int_le, filter, find, slice_index_or}
 use Rattle.ann_base.specs.declared.identities.TaskNo.{TaskNo}
 use Rattle.ann_base.specs.declared.identities.CallNo.{CallNo}
 use Rattle.ann_base.specs.declared.identities.ObjectNo.{ObjectNo}
@@ -96,7 +96,11 @@ abbrev pub greatest_of : List ℕ → ℕ → ℕ
 greatest_of [] least = least
 greatest_of (x ∷ xs) least = max x (greatest_of xs least)
 
--- ---- moments
+-- a flag of a list, down where the list has no such place
+abbrev pub is_flag : List Bool → ℕ → Bool
+is_flag flags n = slice_index_or flags n false
 
-abbrev pub same_moment : ℤ → ℤ → Bool
-same_moment a b = int_le a b && int_le b a
+-- ---- whole numbers
+
+abbrev pub same_number : ℤ → ℤ → Bool
+same_number a b = int_le a b && int_le b a

@@ -13,7 +13,7 @@ use Rattle.profile_machine.specs.Program.{is_robin_level}
 use Rattle.profile_machine.specs.Dispatching.{choose}
 use Rattle.profile_machine.specs.Cost.{cost}
 use Rattle.profile_machine.specs.Handlers.{clock_risen, quantum_spent_by, charge_budget, charge_task, charge}
-use Rattle.profile_machine.specs.Run.{says_run, serve, begin_action, ticks_or, one_tick_less, spend_tick}
+use Rattle.profile_machine.specs.Run.{says_run, serve, begin_action, one_tick_less, spend_tick}
 use Rattle.machine_laws.proofs.Kept.Run.{before_tick, tock-parts}
 use Rattle.release_laws.specs.ChargeLaws.{is_there, runs, group_of, charged_of, Charges, TocksCharge}
 use Rattle.release_laws.proofs.ClockLemmas.{shown, clock_in}
@@ -145,7 +145,7 @@ begun-charges : (p : Image) (name : Who) (w served : World) → sight_of served 
 begun-charges p name w served e =
     let begun = begin_action p name served in
     let charged = charge p name begun in
-    let f : Task → Task = with_ticks (Some (ticks_or (task_of served name).ticks_left (cost p served name))) in
+    let f : Task → Task = with_ticks (Some (unwrap_or (task_of served name).ticks_left (cost p served name))) in
     let before = edited-alike name f served (λ t. refl) (λ t. refl) in
     let behind = edited-alike name (λ t. with_ticks (one_tick_less t.ticks_left) t) charged (λ t. refl) (λ t. refl) in
     let k = who-charges p name begun in

@@ -6,7 +6,8 @@ use Rattle.profile_machine.specs.declared.image.Image.{Image}
 use Rattle.profile_machine.specs.declared.run_data.Item.{Item}
 use Rattle.profile_machine.specs.declared.run_data.Item.TheVariants as item
 use Rattle.profile_machine.specs.declared.world.World.{World}
-use Rattle.profile_machine.specs.Releases.{NamedHandler, named_handler, handler_list, attached_to, is_set, Flags, flags_after, due_by_item, released}
+use Rattle.profile_machine.specs.Releases.{NamedHandler, named_handler, handler_list, attached_to, Flags, flags_after, due_by_item, released}
+use Rattle.profile_machine.specs.Words.{is_flag}
 use Rattle.release_laws.specs.ReleaseLaws.{Passage, Account, first_account, account_behind, HistoryOk, items_come, items_ahead, flags_behind, due_by_items, owed_of_interrupts}
 use Rattle.release_laws.specs.MomentLaws.{IsAmong, AllBefore, NoneLater, items_of, InterruptsCome}
 use Rattle.release_laws.proofs.RunReleases.{runs_release}
@@ -99,6 +100,6 @@ interrupts_come p script bound before behind y first last moment n h e comes =
     among-one (named_handler p h) (owed_of_interrupts p a y) (released y.lines) (interrupts-stand p a y there.2.0)
     (subst (λ xs. IsAmong (named_handler p h) (due_by_items p y.acted xs a.flags)) (sym come)
     (among-items p y.acted (named_handler p h) (item.Interrupt n) (items_come time last) (items_of k.front) a.flags
-    (subst (λ f. IsAmong (named_handler p h) (attached_to p y.acted n (not (is_set f.masked n)))) (sym k.flags_there)
+    (subst (λ f. IsAmong (named_handler p h) (attached_to p y.acted n (not (is_flag f.masked n)))) (sym k.flags_there)
     (subst (λ b. IsAmong (named_handler p h) (attached_to p y.acted n (not b))) (sym comes.unmasked)
     (subst (λ found. IsAmong (named_handler p h) (handler_list p found)) (sym comes.attached) (inl refl))))))

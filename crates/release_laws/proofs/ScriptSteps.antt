@@ -13,11 +13,11 @@ use Rattle.profile_machine.specs.declared.world.lines.Line.{Line}
 use Rattle.profile_machine.specs.declared.world.lines.Line.TheVariants as line
 use Rattle.profile_machine.specs.declared.world.lines.Said.{Said}
 use Rattle.profile_machine.specs.declared.world.lines.Part.TheVariants.{Own}
-use Rattle.profile_machine.specs.Words.{edit_at}
+use Rattle.profile_machine.specs.Words.{edit_at, is_flag}
 use Rattle.profile_machine.specs.Steps.{Step, Done, done, changes, nothing, for_some, placed_by, ◌▷◌}
 use Rattle.profile_machine.specs.Handlers.{handler_attached, interrupt, release}
-use Rattle.profile_machine.specs.Instant.{is_flag, interrupt_comes, deliver_kept_interrupt, script_item, with_script, take_item, items_due, script_items}
-use Rattle.profile_machine.specs.Releases.{named_handler, handler_list, attached_to, is_set, kept_where, Flags, flags_after, due_by_item, released}
+use Rattle.profile_machine.specs.Instant.{interrupt_comes, deliver_kept_interrupt, script_item, with_script, take_item, items_due, script_items}
+use Rattle.profile_machine.specs.Releases.{named_handler, handler_list, attached_to, kept_where, Flags, flags_after, due_by_item, released}
 use Rattle.machine_laws.proofs.Moves.{own, lines_of}
 use Rattle.machine_laws.proofs.Kept.Combinators.{Kept, From}
 use Rattle.release_laws.specs.ReleaseLaws.{items_come, items_ahead, flags_behind, due_by_items}
@@ -39,10 +39,10 @@ attached p objects n true = one_or_none (handler_attached p n objects)
 attached p objects n false = []
 
 abbrev by_item : Image → List Object → Item → Flags → List HandlerOf
-by_item p objects (item.Interrupt n) f = attached p objects n (not (is_set f.masked n))
+by_item p objects (item.Interrupt n) f = attached p objects n (not (is_flag f.masked n))
 by_item p objects (item.Port n value) f = []
 by_item p objects (item.Mask n) f = []
-by_item p objects (item.Unmask n) f = attached p objects n (is_set f.kept_interrupts n)
+by_item p objects (item.Unmask n) f = attached p objects n (is_flag f.kept_interrupts n)
 
 abbrev by_items : Image → List Object → List Item → Flags → List HandlerOf
 by_items p objects [] f = []
@@ -57,10 +57,10 @@ attached-named p w n true = one-named p (handler_attached p n w.objects)
 attached-named p w n false = refl
 
 item-named : (p : Image) (w : World) (x : Item) (f : Flags) → map (named_handler p) (by_item p w.objects x f) ≡ due_by_item p w x f
-item-named p w (item.Interrupt n) f = attached-named p w n (not (is_set f.masked n))
+item-named p w (item.Interrupt n) f = attached-named p w n (not (is_flag f.masked n))
 item-named p w (item.Port n value) f = refl
 item-named p w (item.Mask n) f = refl
-item-named p w (item.Unmask n) f = attached-named p w n (is_set f.kept_interrupts n)
+item-named p w (item.Unmask n) f = attached-named p w n (is_flag f.kept_interrupts n)
 
 map-append : {X Y : Type 0} (f : X → Y) (xs ys : List X) → map f (xs ++ ys) ≡ map f xs ++ map f ys
 map-append f [] ys = refl

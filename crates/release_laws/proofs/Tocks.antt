@@ -1,6 +1,6 @@
 -- What a whole tock does to all that is released later.
 use Rattle.std.proofs.Common.{◌≡◌, ℕ, suc, Bool, true, false, cond, filter, List, [], ◌∷◌, map, Option, Some, None, refl, sym, ap, subst, ◌∙◌}
-use Rattle.std.specs.Prelude.{int_le, pos}
+use Rattle.std.specs.Prelude.{int_le, pos, unwrap_or}
 use Rattle.std.specs.Prelude.{◌-◌}
 use Rattle.ann_base.specs.declared.identities.TaskNo.{TaskNo}
 use Rattle.trace_text.specs.declared.events.Event.{Event}
@@ -19,7 +19,7 @@ use Rattle.profile_machine.specs.Dispatching.{choose}
 use Rattle.profile_machine.specs.Cost.{cost}
 use Rattle.profile_machine.specs.Handlers.{clock_risen, is_reached_by, quantum_spent_by, charge_budget, charge_clock, charge_task, charge, due_by_tick}
 use Rattle.profile_machine.specs.Steps.{rests}
-use Rattle.profile_machine.specs.Run.{says_run, say, says_idle, serve_if_free, serve, begin_action, ticks_or, one_tick_less, spend_tick, next_tick, tock}
+use Rattle.profile_machine.specs.Run.{says_run, say, says_idle, serve_if_free, serve, begin_action, one_tick_less, spend_tick, next_tick, tock}
 use Rattle.machine_laws.proofs.Kept.Run.{before_tick, tock-parts}
 use Rattle.release_laws.specs.ReleaseLaws.{TimerSet, BudgetSet, is_reached, budgets_run_out}
 use Rattle.release_laws.proofs.ClockLemmas.{clock_in}
@@ -201,7 +201,7 @@ before-charged p (Some name) w =
     charged-alike w begun paid (spend_tick name paid)
     (alike-then w served begun
     (alike-then w told served (alike-sights w told (ap sight_of (run-alike (same_option same_who w.ran (Some name)) name w))) (alike-sights told served (serve-alike name told)))
-    (edited-alike name (with_ticks (Some (ticks_or (task_of served name).ticks_left (cost p served name)))) served (λ t. refl) (λ t. refl)))
+    (edited-alike name (with_ticks (Some (unwrap_or (task_of served name).ticks_left (cost p served name)))) served (λ t. refl) (λ t. refl)))
     (who-charged p name begun)
     (edited-alike name (λ t. with_ticks (one_tick_less t.ticks_left) t) paid (λ t. refl) (λ t. refl))
 

@@ -10,6 +10,7 @@ use Rattle.trace_text.specs.declared.events.Mode.TheVariants.{Write}
 use Rattle.ann_base.specs.declared.identities.CallNo.{CallNo}
 use Rattle.ann_base.specs.declared.identities.ObjectNo.{ObjectNo}
 use Rattle.ann_base.specs.declared.identities.TaskNo.{TaskNo}
+use Rattle.world_tables.specs.Lists.{rest_of}
 use Rattle.profile_machine.specs.declared.image.Image.{Image}
 use Rattle.profile_machine.specs.declared.numbers.StatementNo.{StatementNo}
 use Rattle.profile_machine.specs.declared.run_data.Item.{Item}
@@ -26,7 +27,7 @@ use Rattle.profile_machine.specs.declared.world.tasks.Task.{Task}
 use Rattle.profile_machine.specs.declared.world.tasks.State.TheVariants.{Runnable, Blocked}
 use Rattle.profile_machine.specs.Words.{edit_at}
 use Rattle.profile_machine.specs.Tasks.{task_at, edit_task_found, edit_task, with_state, with_frames}
-use Rattle.profile_machine.specs.Frames.{edit_first, edit_top, with_mark, push, pop, new_frame, without_first, goes_on}
+use Rattle.profile_machine.specs.Frames.{edit_first, edit_top, with_mark, push, pop, new_frame, goes_on}
 use Rattle.profile_machine.specs.Program.{scope_of}
 use Rattle.profile_machine.specs.Scopes.{begin_scope, draw_region, next_id, region_of_next, new_scope_mark}
 use Rattle.profile_machine.specs.Values.{no_budget}
@@ -150,7 +151,7 @@ pushed-untouched : (name : Who) (f : Frame) (w : World) → Untouched (sight_of 
 pushed-untouched name f w = edited-untouched name (λ t. with_frames (f ∷ t.frames) t) w (λ t. refl) (λ t. refl)
 
 popped-untouched : (name : Who) (w : World) → Untouched (sight_of w) (sight_of (pop name w))
-popped-untouched name w = edited-untouched name (λ t. with_frames (without_first t.frames) t) w (λ t. refl) (λ t. refl)
+popped-untouched name w = edited-untouched name (λ t. with_frames (rest_of t.frames) t) w (λ t. refl) (λ t. refl)
 
 pushed_on-untouched : (name : Who) (onward : Option StatementNo) (f : Frame) (w : World) → Untouched (sight_of w) (sight_of (push name f (gone_on name onward w)))
 pushed_on-untouched name onward f w =

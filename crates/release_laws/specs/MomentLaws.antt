@@ -8,7 +8,8 @@ use Rattle.profile_machine.specs.declared.run_data.Item.TheVariants as item
 use Rattle.profile_machine.specs.declared.world.appointments.HandlerOf.{HandlerOf}
 use Rattle.profile_machine.specs.Values.{budget_of}
 use Rattle.profile_machine.specs.Handlers.{has_run_out, handler_attached}
-use Rattle.profile_machine.specs.Releases.{named_handler, released, is_set}
+use Rattle.profile_machine.specs.Releases.{named_handler, released}
+use Rattle.profile_machine.specs.Words.{is_flag}
 use Rattle.release_laws.specs.Asked.{Request, OfEvent, OfTimer, OfBudget, asked}
 use Rattle.release_laws.specs.ReleaseLaws.{Passage, history, first_account, clock_of, is_number_of, flags_behind}
 
@@ -114,7 +115,7 @@ pub record Comes (p : Image) (script first last : List (ℤ × Item)) (moment : 
   pub in_order : NoneLater moment first
   pub earlier : AllBefore moment before
   pub reached : int_le moment (pos y.before.time) ≡ true
-  pub unmasked : is_set (flags_behind (items_of first) (first_account script).flags).masked n ≡ false
+  pub unmasked : is_flag (flags_behind (items_of first) (first_account script).flags).masked n ≡ false
   pub attached : handler_attached p n y.acted.objects ≡ Some h
 
 abbrev pub InterruptsCome : Type 0

@@ -1,5 +1,6 @@
 -- The jobs, the preemptions and the last placing of a task with one line more.
 use Rattle.std.proofs.Common.{◌≡◌, ℕ, ◌+◌, max, Bool, true, false, if◌then◌else◌, ◌==◌, List, [], ◌∷◌, ◌++◌, Option, Some, None, is_some, length, refl, ap, sym, ◌∙◌, append_assoc, append-nil, arith}
+use Rattle.std.specs.Prelude.{unwrap_or}
 use Rattle.std.specs.Option.{option_to_list}
 use Rattle.ann_base.specs.declared.identities.TaskNo.{TaskNo}
 use Rattle.trace_text.specs.declared.events.Who.TheVariants as subject
@@ -13,7 +14,7 @@ use Rattle.trace_lines.specs.Seen.{Seen, see_line, seen_after}
 use Rattle.run_report.specs.declared.tallies.Move.{Move}
 use Rattle.run_report.specs.declared.tallies.Move.TheVariants.{Enters, Leaves, Stays}
 use Rattle.run_report.specs.Accounts.{is_in, since_by, response_by, responses_from, greatest, total, tail_after, tail_from, is_preempted, preemptions_from}
-use Rattle.run_report.specs.Kept.{ticks_if, or_zero, move_of, leaves_if, since_after, tail_at, response_at}
+use Rattle.run_report.specs.Kept.{ticks_if, move_of, leaves_if, since_after, tail_at, response_at}
 use Rattle.run_report.proofs.Moves.{after_move}
 
 -- ---- jobs
@@ -69,12 +70,12 @@ length_more [] None = refl
 length_more [] (Some n) = refl
 length_more (first ∷ ns) more = omega (arith, length_more ns more)
 
-pub greatest_more : (ns : List ℕ) (more : Option ℕ) → greatest (ns ++ option_to_list more) ≡ max (greatest ns) (or_zero more)
+pub greatest_more : (ns : List ℕ) (more : Option ℕ) → greatest (ns ++ option_to_list more) ≡ max (greatest ns) (unwrap_or more 0)
 greatest_more [] None = refl
 greatest_more [] (Some n) = omega arith
 greatest_more (first ∷ ns) more = omega (arith, greatest_more ns more)
 
-pub total_more : (ns : List ℕ) (more : Option ℕ) → total (ns ++ option_to_list more) ≡ total ns + or_zero more
+pub total_more : (ns : List ℕ) (more : Option ℕ) → total (ns ++ option_to_list more) ≡ total ns + unwrap_or more 0
 total_more [] None = refl
 total_more [] (Some n) = omega arith
 total_more (first ∷ ns) more = omega (arith, total_more ns more)

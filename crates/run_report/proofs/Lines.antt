@@ -1,5 +1,6 @@
 -- A line, on all that is kept.
 use Rattle.std.proofs.Common.{◌≡◌, ◌≤◌, ◌+◌, ◌-◌, ◌&&◌, ◌||◌, ◌==◌, ℕ, zero, suc, max, nat_le, Bool, true, false, not, if◌then◌else◌, List, [], ◌∷◌, ◌++◌, Option, Some, None, is_some, map, length, slice_get, refl, ap, sym, subst, ◌∙◌, arith, append-nil}
+use Rattle.std.specs.Prelude.{unwrap_or}
 use Rattle.std.specs.List.{AllByRecursion, list_all}
 use Rattle.std.specs.Ordering.{nat_cmp}
 use Rattle.std.specs.BTreeMap.{insert_entry}
@@ -24,7 +25,7 @@ use Rattle.run_report.specs.declared.clocks.Clock.{Clock}
 use Rattle.run_report.specs.declared.dated.Dated.{Dated}
 use Rattle.run_report.specs.declared.report.Kept.{Kept}
 use Rattle.run_report.specs.declared.report.TheConstants.{MOST_TRACED_TASKS}
-use Rattle.run_report.specs.Kept.{fresh, ticks_if, is_put_off, passing_in, response_at, or_zero, move_of, kept_after, newly_kept, Reported, report_line, account_in}
+use Rattle.run_report.specs.Kept.{fresh, ticks_if, is_put_off, passing_in, response_at, move_of, kept_after, newly_kept, Reported, report_line, account_in}
 use Rattle.run_report.specs.Clocks.{passed, goes_on, level_given, with_clock, tally_at, told, settled, made_quiet, stepped, number_in, named_by, is_number, created_number, newly_dated, place_in, noted, is_told, followed, HasClock, IsKnown, IsFit, IsWithin, IsShown, IsQuiet, IsSame, IsReady, IsFound, IsKept, IsReport}
 use Rattle.run_report.proofs.Waits.{ticks_most, told_on, told_stepped, told_settled, waits_same, gone_zero, minus_itself}
 use Rattle.run_report.proofs.Fits.{fit_passed, fit_stepped, fit_settled, told_with, fit_with, given_with, given_passed, quiet_on, quiet_settled, shown_passed, shown_with}
@@ -32,7 +33,7 @@ use Rattle.run_report.proofs.Places.{placed_mapped, once_mapped, task_followed, 
 
 -- ---- no figure passes its type
 
-response_most : (move : Move) (tick : ℕ) (since : Option ℕ) → or_zero (response_at move tick since) ≤ tick
+response_most : (move : Move) (tick : ℕ) (since : Option ℕ) → unwrap_or (response_at move tick since) 0 ≤ tick
 response_most (Enters end) tick since = omega arith
 response_most Leaves tick None = omega arith
 response_most Leaves tick (Some since) = omega arith

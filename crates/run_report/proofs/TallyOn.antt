@@ -13,7 +13,7 @@ use Rattle.trace_lines.proofs.Facts.{seen_after-append, tick_kept}
 use Rattle.trace_lines.proofs.LevelLookups.{level_of-insert_entry}
 use Rattle.run_report.specs.declared.tallies.Tally.{Tally}
 use Rattle.run_report.specs.Accounts.{since_by, response_by, tail_after, is_in, is_runner, is_lower, is_lowered, is_tick, runner_base, chooses_another, run_of, lower_of, longest_of, streak_below, at_tick, responses_of, greatest, total, tail_from, is_preempted, preemptions_from}
-use Rattle.run_report.specs.Kept.{fresh, ticks_if, or_zero, streak_after, move_of, since_after, response_at, is_waiting, is_put_off, base_after, passing_in, tally_after}
+use Rattle.run_report.specs.Kept.{fresh, ticks_if, streak_after, move_of, since_after, response_at, is_waiting, is_put_off, base_after, passing_in, tally_after}
 use Rattle.run_report.proofs.Moves.{in_after}
 use Rattle.run_report.proofs.JobsOn.{since_from, since_from-append, responses-append, response_moved, since_moved, ready_moved, length_more, greatest_more, total_more, tail_moved, tail_from-append, preemptions-append}
 use Rattle.run_report.proofs.TicksOn.{count_more, streak_more, longest_more}
@@ -89,8 +89,8 @@ tallied_on task lines line tally rises from h =
     let behind : seen_of (lines ++ line ∷ []) ≡ see_line seen line = seen_after-append nothing_kept lines line in
     record {
       jobs = ap (λ n. n + ticks_if (is_some response) 1) h.jobs ∙ sym (length_more (responses_of task lines) response) ∙ sym (ap (λ xs. length xs) more);
-      worst = ap (λ n. max n (or_zero response)) h.worst ∙ sym (greatest_more (responses_of task lines) response) ∙ sym (ap greatest more);
-      sum = ap (λ n. n + or_zero response) h.sum ∙ sym (total_more (responses_of task lines) response) ∙ sym (ap total more);
+      worst = ap (λ n. max n (unwrap_or response 0)) h.worst ∙ sym (greatest_more (responses_of task lines) response) ∙ sym (ap greatest more);
+      sum = ap (λ n. n + unwrap_or response 0) h.sum ∙ sym (total_more (responses_of task lines) response) ∙ sym (ap total more);
       run = ap (λ n. n + ticks_if (is_runner (subject.Task task) seen) (line.0 - seen.tick)) h.run
           ∙ ap (λ n. run_of (subject.Task task) lines + ticks_if (is_runner (subject.Task task) seen) n) elapsed ∙ sym (count_more (is_runner (subject.Task task)) lines line rises from);
       preempted = ap (λ n. n + ticks_if (is_put_off task seen.runner line.0 line.1 tally) 1) h.preempted

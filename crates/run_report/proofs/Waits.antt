@@ -1,5 +1,6 @@
 -- What a clock tells of a task, with some ticks more, and with a line that tells of the task.
 use Rattle.std.proofs.Common.{◌≡◌, ◌≤◌, ◌<◌, ◌+◌, ◌-◌, ◌&&◌, ◌==◌, ℕ, max, Bool, true, false, not, if◌then◌else◌, List, [], ◌∷◌, Option, Some, None, is_some, map, refl, ap, sym, ◌∙◌, arith, inl, inr}
+use Rattle.std.specs.Prelude.{unwrap_or}
 use Rattle.std.specs.Option.{option_map}
 use Rattle.std.proofs.lemmas.Bool.{cases_Bool, cases_eq, eqb-true, eq-eqb, ne_eqb}
 use Rattle.ann_base.specs.declared.identities.TaskNo.{TaskNo}
@@ -15,7 +16,7 @@ use Rattle.run_report.specs.declared.tallies.Move.TheVariants.{Enters, Stays}
 use Rattle.run_report.specs.declared.clocks.Clock.{Clock}
 use Rattle.run_report.specs.declared.dated.Dated.{Dated}
 use Rattle.run_report.specs.Accounts.{is_lower, is_tick, chooses_another}
-use Rattle.run_report.specs.Kept.{ticks_if, is_waiting, streak_after, move_of, leaves_if, level_if, since_after, tail_at, response_at, or_zero, base_after, tally_after, kept_after}
+use Rattle.run_report.specs.Kept.{ticks_if, is_waiting, streak_after, move_of, leaves_if, level_if, since_after, tail_at, response_at, base_after, tally_after, kept_after}
 use Rattle.run_report.specs.Clocks.{clock_of, clock_at, passed, wait_level, waited_by, told_streak, tally_by_clock, tally_at, told, dated, settled, next_tally, next_waited, stepped, number_in, named_by, is_number, IsTimed, IsTimedBy, IsFit, IsQuietBy, IsQuiet}
 
 -- ---- numbers
@@ -291,8 +292,8 @@ after_others task passing tick event tally unnamed unrun =
     let idle = runs_by_number passing.runner task ∙ unrun in
     others_same (tally_after task passing tick event tally) tally
     (ap (λ m. tally.jobs + ticks_if (is_some (response_at m tick tally.since)) 1) move ∙ plus_zero tally.jobs)
-    (ap (λ m. max tally.worst (or_zero (response_at m tick tally.since))) move ∙ max_zero tally.worst)
-    (ap (λ m. tally.sum + or_zero (response_at m tick tally.since)) move ∙ plus_zero tally.sum)
+    (ap (λ m. max tally.worst (unwrap_or (response_at m tick tally.since) 0)) move ∙ max_zero tally.worst)
+    (ap (λ m. tally.sum + unwrap_or (response_at m tick tally.since) 0) move ∙ plus_zero tally.sum)
     (ap (λ b. tally.run + ticks_if b passing.elapsed) idle ∙ plus_zero tally.run)
     (ap (λ b. tally.preempted + ticks_if (chooses_another task event && b && is_some tally.since && not (is_tick tick tally.tail)) 1) idle
     ∙ ap (λ b. tally.preempted + ticks_if b 1) (middle_off (chooses_another task event) (is_some tally.since) (not (is_tick tick tally.tail))) ∙ plus_zero tally.preempted)

@@ -1,5 +1,5 @@
 -- What is kept of a list of lines for its report: the facts of the list, and a tally for each task, and no lines.
-use Rattle.std.specs.Prelude.{◌≡◌, nat_le, ℕ, ◌+◌, ◌-◌, ◌==◌, Bool, true, false, not, ◌&&◌, max, if◌then◌else◌, List, [], ◌∷◌, ◌++◌, Option, Some, None, map, is_some}
+use Rattle.std.specs.Prelude.{◌≡◌, nat_le, ℕ, ◌+◌, ◌-◌, ◌==◌, Bool, true, false, not, ◌&&◌, max, if◌then◌else◌, List, [], ◌∷◌, ◌++◌, Option, Some, None, map, is_some, unwrap_or}
 use Rattle.ann_base.specs.declared.identities.TaskNo.{TaskNo}
 use Rattle.trace_text.specs.declared.events.Who.{Who}
 use Rattle.trace_text.specs.declared.events.Who.TheVariants as subject
@@ -51,12 +51,8 @@ move_of task (Block who why) = leaves_if (who_eq who (subject.Task task))
 move_of task (Done other) = leaves_if (other.0 == task.0)
 move_of task _ = Stays
 
-abbrev pub since_or : Option ℕ → ℕ → ℕ
-since_or None tick = tick
-since_or (Some since) tick = since
-
 abbrev pub since_after : Move → ℕ → Option ℕ → Option ℕ
-since_after (Enters end) tick since = Some (since_or since tick)
+since_after (Enters end) tick since = Some (unwrap_or since tick)
 since_after Leaves tick since = None
 since_after Stays tick since = since
 
@@ -73,10 +69,6 @@ response_at Leaves tick None = None
 response_at Leaves tick (Some since) = Some (tick - since)
 response_at Stays tick since = None
 
-abbrev pub or_zero : Option ℕ → ℕ
-or_zero None = 0
-or_zero (Some n) = n
-
 -- another subject is chosen, and the task runs, is ready, and was not placed behind all of its level at this tick
 abbrev pub is_put_off : TaskNo → Option Who → ℕ → Event → Tally → Bool
 is_put_off task runner tick event tally =
@@ -90,8 +82,8 @@ base_after task base _ = base
 abbrev pub tally_by : TaskNo → Passing → ℕ → Event → Tally → Option ℕ → ℕ → Tally
 tally_by task passing tick event tally response streak = record {
   jobs = tally.jobs + ticks_if (is_some response) 1;
-  worst = max tally.worst (or_zero response);
-  sum = tally.sum + or_zero response;
+  worst = max tally.worst (unwrap_or response 0);
+  sum = tally.sum + unwrap_or response 0;
   run = tally.run + ticks_if (somebody_eq passing.runner (Some (subject.Task task))) passing.elapsed;
   preempted = tally.preempted + ticks_if (is_put_off task passing.runner tick event tally) 1;
   lower = tally.lower + ticks_if (is_waiting passing tally) passing.elapsed;

@@ -1,10 +1,10 @@
 //! The tally of a task, line by line.
-ghost use Rattle.std.specs.Prelude.{◌≡◌, ◌≤◌, ◌&&◌, not, true, is_some, Some};
+ghost use Rattle.std.specs.Prelude.{◌≡◌, ◌≤◌, ◌&&◌, not, true, is_some, Some, unwrap_or};
 ghost use Rattle.trace_text.specs.declared.lines.TheConstants.{LAST_TICK};
 ghost use Rattle.trace_text.specs.declared.events.Who.TheVariants as subject;
 ghost use Rattle.trace_text.specs.Queue.{somebody_eq};
 ghost use Rattle.run_report.specs.Accounts.{is_lower, is_tick, chooses_another};
-ghost use Rattle.run_report.specs.Kept.{fresh, ticks_if, is_waiting, streak_after, move_of, since_or, since_after, tail_at, response_at, or_zero, leaves_if, level_if, is_put_off, base_after, tally_after, has_room};
+ghost use Rattle.run_report.specs.Kept.{fresh, ticks_if, is_waiting, streak_after, move_of, since_after, tail_at, response_at, leaves_if, level_if, is_put_off, base_after, tally_after, has_room};
 
 use ann_base::{Level, TaskNo};
 use trace_lines::is_same;
@@ -95,8 +95,8 @@ impl Tally {
         let streak = streak_after(passing.elapsed, waits, self.streak);
         Tally {
             jobs: self.jobs + ticks_if(response.is_some(), 1),
-            worst: self.worst.max(or_zero(response)),
-            sum: self.sum + or_zero(response),
+            worst: self.worst.max(response.unwrap_or(0)),
+            sum: self.sum + response.unwrap_or(0),
             run: self.run + ticks_if(runs, passing.elapsed),
             preempted: self.preempted + ticks_if(self.is_put_off(task, runs, now, event), 1),
             lower: self.lower + ticks_if(waits, passing.elapsed),
@@ -172,15 +172,6 @@ pub fn ticks_if(holds: bool, ticks: u64) -> u64
     if holds { ticks } else { 0 }
 }
 
-fn or_zero(ticks: Option<u64>) -> u64
-    ensures { result ≡ or_zero ticks }
-{
-    match ticks {
-        None => 0,
-        Some(ticks) => ticks,
-    }
-}
-
 /// For how many ticks directly before the line it waits.
 pub fn streak_after(elapsed: u64, waits: bool, streak: u64) -> u64
     requires room { streak ≤ ROOM }
@@ -224,18 +215,9 @@ fn since_after(step: Move, now: u64, since: Option<u64>) -> Option<u64>
     ensures { result ≡ since_after step now since }
 {
     match step {
-        Move::Enters(_) => Some(since_or(since, now)),
+        Move::Enters(_) => Some(since.unwrap_or(now)),
         Move::Leaves => None,
         Move::Stays => since,
-    }
-}
-
-fn since_or(since: Option<u64>, now: u64) -> u64
-    ensures { result ≡ since_or since now }
-{
-    match since {
-        None => now,
-        Some(since) => since,
     }
 }
 
@@ -253,7 +235,7 @@ fn tail_at(step: Move, now: u64, tail: Option<u64>) -> Option<u64>
 // The response of the job that ends, if one does.
 fn response_at(step: Move, now: u64, since: Option<u64>) -> Option<u64>
     ensures response { result ≡ response_at step now since }
-    ensures most { or_zero result ≤ now }
+    ensures most { unwrap_or result 0 ≤ now }
 {
     match (step, since) {
         (Move::Leaves, Some(since)) => Some(now.saturating_sub(since)),

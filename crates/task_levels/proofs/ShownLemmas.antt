@@ -1,12 +1,12 @@
--- What the tables show after each change.
+-- What the tables show after each option_map.
 use Rattle.std.proofs.Common.{◌≡◌, ◌≢◌, ℕ, zero, suc, ◌+◌, ◌<◌, ◌≤◌, Bool, true, false, cond, eqb, ◌&&◌, List, [], ◌∷◌, ◌++◌, length, get_or, set, Option, Some, None, refl, sym, ap, ◌∙◌, arith, get_or-set_same, get_or-set_other, length-append}
-use Rattle.std.specs.Prelude.{IsSome, not}
+use Rattle.std.specs.Prelude.{IsSome, not, is_some, option_map}
 use Rattle.std.specs.List.{filter}
 use Rattle.std.proofs.Math.ListN.{replicate}
 use Rattle.task_levels.specs.declared.causes.Cause.{Cause}
 use Rattle.task_levels.specs.declared.rows.Own.{Own}
 use Rattle.task_levels.specs.declared.rows.Inherited.{Inherited}
-use Rattle.task_levels.specs.TaskLevels.{Inheritance, Priorities, same_cause, inherited_or_none, inherited_count, change, inheriting, losing, starting_at, without, is_task}
+use Rattle.task_levels.specs.TaskLevels.{Inheritance, Priorities, same_cause, inherited_or_none, inherited_count, inheriting, losing, starting_at, without}
 use Rattle.task_levels.specs.Shown.{of_slot, shown_task, shown_from, AreThere}
 
 -- reading and writing a slot
@@ -46,12 +46,12 @@ by_test : {P : Type 0} (b : Bool) → (b ≡ true → P) → (b ≡ false → P)
 by_test true p q = p refl
 by_test false p q = q refl
 
-is_task-own : (slot : ℕ) (inherited : List Inherited) (o : Option Own) → is_task (shown_task slot inherited o) ≡ true → IsSome o
+is_task-own : (slot : ℕ) (inherited : List Inherited) (o : Option Own) → is_some (shown_task slot inherited o) ≡ true → IsSome o
 is_task-own slot inherited None h = cc
 is_task-own slot inherited (Some own) h = refl
 
 -- who is there has a row
-pub there-own : (inherited : List Inherited) (owns : List (Option Own)) (i : ℕ) → is_task (get_or (shown_from 0 inherited owns) i None) ≡ true → IsSome (get_or owns i None)
+pub there-own : (inherited : List Inherited) (owns : List (Option Own)) (i : ℕ) → is_some (get_or (shown_from 0 inherited owns) i None) ≡ true → IsSome (get_or owns i None)
 there-own inherited owns i h = is_task-own i inherited (get_or owns i None) (let z : 0 + i ≡ i = omega arith in rw (shown_from-at 0 inherited owns i ∙ ap (λ s. shown_task s inherited (get_or owns i None)) z) at h)
 
 shown_task-none : (slot : ℕ) (inherited : List Inherited) (o : Option Own) → shown_task slot inherited o ≡ None → o ≡ None
@@ -125,15 +125,15 @@ count-shown [] owns a = count-none 0 owns
 count-shown (x ∷ xs) owns a = let more = count-more 0 x xs owns x.slot.0 (omega arith) a.0 in omega (arith, count-shown xs owns a.1)
 
 -- a row is written
-pub row-changed : (inherited : List Inherited) (owns : List (Option Own)) (i : ℕ) (own written : Own) (f : Priorities → Priorities) → get_or owns i None ≡ Some own → change f (shown_task i inherited (Some own)) ≡ shown_task i inherited (Some written) → shown_from 0 inherited (set owns i (Some written)) ≡ set (shown_from 0 inherited owns) i (change f (get_or (shown_from 0 inherited owns) i None))
-row-changed inherited owns i own written f at same = shown_from-set 0 inherited owns i (Some written) ∙ ap (set (shown_from 0 inherited owns) i) (zero_up i (Some written) ∙ sym same ∙ sym (ap (change f) (shown_from-at 0 inherited owns i ∙ zero_up i (get_or owns i None) ∙ ap (shown_task i inherited) at)))
+pub row-changed : (inherited : List Inherited) (owns : List (Option Own)) (i : ℕ) (own written : Own) (f : Priorities → Priorities) → get_or owns i None ≡ Some own → option_map f (shown_task i inherited (Some own)) ≡ shown_task i inherited (Some written) → shown_from 0 inherited (set owns i (Some written)) ≡ set (shown_from 0 inherited owns) i (option_map f (get_or (shown_from 0 inherited owns) i None))
+row-changed inherited owns i own written f at same = shown_from-set 0 inherited owns i (Some written) ∙ ap (set (shown_from 0 inherited owns) i) (zero_up i (Some written) ∙ sym same ∙ sym (ap (option_map f) (shown_from-at 0 inherited owns i ∙ zero_up i (get_or owns i None) ∙ ap (shown_task i inherited) at)))
   where
     zero_up : (i : ℕ) (o : Option Own) → shown_task (0 + i) inherited o ≡ shown_task i inherited o
     zero_up i o = let z : 0 + i ≡ i = omega arith in ap (λ s. shown_task s inherited o) z
 
 -- what a slot inherits changes
-pub inherited-changed : (xs ys : List Inherited) (owns : List (Option Own)) (i : ℕ) (own : Own) (f : Priorities → Priorities) → get_or owns i None ≡ Some own → change f (shown_task i xs (Some own)) ≡ shown_task i ys (Some own) → ((j : ℕ) → j ≢ i → of_slot j ys ≡ of_slot j xs) → shown_from 0 ys owns ≡ set (shown_from 0 xs owns) i (change f (get_or (shown_from 0 xs owns) i None))
-inherited-changed xs ys owns i own f at same others = shown_from-changed xs ys owns i others ∙ ap (set (shown_from 0 xs owns) i) (ap (shown_task i ys) at ∙ sym same ∙ sym (ap (change f) (shown_from-at 0 xs owns i ∙ zero_on i (get_or owns i None) ∙ ap (shown_task i xs) at)))
+pub inherited-changed : (xs ys : List Inherited) (owns : List (Option Own)) (i : ℕ) (own : Own) (f : Priorities → Priorities) → get_or owns i None ≡ Some own → option_map f (shown_task i xs (Some own)) ≡ shown_task i ys (Some own) → ((j : ℕ) → j ≢ i → of_slot j ys ≡ of_slot j xs) → shown_from 0 ys owns ≡ set (shown_from 0 xs owns) i (option_map f (get_or (shown_from 0 xs owns) i None))
+inherited-changed xs ys owns i own f at same others = shown_from-changed xs ys owns i others ∙ ap (set (shown_from 0 xs owns) i) (ap (shown_task i ys) at ∙ sym same ∙ sym (ap (option_map f) (shown_from-at 0 xs owns i ∙ zero_on i (get_or owns i None) ∙ ap (shown_task i xs) at)))
   where
     zero_on : (i : ℕ) (o : Option Own) → shown_task (0 + i) xs o ≡ shown_task i xs o
     zero_on i o = let z : 0 + i ≡ i = omega arith in ap (λ s. shown_task s xs o) z
@@ -188,28 +188,28 @@ some-own : (o : Option Own) → IsSome o → (own : Own) × (o ≡ Some own)
 some-own None h = cc
 some-own (Some own) h = (own, refl)
 
-is-shown : (ys : List Inherited) (i : ℕ) (task : Option Priorities) (o : Option Own) → task ≡ shown_task i ys o → IsSome o → is_task task ≡ true
+is-shown : (ys : List Inherited) (i : ℕ) (task : Option Priorities) (o : Option Own) → task ≡ shown_task i ys o → IsSome o → is_some task ≡ true
 is-shown ys i task None e h = cc
-is-shown ys i task (Some own) e h = ap is_task e
+is-shown ys i task (Some own) e h = ap is_some e
 
 -- whoever is there stays there whatever is inherited
-pub there-same : (xs ys : List Inherited) (owns : List (Option Own)) (i : ℕ) → is_task (get_or (shown_from 0 xs owns) i None) ≡ true → is_task (get_or (shown_from 0 ys owns) i None) ≡ true
+pub there-same : (xs ys : List Inherited) (owns : List (Option Own)) (i : ℕ) → is_some (get_or (shown_from 0 xs owns) i None) ≡ true → is_some (get_or (shown_from 0 ys owns) i None) ≡ true
 there-same xs ys owns i h = let z : 0 + i ≡ i = omega arith in is-shown ys i (get_or (shown_from 0 ys owns) i None) (get_or owns i None) (shown_from-at 0 ys owns i ∙ ap (λ s. shown_task s ys (get_or owns i None)) z) (there-own xs owns i h)
 
 -- who has a row, told
-pub own-there : (inherited : List Inherited) (owns : List (Option Own)) (i : ℕ) → is_task (get_or (shown_from 0 inherited owns) i None) ≡ true → (own : Own) × (get_or owns i None ≡ Some own)
+pub own-there : (inherited : List Inherited) (owns : List (Option Own)) (i : ℕ) → is_some (get_or (shown_from 0 inherited owns) i None) ≡ true → (own : Own) × (get_or owns i None ≡ Some own)
 own-there inherited owns i h = some-own (get_or owns i None) (there-own inherited owns i h)
 
 -- a task inherits one more
-pub more-shown : (inherited : List Inherited) (owns : List (Option Own)) (x : Inherited) → is_task (get_or (shown_from 0 inherited owns) x.slot.0 None) ≡ true → shown_from 0 (inherited ++ x ∷ []) owns ≡ set (shown_from 0 inherited owns) x.slot.0 (change (inheriting x.cause x.level) (get_or (shown_from 0 inherited owns) x.slot.0 None))
+pub more-shown : (inherited : List Inherited) (owns : List (Option Own)) (x : Inherited) → is_some (get_or (shown_from 0 inherited owns) x.slot.0 None) ≡ true → shown_from 0 (inherited ++ x ∷ []) owns ≡ set (shown_from 0 inherited owns) x.slot.0 (option_map (inheriting x.cause x.level) (get_or (shown_from 0 inherited owns) x.slot.0 None))
 more-shown inherited owns x there = let row = own-there inherited owns x.slot.0 there in let same = of_slot-push_same x.slot.0 inherited x refl in inherited-changed inherited (inherited ++ x ∷ []) owns x.slot.0 row.0 (inheriting x.cause x.level) row.1 (ap (λ xs. Some (record { base = row.0.base; deferred = row.0.deferred; kept = row.0.kept; inherited = xs })) (sym same)) (λ j ne. of_slot-push_other j inherited x (λ e. ne (sym e)))
 
 -- a task loses a cause
-pub less-shown : (inherited : List Inherited) (owns : List (Option Own)) (i : ℕ) (cause : Cause) → is_task (get_or (shown_from 0 inherited owns) i None) ≡ true → shown_from 0 (filter (λ (x : Inherited). not (eqb x.slot.0 i && same_cause x.cause cause)) inherited) owns ≡ set (shown_from 0 inherited owns) i (change (losing cause) (get_or (shown_from 0 inherited owns) i None))
+pub less-shown : (inherited : List Inherited) (owns : List (Option Own)) (i : ℕ) (cause : Cause) → is_some (get_or (shown_from 0 inherited owns) i None) ≡ true → shown_from 0 (filter (λ (x : Inherited). not (eqb x.slot.0 i && same_cause x.cause cause)) inherited) owns ≡ set (shown_from 0 inherited owns) i (option_map (losing cause) (get_or (shown_from 0 inherited owns) i None))
 less-shown inherited owns i cause there = let test : Inherited → Bool = λ (x : Inherited). not (eqb x.slot.0 i && same_cause x.cause cause) in let row = own-there inherited owns i there in let same = of_slot-filter_cause i cause test inherited (λ x at. let hit : eqb x.slot.0 i ≡ true = grind arith in rw hit refl) in inherited-changed inherited (filter test inherited) owns i row.0 (losing cause) row.1 (ap (λ xs. Some (record { base = row.0.base; deferred = row.0.deferred; kept = row.0.kept; inherited = xs })) (sym same)) (λ j ne. of_slot-filter_other j test inherited (λ x at. let miss : eqb x.slot.0 i ≡ false = grind (arith, ne) in rw miss refl))
 
 -- whoever is there is in one of the slots
-pub there-inside : (tasks : List (Option Priorities)) (i : ℕ) → is_task (get_or tasks i None) ≡ true → i < length tasks
+pub there-inside : (tasks : List (Option Priorities)) (i : ℕ) → is_some (get_or tasks i None) ≡ true → i < length tasks
 there-inside [] i h = cc
 there-inside (o ∷ os) zero h = omega arith
 there-inside (o ∷ os) (suc i) h = omega (arith, there-inside os i h)
@@ -220,32 +220,32 @@ count-set [] i o h = absurd (omega arith)
 count-set (x ∷ xs) zero o h = omega arith
 count-set (x ∷ xs) (suc i) o h = omega (arith, count-set xs i o (omega arith))
 
-pub same-inherited : (f : Priorities → Priorities) → ((task : Priorities) → (f task).inherited ≡ task.inherited) → (o : Option Priorities) → inherited_or_none (change f o) ≡ inherited_or_none o
+pub same-inherited : (f : Priorities → Priorities) → ((task : Priorities) → (f task).inherited ≡ task.inherited) → (o : Option Priorities) → inherited_or_none (option_map f o) ≡ inherited_or_none o
 same-inherited f same None = refl
 same-inherited f same (Some task) = same task
 
-pub count-kept : (f : Priorities → Priorities) → ((task : Priorities) → (f task).inherited ≡ task.inherited) → (tasks : List (Option Priorities)) (i : ℕ) → is_task (get_or tasks i None) ≡ true → inherited_count (set tasks i (change f (get_or tasks i None))) ≡ inherited_count tasks
-count-kept f same tasks i h = let moved = count-set tasks i (change f (get_or tasks i None)) (there-inside tasks i h) in let e = ap length (same-inherited f same (get_or tasks i None)) in omega arith
+pub count-kept : (f : Priorities → Priorities) → ((task : Priorities) → (f task).inherited ≡ task.inherited) → (tasks : List (Option Priorities)) (i : ℕ) → is_some (get_or tasks i None) ≡ true → inherited_count (set tasks i (option_map f (get_or tasks i None))) ≡ inherited_count tasks
+count-kept f same tasks i h = let moved = count-set tasks i (option_map f (get_or tasks i None)) (there-inside tasks i h) in let e = ap length (same-inherited f same (get_or tasks i None)) in omega arith
 
-length-more : (cause : Cause) (level : ℕ) (o : Option Priorities) → is_task o ≡ true → length (inherited_or_none (change (inheriting cause level) o)) ≡ length (inherited_or_none o) + 1
+length-more : (cause : Cause) (level : ℕ) (o : Option Priorities) → is_some o ≡ true → length (inherited_or_none (option_map (inheriting cause level) o)) ≡ length (inherited_or_none o) + 1
 length-more cause level None h = cc
 length-more cause level (Some task) h = omega (arith, length-append {A = Inheritance})
 
-pub count-more_by : (cause : Cause) (level : ℕ) (tasks : List (Option Priorities)) (i : ℕ) → is_task (get_or tasks i None) ≡ true → inherited_count (set tasks i (change (inheriting cause level) (get_or tasks i None))) ≡ inherited_count tasks + 1
-count-more_by cause level tasks i h = let moved = count-set tasks i (change (inheriting cause level) (get_or tasks i None)) (there-inside tasks i h) in let e = length-more cause level (get_or tasks i None) h in omega arith
+pub count-more_by : (cause : Cause) (level : ℕ) (tasks : List (Option Priorities)) (i : ℕ) → is_some (get_or tasks i None) ≡ true → inherited_count (set tasks i (option_map (inheriting cause level) (get_or tasks i None))) ≡ inherited_count tasks + 1
+count-more_by cause level tasks i h = let moved = count-set tasks i (option_map (inheriting cause level) (get_or tasks i None)) (there-inside tasks i h) in let e = length-more cause level (get_or tasks i None) h in omega arith
 
 length-without : (cause : Cause) (xs : List Inheritance) → length (without cause xs) ≤ length xs
 length-without cause [] = omega arith
 length-without cause (x ∷ xs) = grind (arith, length-without cause xs)
 
-length-less : (cause : Cause) (o : Option Priorities) → length (inherited_or_none (change (losing cause) o)) ≤ length (inherited_or_none o)
+length-less : (cause : Cause) (o : Option Priorities) → length (inherited_or_none (option_map (losing cause) o)) ≤ length (inherited_or_none o)
 length-less cause None = omega arith
 length-less cause (Some task) = length-without cause task.inherited
 
-pub count-less : (cause : Cause) (tasks : List (Option Priorities)) (i : ℕ) → is_task (get_or tasks i None) ≡ true → inherited_count (set tasks i (change (losing cause) (get_or tasks i None))) ≤ inherited_count tasks
-count-less cause tasks i h = let moved = count-set tasks i (change (losing cause) (get_or tasks i None)) (there-inside tasks i h) in let e = length-less cause (get_or tasks i None) in omega arith
+pub count-less : (cause : Cause) (tasks : List (Option Priorities)) (i : ℕ) → is_some (get_or tasks i None) ≡ true → inherited_count (set tasks i (option_map (losing cause) (get_or tasks i None))) ≤ inherited_count tasks
+count-less cause tasks i h = let moved = count-set tasks i (option_map (losing cause) (get_or tasks i None)) (there-inside tasks i h) in let e = length-less cause (get_or tasks i None) in omega arith
 
-pub count-ended : (tasks : List (Option Priorities)) (i : ℕ) → is_task (get_or tasks i None) ≡ true → inherited_count (set tasks i None) ≤ inherited_count tasks
+pub count-ended : (tasks : List (Option Priorities)) (i : ℕ) → is_some (get_or tasks i None) ≡ true → inherited_count (set tasks i None) ≤ inherited_count tasks
 count-ended tasks i h = let moved = count-set tasks i None (there-inside tasks i h) in omega arith
 
 pub count-begun : (tasks : List (Option Priorities)) (i base : ℕ) → i < length tasks → get_or tasks i None ≡ None → inherited_count (set tasks i (Some (starting_at base))) ≡ inherited_count tasks

@@ -1,5 +1,5 @@
 -- The priorities of a task (ISO/IEC 8652:2012, D.1, D.2.6, D.5.1), and of all tasks by slot.
-use Rattle.std.specs.Prelude.{◌+◌, ℕ, Bool, true, false, ◌==◌, ◌||◌, if◌then◌else◌, max, List, [], ◌∷◌, ◌++◌, length, Option, Some, None, unwrap_or, slice_index_or, slice_set}
+use Rattle.std.specs.Prelude.{◌+◌, ℕ, Bool, true, false, ◌==◌, ◌||◌, if◌then◌else◌, max, List, [], ◌∷◌, ◌++◌, length, Option, Some, None, unwrap_or, slice_index_or, slice_set, is_some, option_map}
 use Rattle.ann_base.specs.declared.identities.Slot.{Slot}
 use Rattle.task_levels.specs.declared.causes.Cause.{Cause}
 use Rattle.task_levels.specs.declared.causes.Cause.TheVariants.{Activation, Meeting, Ceiling}
@@ -58,12 +58,8 @@ greatest_inherited_of (x ∷ xs) = Some (greatest_of 0 (x ∷ xs))
 abbrev pub task_at : Slot → List (Option Priorities) → Option Priorities
 task_at t tasks = slice_index_or tasks t.0 None
 
-abbrev pub is_task : Option Priorities → Bool
-is_task None = false
-is_task (Some task) = true
-
 abbrev pub is_there : Slot → List (Option Priorities) → Bool
-is_there t tasks = is_task (task_at t tasks)
+is_there t tasks = is_some (task_at t tasks)
 
 abbrev pub active_or_none : Option Priorities → ℕ
 active_or_none None = 0
@@ -86,13 +82,9 @@ abbrev pub inherited_count : List (Option Priorities) → ℕ
 inherited_count [] = 0
 inherited_count (o ∷ os) = length (inherited_or_none o) + inherited_count os
 
-abbrev pub change : (Priorities → Priorities) → Option Priorities → Option Priorities
-change f None = None
-change f (Some task) = Some (f task)
-
 -- the task in this slot changed, and nobody else
 abbrev pub changed_at : Slot → (Priorities → Priorities) → List (Option Priorities) → List (Option Priorities)
-changed_at t f tasks = slice_set tasks t.0 (change f (task_at t tasks))
+changed_at t f tasks = slice_set tasks t.0 (option_map f (task_at t tasks))
 
 abbrev pub inheriting : Cause → ℕ → Priorities → Priorities
 inheriting cause level task = record task { inherited = task.inherited ++ (cause, level) ∷ [] }

@@ -1,5 +1,5 @@
 -- The laws that the lines of a run keep, as laws on lists of lines, and beside each a test that computes.
-use Rattle.std.specs.Prelude.{◌≡◌, ℕ, ◌+◌, Bool, true, false, not, ◌&&◌, ◌||◌, ◌==◌, if◌then◌else◌, nat_lt, nat_le, IsTrue, List, [], ◌∷◌, ◌++◌, Option, Some, None, length, ℤ}
+use Rattle.std.specs.Prelude.{◌≡◌, ℕ, ◌+◌, Bool, true, false, not, ◌&&◌, ◌||◌, ◌==◌, if◌then◌else◌, nat_lt, nat_le, IsTrue, List, [], ◌∷◌, ◌++◌, Option, Some, None, length, ℤ, is_some}
 use Rattle.std.specs.List.{list_all, list_any}
 use Rattle.trace_text.specs.declared.lines.TheConstants.{LAST_TICK}
 use Rattle.trace_text.specs.declared.events.Who.{Who}
@@ -139,17 +139,13 @@ is_in_order state (Serve number) = number == state.begun + 1 && nat_le number st
 is_in_order state (Served number) = number == state.served + 1 && nat_le number state.released
 is_in_order state _ = true
 
-abbrev pub is_some_entry : Option Entry → Bool
-is_some_entry None = false
-is_some_entry (Some entry) = true
-
 abbrev pub is_same : Bool → Bool → Bool
 is_same true b = b
 is_same false b = not b
 
 abbrev pub is_agent_right : Releases → Bool
 is_agent_right state =
-    is_same (is_some_entry (entry_of subject.Agent state.sight.queue)) (nat_lt state.served state.released)
+    is_same (is_some (entry_of subject.Agent state.sight.queue)) (nat_lt state.served state.released)
     && (not (somebody_eq state.sight.runner (Some subject.Agent)) || length state.serving == 1)
 
 pub record HandlersOk (lines : List TraceLine) : Type 0 where
@@ -276,7 +272,7 @@ is_subject_formed shape (Start who call) = is_known shape who
 is_subject_formed shape (Finish who call how) = is_known shape who
 is_subject_formed shape (Cancel task call) = has task.0 shape.tasks
 is_subject_formed shape (Gone task call) = has task.0 shape.tasks
-is_subject_formed shape (Enter who object m) = is_known shape who && has object.0 shape.objects && is_some_entry (entry_of who shape.queue)
+is_subject_formed shape (Enter who object m) = is_known shape who && has object.0 shape.objects && is_some (entry_of who shape.queue)
 is_subject_formed shape (Exit who object) = is_known shape who && has object.0 shape.objects
 is_subject_formed shape (Held who object m) = is_known shape who && has object.0 shape.objects
 is_subject_formed shape (Abort task victim) = has task.0 shape.tasks

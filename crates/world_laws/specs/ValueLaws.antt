@@ -1,5 +1,5 @@
 -- The value of an expression is found by those of its operands, which have numbers of their own.
-use Rattle.std.specs.Prelude.{◌≡◌, ℕ, suc, ◌+◌, length, Bool, true, ◌&&◌, List, [], ◌∷◌, Option, Some, None, ltb, IsTrue}
+use Rattle.std.specs.Prelude.{◌≡◌, ℕ, suc, ◌+◌, length, Bool, true, ◌&&◌, List, [], ◌∷◌, ltb, IsTrue, option_to_list}
 use Rattle.std.specs.List.{list_all}
 use Rattle.profile_machine.specs.declared.numbers.ExprNo.{ExprNo}
 use Rattle.profile_machine.specs.declared.image.Image.{Image}
@@ -9,19 +9,15 @@ use Rattle.profile_machine.specs.Values.{Seen, value_by, value}
 
 -- ---- operands
 
-abbrev pub if_there : Option ExprNo → List ExprNo
-if_there None = []
-if_there (Some e) = e ∷ []
-
 abbrev pub operands : Expression → List ExprNo
-operands (of.Variable name) = if_there name.index
+operands (of.Variable name) = option_to_list name.index
 operands (of.Unary operator operand) = operand ∷ []
 operands (of.Binary operator left right) = left ∷ right ∷ []
 operands (of.Span factor count) = count ∷ []
 operands (of.SameTicks e) = e ∷ []
-operands (of.ExecutionTime task) = if_there task
-operands (of.Priority task) = if_there task
-operands (of.Deadline task) = if_there task
+operands (of.ExecutionTime task) = option_to_list task
+operands (of.Priority task) = option_to_list task
+operands (of.Deadline task) = option_to_list task
 operands (of.PortValue n) = n ∷ []
 operands _ = []
 

@@ -21,7 +21,7 @@ use Rattle.profile_machine.specs.Dispatching as dispatching
 use Rattle.profile_machine.specs.Dispatching.{active, deadline_shown, choose}
 use Rattle.profile_machine.specs.Handlers.{clock_risen, quantum_spent_by, charge_budget, charge_clock, charge_group, charge_task, charge}
 use Rattle.profile_machine.specs.Instant.{instant}
-use Rattle.profile_machine.specs.Run.{tock, say, says_run, serve_if_free, serve, ticks_or, begin_action, one_tick_less, spend_tick, says_idle}
+use Rattle.profile_machine.specs.Run.{tock, say, says_run, serve_if_free, serve, begin_action, one_tick_less, spend_tick, says_idle}
 use Rattle.machine_laws.specs.Reached.{opened, ticked}
 use Rattle.machine_laws.proofs.TimeLemmas.{opening-runner}
 use Rattle.machine_laws.proofs.PlaceLemmas.{tocks_place_nobody}
@@ -197,7 +197,7 @@ before_tick-same p (Some name) w =
     (same-then p w begun charged
     (same-then p w taken begun
     (same-then p w told taken (said-run p (same_option same_who w.ran (Some name)) name w) (same-serve p name told))
-    (same-edit p name (with_ticks (Some (ticks_or (task_of taken name).ticks_left (cost p taken name)))) taken (λ x. refl) (λ x. refl)))
+    (same-edit p name (with_ticks (Some (unwrap_or (task_of taken name).ticks_left (cost p taken name)))) taken (λ x. refl) (λ x. refl)))
     (same-charge p name begun))
     (same-edit p name (λ t. with_ticks (one_tick_less t.ticks_left) t) charged (λ x. refl) (λ x. refl))
 

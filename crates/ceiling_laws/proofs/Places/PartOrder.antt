@@ -1,12 +1,13 @@
 -- The lines of an effect in order: what they say last of somebody's place.
 use Rattle.std.proofs.Common.{◌≡◌, ℕ, ◌<◌, ◌≤◌, ◌&&◌, Bool, true, false, cond, ltb, List, [], ◌∷◌, ◌++◌, Option, Some, None, refl, sym, ap, subst, ◌∙◌, arith}
+use Rattle.std.specs.Prelude.{unwrap_or}
 use Rattle.trace_text.specs.declared.events.Who.{Who}
 use Rattle.trace_text.specs.declared.events.Who.TheVariants.{Task, Agent}
 use Rattle.profile_machine.specs.declared.world.lines.Part.{Part}
 use Rattle.profile_machine.specs.declared.world.lines.Part.TheVariants.{TheCall, TheFinish, Own, OfOther, ThePlacing, TheBlock}
 use Rattle.profile_machine.specs.declared.world.lines.Said.{Said}
 use Rattle.profile_machine.specs.Steps.{rank_of, is_numbered_before, is_part_before, put_in_order, in_order}
-use Rattle.ceiling_laws.specs.Puts.{puts, over, place_behind, pick, last_put, with_put, place_by}
+use Rattle.ceiling_laws.specs.Puts.{puts, place_behind, pick, last_put, with_put, place_by}
 
 -- ---- parts are in order
 
@@ -242,14 +243,14 @@ abbrev last_of : Who → List Said → Option (Part × Option ℕ)
 last_of n [] = None
 last_of n (y ∷ ys) = behind (last_of n ys) (put_at_part y.part (puts n y.line))
 
-by_last : (part : Part) (place : Option (Option ℕ)) (last : Option (Part × Option ℕ)) (e : Option ℕ) → place_by last (over place e) ≡ place_by (behind last (put_at_part part place)) e
+by_last : (part : Part) (place : Option (Option ℕ)) (last : Option (Part × Option ℕ)) (e : Option ℕ) → place_by last (unwrap_or place e) ≡ place_by (behind last (put_at_part part place)) e
 by_last part None None e = refl
 by_last part (Some place) None e = refl
 by_last part place (Some last) e = refl
 
 place-last : (n : Who) (e : Option ℕ) (ys : List Said) → place_behind n e ys ≡ place_by (last_of n ys) e
 place-last n e [] = refl
-place-last n e (y ∷ ys) = place-last n (over (puts n y.line) e) ys ∙ by_last y.part (puts n y.line) (last_of n ys) e
+place-last n e (y ∷ ys) = place-last n (unwrap_or (puts n y.line) e) ys ∙ by_last y.part (puts n y.line) (last_of n ys) e
 
 last-part-step : (P : Part → Type 0) (part : Part) (place : Option (Option ℕ)) (last : Option (Part × Option ℕ)) (r : Part × Option ℕ) → P part → (last ≡ Some r → P r.0) → behind last (put_at_part part place) ≡ Some r → P r.0
 last-part-step P part None None r a onward e = absurd cc

@@ -1,6 +1,6 @@
 -- At which level a queue shows somebody behind the lines of an effect.
 use Rattle.std.proofs.Common.{◌≡◌, Bool, true, false, cond, eqb-true, List, [], ◌∷◌, ◌++◌, Option, Some, None, map, refl, sym, ap, ◌∙◌}
-use Rattle.std.specs.Prelude.{if◌then◌else◌}
+use Rattle.std.specs.Prelude.{if◌then◌else◌, unwrap_or}
 use Rattle.trace_text.specs.declared.events.Entry.{Entry}
 use Rattle.trace_text.specs.declared.events.QueueEnd.{QueueEnd}
 use Rattle.trace_text.specs.declared.events.QueueEnd.TheVariants.{Head, Tail}
@@ -18,7 +18,7 @@ use Rattle.profile_machine.specs.Words.{same_who}
 use Rattle.ceiling_laws.specs.RunLaws.{levels_told}
 use Rattle.ceiling_laws.proofs.Places.PartOrder.{place-in_order}
 use Rattle.ceiling_laws.specs.PlaceLaws.{EffectsPlaceByTheLast, level_in, level_shown}
-use Rattle.ceiling_laws.specs.Puts.{over, place_behind, puts}
+use Rattle.ceiling_laws.specs.Puts.{place_behind, puts}
 
 -- ---- the same names
 
@@ -89,25 +89,25 @@ entry-placed n Tail e queue =
 
 -- ---- lines
 
-level-placed : (b : Bool) (e : Entry) (r : Option Entry) → level_in (cond b (Some e) r) ≡ over (cond b (Some (Some e.level)) None) (level_in r)
+level-placed : (b : Bool) (e : Entry) (r : Option Entry) → level_in (cond b (Some e) r) ≡ unwrap_or (cond b (Some (Some e.level)) None) (level_in r)
 level-placed true e r = refl
 level-placed false e r = refl
 
-level-out : (b : Bool) (r : Option Entry) → level_in (cond b None r) ≡ over (cond b (Some None) None) (level_in r)
+level-out : (b : Bool) (r : Option Entry) → level_in (cond b None r) ≡ unwrap_or (cond b (Some None) None) (level_in r)
 level-out true r = refl
 level-out false r = refl
 
-out-after : (n m : Who) (queue : List Entry) → level_in (entry_of n (without m queue)) ≡ over (cond (same_who n m) (Some None) None) (level_in (entry_of n queue))
+out-after : (n m : Who) (queue : List Entry) → level_in (entry_of n (without m queue)) ≡ unwrap_or (cond (same_who n m) (Some None) None) (level_in (entry_of n queue))
 out-after n m queue =
     ap level_in (entry-without n m queue) ∙ level-out (who_eq n m) (entry_of n queue)
-    ∙ ap (λ b. over (cond b (Some None) None) (level_in (entry_of n queue))) (eq-same n m)
+    ∙ ap (λ b. unwrap_or (cond b (Some None) None) (level_in (entry_of n queue))) (eq-same n m)
 
-placed-after : (n : Who) (end : QueueEnd) (e : Entry) (queue : List Entry) → level_in (entry_of n (placed end e queue)) ≡ over (cond (same_who n e.who) (Some (Some e.level)) None) (level_in (entry_of n queue))
+placed-after : (n : Who) (end : QueueEnd) (e : Entry) (queue : List Entry) → level_in (entry_of n (placed end e queue)) ≡ unwrap_or (cond (same_who n e.who) (Some (Some e.level)) None) (level_in (entry_of n queue))
 placed-after n end e queue =
     ap level_in (entry-placed n end e queue) ∙ level-placed (who_eq n e.who) e (entry_of n queue)
-    ∙ ap (λ b. over (cond b (Some (Some e.level)) None) (level_in (entry_of n queue))) (eq-same n e.who)
+    ∙ ap (λ b. unwrap_or (cond b (Some (Some e.level)) None) (level_in (entry_of n queue))) (eq-same n e.who)
 
-level-after : (p : Image) (n : Who) (queue : List Entry) (x : Line) → level_in (entry_of n (queue_after queue (event_of p x))) ≡ over (puts n x) (level_in (entry_of n queue))
+level-after : (p : Image) (n : Who) (queue : List Entry) (x : Line) → level_in (entry_of n (queue_after queue (event_of p x))) ≡ unwrap_or (puts n x) (level_in (entry_of n queue))
 level-after p n queue (line.Ready name level end deadline) = placed-after n end (record { who = name; level = level; deadline = deadline }) queue
 level-after p n queue (line.Block name waits) = out-after n name queue
 level-after p n queue (line.Done t) = out-after n (who.Task t) queue

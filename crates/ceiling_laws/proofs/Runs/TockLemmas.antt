@@ -8,7 +8,7 @@ use Rattle.profile_machine.specs.Cost.{cost}
 use Rattle.profile_machine.specs.Dispatching.{choose}
 use Rattle.profile_machine.specs.Handlers.{charge, charge_budget, charge_clock, charge_group, charge_task, clock_risen, quantum_spent_by}
 use Rattle.profile_machine.specs.Program.{is_robin_level}
-use Rattle.profile_machine.specs.Run.{begin_action, next_tick, one_tick_less, say, says_idle, says_run, serve, serve_if_free, spend_tick, ticks_or, tock, with_serving}
+use Rattle.profile_machine.specs.Run.{begin_action, next_tick, one_tick_less, say, says_idle, says_run, serve, serve_if_free, spend_tick, tock, with_serving}
 use Rattle.profile_machine.specs.Steps.{rests}
 use Rattle.profile_machine.specs.Tasks.{edit_task, task_of, with_ticks}
 use Rattle.profile_machine.specs.Words.{same_option, same_who}
@@ -19,7 +19,7 @@ use Rattle.profile_machine.specs.declared.world.marks.Frame.{Frame}
 use Rattle.profile_machine.specs.declared.world.tasks.Task.{Task}
 use Rattle.std.proofs.Common.{Bool, List, None, Option, Some, [], ap, cond, false, map, refl, subst, sym, true, ◌-◌, ◌∙◌, ◌∷◌, ◌≡◌}
 use Rattle.std.specs.List.{list_any}
-use Rattle.std.specs.Prelude.{ℕ}
+use Rattle.std.specs.Prelude.{ℕ, unwrap_or}
 use Rattle.trace_text.specs.declared.events.Event.{Event}
 use Rattle.trace_text.specs.declared.events.Event.TheVariants as line
 use Rattle.trace_text.specs.declared.events.Who.{Who}
@@ -83,7 +83,7 @@ before_tick-same p (Some name) w =
     (same_then w begun charged
     (same_then w taken begun
     (same_then w told taken (run-same (same_option same_who w.ran (Some name)) name w) (serve-same name told))
-    (edit_task-same name (with_ticks (Some (ticks_or (task_of taken name).ticks_left (cost p taken name)))) taken (λ x. refl)))
+    (edit_task-same name (with_ticks (Some (unwrap_or (task_of taken name).ticks_left (cost p taken name)))) taken (λ x. refl)))
     (charge-same p name begun))
     (edit_task-same name (λ t. with_ticks (one_tick_less t.ticks_left) t) charged (λ x. refl))
 

@@ -1,5 +1,6 @@
 -- Bodies (3.11.1, 6.3, 9.4, 9.5.2), given that the sequences in them are read as they are written: the `is` of one takes a level.
 use Rattle.std.proofs.Common.{◌≡◌, ℕ, zero, suc, Bool, true, false, cond, ◌&&◌, List, ◌∷◌, ◌++◌, refl, subst, codes}
+use Rattle.std.specs.Prelude.{flat_map}
 use Rattle.std.specs.List.{list_all}
 use Rattle.ann_base.specs.declared.places.Place.{Place}
 use Rattle.ada_lex.specs.Reserved.{is_reserved}
@@ -12,7 +13,7 @@ use Rattle.ada_tree.specs.declared.declarations.EntryHead.{EntryHead}
 use Rattle.ada_tree.specs.declared.declarations.OperationBody.{OperationBody}
 use Rattle.ada_tree.specs.declared.declarations.OperationBody.TheVariants as bodies
 use Rattle.ada_tree.specs.declared.declarations.SubprogramSpecification.{SubprogramSpecification}
-use Rattle.ada_tree.specs.Written.{Written, Lexeme, word, delimiter, each_written, end_name_written}
+use Rattle.ada_tree.specs.Written.{Written, Lexeme, word, delimiter, end_name_written}
 use Rattle.ada_tree.specs.Spelling.{sequence_written}
 use Rattle.ada_tree.specs.SpellingStatements.{semicolon}
 use Rattle.ada_tree.specs.SpellingDeclarations.{specification_written, entry_head_written, body_written, operation_body_written}
@@ -173,7 +174,7 @@ operation_body_begins (bodies.Entry head body) ls r l =
     rw (entry_head_begins head ls t.middle t.first) refl
 
 pub operation_bodies_exact : (left : ℕ) (sequence : SequenceRole → Parser Sequence) → ReadsDeeper left sequence
-    → Exact (each_written (operation_body_written sequence_written)) (list_all (operation_body_fits sequence_fits left)) ends_operations (items_of begins_operation (operation_body_of left sequence))
+    → Exact (flat_map (operation_body_written sequence_written)) (list_all (operation_body_fits sequence_fits left)) ends_operations (items_of begins_operation (operation_body_of left sequence))
 unfolding starts
 operation_bodies_exact left sequence known =
     listed begins_operation (operation_body_written sequence_written) (operation_body_fits sequence_fits left) always ends_operations (operation_body_of left sequence) (operation_body_exact left sequence known) operation_body_begins refl

@@ -1,5 +1,6 @@
 -- Subprograms, tasks and protected units, with bodies or without (6.1, 6.3, 9.1, 9.4), given that the sequences in them are read as they are written.
 use Rattle.std.proofs.Common.{◌≡◌, ℕ, suc, Bool, true, false, List, [], ◌∷◌, ◌++◌, refl, ap, subst, codes}
+use Rattle.std.specs.Prelude.{flat_map}
 use Rattle.std.specs.List.{list_all}
 use Rattle.ann_base.specs.declared.places.Place.{Place}
 use Rattle.ada_tree.specs.declared.names.Identifier.{Identifier}
@@ -12,7 +13,7 @@ use Rattle.ada_tree.specs.declared.declarations.ProtectedBody.{ProtectedBody}
 use Rattle.ada_tree.specs.declared.declarations.ProtectedDeclaration.{ProtectedDeclaration}
 use Rattle.ada_tree.specs.declared.declarations.SubprogramSpecification.{SubprogramSpecification}
 use Rattle.ada_tree.specs.declared.declarations.TaskDeclaration.{TaskDeclaration}
-use Rattle.ada_tree.specs.Written.{Written, Lexeme, word, word_at, delimiter, identifier_written, each_written, end_name_written}
+use Rattle.ada_tree.specs.Written.{Written, Lexeme, word, word_at, delimiter, identifier_written, end_name_written}
 use Rattle.ada_tree.specs.Spelling.{sequence_written}
 use Rattle.ada_tree.specs.SpellingStatements.{semicolon}
 use Rattle.ada_tree.specs.SpellingDeclarations.{specification_written, task_written, protected_written, body_written, operation_body_written, protected_body_written, declaration_written}
@@ -174,7 +175,7 @@ abbrev end_behind : ProtectedBody Sequence → List Written
 end_behind p = end_name_written p.named_at_end p.name ++ semicolon
 
 abbrev is_behind : ProtectedBody Sequence → List Written
-is_behind p = each_written (operation_body_written sequence_written) p.operations ++ word (codes "end") ∷ end_behind p
+is_behind p = flat_map (operation_body_written sequence_written) p.operations ++ word (codes "end") ∷ end_behind p
 
 abbrev pub protected_body_behind : ProtectedBody Sequence → List Written
 protected_body_behind p = word (codes "body") ∷ identifier_written p.name ∷ word (codes "is") ∷ is_behind p
@@ -183,9 +184,9 @@ protected_whole_exact : (left : ℕ) → Rest protected_made Any protected_writt
 protected_whole_exact left = word_kept protected_made Any protected_behind (protected_fits left) always (λ p. p.place) (codes "protected") (protected_of left) (protected_exact left)
 
 operations_inside : (left m : ℕ) (deeper : SequenceRole → Parser Sequence) → left ≡ suc m → ReadsDeeper (below left) deeper
-    → Exact (each_written (operation_body_written sequence_written)) (list_all (operation_body_fits sequence_fits m)) ends_operations (items_of begins_operation (operation_body_of (below left) deeper))
+    → Exact (flat_map (operation_body_written sequence_written)) (list_all (operation_body_fits sequence_fits m)) ends_operations (items_of begins_operation (operation_body_of (below left) deeper))
 operations_inside left m deeper e known =
-    subst (λ (z : ℕ). Exact (each_written (operation_body_written sequence_written)) (list_all (operation_body_fits sequence_fits z)) ends_operations (items_of begins_operation (operation_body_of (below left) deeper)))
+    subst (λ (z : ℕ). Exact (flat_map (operation_body_written sequence_written)) (list_all (operation_body_fits sequence_fits z)) ends_operations (items_of begins_operation (operation_body_of (below left) deeper)))
     (ap below e) (operation_bodies_exact (below left) deeper known)
 
 module _ (left : ℕ) (sequence : SequenceRole → Parser Sequence) (deeper : SequenceRole → Parser Sequence) (known : ReadsDeeper (below left) deeper) where
@@ -195,7 +196,7 @@ module _ (left : ℕ) (sequence : SequenceRole → Parser Sequence) (deeper : Se
       word_then protected_body_made _ _ _ always (codes "body") _
       (identifier_kept protected_body_made _ _ _ always (λ p. p.name) _
       (λ name. opened_is left protected_body_made _ is_behind (λ p. operations_fit sequence_fits p.operations) always _
-      (λ m e. last_before protected_body_made _ (word (codes "end")) end_behind always (λ p. p.operations) (each_written (operation_body_written sequence_written)) (list_all (operation_body_fits sequence_fits m)) ends_operations (items_of begins_operation (operation_body_of (below left) deeper)) _
+      (λ m e. last_before protected_body_made _ (word (codes "end")) end_behind always (λ p. p.operations) (flat_map (operation_body_written sequence_written)) (list_all (operation_body_fits sequence_fits m)) ends_operations (items_of begins_operation (operation_body_of (below left) deeper)) _
       (operations_inside left m deeper e known) (λ l ls. refl)
       (λ operation_bodies. word_then protected_body_made _ end_behind _ always (codes "end") _
       (respelt_by protected_body_made _ (λ p. end_name_written p.named_at_end name ++ semicolon) end_behind (λ p. true) always _

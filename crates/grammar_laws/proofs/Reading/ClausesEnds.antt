@@ -3,10 +3,10 @@ use Rattle.std.proofs.Common.{◌≡◌, ℕ, Bool, true, false, not, ◌&&◌, 
 use Rattle.std.proofs.lemmas.Bool.{false≢true}
 use Rattle.ann_base.specs.declared.places.Place.{Place}
 use Rattle.ada_lex.specs.declared.tokens.Kind.TheVariants as kinds
-use Rattle.std.specs.Prelude.{Option, Some, None}
+use Rattle.std.specs.Prelude.{Option, Some, None, flat_map}
 use Rattle.ada_lex.specs.Reserved.{is_reserved}
 use Rattle.ada_tree.specs.declared.names.Identifier.{Identifier}
-use Rattle.ada_tree.specs.Written.{Written, Lexeme, flag, optional, each_written, behind, enclosed}
+use Rattle.ada_tree.specs.Written.{Written, Lexeme, flag, optional, behind, enclosed}
 use Rattle.ada_grammar.specs.Reading.{sees_delimiter, sees_word, sees_identifier, starts}
 use Rattle.ada_grammar.specs.ReadingExpressions.{compares, adds, multiplies, joins}
 use Rattle.ada_grammar.specs.ReadingDeclarations.{begins_operation}
@@ -176,13 +176,13 @@ pub stop_enclosed : {A : Type 0} (test : List Lexeme → Bool) (v : Bool) (openi
     → (xs : List A) (ls r : List Lexeme) → Leads (enclosed opening separator closing wa xs ++ w) ls r → test ls ≡ v
 stop_enclosed test v opening separator closing wa w on rest [] ls r l = rest ls r l
 stop_enclosed test v opening separator closing wa w on rest (x ∷ xs) ls r l =
-    first_is test v opening on ((wa x ++ (each_written (behind separator wa) xs ++ closing)) ++ w) ls r l
+    first_is test v opening on ((wa x ++ (flat_map (behind separator wa) xs ++ closing)) ++ w) ls r l
 
 -- a list that may be empty, and what stands behind
 pub stop_each : {A : Type 0} (test : List Lexeme → Bool) (wa : A → List Written) → ((a : A) (ls m : List Lexeme) → Leads (wa a) ls m → test ls ≡ true)
-    → (xs : List A) (ls r : List Lexeme) → Leads (each_written wa xs) ls r → test r ≡ true → test ls ≡ true
+    → (xs : List A) (ls r : List Lexeme) → Leads (flat_map wa xs) ls r → test r ≡ true → test ls ≡ true
 stop_each test wa one [] ls r l end = subst (λ (z : List Lexeme). test z ≡ true) (sym l) end
-stop_each test wa one (x ∷ xs) ls r l end = let t = leads_through (wa x) (each_written wa xs) ls r l in one x ls t.middle t.first
+stop_each test wa one (x ∷ xs) ls r l end = let t = leads_through (wa x) (flat_map wa xs) ls r l in one x ls t.middle t.first
 
 -- ---- what specifications end with says
 

@@ -1,6 +1,6 @@
 -- Aspects and specifications of subprograms and entries (6.1, 8.3.1, 9.5.2, 13.1.1).
 use Rattle.std.proofs.Common.{◌≡◌, ℕ, Bool, true, false, ◌&&◌, List, [], ◌∷◌, ◌++◌, refl, sym, subst, codes}
-use Rattle.std.specs.Prelude.{Option, Some, None}
+use Rattle.std.specs.Prelude.{Option, Some, None, flat_map}
 use Rattle.std.specs.List.{list_all}
 use Rattle.ann_base.specs.declared.places.Place.{Place}
 use Rattle.ada_tree.specs.declared.names.Identifier.{Identifier}
@@ -11,7 +11,7 @@ use Rattle.ada_tree.specs.declared.declarations.Aspect.{Aspect}
 use Rattle.ada_tree.specs.declared.declarations.SubprogramSpecification.{SubprogramSpecification}
 use Rattle.ada_tree.specs.declared.declarations.EntryDeclaration.{EntryDeclaration}
 use Rattle.ada_tree.specs.declared.declarations.EntryHead.{EntryHead}
-use Rattle.ada_tree.specs.Written.{Written, Lexeme, word, word_at, delimiter, identifier_written, each_written, behind, optional}
+use Rattle.ada_tree.specs.Written.{Written, Lexeme, word, word_at, delimiter, identifier_written, behind, optional}
 use Rattle.ada_tree.specs.SpellingExpressions.{expression_written}
 use Rattle.ada_tree.specs.SpellingStatements.{semicolon, indication_written, parameters_written}
 use Rattle.ada_tree.specs.SpellingDeclarations.{aspect_value_written, aspect_written, aspects_written, overriding_written, subprogram_word, result_written, specification_written, entry_written, entry_head_written}
@@ -55,7 +55,7 @@ aspect_exact left =
     (λ v. (tt, refl)) (λ v. refl) (λ v a p e. rw (p.1, e) refl))
 
 abbrev others_written : List Aspect → List Written
-others_written others = each_written (behind (delimiter (codes ",")) aspect_written) others
+others_written others = flat_map (behind (delimiter (codes ",")) aspect_written) others
 
 others_exact : (left : ℕ) → Exact others_written (list_all (aspect_fits left)) (ends_list (codes ",") ends_aspect) (items_of (sees_delimiter (codes ",")) (behind_delimiter_of (codes ",") (aspect_of left)))
 unfolding starts

@@ -1,6 +1,6 @@
 -- Statements without others in them, choices, iterations, handled exceptions (clauses 5, 6.5, 9.5.4, 9.8, 11).
 use Rattle.std.proofs.Common.{◌≡◌, ℕ, Bool, true, false, ◌&&◌, List, [], ◌∷◌, ◌++◌, refl, sym, subst, codes}
-use Rattle.std.specs.Prelude.{Option, Some, None}
+use Rattle.std.specs.Prelude.{Option, Some, None, flat_map}
 use Rattle.ann_base.specs.declared.places.Place.{Place}
 use Rattle.ada_lex.specs.Reserved.{is_reserved}
 use Rattle.ada_tree.specs.declared.names.Identifier.{Identifier}
@@ -17,9 +17,9 @@ use Rattle.ada_tree.specs.declared.statements.Iteration.TheVariants as iteration
 use Rattle.ada_tree.specs.declared.statements.HandledExceptions.{HandledExceptions}
 use Rattle.ada_tree.specs.declared.statements.HandledExceptions.TheVariants as exceptions
 use Rattle.ada_tree.specs.declared.statements.Exit.{Exit}
-use Rattle.ada_tree.specs.Written.{Written, Lexeme, word, word_at, delimiter, identifier_written, flag, optional, each_written, behind, separated, one_identifier, name_written}
+use Rattle.ada_tree.specs.Written.{Written, Lexeme, word, word_at, delimiter, identifier_written, flag, optional, behind, separated, one_identifier, name_written}
 use Rattle.ada_tree.specs.SpellingExpressions.{expression_written}
-use Rattle.ada_tree.specs.SpellingStatements.{semicolon, choice_written, iteration_written, loop_name_written, when_written, exit_written, exceptions_written, with_abort_written}
+use Rattle.ada_tree.specs.SpellingStatements.{semicolon, choice_written, iteration_written, when_written, exit_written, exceptions_written, with_abort_written}
 use Rattle.ada_tree.specs.ShapeExpressions.{optional_fits}
 use Rattle.ada_tree.specs.ShapeStatements.{value_fits, choice_fits, iteration_fits, exit_fits}
 use Rattle.ada_grammar.specs.Reading.{Parser, ◌>>=◌, ◌>>◌, pure, starts, sees_delimiter, sees_word, sees_identifier, the_word, the_delimiter, an_identifier, flag_of, name_of, names_of}
@@ -201,7 +201,7 @@ exceptions_sound =
 exceptions_complete : (x : HandledExceptions) (ls r : List Lexeme) → Leads (exceptions_written x) ls r → ends_exceptions r ≡ true → exceptions_of ls ≡ done x r
 unfolding exceptions_of
 exceptions_complete (exceptions.Named names) ls r l end =
-    rw (not_true (sees_word (codes "others") ls) (identifier_no_others ls (name_begins names.first (each_written (behind (delimiter (codes "|")) name_written) names.others) ls r l)))
+    rw (not_true (sees_word (codes "others") ls) (identifier_no_others ls (name_begins names.first (flat_map (behind (delimiter (codes "|")) name_written) names.others) ls r l)))
     (named_exceptions_exact.complete names ls r tt refl l end)
 exceptions_complete (exceptions.Others p) ls r l end = rw (sees_word_at_first (codes "others") p [] ls r l) (other_exceptions_exact.complete p ls r tt refl l refl)
 
@@ -210,12 +210,12 @@ exceptions_exact = record { sound = exceptions_sound.by; complete = λ x ls r q 
 
 -- ---- exits (5.7)
 
-pub loop_name_exact : Exact (optional loop_name_written) (optional_fits shapeless) not_identifier loop_name_of
+pub loop_name_exact : Exact (optional one_identifier) (optional_fits shapeless) not_identifier loop_name_of
 unfolding loop_name_of
 loop_name_exact =
-    optionally sees_identifier loop_name_written shapeless not_identifier _
-    (closing (λ (n : Identifier). Some n) Any not_identifier itself loop_name_written shapeless an_identifier itself
-    (narrower itself Any loop_name_written shapeless always not_identifier an_identifier identifier_exact (λ r e. refl)) (λ n. tt) (λ n. refl) (λ n i p e. e))
+    optionally sees_identifier one_identifier shapeless not_identifier _
+    (closing (λ (n : Identifier). Some n) Any not_identifier itself one_identifier shapeless an_identifier itself
+    (narrower itself Any one_identifier shapeless always not_identifier an_identifier identifier_exact (λ r e. refl)) (λ n. tt) (λ n. refl) (λ n i p e. e))
     (λ n ls r l. sees_identifier_first n [] ls r l) (λ r e. not_true (sees_identifier r) e)
 
 pub when_exact : (left : ℕ) → Exact (optional when_written) (optional_fits (value_fits left)) ends_when (when_of left)
@@ -240,7 +240,7 @@ unfolding exit_of starts
 exit_exact left =
     let make : Exit → Statement Sequence = λ e. statements.Exit e in
     word_kept make Any _ _ always (λ e. e.place) (codes "exit") _
-    (λ place. plain make _ (λ e. optional when_written e.condition ++ semicolon) _ always (λ e. e.loop_name) (optional loop_name_written) (optional_fits shapeless) not_identifier loop_name_of _ loop_name_exact optional_shapeless
+    (λ place. plain make _ (λ e. optional when_written e.condition ++ semicolon) _ always (λ e. e.loop_name) (optional one_identifier) (optional_fits shapeless) not_identifier loop_name_of _ loop_name_exact optional_shapeless
     (λ e ls r p l end. no_loop_name e.condition ls r l)
     (λ loop_name. last_before make _ (delimiter (codes ";")) _ always (λ e. e.condition) (optional when_written) (optional_fits (value_fits left)) ends_when (when_of left) _ (when_exact left) (λ l ls. refl)
     (λ condition. delimiter_ends make _ (codes ";") (record { place = place; loop_name = loop_name; condition = condition }) (((tt, refl), refl), refl) (λ j p. rw (p.0.0.1, p.0.1, p.1) refl))))
@@ -296,7 +296,7 @@ exception_name_exact =
     (closing (λ (n : Name). Some n) Any ends_name itself name_written shapeless name_of itself
     (narrower itself Any name_written shapeless (not_delimiter (codes ".")) ends_name name_of name_exact (λ r e. first_true (not_delimiter (codes ".") r) (not_identifier r) e))
     (λ n. tt) (λ n. refl) (λ n i p q. q))
-    (λ n ls r l. sees_identifier_first n.parts.first (each_written (behind (delimiter (codes ".")) one_identifier) n.parts.others) ls r l)
+    (λ n ls r l. sees_identifier_first n.parts.first (flat_map (behind (delimiter (codes ".")) one_identifier) n.parts.others) ls r l)
     (λ r e. not_true (sees_identifier r) (second_true (not_delimiter (codes ".") r) (not_identifier r) e))
 
 pub raise_exact : Rest {X = Statement Sequence} (λ (x : Place × Option Name). statements.Raise x.0 x.1) Any (λ x. word_at x.0 (codes "raise") ∷ (optional name_written x.1 ++ semicolon)) shapeless always raise_of

@@ -1,10 +1,10 @@
 -- Steps for clauses: how productions end, parts before a fixed token, lists that may be empty.
 use Rattle.std.proofs.Common.{◌≡◌, ℕ, Bool, true, false, cond, ◌&&◌, List, [], ◌∷◌, ◌++◌, refl, sym, ap, subst}
-use Rattle.std.specs.Prelude.{Option, Some, None}
+use Rattle.std.specs.Prelude.{Option, Some, None, flat_map}
 use Rattle.std.specs.List.{list_all}
 use Rattle.ann_base.specs.declared.places.Place.{Place}
 use Rattle.ada_tree.specs.declared.names.Identifier.{Identifier}
-use Rattle.ada_tree.specs.Written.{Written, Lexeme, word, word_at, delimiter, identifier_written, each_written, behind, enclosed, end_name_written}
+use Rattle.ada_tree.specs.Written.{Written, Lexeme, word, word_at, delimiter, identifier_written, behind, enclosed, end_name_written}
 use Rattle.ada_tree.specs.ShapeExpressions.{optional_fits}
 use Rattle.ada_grammar.specs.Reading.{Read, Parser, ◌>>=◌, ◌>>◌, pure, choose, starts, sees_delimiter, the_word, the_delimiter, an_identifier, end_name_of, items_of, behind_delimiter_of}
 use Rattle.grammar_laws.specs.Leads.{Leads}
@@ -60,7 +60,7 @@ ends_list separator ends_item r = ends_item r && not_delimiter separator r
 
 pub items_behind : {A : Type 0} (separator : List ℕ) (w : A → List Written) (ok : A → Bool) (ends_item : List Lexeme → Bool) (item : Parser A)
     → Exact w ok ends_item item → ((r : List Lexeme) → sees_delimiter separator r ≡ true → ends_item r ≡ true)
-    → Exact (each_written (behind (delimiter separator) w)) (list_all ok) (ends_list separator ends_item) (items_of (sees_delimiter separator) (behind_delimiter_of separator item))
+    → Exact (flat_map (behind (delimiter separator) w)) (list_all ok) (ends_list separator ends_item) (items_of (sees_delimiter separator) (behind_delimiter_of separator item))
 unfolding behind_delimiter_of starts
 items_behind separator w ok ends_item item one apart =
     listed (sees_delimiter separator) (behind (delimiter separator) w) ok ends_item (ends_list separator ends_item) (the_delimiter separator >> item)
@@ -90,7 +90,7 @@ enclosed_exact {A} begins opening separator closing w fits ends p one empty begu
 
     to : (xs : List A) (ls r : List Lexeme) → fits xs ≡ true → Leads (enclosed opening separator closing w xs) ls r → ends r ≡ true → choose begins p (pure []) ls ≡ done xs r
     to [] ls r okay l end = rw (l, other r end) refl
-    to (x ∷ xs) ls r okay l end = rw (begun (w x ++ (each_written (behind separator w) xs ++ closing)) ls r l) (one.complete (x, xs) ls r tt okay l end)
+    to (x ∷ xs) ls r okay l end = rw (begun (w x ++ (flat_map (behind separator w) xs ++ closing)) ls r l) (one.complete (x, xs) ls r tt okay l end)
 
 -- ---- a word with its place, an identifier, the name behind an end
 

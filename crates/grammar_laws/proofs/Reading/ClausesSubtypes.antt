@@ -1,6 +1,6 @@
 -- Subtype indications and parameters (3.2.2, 6.1).
 use Rattle.std.proofs.Common.{◌≡◌, ℕ, Bool, true, false, ◌&&◌, List, [], ◌∷◌, ◌++◌, refl, sym, subst, codes}
-use Rattle.std.specs.Prelude.{Option, Some, None}
+use Rattle.std.specs.Prelude.{Option, Some, None, flat_map}
 use Rattle.std.specs.List.{list_all}
 use Rattle.ada_tree.specs.declared.names.Identifier.{Identifier}
 use Rattle.ada_tree.specs.declared.names.Name.{Name}
@@ -10,7 +10,7 @@ use Rattle.ada_tree.specs.declared.declarations.SubtypeIndication.{SubtypeIndica
 use Rattle.ada_tree.specs.declared.declarations.Constraint.{Constraint}
 use Rattle.ada_tree.specs.declared.declarations.Constraint.TheVariants as constraints
 use Rattle.ada_tree.specs.declared.declarations.Parameter.{Parameter}
-use Rattle.ada_tree.specs.Written.{Written, Lexeme, word, delimiter, flag, optional, each_written, behind, one_identifier, name_written, identifiers_written}
+use Rattle.ada_tree.specs.Written.{Written, Lexeme, word, delimiter, flag, optional, behind, one_identifier, name_written, identifiers_written}
 use Rattle.ada_tree.specs.SpellingExpressions.{expression_written}
 use Rattle.ada_tree.specs.SpellingStatements.{constraint_written, indication_written, parameter_written, parameters_written}
 use Rattle.ada_tree.specs.ShapeExpressions.{within, optional_fits}
@@ -113,7 +113,7 @@ subtype_indication_exact left =
 
 -- a subtype mark begins with an identifier
 pub name_begins : (n : Name) (w : List Written) (ls r : List Lexeme) → Leads (name_written n ++ w) ls r → sees_identifier ls ≡ true
-name_begins n w ls r l = sees_identifier_first n.parts.first (each_written (behind (delimiter (codes ".")) one_identifier) n.parts.others ++ w) ls r l
+name_begins n w ls r l = sees_identifier_first n.parts.first (flat_map (behind (delimiter (codes ".")) one_identifier) n.parts.others ++ w) ls r l
 
 pub indication_begins : (m : SubtypeIndication) (w : List Written) (ls r : List Lexeme) → Leads (indication_written m ++ w) ls r → sees_identifier ls ≡ true
 indication_begins m w ls r l =
@@ -121,7 +121,7 @@ indication_begins m w ls r l =
     name_begins m.name (optional constraint_written m.constraint) ls t.middle t.first
 
 pub identifiers_begin : (names : OneOrMore Identifier) (w : List Written) (ls r : List Lexeme) → Leads (identifiers_written names ++ w) ls r → sees_identifier ls ≡ true
-identifiers_begin names w ls r l = sees_identifier_first names.first (each_written (behind (delimiter (codes ",")) one_identifier) names.others ++ w) ls r l
+identifiers_begin names w ls r l = sees_identifier_first names.first (flat_map (behind (delimiter (codes ",")) one_identifier) names.others ++ w) ls r l
 
 -- ---- parameters
 
@@ -154,7 +154,7 @@ parameters_inside m =
     parameter_of m >>= λ first. items_of (sees_delimiter (codes ";")) (behind_delimiter_of (codes ";") (parameter_of m)) >>= λ others. the_delimiter (codes ")") >>= λ a. pure (first ∷ others)
 
 abbrev others_written : Parameter × List Parameter → List Written
-others_written x = each_written (behind (delimiter (codes ";")) parameter_written) x.1 ++ delimiter (codes ")") ∷ []
+others_written x = flat_map (behind (delimiter (codes ";")) parameter_written) x.1 ++ delimiter (codes ")") ∷ []
 
 inside_exact : (m : ℕ) → Rest first_and Any (λ (x : Parameter × List Parameter). parameter_written x.0 ++ others_written x) (λ x. parameter_fits m x.0 && list_all (parameter_fits m) x.1) always (parameters_inside m)
 unfolding starts
@@ -163,7 +163,7 @@ inside_exact m =
     (λ x ls r p l end. first_each ends_subtype true (behind (delimiter (codes ";")) parameter_written) (delimiter (codes ")") ∷ [])
     (λ a ls m l. first_is ends_subtype true (delimiter (codes ";")) (λ l ls. refl) (parameter_written a) ls m l)
     (λ ls r l. first_is ends_subtype true (delimiter (codes ")")) (λ l ls. refl) [] ls r l) x.1 ls r l)
-    (λ first. last_before first_and _ (delimiter (codes ")")) _ always (λ x. x.1) (each_written (behind (delimiter (codes ";")) parameter_written)) (list_all (parameter_fits m)) (ends_list (codes ";") ends_subtype)
+    (λ first. last_before first_and _ (delimiter (codes ")")) _ always (λ x. x.1) (flat_map (behind (delimiter (codes ";")) parameter_written)) (list_all (parameter_fits m)) (ends_list (codes ";") ends_subtype)
     (items_of (sees_delimiter (codes ";")) (behind_delimiter_of (codes ";") (parameter_of m))) _
     (items_behind (codes ";") parameter_written (parameter_fits m) ends_subtype (parameter_of m) (parameter_exact m) (λ r e. seen_delimiter ends_subtype true (codes ";") (λ p ls. refl) r e))
     (λ l ls. refl)

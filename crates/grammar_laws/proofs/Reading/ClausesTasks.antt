@@ -1,6 +1,6 @@
 -- Declarations of tasks and protected units (9.1, 9.4).
 use Rattle.std.proofs.Common.{◌≡◌, ℕ, Bool, true, false, ◌&&◌, List, [], ◌∷◌, ◌++◌, refl, codes}
-use Rattle.std.specs.Prelude.{Option, Some}
+use Rattle.std.specs.Prelude.{Option, Some, flat_map}
 use Rattle.std.specs.List.{list_all}
 use Rattle.ann_base.specs.declared.places.Place.{Place}
 use Rattle.ada_lex.specs.Reserved.{is_reserved}
@@ -16,7 +16,7 @@ use Rattle.ada_tree.specs.declared.declarations.TaskDefinition.{TaskDefinition}
 use Rattle.ada_tree.specs.declared.declarations.ProtectedDeclaration.{ProtectedDeclaration}
 use Rattle.ada_tree.specs.declared.declarations.ProtectedOperation.{ProtectedOperation}
 use Rattle.ada_tree.specs.declared.declarations.ProtectedOperation.TheVariants as operations
-use Rattle.ada_tree.specs.Written.{Written, Lexeme, word, word_at, delimiter, identifier_written, each_written, optional, end_name_written}
+use Rattle.ada_tree.specs.Written.{Written, Lexeme, word, word_at, delimiter, identifier_written, optional, end_name_written}
 use Rattle.ada_tree.specs.SpellingStatements.{semicolon, parameters_written}
 use Rattle.ada_tree.specs.SpellingDeclarations.{component_written, aspects_written, specification_written, entry_written, task_definition_written, type_flag, operation_written, private_written}
 use Rattle.ada_tree.specs.ShapeExpressions.{optional_fits}
@@ -38,7 +38,7 @@ use Rattle.grammar_laws.proofs.Reading.ClausesSpecifications.{aspects_exact, spe
 abbrev not_entry : List Lexeme → Bool
 not_entry r = not_word (codes "entry") r
 
-entries_exact : (left : ℕ) → Exact (each_written entry_written) (list_all (entry_fits left)) not_entry (items_of (sees_word (codes "entry")) (entry_of left))
+entries_exact : (left : ℕ) → Exact (flat_map entry_written) (list_all (entry_fits left)) not_entry (items_of (sees_word (codes "entry")) (entry_of left))
 unfolding starts
 entries_exact left =
     listed (sees_word (codes "entry")) entry_written (entry_fits left) always not_entry (entry_of left) (entry_exact left) entry_begins refl
@@ -53,12 +53,12 @@ unfolding task_definition_of starts
 task_definition_exact left name =
     optionally (sees_word (codes "is")) (task_definition_written name) (task_definition_fits left) (ends_task_definition name) _
     (word_then some_definition Any _ _ (ends_task_definition name) (codes "is") _
-    (last_before some_definition Any (word (codes "end")) (λ d. end_name_written d.named_at_end name) (ends_task_definition name) (λ d. d.entries) (each_written entry_written) (list_all (entry_fits left)) not_entry (items_of (sees_word (codes "entry")) (entry_of left)) _ (entries_exact left) (λ l ls. refl)
+    (last_before some_definition Any (word (codes "end")) (λ d. end_name_written d.named_at_end name) (ends_task_definition name) (λ d. d.entries) (flat_map entry_written) (list_all (entry_fits left)) not_entry (items_of (sees_word (codes "entry")) (entry_of left)) _ (entries_exact left) (λ l ls. refl)
     (λ entries. word_then some_definition _ _ _ (ends_task_definition name) (codes "end") _
     (closing some_definition _ (ends_task_definition name) (λ d. d.named_at_end) (λ b. end_name_written b name) shapeless (end_name_of name.text) (λ named. record { entries = entries; named_at_end = named })
     (narrower itself Any (λ b. end_name_written b name) shapeless (not_word name.text) (ends_task_definition name) (end_name_of name.text) (end_name_exact name) (λ r e. second_true (not_word (codes "is") r) (not_word name.text r) e))
     (λ b. (tt, refl)) (λ b. refl) (λ b d p e. rw (p.1, e) refl)))))
-    (λ d ls r l. sees_word_first (codes "is") (each_written entry_written d.entries ++ word (codes "end") ∷ end_name_written d.named_at_end name) ls r l)
+    (λ d ls r l. sees_word_first (codes "is") (flat_map entry_written d.entries ++ word (codes "end") ∷ end_name_written d.named_at_end name) ls r l)
     (λ r e. not_true (sees_word (codes "is") r) (first_true (not_word (codes "is") r) (not_word name.text r) e))
 
 abbrev task_made : TaskDeclaration → Declaration Sequence
@@ -75,7 +75,7 @@ before_definition : (t : TaskDeclaration) (ls r : List Lexeme) → Leads (defini
 unfolding starts
 before_definition t ls r l =
     first_optional ends_aspects true (task_definition_written t.name) semicolon
-    (λ d ls m l. first_is ends_aspects true (word (codes "is")) (λ l ls. refl) (each_written entry_written d.entries ++ word (codes "end") ∷ end_name_written d.named_at_end t.name) ls m l)
+    (λ d ls m l. first_is ends_aspects true (word (codes "is")) (λ l ls. refl) (flat_map entry_written d.entries ++ word (codes "end") ∷ end_name_written d.named_at_end t.name) ls m l)
     (λ ls r l. first_is ends_aspects true (delimiter (codes ";")) (λ l ls. refl) [] ls r l) t.definition ls r l
 
 pub task_exact : (left : ℕ) (place : Place) → Rest {X = Declaration Sequence} (λ (t : TaskDeclaration). declarations.Task t) (λ t. Any t × (place ≡ t.place)) task_behind (task_fits left) always (task_of left place)
@@ -146,7 +146,7 @@ pub operation_begins : (o : ProtectedOperation) (ls r : List Lexeme) → Leads (
 unfolding starts
 operation_begins o ls r l = operation_first begins_operation true (λ p l ls. refl) (λ p l ls. refl) (λ p l ls. refl) (λ p l ls. refl) o ls r l
 
-pub operations_exact : (left : ℕ) → Exact (each_written operation_written) (list_all (operation_fits left)) ends_operations (items_of begins_operation (operation_of left))
+pub operations_exact : (left : ℕ) → Exact (flat_map operation_written) (list_all (operation_fits left)) ends_operations (items_of begins_operation (operation_of left))
 unfolding starts
 operations_exact left =
     listed begins_operation operation_written (operation_fits left) always ends_operations (operation_of left) (operation_exact left) operation_begins refl
@@ -161,11 +161,11 @@ pub private_exact : (left : ℕ) → Exact (optional private_written) (optional_
 unfolding private_of
 private_exact left =
     optionally (sees_word (codes "private")) private_written (private_fits left) ends_private _
-    (word_then some_private Any (each_written component_written) (private_fits left) ends_private (codes "private") _
-    (closing some_private Any ends_private itself (each_written component_written) (private_fits left) (items_of sees_identifier (component_of left)) itself
-    (narrower itself Any (each_written component_written) (private_fits left) not_identifier ends_private (items_of sees_identifier (component_of left)) (components_exact left) (λ r e. second_true (not_word (codes "private") r) (not_identifier r) e))
+    (word_then some_private Any (flat_map component_written) (private_fits left) ends_private (codes "private") _
+    (closing some_private Any ends_private itself (flat_map component_written) (private_fits left) (items_of sees_identifier (component_of left)) itself
+    (narrower itself Any (flat_map component_written) (private_fits left) not_identifier ends_private (items_of sees_identifier (component_of left)) (components_exact left) (λ r e. second_true (not_word (codes "private") r) (not_identifier r) e))
     (λ xs. tt) (λ xs. refl) (λ xs i p e. e)))
-    (λ xs ls r l. sees_word_first (codes "private") (each_written component_written xs) ls r l)
+    (λ xs ls r l. sees_word_first (codes "private") (flat_map component_written xs) ls r l)
     (λ r e. not_true (sees_word (codes "private") r) (first_true (not_word (codes "private") r) (not_identifier r) e))
 
 abbrev protected_made : ProtectedDeclaration → Declaration Sequence
@@ -178,7 +178,7 @@ abbrev pub private_behind : ProtectedDeclaration → List Written
 private_behind p = optional private_written p.components ++ word (codes "end") ∷ end_behind p
 
 abbrev pub operations_behind : ProtectedDeclaration → List Written
-operations_behind p = each_written operation_written p.operations ++ private_behind p
+operations_behind p = flat_map operation_written p.operations ++ private_behind p
 
 abbrev pub aspects_behind : ProtectedDeclaration → List Written
 aspects_behind p = aspects_written p.aspects ++ word (codes "is") ∷ operations_behind p
@@ -191,7 +191,7 @@ behind_operations : (p : ProtectedDeclaration) (ls r : List Lexeme) → Leads (p
 unfolding starts
 behind_operations p ls r l =
     first_optional ends_operations true private_written (word (codes "end") ∷ end_behind p)
-    (λ xs ls m l. first_is ends_operations true (word (codes "private")) (λ l ls. refl) (each_written component_written xs) ls m l)
+    (λ xs ls m l. first_is ends_operations true (word (codes "private")) (λ l ls. refl) (flat_map component_written xs) ls m l)
     (λ ls r l. first_is ends_operations true (word (codes "end")) (λ l ls. refl) (end_behind p) ls r l) p.components ls r l
 
 pub protected_exact : (left : ℕ) (place : Place) → Rest {X = Declaration Sequence} (λ (p : ProtectedDeclaration). declarations.Protected p) (λ p. Any p × (place ≡ p.place)) protected_behind (protected_fits left) always (protected_of left place)
@@ -203,7 +203,7 @@ protected_exact left place =
     (λ name. field_before protected_made _ (word (codes "is")) operations_behind always (λ p. p.aspects) aspects_written (aspects_fit left) ends_aspects (aspects_of left) _ (aspects_exact left) (λ l ls. refl)
     (λ p. list_all (operation_fits left) p.operations && optional_fits (private_fits left) p.components)
     (λ aspects. word_then protected_made _ operations_behind _ always (codes "is") _
-    (field protected_made _ private_behind (λ p. optional_fits (private_fits left) p.components) always (λ p. p.operations) (each_written operation_written) (list_all (operation_fits left)) ends_operations (items_of begins_operation (operation_of left)) _ (operations_exact left)
+    (field protected_made _ private_behind (λ p. optional_fits (private_fits left) p.components) always (λ p. p.operations) (flat_map operation_written) (list_all (operation_fits left)) ends_operations (items_of begins_operation (operation_of left)) _ (operations_exact left)
     (λ p ls r q l end. behind_operations p ls r l)
     (λ named_operations. last_before protected_made _ (word (codes "end")) end_behind always (λ p. p.components) (optional private_written) (optional_fits (private_fits left)) ends_private (private_of left) _ (private_exact left) (λ l ls. refl)
     (λ components. word_then protected_made _ end_behind _ always (codes "end") _

@@ -1,6 +1,6 @@
 -- Types and subtypes (3.2.1, 3.2.2, 3.5.1, 3.6, 3.9.1).
 use Rattle.std.proofs.Common.{◌≡◌, ℕ, zero, suc, Bool, true, false, ◌&&◌, List, [], ◌∷◌, ◌++◌, refl, sym, ap, subst, codes, append_assoc}
-use Rattle.std.specs.Prelude.{Option, Some, None}
+use Rattle.std.specs.Prelude.{Option, Some, None, flat_map}
 use Rattle.std.specs.List.{list_all}
 use Rattle.ada_lex.specs.Reserved.{is_reserved}
 use Rattle.ada_tree.specs.declared.names.Identifier.{Identifier}
@@ -16,7 +16,7 @@ use Rattle.ada_tree.specs.declared.declarations.TypeDeclaration.{TypeDeclaration
 use Rattle.ada_tree.specs.declared.declarations.TypeDefinition.{TypeDefinition}
 use Rattle.ada_tree.specs.declared.declarations.TypeDefinition.TheVariants as definitions
 use Rattle.ada_tree.specs.declared.declarations.SubtypeDeclaration.{SubtypeDeclaration}
-use Rattle.ada_tree.specs.Written.{Written, Lexeme, word, delimiter, each_written, all_written, name_written, identifiers_written}
+use Rattle.ada_tree.specs.Written.{Written, Lexeme, word, delimiter, all_written, name_written, identifiers_written}
 use Rattle.ada_tree.specs.SpellingExpressions.{expression_written}
 use Rattle.ada_tree.specs.SpellingStatements.{indication_written}
 use Rattle.ada_tree.specs.SpellingDeclarations.{component_written, extension_written, definition_written, type_written, subtype_written}
@@ -111,7 +111,7 @@ null_record_exact = word_then no_components Any _ _ always (codes "null") _ (wor
 abbrev some_components : OneOrMore Component → Option (OneOrMore Component)
 some_components xs = Some xs
 
-pub components_exact : (left : ℕ) → Exact (each_written component_written) (list_all (component_fits left)) not_identifier (items_of sees_identifier (component_of left))
+pub components_exact : (left : ℕ) → Exact (flat_map component_written) (list_all (component_fits left)) not_identifier (items_of sees_identifier (component_of left))
 unfolding starts
 components_exact left =
     listed sees_identifier component_written (component_fits left) always not_identifier (component_of left) (component_exact left) component_begins refl
@@ -121,13 +121,13 @@ abbrev record_end : List Written
 record_end = word (codes "end") ∷ word (codes "record") ∷ []
 
 abbrev others_behind : OneOrMore Component → List Written
-others_behind xs = each_written component_written xs.others ++ record_end
+others_behind xs = flat_map component_written xs.others ++ record_end
 
 abbrev record_respelt : OneOrMore Component → List Written
 record_respelt xs = word (codes "record") ∷ (component_written xs.first ++ others_behind xs)
 
 record_same : (xs : OneOrMore Component) → record_respelt xs ≡ extension_written (Some xs)
-record_same xs = ap (λ (ws : List Written). word (codes "record") ∷ ws) (sym (append_assoc (component_written xs.first) (each_written component_written xs.others) record_end))
+record_same xs = ap (λ (ws : List Written). word (codes "record") ∷ ws) (sym (append_assoc (component_written xs.first) (flat_map component_written xs.others) record_end))
 
 components_record_exact : (left : ℕ) → Rest some_components Any (λ xs. extension_written (Some xs)) (components_fit left) always (components_record_of left)
 unfolding components_record_of starts is_reserved
@@ -135,7 +135,7 @@ components_record_exact left =
     respelt some_components Any record_respelt (λ xs. extension_written (Some xs)) (components_fit left) always _
     (word_then some_components Any _ _ always (codes "record") _
     (field some_components Any others_behind (λ xs. list_all (component_fits left) xs.others) always (λ xs. xs.first) component_written (component_fits left) always (component_of left) _ (component_exact left) (λ i ls r p l end. refl)
-    (λ first. last_before some_components _ (word (codes "end")) _ always (λ xs. xs.others) (each_written component_written) (list_all (component_fits left)) not_identifier (items_of sees_identifier (component_of left)) _ (components_exact left) (λ l ls. refl)
+    (λ first. last_before some_components _ (word (codes "end")) _ always (λ xs. xs.others) (flat_map component_written) (list_all (component_fits left)) not_identifier (items_of sees_identifier (component_of left)) _ (components_exact left) (λ l ls. refl)
     (λ others. word_then some_components _ _ _ always (codes "end") _
     (word_ends some_components _ (codes "record") (record { first = first; others = others }) ((tt, refl), refl) (λ j p. rw (p.0.1, p.1) refl))))))
     record_same

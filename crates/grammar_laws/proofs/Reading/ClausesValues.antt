@@ -1,5 +1,6 @@
 -- What an expression begins with (4.4).
 use Rattle.std.proofs.Common.{◌≡◌, ℕ, zero, suc, ◌+◌, ◌<◌, ◌≤◌, Bool, true, List, [], ◌∷◌, ◌++◌, length, refl, subst, arith, codes}
+use Rattle.std.specs.Prelude.{flat_map}
 use Rattle.ann_base.specs.declared.places.Place.{Place}
 use Rattle.ada_lex.specs.declared.tokens.Kind.TheVariants as kinds
 use Rattle.ada_lex.specs.Reserved.{is_reserved}
@@ -13,7 +14,7 @@ use Rattle.ada_tree.specs.declared.expressions.Expression.{Expression}
 use Rattle.ada_tree.specs.declared.expressions.Expression.TheViews.{out-Expression}
 use Rattle.ada_tree.specs.declared.expressions.ExpressionForm.{ExpressionForm}
 use Rattle.ada_tree.specs.declared.expressions.ExpressionForm.TheVariants as form
-use Rattle.ada_tree.specs.Written.{Written, Lexeme, word_at, delimiter, delimiter_at, number_at, text_at, each_written, all_written, behind, optional, one_identifier}
+use Rattle.ada_tree.specs.Written.{Written, Lexeme, word_at, delimiter, delimiter_at, number_at, text_at, all_written, behind, optional, one_identifier}
 use Rattle.ada_tree.specs.SpellingExpressions.{logical_written, relational_text, sign_text, highest_text, designator_written, arguments_written, operand_written, addend_written, multiplied_written, form_written, expression_written}
 use Rattle.ada_tree.proofs.ExpressionFolds.{expression_is_written}
 use Rattle.ada_grammar.specs.Reading.{sees_identifier, starts}
@@ -52,7 +53,7 @@ module _ (test : List Lexeme → Bool) (v : Bool)
   by_form : (fuel : ℕ) → OfAll fuel → (f : ExpressionForm Expression) (ls m : List Lexeme) → length ls < suc fuel + length m → Leads (form_written expression_written f) ls m → test ls ≡ v
   by_form fuel all (form.Logical operator first others) ls m enough l =
       by_first fuel all first (all_written (operand_written expression_written operator) others) ls m
-      (logical_takes operator others.first.place (expression_written others.first.relation) (each_written (operand_written expression_written operator) others.others)) enough l
+      (logical_takes operator others.first.place (expression_written others.first.relation) (flat_map (operand_written expression_written operator) others.others)) enough l
   by_form fuel all (form.Relational first place operator second) ls m enough l = by_first fuel all first (delimiter_at place (relational_text operator) ∷ expression_written second) ls m (omega arith) enough l
   by_form fuel all (form.Adding first others) ls m enough l = by_first fuel all first (all_written (addend_written expression_written) others) ls m (omega arith) enough l
   by_form fuel all (form.Signed place s operand) ls m enough l = first_is test v (delimiter_at place (sign_text s)) (λ l ls. signs s l.place ls) (expression_written operand) ls m l
@@ -63,7 +64,7 @@ module _ (test : List Lexeme → Bool) (v : Bool)
   by_form fuel all (form.Null place) ls m enough l = first_is test v (word_at place (codes "null")) (λ l ls. nulls l.place ls) [] ls m l
   by_form fuel all (form.Bracketed place inner) ls m enough l = first_is test v (delimiter_at place (codes "(")) (λ l ls. brackets l.place ls) (expression_written inner ++ delimiter (codes ")") ∷ []) ls m l
   by_form fuel all (form.Named name attribute arguments) ls m enough l =
-      identifiers ls (sees_identifier_first name.parts.first (each_written (behind (delimiter (codes ".")) one_identifier) name.parts.others ++ (optional designator_written attribute ++ arguments_written expression_written arguments)) ls m l)
+      identifiers ls (sees_identifier_first name.parts.first (flat_map (behind (delimiter (codes ".")) one_identifier) name.parts.others ++ (optional designator_written attribute ++ arguments_written expression_written arguments)) ls m l)
 
   of_all : (fuel : ℕ) → OfAll fuel
   of_all zero e ls m enough l = absurd (omega (arith, enough, leads_length (expression_written e) ls m l))

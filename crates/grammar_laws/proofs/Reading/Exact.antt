@@ -1,9 +1,9 @@
 -- Reading and writing agree, production by production: what is read is what is written, and what is written is read.
 use Rattle.std.proofs.Common.{◌≡◌, ℕ, zero, suc, ◌<◌, ◌≤◌, Bool, true, false, cond, ◌&&◌, ◌||◌, not, List, [], ◌∷◌, ◌++◌, length, Ok, Err, refl, sym, ap, subst, ◌∙◌, arith}
-use Rattle.std.specs.Prelude.{Option, Some, None}
+use Rattle.std.specs.Prelude.{Option, Some, None, flat_map}
 use Rattle.std.specs.List.{list_all}
 use Rattle.std.proofs.Common.{append_assoc}
-use Rattle.ada_tree.specs.Written.{Written, Lexeme, Spells, each_written, optional}
+use Rattle.ada_tree.specs.Written.{Written, Lexeme, Spells, optional}
 use Rattle.ada_tree.specs.ShapeExpressions.{optional_fits}
 use Rattle.ada_grammar.specs.Reading.{Read, Parser, and_then, ◌>>=◌, pure, choose, items_from, items_of}
 use Rattle.grammar_laws.specs.Leads.{Leads}
@@ -265,11 +265,11 @@ first_optional test v wa w one rest (Some a) ls r l = let t = leads_through (wa 
 
 pub first_each : {A : Type 0} (test : List Lexeme → Bool) (v : Bool) (wa : A → List Written) (w : List Written)
     → ((a : A) (ls m : List Lexeme) → Leads (wa a) ls m → test ls ≡ v) → ((ls r : List Lexeme) → Leads w ls r → test ls ≡ v)
-    → (xs : List A) (ls r : List Lexeme) → Leads (each_written wa xs ++ w) ls r → test ls ≡ v
+    → (xs : List A) (ls r : List Lexeme) → Leads (flat_map wa xs ++ w) ls r → test ls ≡ v
 first_each test v wa w one rest [] ls r l = rest ls r l
 first_each test v wa w one rest (x ∷ xs) ls r l =
-    let t = leads_through (wa x ++ each_written wa xs) w ls r l in
-    let u = leads_through (wa x) (each_written wa xs) ls t.middle t.first in
+    let t = leads_through (wa x ++ flat_map wa xs) w ls r l in
+    let u = leads_through (wa x) (flat_map wa xs) ls t.middle t.first in
     one x ls u.middle u.first
 
 -- what a list of tokens may not begin with, as several tests
@@ -310,7 +310,7 @@ module _ {A : Type 0} (begins : List Lexeme → Bool) (w : A → List Written) (
   record More (found xs : List A) (ls r : List Lexeme) : Type 0 where
     items : List A
     is : found ++ items ≡ xs
-    leads : Leads (each_written w items) ls r
+    leads : Leads (flat_map w items) ls r
     shaped : list_all ok items ≡ true
 
   none_more : (found xs : List A) (ls r : List Lexeme) → done found ls ≡ done xs r → More found xs ls r
@@ -331,7 +331,7 @@ module _ {A : Type 0} (begins : List Lexeme → Bool) (w : A → List Written) (
           record {
             items = s.value ∷ b.items;
             is = sym (append_assoc found (s.value ∷ []) b.items) ∙ b.is;
-            leads = leads_both (w s.value) (each_written w b.items) ls s.rest r (subst (λ (z : A). Leads (w z) ls s.rest) a.is a.leads) b.leads;
+            leads = leads_both (w s.value) (flat_map w b.items) ls s.rest r (subst (λ (z : A). Leads (w z) ls s.rest) a.is a.leads) b.leads;
             shaped = both (subst (λ (z : A). ok z ≡ true) a.is a.shaped) b.shaped;
           }
 
@@ -354,24 +354,24 @@ module _ {A : Type 0} (begins : List Lexeme → Bool) (w : A → List Written) (
   all_over (suc fuel) found r e = rw e refl
 
   -- what stands behind an item
-  behind_item : (xs : List A) (m r : List Lexeme) → Leads (each_written w xs) m r → ends r ≡ true → ends_item m ≡ true
+  behind_item : (xs : List A) (m r : List Lexeme) → Leads (flat_map w xs) m r → ends r ≡ true → ends_item m ≡ true
   behind_item [] m r l end = subst (λ (z : List Lexeme). ends_item z ≡ true) (sym l) (closed r end)
-  behind_item (x ∷ xs) m r l end = let t = leads_through (w x) (each_written w xs) m r l in apart m (begun x m t.middle t.first)
+  behind_item (x ∷ xs) m r l end = let t = leads_through (w x) (flat_map w xs) m r l in apart m (begun x m t.middle t.first)
 
-  items_complete : (xs : List A) (fuel : ℕ) (found : List A) (ls r : List Lexeme) → length ls ≤ fuel → list_all ok xs ≡ true → Leads (each_written w xs) ls r → ends r ≡ true
+  items_complete : (xs : List A) (fuel : ℕ) (found : List A) (ls r : List Lexeme) → length ls ≤ fuel → list_all ok xs ≡ true → Leads (flat_map w xs) ls r → ends r ≡ true
       → items_from begins item fuel found ls ≡ done (found ++ xs) r
   unfolding items_from
   items_complete [] fuel found ls r enough okay l end = rw (l, append_nil found) (all_over fuel found r (over r end))
   items_complete (x ∷ xs) zero found ls r enough okay l end =
-      let t = leads_through (w x) (each_written w xs) ls r l in
+      let t = leads_through (w x) (flat_map w xs) ls r l in
       absurd (omega (arith, shorter x ls t.middle t.first))
   items_complete (x ∷ xs) (suc fuel) found ls r enough okay l end =
-      let t = leads_through (w x) (each_written w xs) ls r l in
+      let t = leads_through (w x) (flat_map w xs) ls r l in
       let now : item ls ≡ done x t.middle = one.complete x ls t.middle tt (first_true (ok x) (list_all ok xs) okay) t.first (behind_item xs t.middle r t.second end) in
       rw (begun x ls t.middle t.first, now, sym (append_assoc found (x ∷ []) xs))
       (items_complete xs fuel (found ++ x ∷ []) t.middle r (omega (arith, shorter x ls t.middle t.first)) (second_true (ok x) (list_all ok xs) okay) t.second end)
 
-  pub listed : Exact (each_written w) (list_all ok) ends (items_of begins item)
+  pub listed : Exact (flat_map w) (list_all ok) ends (items_of begins item)
   unfolding items_of
   listed = record {
     sound = λ ls xs r e. let m = items_sound (length ls) [] ls xs r e in record { item = m.items; is = m.is; fits = tt; leads = m.leads; shaped = m.shaped };

@@ -1,5 +1,6 @@
 -- Expressions (4.4): what is read is what is written.
 use Rattle.std.proofs.Common.{cond, append_assoc, ◌≡◌, ℕ, Bool, true, false, not, ◌&&◌, ◌||◌, List, [], ◌∷◌, ◌++◌, refl, sym, ap, subst, ◌∙◌, codes}
+use Rattle.std.specs.Prelude.{flat_map}
 use Rattle.std.proofs.lemmas.Bool.{false≢true}
 use Rattle.std.specs.List.{list_all}
 use Rattle.ann_base.specs.declared.places.Place.{Place}
@@ -16,7 +17,7 @@ use Rattle.ada_tree.specs.declared.expressions.Expression.TheViews.{out-Expressi
 use Rattle.ada_tree.specs.declared.expressions.ExpressionForm.{ExpressionForm}
 use Rattle.ada_tree.specs.declared.expressions.ExpressionForm.TheVariants as form
 use Rattle.ada_tree.specs.declared.expressions.Operand.{Operand}
-use Rattle.ada_tree.specs.Written.{Written, Lexeme, word, word_at, delimiter_at, each_written, all_written}
+use Rattle.ada_tree.specs.Written.{Written, Lexeme, word, word_at, delimiter_at, all_written}
 use Rattle.ada_tree.specs.SpellingExpressions.{logical_written, relational_text, sign_text, highest_text, operand_written, addend_written, form_written, expression_written}
 use Rattle.ada_tree.specs.ShapeExpressions.{all_fit, operand_fits, addend_fits, form_fits, expression_fits}
 use Rattle.ada_grammar.specs.Reading.{Read, Parser, and_then, ◌>>=◌, ◌>>◌, pure, choose, starts, sees_word, the_word, items_of}
@@ -273,10 +274,10 @@ module _ (left : ℕ) (inner : Parser Expression) (inside : ReadsInside left inn
   abbrev operands_fit : Operands → Bool
   operands_fit x = all_fit (operand_fits expression_fits left) x.1
 
-  behind_operand : (operator : LogicalOperator) (others : List (Operand Expression)) (ls r : List Lexeme) → Leads (each_written (operand_written expression_written operator) others) ls r → ends_expression r ≡ true → ends_relation ls ≡ true
+  behind_operand : (operator : LogicalOperator) (others : List (Operand Expression)) (ls r : List Lexeme) → Leads (flat_map (operand_written expression_written operator) others) ls r → ends_expression r ≡ true → ends_relation ls ≡ true
   behind_operand operator [] ls r l end = subst (λ (z : List Lexeme). ends_relation z ≡ true) (sym l) (ends_operand r end)
   behind_operand operator (o ∷ others) ls r l end =
-      let t = leads_through (operand_written expression_written operator o) (each_written (operand_written expression_written operator) others) ls r l in
+      let t = leads_through (operand_written expression_written operator o) (flat_map (operand_written expression_written operator) others) ls r l in
       operand_apart operator ls (begins_operand operator o ls t.middle t.first)
 
   -- a relation does not begin with a second word of an operator
@@ -289,7 +290,7 @@ module _ (left : ℕ) (inner : Parser Expression) (inside : ReadsInside left inn
   unfolding joined_of starts
   joined_exact first =
       let make : Operands → Expression = λ x. formed (form.Logical x.0 first x.1) in
-      let others_written : Operands → List Written = λ x. each_written (operand_written expression_written x.0) x.1.others in
+      let others_written : Operands → List Written = λ x. flat_map (operand_written expression_written x.0) x.1.others in
       let others_fit : Operands → Bool = λ x. list_all (operand_fits expression_fits left) x.1.others in
       respelt make Any (λ x. logical_written x.0 x.1.first.place ++ (expression_written x.1.first.relation ++ others_written x)) operands_written operands_fit ends_expression (joined_of left inner first)
       (plain_before make Any (λ x. expression_written x.1.first.relation ++ others_written x) operands_fit ends_expression (λ x. (x.1.first.place, x.0)) logical_delimiter shapeless ends_operator logical_operator_of _
@@ -304,19 +305,19 @@ module _ (left : ℕ) (inner : Parser Expression) (inside : ReadsInside left inn
       (λ x. sym (append_assoc (logical_written x.0 x.1.first.place) (expression_written x.1.first.relation) (others_written x)))
     where
       more : (operator : Delimited) (second first : Expression)
-          → Rest (λ (x : Operands). formed (form.Logical x.0 first x.1)) (λ x. (Any x × (operator ≡ (x.1.first.place, x.0))) × (second ≡ x.1.first.relation)) (λ x. each_written (operand_written expression_written x.0) x.1.others)
+          → Rest (λ (x : Operands). formed (form.Logical x.0 first x.1)) (λ x. (Any x × (operator ≡ (x.1.first.place, x.0))) × (second ≡ x.1.first.relation)) (λ x. flat_map (operand_written expression_written x.0) x.1.others)
           (λ x. list_all (operand_fits expression_fits left) x.1.others) ends_expression
           (items_of (sees_word (logical_text operator.1)) (operand_of left inner operator.1) >>= (λ others. pure (formed (form.Logical operator.1 first (record { first = record { place = operator.0; relation = second }; others = others })))))
       more operator second first =
           let P : Operands → Type 0 = λ x. (Any x × (operator ≡ (x.1.first.place, x.0))) × (second ≡ x.1.first.relation) in
-          respelt_where (λ (x : Operands). formed (form.Logical x.0 first x.1)) P (λ x. each_written (operand_written expression_written operator.1) x.1.others) (λ x. each_written (operand_written expression_written x.0) x.1.others)
+          respelt_where (λ (x : Operands). formed (form.Logical x.0 first x.1)) P (λ x. flat_map (operand_written expression_written operator.1) x.1.others) (λ x. flat_map (operand_written expression_written x.0) x.1.others)
           (λ x. list_all (operand_fits expression_fits left) x.1.others) ends_expression _
-          (closing (λ (x : Operands). formed (form.Logical x.0 first x.1)) P ends_expression (λ x. x.1.others) (each_written (operand_written expression_written operator.1)) (list_all (operand_fits expression_fits left))
+          (closing (λ (x : Operands). formed (form.Logical x.0 first x.1)) P ends_expression (λ x. x.1.others) (flat_map (operand_written expression_written operator.1)) (list_all (operand_fits expression_fits left))
           (items_of (sees_word (logical_text operator.1)) (operand_of left inner operator.1)) (λ others. (operator.1, record { first = record { place = operator.0; relation = second }; others = others }))
           (listed (sees_word (logical_text operator.1)) (operand_written expression_written operator.1) (operand_fits expression_fits left) ends_relation ends_expression (operand_of left inner operator.1)
           (operand_exact operator.1) (begins_operand operator.1) refl (operand_apart operator.1) ends_operand (no_operand operator.1))
           (λ others. ((tt, refl), refl)) (λ others. refl) (λ others x p e. rw (p.0.1, p.1, e) refl))
-          (λ x p. ap (λ (z : Delimited). each_written (operand_written expression_written z.1) x.1.others) p.0.1)
+          (λ x p. ap (λ (z : Delimited). flat_map (operand_written expression_written z.1) x.1.others) p.0.1)
 
   logical_level : (f : ExpressionForm Expression) → form_fits expression_fits f precedence.Logical left ≡ true → Level Operands (λ first x. form.Logical x.0 first x.1) precedence.Relational left f
   logical_level (form.Logical operator first others) o = This first (operator, others) refl
@@ -333,7 +334,7 @@ module _ (left : ℕ) (inner : Parser Expression) (inside : ReadsInside left inn
 
   begins_joined : (x : Operands) (ls r : List Lexeme) → Leads (operands_written x) ls r → joins ls ≡ true
   begins_joined x ls r l =
-      let t = leads_through (operand_written expression_written x.0 x.1.first) (each_written (operand_written expression_written x.0) x.1.others) ls r l in
+      let t = leads_through (operand_written expression_written x.0 x.1.first) (flat_map (operand_written expression_written x.0) x.1.others) ls r l in
       by_text x.0 ls (begins_operand x.0 x.1.first ls t.middle t.first)
     where
       by_text : (operator : LogicalOperator) (ls : List Lexeme) → sees_word (logical_text operator) ls ≡ true → joins ls ≡ true

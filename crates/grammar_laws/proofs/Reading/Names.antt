@@ -1,7 +1,8 @@
 -- Names (4.1).
 use Rattle.std.proofs.Common.{◌≡◌, ℕ, Bool, true, false, not, ◌&&◌, List, [], ◌∷◌, ◌++◌, refl, sym, subst, codes}
+use Rattle.std.specs.Prelude.{flat_map}
 use Rattle.std.specs.List.{list_all}
-use Rattle.ada_tree.specs.Written.{Written, Lexeme, delimiter, behind, separated, each_written, one_identifier, identifiers_written, name_written}
+use Rattle.ada_tree.specs.Written.{Written, Lexeme, delimiter, behind, separated, one_identifier, identifiers_written, name_written}
 use Rattle.ada_tree.specs.ShapeExpressions.{all_fit}
 use Rattle.ada_grammar.specs.Reading.{Parser, ◌>>◌, starts, the_delimiter, sees_delimiter, an_identifier, items_of, behind_delimiter_of, separated_of, identifiers_of, name_of, names_of}
 use Rattle.grammar_laws.specs.Leads.{Leads}
@@ -22,18 +23,18 @@ pub separated_exact : {A : Type 0} (separator : List ℕ) (w : A → List Writte
     → Exact (separated (delimiter separator) w) (all_fit ok) ends (separated_of separator item)
 unfolding separated_of behind_delimiter_of starts
 separated_exact {A} separator w ok ends_item ends item one apart closed over =
-    field itself Any (λ xs. each_written (behind (delimiter separator) w) xs.others) (λ xs. list_all ok xs.others) ends
+    field itself Any (λ xs. flat_map (behind (delimiter separator) w) xs.others) (λ xs. list_all ok xs.others) ends
     (λ xs. xs.first) w ok ends_item item _ one
     (λ xs ls r p l end. behind_first xs.others ls r l end)
-    (λ first. closing itself (λ xs. Any xs × (first ≡ xs.first)) ends (λ xs. xs.others) (each_written (behind (delimiter separator) w)) (list_all ok)
+    (λ first. closing itself (λ xs. Any xs × (first ≡ xs.first)) ends (λ xs. xs.others) (flat_map (behind (delimiter separator) w)) (list_all ok)
     (items_of (sees_delimiter separator) (the_delimiter separator >> item)) (λ others. record { first = first; others = others })
     (listed (sees_delimiter separator) (behind (delimiter separator) w) ok ends_item ends (the_delimiter separator >> item)
     (delimiter_then itself Any w ok ends_item separator item one) (λ a ls r l. sees_delimiter_first separator (w a) ls r l) refl apart closed over)
     (λ others. (tt, refl)) (λ others. refl) (λ others xs p e. rw (p.1, e) refl))
   where
-    behind_first : (others : List A) (ls r : List Lexeme) → Leads (each_written (behind (delimiter separator) w) others) ls r → ends r ≡ true → ends_item ls ≡ true
+    behind_first : (others : List A) (ls r : List Lexeme) → Leads (flat_map (behind (delimiter separator) w) others) ls r → ends r ≡ true → ends_item ls ≡ true
     behind_first [] ls r l end = subst (λ (z : List Lexeme). ends_item z ≡ true) (sym l) (closed r end)
-    behind_first (x ∷ others) ls r l end = apart ls (sees_delimiter_first separator (w x ++ each_written (behind (delimiter separator) w) others) ls r l)
+    behind_first (x ∷ others) ls r l end = apart ls (sees_delimiter_first separator (w x ++ flat_map (behind (delimiter separator) w) others) ls r l)
 
 -- without a shape of its own
 pub separated_plain : {A : Type 0} (separator : List ℕ) (w : A → List Written) (ends_item ends : List Lexeme → Bool) (item : Parser A)

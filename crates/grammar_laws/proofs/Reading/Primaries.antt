@@ -1,7 +1,7 @@
 -- Primaries (4.4): attributes, arguments, brackets.
 use Rattle.std.proofs.Common.{◌≡◌, ℕ, zero, suc, Bool, true, false, ◌&&◌, List, [], ◌∷◌, ◌++◌, refl, sym, ap, subst, ◌∙◌, codes, arith}
 use Rattle.std.proofs.lemmas.Bool.{false≢true}
-use Rattle.std.specs.Prelude.{Option, Some, None}
+use Rattle.std.specs.Prelude.{Option, Some, None, flat_map}
 use Rattle.std.specs.List.{list_all}
 use Rattle.ann_base.specs.declared.places.Place.{Place}
 use Rattle.ada_tree.specs.declared.names.Identifier.{Identifier}
@@ -15,7 +15,7 @@ use Rattle.ada_tree.specs.declared.expressions.ExpressionForm.{ExpressionForm}
 use Rattle.ada_tree.specs.declared.expressions.ExpressionForm.TheVariants as form
 use Rattle.ada_tree.specs.declared.expressions.AttributeDesignator.{AttributeDesignator}
 use Rattle.ada_tree.specs.declared.expressions.Argument.{Argument}
-use Rattle.ada_tree.specs.Written.{Written, Lexeme, word_at, delimiter, identifier_written, each_written, behind, optional}
+use Rattle.ada_tree.specs.Written.{Written, Lexeme, word_at, delimiter, identifier_written, behind, optional}
 use Rattle.ada_tree.specs.SpellingExpressions.{attribute_text, designator_written, argument_written, arguments_written, form_written, expression_written}
 use Rattle.ada_tree.specs.ShapeExpressions.{optional_fits, argument_fits, arguments_fit, form_fits, expression_fits}
 use Rattle.ada_tree.proofs.ExpressionFolds.{expression_is_written, expression_is_fit}
@@ -191,7 +191,7 @@ module _ (m : ℕ) (inner : Parser Expression) (inside : Exact expression_writte
   unfolding starts
   no_comma r e = seen_delimiter (sees_delimiter (codes ",")) false (codes ")") (λ p ls. refl) r e
 
-  more_exact : Exact (each_written (behind (delimiter (codes ",")) (argument_written expression_written))) (list_all (argument_fits expression_fits m)) (sees_delimiter (codes ")"))
+  more_exact : Exact (flat_map (behind (delimiter (codes ",")) (argument_written expression_written))) (list_all (argument_fits expression_fits m)) (sees_delimiter (codes ")"))
       (items_of (sees_delimiter (codes ",")) (behind_delimiter_of (codes ",") (argument_of (suc m) inner)))
   unfolding behind_delimiter_of starts
   more_exact =
@@ -203,21 +203,21 @@ module _ (m : ℕ) (inner : Parser Expression) (inside : Exact expression_writte
   abbrev closed : List Written
   closed = delimiter (codes ")") ∷ []
 
-  behind_first : (others : List (Argument Expression)) (ls r : List Lexeme) → Leads (each_written (behind (delimiter (codes ",")) (argument_written expression_written)) others ++ closed) ls r → ends_argument ls ≡ true
+  behind_first : (others : List (Argument Expression)) (ls r : List Lexeme) → Leads (flat_map (behind (delimiter (codes ",")) (argument_written expression_written)) others ++ closed) ls r → ends_argument ls ≡ true
   behind_first [] ls r l = closes ls (sees_delimiter_first (codes ")") [] ls r l)
   behind_first (x ∷ others) ls r l = goes_on ls (sees_delimiter_first (codes ",") _ ls r l)
 
   bracketed_arguments : Rest (λ (xs : OneOrMore (Argument Expression)). xs.first ∷ xs.others) Any
-      (λ xs. argument_written expression_written xs.first ++ (each_written (behind (delimiter (codes ",")) (argument_written expression_written)) xs.others ++ closed))
+      (λ xs. argument_written expression_written xs.first ++ (flat_map (behind (delimiter (codes ",")) (argument_written expression_written)) xs.others ++ closed))
       (λ xs. argument_fits expression_fits m xs.first && list_all (argument_fits expression_fits m) xs.others) always
       (argument_of (suc m) inner >>= (λ first. items_of (sees_delimiter (codes ",")) (behind_delimiter_of (codes ",") (argument_of (suc m) inner)) >>= (λ others. the_delimiter (codes ")") >>= (λ p. pure (first ∷ others)))))
   bracketed_arguments =
       let make : OneOrMore (Argument Expression) → List (Argument Expression) = λ xs. xs.first ∷ xs.others in
-      let more : OneOrMore (Argument Expression) → List Written = λ xs. each_written (behind (delimiter (codes ",")) (argument_written expression_written)) xs.others in
+      let more : OneOrMore (Argument Expression) → List Written = λ xs. flat_map (behind (delimiter (codes ",")) (argument_written expression_written)) xs.others in
       field make Any (λ xs. more xs ++ closed) (λ xs. list_all (argument_fits expression_fits m) xs.others) always
       (λ xs. xs.first) (argument_written expression_written) (argument_fits expression_fits m) ends_argument (argument_of (suc m) inner) _ argument_exact
       (λ xs ls r p l end. behind_first xs.others ls r l)
-      (λ first. last make (λ xs. Any xs × (first ≡ xs.first)) (λ xs. closed) always (λ xs. xs.others) (each_written (behind (delimiter (codes ",")) (argument_written expression_written)))
+      (λ first. last make (λ xs. Any xs × (first ≡ xs.first)) (λ xs. closed) always (λ xs. xs.others) (flat_map (behind (delimiter (codes ",")) (argument_written expression_written)))
       (list_all (argument_fits expression_fits m)) (sees_delimiter (codes ")")) _ _ more_exact
       (λ xs ls r p l end. sees_delimiter_first (codes ")") [] ls r l)
       (λ others. delimiter_then make (λ xs. (Any xs × (first ≡ xs.first)) × (others ≡ xs.others)) (λ xs. []) (λ xs. true) always (codes ")") _
@@ -236,13 +236,13 @@ given_exact left inner inside =
   where
     at : (left : ℕ) (inner : Parser Expression) → ReadsInside left inner → (m : ℕ) → left ≡ suc m
         → Rest (λ (xs : OneOrMore (Argument Expression)). xs.first ∷ xs.others) Any
-        (λ xs. argument_written expression_written xs.first ++ (each_written (behind (delimiter (codes ",")) (argument_written expression_written)) xs.others ++ delimiter (codes ")") ∷ []))
+        (λ xs. argument_written expression_written xs.first ++ (flat_map (behind (delimiter (codes ",")) (argument_written expression_written)) xs.others ++ delimiter (codes ")") ∷ []))
         (λ xs. argument_fits expression_fits m xs.first && list_all (argument_fits expression_fits m) xs.others) always
         (argument_of left inner >>= (λ first. items_of (sees_delimiter (codes ",")) (behind_delimiter_of (codes ",") (argument_of left inner)) >>= (λ others. the_delimiter (codes ")") >>= (λ p. pure (first ∷ others)))))
     at zero inner inside m e = absurd cc
     at (suc n) inner inside m e =
         subst (λ (k : ℕ). Rest (λ (xs : OneOrMore (Argument Expression)). xs.first ∷ xs.others) Any
-        (λ xs. argument_written expression_written xs.first ++ (each_written (behind (delimiter (codes ",")) (argument_written expression_written)) xs.others ++ delimiter (codes ")") ∷ []))
+        (λ xs. argument_written expression_written xs.first ++ (flat_map (behind (delimiter (codes ",")) (argument_written expression_written)) xs.others ++ delimiter (codes ")") ∷ []))
         (λ xs. argument_fits expression_fits k xs.first && list_all (argument_fits expression_fits k) xs.others) always
         (argument_of (suc n) inner >>= (λ first. items_of (sees_delimiter (codes ",")) (behind_delimiter_of (codes ",") (argument_of (suc n) inner)) >>= (λ others. the_delimiter (codes ")") >>= (λ p. pure (first ∷ others))))))
         (one_less n m e) (bracketed_arguments n inner inside)

@@ -1,7 +1,7 @@
 -- Primaries (4.4): what is read is what is written.
 use Rattle.std.proofs.Common.{◌≡◌, ℕ, zero, suc, Bool, true, false, ◌&&◌, List, [], ◌∷◌, ◌++◌, refl, sym, subst, ◌∙◌, codes, arith}
 use Rattle.std.proofs.lemmas.Bool.{false≢true}
-use Rattle.std.specs.Prelude.{Option, Some, None}
+use Rattle.std.specs.Prelude.{Option, Some, None, flat_map}
 use Rattle.ann_base.specs.declared.places.Place.{Place}
 use Rattle.ada_tree.specs.declared.names.Name.{Name}
 use Rattle.ada_tree.specs.declared.expressions.Precedence.{Precedence}
@@ -12,7 +12,7 @@ use Rattle.ada_tree.specs.declared.expressions.ExpressionForm.{ExpressionForm}
 use Rattle.ada_tree.specs.declared.expressions.ExpressionForm.TheVariants as form
 use Rattle.ada_tree.specs.declared.expressions.AttributeDesignator.{AttributeDesignator}
 use Rattle.ada_tree.specs.declared.expressions.Argument.{Argument}
-use Rattle.ada_tree.specs.Written.{Written, Lexeme, word_at, delimiter, delimiter_at, number_at, text_at, identifier_written, one_identifier, each_written, behind, optional, name_written}
+use Rattle.ada_tree.specs.Written.{Written, Lexeme, word_at, delimiter, delimiter_at, number_at, text_at, identifier_written, one_identifier, behind, optional, name_written}
 use Rattle.ada_tree.specs.SpellingExpressions.{attribute_text, designator_written, arguments_written, form_written, expression_written}
 use Rattle.ada_tree.specs.ShapeExpressions.{within, optional_fits, arguments_fit, form_fits, expression_fits}
 use Rattle.ada_grammar.specs.Reading.{Parser, ◌>>=◌, pure, starts, is_numeral, is_string, sees_word, sees_delimiter, the_word, a_number, a_text, name_of}
@@ -183,7 +183,7 @@ module _ (left : ℕ) (inner : Parser Expression) (inside : ReadsInside left inn
       )
       (bracketed_exact.complete (place, e) ls r tt o l refl)
   primary_complete (form.Named name attribute arguments) ls r o l end =
-      let ws = each_written (behind (delimiter (codes ".")) one_identifier) name.parts.others ++ behind_name (name, (attribute, arguments)) in
+      let ws = flat_map (behind (delimiter (codes ".")) one_identifier) name.parts.others ++ behind_name (name, (attribute, arguments)) in
       rw (
         first_is (starts is_numeral) false (identifier_written name.parts.first) (λ k ks. refl) ws ls r l,
         first_is (starts is_string) false (identifier_written name.parts.first) (λ k ks. refl) ws ls r l,

@@ -1,6 +1,6 @@
 -- Select statements (9.7), given that the sequences in them are read as they are written.
 use Rattle.std.proofs.Common.{◌≡◌, ℕ, zero, suc, Bool, true, false, cond, ◌&&◌, List, [], ◌∷◌, ◌++◌, refl, sym, subst, ◌∙◌, codes, append_assoc}
-use Rattle.std.specs.Prelude.{Option, Some, None}
+use Rattle.std.specs.Prelude.{Option, Some, None, flat_map}
 use Rattle.std.specs.List.{list_all}
 use Rattle.ann_base.specs.declared.places.Place.{Place}
 use Rattle.ada_lex.specs.Reserved.{is_reserved}
@@ -24,7 +24,7 @@ use Rattle.ada_tree.specs.declared.selects.Trigger.{Trigger}
 use Rattle.ada_tree.specs.declared.selects.SelectForm.TheVariants as select
 use Rattle.ada_tree.specs.declared.selects.Alternative.TheVariants as alternative
 use Rattle.ada_tree.specs.declared.selects.Trigger.TheVariants as trigger
-use Rattle.ada_tree.specs.Written.{Written, Lexeme, word, word_at, delimiter, identifier_written, each_written, behind, separated, optional}
+use Rattle.ada_tree.specs.Written.{Written, Lexeme, word, word_at, delimiter, identifier_written, behind, separated, optional}
 use Rattle.ada_tree.specs.Spelling.{sequence_written}
 use Rattle.ada_tree.specs.SpellingExpressions.{expression_written, arguments_written}
 use Rattle.ada_tree.specs.SpellingStatements.{semicolon, parameters_written, accept_body_written, statements_written, else_written, call_written, delay_written, accept_written, guard_written, trigger_written, alternative_written, select_alternative_written, select_form_written, select_written}
@@ -215,7 +215,7 @@ module _ (left : ℕ) (sequence : SequenceRole → Parser Sequence) (deeper : Se
   unfolding next_alternative_of
   next_alternative_exact = worded (codes "or") select_alternative_exact
 
-  others_exact : Exact (each_written (behind (word (codes "or")) (select_alternative_written sequence_written))) (list_all (select_alternative_fits sequence_fits left)) ends_others
+  others_exact : Exact (flat_map (behind (word (codes "or")) (select_alternative_written sequence_written))) (list_all (select_alternative_fits sequence_fits left)) ends_others
       (items_of (sees_word (codes "or")) (next_alternative_of left sequence deeper))
   unfolding starts begins_statement is_reserved
   others_exact =
@@ -227,7 +227,7 @@ module _ (left : ℕ) (sequence : SequenceRole → Parser Sequence) (deeper : Se
 
   -- {"or" alternative} ["else" statements], behind the first alternative
   abbrev behind_first : SelectiveAccept Sequence → List Written
-  behind_first s = each_written (behind (word (codes "or")) (select_alternative_written sequence_written)) s.alternatives.others ++ optional (else_written sequence_written) s.otherwise
+  behind_first s = flat_map (behind (word (codes "or")) (select_alternative_written sequence_written)) s.alternatives.others ++ optional (else_written sequence_written) s.otherwise
 
   abbrev behind_first_fits : SelectiveAccept Sequence → Bool
   behind_first_fits s = list_all (select_alternative_fits sequence_fits left) s.alternatives.others && optional_fits (statements_fit sequence_fits left) s.otherwise
@@ -241,7 +241,7 @@ module _ (left : ℕ) (sequence : SequenceRole → Parser Sequence) (deeper : Se
   or_or_else : (test : List Lexeme → Bool) → ((l : Lexeme) (ls : List Lexeme) → test (record { kind = (word (codes "or")).kind; text = codes "or"; place = l.place } ∷ ls) ≡ true)
       → ((l : Lexeme) (ls : List Lexeme) → test (record { kind = (word (codes "else")).kind; text = codes "else"; place = l.place } ∷ ls) ≡ true) → ((r : List Lexeme) → before_end r ≡ true → test r ≡ true)
       → (xs : List (SelectAlternative Sequence)) (o : Option Sequence) (ls r : List Lexeme)
-      → Leads (each_written (behind (word (codes "or")) (select_alternative_written sequence_written)) xs ++ optional (else_written sequence_written) o) ls r → before_end r ≡ true → test ls ≡ true
+      → Leads (flat_map (behind (word (codes "or")) (select_alternative_written sequence_written)) xs ++ optional (else_written sequence_written) o) ls r → before_end r ≡ true → test ls ≡ true
   or_or_else test on_or on_else over [] o ls r l end = else_or_over test on_else over o ls r l end
   or_or_else test on_or on_else over (x ∷ xs) o ls r l end = first_is test true (word (codes "or")) on_or _ ls r l
 
@@ -488,7 +488,7 @@ module _ (left : ℕ) (sequence : SequenceRole → Parser Sequence) (deeper : Se
   delay_form_written : (s : SelectForm Sequence) (delay : Delay) (inside : Option Sequence) → DelayForm s delay inside
       → delay_written delay ++ (optional (statements_written sequence_written) inside ++ behind_delay s) ≡ select_form_written sequence_written s
   delay_form_written (select.SelectiveAccept s) delay inside e =
-      rw (← e) (rejoined (delay_written delay) (optional (statements_written sequence_written) inside) (each_written (behind (word (codes "or")) (select_alternative_written sequence_written)) s.alternatives.others) (optional (else_written sequence_written) s.otherwise))
+      rw (← e) (rejoined (delay_written delay) (optional (statements_written sequence_written) inside) (flat_map (behind (word (codes "or")) (select_alternative_written sequence_written)) s.alternatives.others) (optional (else_written sequence_written) s.otherwise))
   delay_form_written (select.TimedEntryCall t) delay inside e = absurd e
   delay_form_written (select.ConditionalEntryCall c) delay inside e = absurd e
   delay_form_written (select.AsynchronousSelect s) delay inside e = rw (← e.0, e.1) refl
@@ -545,7 +545,7 @@ module _ (left : ℕ) (sequence : SequenceRole → Parser Sequence) (deeper : Se
   call_there : (s : SelectForm Sequence) (ls r : List Lexeme) → Leads (select_form_written sequence_written s) ls r → Side sees_identifier (IsCallForm s) (NotCallForm s) ls
   call_there (select.SelectiveAccept s) ls r l =
       let t = leads_through (separated (word (codes "or")) (select_alternative_written sequence_written) s.alternatives) (optional (else_written sequence_written) s.otherwise) ls r l in
-      record { value = false; is = no_identifier s.alternatives.first.guard s.alternatives.first.alternative (each_written (behind (word (codes "or")) (select_alternative_written sequence_written)) s.alternatives.others) ls t.middle t.first; known = tt }
+      record { value = false; is = no_identifier s.alternatives.first.guard s.alternatives.first.alternative (flat_map (behind (word (codes "or")) (select_alternative_written sequence_written)) s.alternatives.others) ls t.middle t.first; known = tt }
   call_there (select.TimedEntryCall t) ls r l =
       record { value = true; is = call_sees t.call (optional (statements_written sequence_written) t.statements ++ behind_timed t) ls r l; known = ((t.call, t.statements), (refl, refl)) }
   call_there (select.ConditionalEntryCall c) ls r l =
@@ -566,7 +566,7 @@ module _ (left : ℕ) (sequence : SequenceRole → Parser Sequence) (deeper : Se
   delay_there : (s : SelectForm Sequence) (ls r : List Lexeme) → NotCallForm s → Leads (select_form_written sequence_written s) ls r → Side (sees_word (codes "delay")) (IsDelayForm s) (OfAnySelective s) ls
   delay_there (select.SelectiveAccept s) ls r p l =
       let t = leads_through (separated (word (codes "or")) (select_alternative_written sequence_written) s.alternatives) (optional (else_written sequence_written) s.otherwise) ls r l in
-      let u = leads_through (select_alternative_written sequence_written s.alternatives.first) (each_written (behind (word (codes "or")) (select_alternative_written sequence_written)) s.alternatives.others) ls t.middle t.first in
+      let u = leads_through (select_alternative_written sequence_written s.alternatives.first) (flat_map (behind (word (codes "or")) (select_alternative_written sequence_written)) s.alternatives.others) ls t.middle t.first in
       first_there s s.alternatives.first.guard s.alternatives.first.alternative refl ls u.middle u.first
   delay_there (select.TimedEntryCall t) ls r p l = absurd p
   delay_there (select.ConditionalEntryCall c) ls r p l = absurd p
@@ -578,7 +578,7 @@ module _ (left : ℕ) (sequence : SequenceRole → Parser Sequence) (deeper : Se
   any_selective_exact : Rest itself OfAnySelective (select_form_written sequence_written) (select_form_fits sequence_fits left) before_end (select_alternative_of left sequence deeper >>= λ first. selective_of left sequence deeper first)
   any_selective_exact =
       through {Q = Any} (λ s. select.SelectiveAccept s) first_exact (λ s p. record { from = s; known = p; is = refl })
-      (λ s p. sym (append_assoc (select_alternative_written sequence_written s.alternatives.first) (each_written (behind (word (codes "or")) (select_alternative_written sequence_written)) s.alternatives.others) (optional (else_written sequence_written) s.otherwise)))
+      (λ s p. sym (append_assoc (select_alternative_written sequence_written s.alternatives.first) (flat_map (behind (word (codes "or")) (select_alternative_written sequence_written)) s.alternatives.others) (optional (else_written sequence_written) s.otherwise)))
       (λ s p. sym (and_others (select_alternative_fits sequence_fits left s.alternatives.first) (list_all (select_alternative_fits sequence_fits left) s.alternatives.others) (optional_fits (statements_fit sequence_fits left) s.otherwise)))
       (λ s p. p)
 

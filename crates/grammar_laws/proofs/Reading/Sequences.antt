@@ -1,5 +1,6 @@
 -- Sequences: statements, their handlers, and the declarations before them (11.2, 3.11).
 use Rattle.std.proofs.Common.{◌≡◌, ℕ, zero, suc, Bool, true, false, not, ◌&&◌, List, [], ◌∷◌, ◌++◌, Ok, Err, refl, sym, ap, subst, ◌∙◌, codes}
+use Rattle.std.specs.Prelude.{flat_map}
 use Rattle.std.proofs.lemmas.Bool.{false≢true}
 use Rattle.std.specs.List.{list_all}
 use Rattle.ann_base.specs.declared.places.Place.{Place}
@@ -14,7 +15,7 @@ use Rattle.ada_tree.specs.declared.statements.SequenceParts.{SequenceParts}
 use Rattle.ada_tree.specs.declared.statements.SequenceRole.{SequenceRole}
 use Rattle.ada_tree.specs.declared.statements.SequenceRole.TheVariants as role
 use Rattle.ada_tree.specs.declared.declarations.Declaration.{Declaration}
-use Rattle.ada_tree.specs.Written.{Written, Lexeme, word, delimiter, each_written, all_written}
+use Rattle.ada_tree.specs.Written.{Written, Lexeme, word, delimiter, all_written}
 use Rattle.ada_tree.specs.SpellingStatements.{exceptions_written, statements_written, statement_written, handler_written}
 use Rattle.ada_tree.specs.SpellingDeclarations.{declaration_written}
 use Rattle.ada_tree.specs.Spelling.{handlers_written, parts_written, sequence_written}
@@ -115,9 +116,9 @@ module _ (left : ℕ) (inner : SequenceRole → Parser Sequence) (deeper : Seque
   all_statements : Exact (all_written w) (all_fit fits) ends_statements (statements_of left inner deeper)
   unfolding statements_of starts begins_statement
   all_statements =
-      field itself Any (λ xs. each_written w xs.others) (λ xs. list_all fits xs.others) ends_statements (λ xs. xs.first) w fits always (statement_of left inner deeper) _ one_statement
+      field itself Any (λ xs. flat_map w xs.others) (λ xs. list_all fits xs.others) ends_statements (λ xs. xs.first) w fits always (statement_of left inner deeper) _ one_statement
       (λ xs ls r p l end. refl)
-      (λ first. closing itself (λ xs. Any xs × (first ≡ xs.first)) ends_statements (λ xs. xs.others) (each_written w) (list_all fits) (items_of begins_statement (statement_of left inner deeper))
+      (λ first. closing itself (λ xs. Any xs × (first ≡ xs.first)) ends_statements (λ xs. xs.others) (flat_map w) (list_all fits) (items_of begins_statement (statement_of left inner deeper))
       (λ others. record { first = first; others = others })
       (listed begins_statement w fits always ends_statements (statement_of left inner deeper) one_statement statement_begins refl (λ r e. refl) (λ r e. refl) no_statement)
       (λ others. (tt, refl)) (λ others. refl) (λ others xs p e. rw (p.1, e) refl))
@@ -192,18 +193,18 @@ module _ (left : ℕ) (inner : SequenceRole → Parser Sequence) (deeper : Seque
   abbrev fh : Handler Sequence → Bool
   fh h = handler_fits sequence_fits left h
 
-  behind_handler : (others : List (Handler Sequence)) (ls r : List Lexeme) → Leads (each_written wh others) ls r → ends_sequence role.Handled r ≡ true → ends_statements ls ≡ true
+  behind_handler : (others : List (Handler Sequence)) (ls r : List Lexeme) → Leads (flat_map wh others) ls r → ends_sequence role.Handled r ≡ true → ends_statements ls ≡ true
   behind_handler [] ls r l end = subst (λ (z : List Lexeme). ends_statements z ≡ true) (sym l) (handled_ends r end)
-  behind_handler (h ∷ others) ls r l end = let t = leads_through (wh h) (each_written wh others) ls r l in when_apart ls (begins_handler h ls t.middle t.first)
+  behind_handler (h ∷ others) ls r l end = let t = leads_through (wh h) (flat_map wh others) ls r l in when_apart ls (begins_handler h ls t.middle t.first)
 
-  given_handlers : Rest (λ (xs : Handlers). xs.first ∷ xs.others) Any (λ xs. word (codes "exception") ∷ (wh xs.first ++ each_written wh xs.others)) (λ xs. fh xs.first && list_all fh xs.others) (ends_sequence role.Handled) (given_handlers_of left inner deeper)
+  given_handlers : Rest (λ (xs : Handlers). xs.first ∷ xs.others) Any (λ xs. word (codes "exception") ∷ (wh xs.first ++ flat_map wh xs.others)) (λ xs. fh xs.first && list_all fh xs.others) (ends_sequence role.Handled) (given_handlers_of left inner deeper)
   unfolding given_handlers_of starts
   given_handlers =
       let make : Handlers → List (Handler Sequence) = λ xs. xs.first ∷ xs.others in
-      word_then make Any (λ xs. wh xs.first ++ each_written wh xs.others) (λ xs. fh xs.first && list_all fh xs.others) (ends_sequence role.Handled) (codes "exception") _
-      (field make Any (λ xs. each_written wh xs.others) (λ xs. list_all fh xs.others) (ends_sequence role.Handled) (λ xs. xs.first) wh fh ends_statements (handler_of left inner deeper) _ one_handler
+      word_then make Any (λ xs. wh xs.first ++ flat_map wh xs.others) (λ xs. fh xs.first && list_all fh xs.others) (ends_sequence role.Handled) (codes "exception") _
+      (field make Any (λ xs. flat_map wh xs.others) (λ xs. list_all fh xs.others) (ends_sequence role.Handled) (λ xs. xs.first) wh fh ends_statements (handler_of left inner deeper) _ one_handler
       (λ xs ls r p l end. behind_handler xs.others ls r l end)
-      (λ first. closing make (λ xs. Any xs × (first ≡ xs.first)) (ends_sequence role.Handled) (λ xs. xs.others) (each_written wh) (list_all fh) (items_of (sees_word (codes "when")) (handler_of left inner deeper))
+      (λ first. closing make (λ xs. Any xs × (first ≡ xs.first)) (ends_sequence role.Handled) (λ xs. xs.others) (flat_map wh) (list_all fh) (items_of (sees_word (codes "when")) (handler_of left inner deeper))
       (λ others. record { first = first; others = others })
       (listed (sees_word (codes "when")) wh fh ends_statements (ends_sequence role.Handled) (handler_of left inner deeper) one_handler begins_handler refl when_apart handled_ends no_when)
       (λ others. (tt, refl)) (λ others. refl) (λ others xs p e. rw (p.1, e) refl)))
@@ -224,14 +225,14 @@ module _ (left : ℕ) (inner : SequenceRole → Parser Sequence) (deeper : Seque
       to : (xs : List (Handler Sequence)) (ls r : List Lexeme) → list_all fh xs ≡ true → Leads (handlers_written sequence_written xs) ls r → ends_sequence role.Handled r ≡ true
           → choose (sees_word (codes "exception")) (given_handlers_of left inner deeper) (pure []) ls ≡ done xs r
       to [] ls r o l end = rw (l, no_exception r end) refl
-      to (x ∷ xs) ls r o l end = rw (sees_word_first (codes "exception") (wh x ++ each_written wh xs) ls r l) (given_handlers.complete (record { first = x; others = xs }) ls r tt o l end)
+      to (x ∷ xs) ls r o l end = rw (sees_word_first (codes "exception") (wh x ++ flat_map wh xs) ls r l) (given_handlers.complete (record { first = x; others = xs }) ls r tt o l end)
 
   -- ---- statements and handlers, and a body
 
   exception_apart : (xs : List (Handler Sequence)) (ls r : List Lexeme) → Leads (handlers_written sequence_written xs) ls r → ends_sequence role.Handled r ≡ true → ends_statements ls ≡ true
   unfolding starts begins_statement is_reserved
   exception_apart [] ls r l end = subst (λ (z : List Lexeme). ends_statements z ≡ true) (sym l) (handled_ends r end)
-  exception_apart (x ∷ xs) ls r l end = first_is ends_statements true (word (codes "exception")) (λ k ks. refl) (wh x ++ each_written wh xs) ls r l
+  exception_apart (x ∷ xs) ls r l end = first_is ends_statements true (word (codes "exception")) (λ k ks. refl) (wh x ++ flat_map wh xs) ls r l
 
   abbrev Handled : Type 0
   Handled = Statements × List (Handler Sequence)
@@ -268,7 +269,7 @@ module _ (left : ℕ) (inner : SequenceRole → Parser Sequence) (deeper : Seque
   no_declaration : (r : List Lexeme) → ends_declarations r ≡ true → begins_declaration r ≡ false
   no_declaration r end = not_true (begins_declaration r) end
 
-  pub declarations_exact : Exact (each_written wd) (list_all fd) ends_declarations (declarations_of left inner deeper)
+  pub declarations_exact : Exact (flat_map wd) (list_all fd) ends_declarations (declarations_of left inner deeper)
   unfolding declarations_of starts begins_declaration
   declarations_exact =
       listed begins_declaration wd fd always ends_declarations (declaration_of left inner deeper) (declaration_exact left inner deeper known further) declaration_begins refl (λ r e. refl) (λ r e. refl) no_declaration
@@ -276,14 +277,14 @@ module _ (left : ℕ) (inner : SequenceRole → Parser Sequence) (deeper : Seque
   abbrev Whole : Type 0
   Whole = List (Declaration Sequence) × Handled
 
-  body_parts : Rest (λ (x : Whole). made x.0 x.1.0 x.1.1) Any (λ x. each_written wd x.0 ++ word (codes "begin") ∷ (all_written w x.1.0 ++ handlers_written sequence_written x.1.1)) (λ x. list_all fd x.0 && (all_fit fits x.1.0 && list_all fh x.1.1))
+  body_parts : Rest (λ (x : Whole). made x.0 x.1.0 x.1.1) Any (λ x. flat_map wd x.0 ++ word (codes "begin") ∷ (all_written w x.1.0 ++ handlers_written sequence_written x.1.1)) (λ x. list_all fd x.0 && (all_fit fits x.1.0 && list_all fh x.1.1))
       (ends_sequence role.Body) (whole_body_of left inner deeper)
   unfolding whole_body_of starts begins_declaration is_reserved
   body_parts =
       let make : Whole → Sequence = λ x. made x.0 x.1.0 x.1.1 in
       let behind : Whole → List Written = λ x. all_written w x.1.0 ++ handlers_written sequence_written x.1.1 in
       let okay : Whole → Bool = λ x. all_fit fits x.1.0 && list_all fh x.1.1 in
-      field make Any (λ x. word (codes "begin") ∷ behind x) okay (ends_sequence role.Body) (λ x. x.0) (each_written wd) (list_all fd) ends_declarations (declarations_of left inner deeper) _ declarations_exact
+      field make Any (λ x. word (codes "begin") ∷ behind x) okay (ends_sequence role.Body) (λ x. x.0) (flat_map wd) (list_all fd) ends_declarations (declarations_of left inner deeper) _ declarations_exact
       (λ x ls r p l end. first_is ends_declarations true (word (codes "begin")) (λ k ks. refl) (behind x) ls r l)
       (λ before. word_then make (λ x. Any x × (before ≡ x.0)) behind okay (ends_sequence role.Body) (codes "begin") _ (handled before))
     where

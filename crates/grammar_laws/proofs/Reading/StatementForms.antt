@@ -2,7 +2,7 @@
 use Rattle.std.proofs.Common.{◌≡◌, ℕ, Bool, true, false, ◌&&◌, List, [], ◌∷◌, ◌++◌, refl, sym, ap, subst, ◌∙◌, codes}
 use Rattle.std.proofs.lemmas.Bool.{false≢true}
 use Rattle.std.proofs.lemmas.Slice.Eq.{bytes_eq-Decides}
-use Rattle.std.specs.Prelude.{Option, Some, None}
+use Rattle.std.specs.Prelude.{Option, Some, None, flat_map}
 use Rattle.std.specs.Str.{bytes_eq}
 use Rattle.ann_base.specs.declared.places.Place.{Place}
 use Rattle.ada_lex.specs.Reserved.{is_reserved}
@@ -24,7 +24,7 @@ use Rattle.ada_tree.specs.declared.statements.Iteration.TheVariants as iteration
 use Rattle.ada_tree.specs.declared.statements.SequenceRole.TheVariants as role
 use Rattle.ada_tree.specs.declared.statements.Accept.{Accept}
 use Rattle.ada_tree.specs.declared.statements.Delay.{Delay}
-use Rattle.ada_tree.specs.Written.{Written, Lexeme, word, word_at, delimiter, flag, separated, identifier_written, one_identifier, each_written, behind, name_written, optional}
+use Rattle.ada_tree.specs.Written.{Written, Lexeme, word, word_at, delimiter, flag, separated, identifier_written, one_identifier, behind, name_written, optional}
 use Rattle.ada_tree.specs.Spelling.{sequence_written}
 use Rattle.ada_tree.specs.SpellingStatements.{semicolon, call_written, index_written, assignment_written, delay_written, label_written, iteration_written, loop_written, block_opened, block_written, parameters_written, accept_body_written, with_abort_written, accept_written, statement_written}
 use Rattle.ada_tree.specs.SpellingExpressions.{expression_written, arguments_written}
@@ -180,13 +180,13 @@ module _ (left : ℕ) (sequence : SequenceRole → Parser Sequence) (deeper : Se
   assigned : (a : Assignment) (ls r : List Lexeme) → parts_fit sequence_fits (statements.Assignment a) left ≡ true → Leads (assignment_written a) ls r → statement_inside_of left sequence deeper ls ≡ done (statements.Assignment a) r
   unfolding named_statement_of
   assigned a ls r o l =
-      named_there a.target.parts.first (each_written (behind (delimiter (codes ".")) one_identifier) a.target.parts.others ++ (optional index_written a.index ++ delimiter (codes ":=") ∷ (expression_written a.value ++ semicolon))) ls r l
+      named_there a.target.parts.first (flat_map (behind (delimiter (codes ".")) one_identifier) a.target.parts.others ++ (optional index_written a.index ++ delimiter (codes ":=") ∷ (expression_written a.value ++ semicolon))) ls r l
       ∙ passed sees_label (labelled_of left sequence) (simple_of left) ls (done (statements.Assignment a) r) (assignment_no_label a ls r l) (assignment_complete left a ls r o l)
 
   called : (c : Call) (ls r : List Lexeme) → parts_fit sequence_fits (statements.Call c) left ≡ true → Leads (call_written c) ls r → statement_inside_of left sequence deeper ls ≡ done (statements.Call c) r
   unfolding named_statement_of
   called c ls r o l =
-      named_there c.name.parts.first (each_written (behind (delimiter (codes ".")) one_identifier) c.name.parts.others ++ (arguments_written expression_written c.arguments ++ semicolon)) ls r l
+      named_there c.name.parts.first (flat_map (behind (delimiter (codes ".")) one_identifier) c.name.parts.others ++ (arguments_written expression_written c.arguments ++ semicolon)) ls r l
       ∙ passed sees_label (labelled_of left sequence) (simple_of left) ls (done (statements.Call c) r) (call_no_label c ls r l) (call_complete left c ls r o l)
 
   -- ---- loops and blocks

@@ -1,6 +1,6 @@
 -- Statements that hold others (clauses 5, 9.5), given that the sequences in them are read as they are written.
 use Rattle.std.proofs.Common.{◌≡◌, ℕ, Bool, true, false, ◌&&◌, List, [], ◌∷◌, ◌++◌, refl, sym, subst, codes}
-use Rattle.std.specs.Prelude.{Option, Some}
+use Rattle.std.specs.Prelude.{Option, Some, flat_map}
 use Rattle.std.specs.List.{list_all}
 use Rattle.ada_lex.specs.Reserved.{is_reserved}
 use Rattle.ada_tree.specs.declared.names.Identifier.{Identifier}
@@ -13,7 +13,7 @@ use Rattle.ada_tree.specs.declared.statements.Elsif.{Elsif}
 use Rattle.ada_tree.specs.declared.statements.Case.{Case}
 use Rattle.ada_tree.specs.declared.statements.CaseAlternative.{CaseAlternative}
 use Rattle.ada_tree.specs.declared.statements.AcceptBody.{AcceptBody}
-use Rattle.ada_tree.specs.Written.{Lexeme, word, word_at, delimiter, flag, each_written, all_written, separated, optional}
+use Rattle.ada_tree.specs.Written.{Lexeme, word, word_at, delimiter, flag, all_written, separated, optional}
 use Rattle.ada_tree.specs.Spelling.{sequence_written}
 use Rattle.ada_tree.specs.SpellingStatements.{semicolon, statements_written, choice_written, elsif_written, else_written, if_written, case_alternative_written, case_written, accept_body_written, accept_written}
 use Rattle.ada_tree.specs.Shape.{sequence_fits}
@@ -68,7 +68,7 @@ module _ (left : ℕ) (sequence : SequenceRole → Parser Sequence)
       (λ inside. record { place = place; condition = condition; statements = inside })
       (exact role.Statements) (λ inside. ((tt, refl), refl)) (λ inside. refl) (λ inside e p q. rw (p.0.1, p.1, q) refl))))
 
-  pub elsifs_exact : Exact (each_written (elsif_written sequence_written)) (list_all (elsif_fits sequence_fits left)) ends_elsifs (items_of (sees_word (codes "elsif")) (elsif_of left sequence))
+  pub elsifs_exact : Exact (flat_map (elsif_written sequence_written)) (list_all (elsif_fits sequence_fits left)) ends_elsifs (items_of (sees_word (codes "elsif")) (elsif_of left sequence))
   unfolding starts begins_statement is_reserved
   elsifs_exact =
       listed (sees_word (codes "elsif")) (elsif_written sequence_written) (elsif_fits sequence_fits left) ends_statements ends_elsifs (elsif_of left sequence)
@@ -99,7 +99,7 @@ module _ (left : ℕ) (sequence : SequenceRole → Parser Sequence)
       (λ ls r l. first_is ends_elsifs true (word (codes "end")) (λ l ls. refl) (word (codes "if") ∷ semicolon) ls r l) o ls r l
 
   elsif_or_end : (es : List (Elsif Sequence)) (o : Option Sequence) (ls r : List Lexeme)
-      → Leads (each_written (elsif_written sequence_written) es ++ (optional (else_written sequence_written) o ++ word (codes "end") ∷ word (codes "if") ∷ semicolon)) ls r → ends_statements ls ≡ true
+      → Leads (flat_map (elsif_written sequence_written) es ++ (optional (else_written sequence_written) o ++ word (codes "end") ∷ word (codes "if") ∷ semicolon)) ls r → ends_statements ls ≡ true
   unfolding starts begins_statement is_reserved
   elsif_or_end es o ls r l =
       first_each ends_statements true (elsif_written sequence_written) _ (λ e ls m l. first_is ends_statements true (word_at e.place (codes "elsif")) (λ l ls. refl) _ ls m l)
@@ -138,7 +138,7 @@ module _ (left : ℕ) (sequence : SequenceRole → Parser Sequence)
       (λ inside. record { place = place; choices = choices; statements = inside })
       (exact role.Statements) (λ inside. ((tt, refl), refl)) (λ inside. refl) (λ inside a p q. rw (p.0.1, p.1, q) refl))))
 
-  case_others_exact : Exact (each_written (case_alternative_written sequence_written)) (list_all (case_alternative_fits sequence_fits left)) ends_alternatives
+  case_others_exact : Exact (flat_map (case_alternative_written sequence_written)) (list_all (case_alternative_fits sequence_fits left)) ends_alternatives
       (items_of (sees_word (codes "when")) (case_alternative_of left sequence))
   unfolding starts begins_statement is_reserved
   case_others_exact =
@@ -148,7 +148,7 @@ module _ (left : ℕ) (sequence : SequenceRole → Parser Sequence)
       (λ r e. first_true (ends_statements r) (not_word (codes "when") r) e)
       (λ r e. not_true (sees_word (codes "when") r) (second_true (ends_statements r) (not_word (codes "when") r) e))
 
-  when_or_over : (xs : List (CaseAlternative Sequence)) (ls r : List Lexeme) → Leads (each_written (case_alternative_written sequence_written) xs) ls r → ends_alternatives r ≡ true → ends_statements ls ≡ true
+  when_or_over : (xs : List (CaseAlternative Sequence)) (ls r : List Lexeme) → Leads (flat_map (case_alternative_written sequence_written) xs) ls r → ends_alternatives r ≡ true → ends_statements ls ≡ true
   unfolding starts begins_statement is_reserved
   when_or_over [] ls r l end = subst (λ (z : List Lexeme). ends_statements z ≡ true) (sym l) (first_true (ends_statements r) (not_word (codes "when") r) end)
   when_or_over (x ∷ xs) ls r l end = first_is ends_statements true (word_at x.place (codes "when")) (λ l ls. refl) _ ls r l

@@ -1,6 +1,6 @@
 -- What begins a statement (5.1): its first token.
 use Rattle.std.proofs.Common.{◌≡◌, Bool, true, false, ◌||◌, List, [], ◌∷◌, ◌++◌, refl, subst, codes}
-use Rattle.std.specs.Prelude.{Option}
+use Rattle.std.specs.Prelude.{Option, flat_map}
 use Rattle.ann_base.specs.declared.places.Place.{Place}
 use Rattle.ada_tree.specs.declared.names.Name.{Name}
 use Rattle.ada_tree.specs.declared.statements.Statement.{Statement}
@@ -10,7 +10,7 @@ use Rattle.ada_tree.specs.declared.statements.Sequence.{Sequence}
 use Rattle.ada_tree.specs.declared.statements.Sequence.TheViews.{out-Sequence}
 use Rattle.ada_tree.specs.declared.statements.Iteration.{Iteration}
 use Rattle.ada_tree.specs.declared.statements.Iteration.TheVariants as iterations
-use Rattle.ada_tree.specs.Written.{Written, Lexeme, word, word_at, delimiter, flag, identifier_written, one_identifier, each_written, behind, separated, name_written, optional}
+use Rattle.ada_tree.specs.Written.{Written, Lexeme, word, word_at, delimiter, flag, identifier_written, one_identifier, behind, separated, name_written, optional}
 use Rattle.ada_tree.specs.Spelling.{sequence_written}
 use Rattle.ada_tree.specs.SpellingExpressions.{expression_written}
 use Rattle.ada_tree.specs.SpellingStatements.{semicolon, with_abort_written, parameters_written, accept_body_written, iteration_written, label_written, block_opened, statements_written, statement_written}
@@ -41,7 +41,7 @@ identifier_begins ls e =
 
 -- a name begins with an identifier
 pub name_sees : (name : Name) (ws : List Written) (ls r : List Lexeme) → Leads (name_written name ++ ws) ls r → sees_identifier ls ≡ true
-name_sees name ws ls r l = sees_identifier_first name.parts.first (each_written (behind (delimiter (codes ".")) one_identifier) name.parts.others ++ ws) ls r l
+name_sees name ws ls r l = sees_identifier_first name.parts.first (flat_map (behind (delimiter (codes ".")) one_identifier) name.parts.others ++ ws) ls r l
 
 name_begins : (name : Name) (ws : List Written) (ls r : List Lexeme) → Leads (name_written name ++ ws) ls r → begins_statement ls ≡ true
 name_begins name ws ls r l = identifier_begins ls (name_sees name ws ls r l)
@@ -87,5 +87,5 @@ pub statements_begin : (q : Sequence) (ls r : List Lexeme) → Leads (statements
 statements_begin q ls r l =
     let whole = subst (λ (ws : List Written). Leads ws ls r) (sequence_is_written q role.Statements) l in
     let first = (out-Sequence q).parts.statements.first in
-    let t = leads_through (statement_written sequence_written first) (each_written (statement_written sequence_written) (out-Sequence q).parts.statements.others) ls r whole in
+    let t = leads_through (statement_written sequence_written first) (flat_map (statement_written sequence_written) (out-Sequence q).parts.statements.others) ls r whole in
     statement_begins first ls t.middle t.first

@@ -1,5 +1,6 @@
 -- Sums and relations (4.4).
 use Rattle.std.proofs.Common.{◌≡◌, ℕ, Bool, true, false, not, List, [], ◌∷◌, refl, sym, ap, subst, ◌∙◌, codes}
+use Rattle.std.specs.Prelude.{flat_map}
 use Rattle.std.proofs.lemmas.Bool.{false≢true}
 use Rattle.std.specs.List.{list_all}
 use Rattle.ann_base.specs.declared.places.Place.{Place}
@@ -17,7 +18,7 @@ use Rattle.ada_tree.specs.declared.expressions.Expression.TheViews.{out-Expressi
 use Rattle.ada_tree.specs.declared.expressions.ExpressionForm.{ExpressionForm}
 use Rattle.ada_tree.specs.declared.expressions.ExpressionForm.TheVariants as form
 use Rattle.ada_tree.specs.declared.expressions.Addend.{Addend}
-use Rattle.ada_tree.specs.Written.{Written, Lexeme, word_at, delimiter_at, identifier_written, each_written, all_written}
+use Rattle.ada_tree.specs.Written.{Written, Lexeme, word_at, delimiter_at, identifier_written, all_written}
 use Rattle.ada_tree.specs.SpellingExpressions.{relational_text, adding_text, sign_text, highest_text, addend_written, multiplied_written, form_written, expression_written}
 use Rattle.ada_tree.specs.ShapeExpressions.{all_fit, addend_fits, multiplied_fits, form_fits, expression_fits}
 use Rattle.ada_grammar.specs.Reading.{Parser, starts, sees_delimiter, the_delimiter, items_of}
@@ -265,20 +266,20 @@ module _ (left : ℕ) (inner : Parser Expression) (inside : ReadsInside left inn
   no_addend : (r : List Lexeme) → ends_sum r ≡ true → adds r ≡ false
   no_addend r end = not_true (adds r) (second_true (ends_term r) (not (adds r)) end)
 
-  behind_addend : (others : List (Addend Expression)) (ls r : List Lexeme) → Leads (each_written (addend_written expression_written) others) ls r → ends_sum r ≡ true → ends_term ls ≡ true
+  behind_addend : (others : List (Addend Expression)) (ls r : List Lexeme) → Leads (flat_map (addend_written expression_written) others) ls r → ends_sum r ≡ true → ends_term ls ≡ true
   behind_addend [] ls r l end = subst (λ (z : List Lexeme). ends_term z ≡ true) (sym l) (ends_addend r end)
   behind_addend (m ∷ others) ls r l end =
-      let t = leads_through (addend_written expression_written m) (each_written (addend_written expression_written) others) ls r l in
+      let t = leads_through (addend_written expression_written m) (flat_map (addend_written expression_written) others) ls r l in
       adds_ends ls (begins_addend m ls t.middle t.first)
 
   addition_behind : (first : Expression) → Rest (λ (xs : Addends). formed (form.Adding first xs)) Any (all_written (addend_written expression_written)) (all_fit (addend_fits expression_fits left)) ends_sum (addition_behind_of left inner first)
   unfolding addition_behind_of starts
   addition_behind first =
       let make : Addends → Expression = λ xs. formed (form.Adding first xs) in
-      field make Any (λ xs. each_written (addend_written expression_written) xs.others) (λ xs. list_all (addend_fits expression_fits left) xs.others) ends_sum
+      field make Any (λ xs. flat_map (addend_written expression_written) xs.others) (λ xs. list_all (addend_fits expression_fits left) xs.others) ends_sum
       (λ xs. xs.first) (addend_written expression_written) (addend_fits expression_fits left) ends_term (addend_of left inner) _ addend_exact
       (λ xs ls r p l end. behind_addend xs.others ls r l end)
-      (λ second. closing make (λ xs. Any xs × (second ≡ xs.first)) ends_sum (λ xs. xs.others) (each_written (addend_written expression_written)) (list_all (addend_fits expression_fits left))
+      (λ second. closing make (λ xs. Any xs × (second ≡ xs.first)) ends_sum (λ xs. xs.others) (flat_map (addend_written expression_written)) (list_all (addend_fits expression_fits left))
       (items_of adds (addend_of left inner)) (λ others. record { first = second; others = others })
       (listed adds (addend_written expression_written) (addend_fits expression_fits left) ends_term ends_sum (addend_of left inner) addend_exact begins_addend refl adds_ends ends_addend no_addend)
       (λ others. (tt, refl)) (λ others. refl) (λ others xs p e. rw (p.1, e) refl))
@@ -298,7 +299,7 @@ module _ (left : ℕ) (inner : Parser Expression) (inside : ReadsInside left inn
 
   begins_addends : (xs : Addends) (ls r : List Lexeme) → Leads (all_written (addend_written expression_written) xs) ls r → adds ls ≡ true
   begins_addends xs ls r l =
-      let t = leads_through (addend_written expression_written xs.first) (each_written (addend_written expression_written) xs.others) ls r l in
+      let t = leads_through (addend_written expression_written xs.first) (flat_map (addend_written expression_written) xs.others) ls r l in
       begins_addend xs.first ls t.middle t.first
 
   pub sum_exact : Exact expression_written (λ e. expression_fits e precedence.Adding left) ends_sum (sum_of left inner)

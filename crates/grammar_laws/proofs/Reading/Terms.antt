@@ -2,7 +2,7 @@
 use Rattle.std.proofs.Common.{◌≡◌, ℕ, Bool, true, false, not, ◌||◌, List, [], ◌∷◌, ◌++◌, refl, sym, subst, codes, arith}
 use Rattle.std.proofs.lemmas.Bool.{false≢true}
 use Rattle.std.proofs.lemmas.Bool.Decides.{nat_tests}
-use Rattle.std.specs.Prelude.{nat_le}
+use Rattle.std.specs.Prelude.{nat_le, flat_map}
 use Rattle.std.specs.List.{list_all}
 use Rattle.ann_base.specs.declared.places.Place.{Place}
 use Rattle.ada_tree.specs.declared.names.Identifier.{Identifier}
@@ -17,7 +17,7 @@ use Rattle.ada_tree.specs.declared.expressions.Expression.{Expression}
 use Rattle.ada_tree.specs.declared.expressions.ExpressionForm.{ExpressionForm}
 use Rattle.ada_tree.specs.declared.expressions.ExpressionForm.TheVariants as form
 use Rattle.ada_tree.specs.declared.expressions.Multiplied.{Multiplied}
-use Rattle.ada_tree.specs.Written.{Written, Lexeme, word_at, delimiter, delimiter_at, number_at, text_at, identifier_written, one_identifier, each_written, all_written, behind}
+use Rattle.ada_tree.specs.Written.{Written, Lexeme, word_at, delimiter, delimiter_at, number_at, text_at, identifier_written, one_identifier, all_written, behind}
 use Rattle.ada_tree.specs.SpellingExpressions.{multiplying_written, highest_text, multiplied_written, form_written, expression_written}
 use Rattle.ada_tree.specs.ShapeExpressions.{all_fit, rank, precedence_of, parts_fit, multiplied_fits, form_fits, expression_fits}
 use Rattle.ada_grammar.specs.Reading.{Parser, starts, sees_word, sees_delimiter, the_word, the_delimiter, items_of}
@@ -74,7 +74,7 @@ primary_first test v on left (form.Text place text) ls r o l = first_is test v (
 primary_first test v on left (form.Null place) ls r o l = first_is test v (word_at place (codes "null")) (on.null place) [] ls r l
 primary_first test v on left (form.Bracketed place e) ls r o l = first_is test v (delimiter_at place (codes "(")) (on.bracket place) (expression_written e ++ delimiter (codes ")") ∷ []) ls r l
 primary_first test v on left (form.Named name attribute arguments) ls r o l =
-    named (each_written (behind (delimiter (codes ".")) one_identifier) name.parts.others) _ ls r l
+    named (flat_map (behind (delimiter (codes ".")) one_identifier) name.parts.others) _ ls r l
   where
     named : (others rest : List Written) (ls r : List Lexeme) → Leads ((identifier_written name.parts.first ∷ others) ++ rest) ls r → test ls ≡ v
     named others rest ls r l = on.name name.parts.first (others ++ rest) ls r l
@@ -238,20 +238,20 @@ module _ (left : ℕ) (inner : Parser Expression) (inside : ReadsInside left inn
   no_product : (r : List Lexeme) → ends_term r ≡ true → multiplies r ≡ false
   no_product r end = not_true (multiplies r) (second_true (ends_designated r) (not (multiplies r)) end)
 
-  behind_product : (others : List (Multiplied Expression)) (ls r : List Lexeme) → Leads (each_written (multiplied_written expression_written) others) ls r → ends_term r ≡ true → ends_designated ls ≡ true
+  behind_product : (others : List (Multiplied Expression)) (ls r : List Lexeme) → Leads (flat_map (multiplied_written expression_written) others) ls r → ends_term r ≡ true → ends_designated ls ≡ true
   behind_product [] ls r l end = subst (λ (z : List Lexeme). ends_designated z ≡ true) (sym l) (ends_factor r end)
   behind_product (m ∷ others) ls r l end =
-      let t = leads_through (multiplied_written expression_written m) (each_written (multiplied_written expression_written) others) ls r l in
+      let t = leads_through (multiplied_written expression_written m) (flat_map (multiplied_written expression_written) others) ls r l in
       multiplies_ends ls (begins_multiplied m ls t.middle t.first)
 
   product_exact : (first : Expression) → Rest (λ (xs : Products). formed (form.Multiplying first xs)) Any (all_written (multiplied_written expression_written)) (all_fit (multiplied_fits expression_fits left)) ends_term (product_of left inner first)
   unfolding product_of starts
   product_exact first =
       let make : Products → Expression = λ xs. formed (form.Multiplying first xs) in
-      field make Any (λ xs. each_written (multiplied_written expression_written) xs.others) (λ xs. list_all (multiplied_fits expression_fits left) xs.others) ends_term
+      field make Any (λ xs. flat_map (multiplied_written expression_written) xs.others) (λ xs. list_all (multiplied_fits expression_fits left) xs.others) ends_term
       (λ xs. xs.first) (multiplied_written expression_written) (multiplied_fits expression_fits left) ends_designated (multiplied_of left inner) _ multiplied_exact
       (λ xs ls r p l end. behind_product xs.others ls r l end)
-      (λ second. closing make (λ xs. Any xs × (second ≡ xs.first)) ends_term (λ xs. xs.others) (each_written (multiplied_written expression_written)) (list_all (multiplied_fits expression_fits left))
+      (λ second. closing make (λ xs. Any xs × (second ≡ xs.first)) ends_term (λ xs. xs.others) (flat_map (multiplied_written expression_written)) (list_all (multiplied_fits expression_fits left))
       (items_of multiplies (multiplied_of left inner)) (λ others. record { first = second; others = others })
       (listed multiplies (multiplied_written expression_written) (multiplied_fits expression_fits left) ends_designated ends_term (multiplied_of left inner) multiplied_exact begins_multiplied refl multiplies_ends ends_factor no_product)
       (λ others. (tt, refl)) (λ others. refl) (λ others xs p e. rw (p.1, e) refl))
@@ -271,7 +271,7 @@ module _ (left : ℕ) (inner : Parser Expression) (inside : ReadsInside left inn
 
   begins_products : (xs : Products) (ls r : List Lexeme) → Leads (all_written (multiplied_written expression_written) xs) ls r → multiplies ls ≡ true
   begins_products xs ls r l =
-      let t = leads_through (multiplied_written expression_written xs.first) (each_written (multiplied_written expression_written) xs.others) ls r l in
+      let t = leads_through (multiplied_written expression_written xs.first) (flat_map (multiplied_written expression_written) xs.others) ls r l in
       begins_multiplied xs.first ls t.middle t.first
 
   pub term_exact : Exact expression_written (λ e. expression_fits e precedence.Multiplying left) ends_term (term_of left inner)

@@ -1,6 +1,6 @@
 -- Library units and a source (2.8, clause 7, 10.1).
 use Rattle.std.proofs.Common.{◌≡◌, ℕ, zero, suc, ◌<◌, ◌≤◌, Bool, true, false, cond, not, ◌&&◌, ◌||◌, List, [], ◌∷◌, ◌++◌, length, refl, sym, ap, subst, ◌∙◌, codes, arith, append_assoc}
-use Rattle.std.specs.Prelude.{Some}
+use Rattle.std.specs.Prelude.{Some, flat_map}
 use Rattle.std.specs.List.{list_all}
 use Rattle.ann_base.specs.declared.places.Place.{Place}
 use Rattle.ada_lex.specs.Reserved.{is_reserved}
@@ -21,7 +21,7 @@ use Rattle.ada_tree.specs.declared.units.PackageDeclaration.{PackageDeclaration}
 use Rattle.ada_tree.specs.declared.units.PackageBody.{PackageBody}
 use Rattle.ada_tree.specs.declared.units.MainProcedure.{MainProcedure}
 use Rattle.ada_tree.specs.declared.units.Unit.{Unit as Tree}
-use Rattle.ada_tree.specs.Written.{Written, Lexeme, word, word_at, delimiter, identifier_written, each_written, separated, optional, name_written, end_name_written}
+use Rattle.ada_tree.specs.Written.{Written, Lexeme, word, word_at, delimiter, identifier_written, separated, optional, name_written, end_name_written}
 use Rattle.ada_tree.specs.SpellingExpressions.{expression_written, argument_written}
 use Rattle.ada_tree.specs.SpellingStatements.{semicolon}
 use Rattle.ada_tree.specs.SpellingDeclarations.{body_written, aspects_written}
@@ -95,7 +95,7 @@ pragma_exact left =
 pragma_begins : (p : Pragma) (ls r : List Lexeme) → Leads (pragma_written p) ls r → sees_word (codes "pragma") ls ≡ true
 pragma_begins p ls r l = sees_word_at_first (codes "pragma") p.place (identifier_written p.name ∷ delimiter (codes "(") ∷ (separated (delimiter (codes ",")) argument_w p.arguments ++ delimiter (codes ")") ∷ semicolon)) ls r l
 
-pub pragmas_exact : (left : ℕ) → Exact (each_written pragma_written) (list_all (pragma_fits left)) (not_word (codes "pragma")) (items_of (sees_word (codes "pragma")) (pragma_of left))
+pub pragmas_exact : (left : ℕ) → Exact (flat_map pragma_written) (list_all (pragma_fits left)) (not_word (codes "pragma")) (items_of (sees_word (codes "pragma")) (pragma_of left))
 unfolding starts
 pragmas_exact left =
     listed (sees_word (codes "pragma")) pragma_written (pragma_fits left) always (not_word (codes "pragma")) (pragma_of left) (pragma_exact left) pragma_begins refl (λ r e. refl) (λ r e. refl)
@@ -162,10 +162,10 @@ clause_begins c ls r l = by_use c.is_use c.place (separated (delimiter (codes ",
 abbrev ends_context : List Lexeme → Bool
 ends_context r = not (begins_clause r)
 
-pub context_exact : Exact (each_written clause_written) shapeless ends_context context_of
+pub context_exact : Exact (flat_map clause_written) shapeless ends_context context_of
 unfolding context_of starts
 context_exact =
-    reshaped itself Any (each_written clause_written) (list_all shapeless) shapeless ends_context context_of
+    reshaped itself Any (flat_map clause_written) (list_all shapeless) shapeless ends_context context_of
     (listed begins_clause clause_written shapeless always ends_context clause_of clause_exact clause_begins refl (λ r e. refl) (λ r e. refl) (λ r e. not_true (begins_clause r) e))
     all_shapeless
 
@@ -346,7 +346,7 @@ abbrev pub Packages : Type 0
 Packages = List LibraryPackage × List ContextClause
 
 abbrev pub packages_written : Packages → List Written
-packages_written x = each_written library_package_written x.0 ++ each_written clause_written x.1
+packages_written x = flat_map library_package_written x.0 ++ flat_map clause_written x.1
 
 abbrev pub ends_packages : List Lexeme → Bool
 ends_packages r = ends_context r && not_word (codes "package") r
@@ -365,25 +365,25 @@ module _ (left : ℕ) where
   record MorePackages (found : List LibraryPackage) (x : Packages) (ls r : List Lexeme) : Type 0 where
     items : List LibraryPackage
     is : found ++ items ≡ x.0
-    leads : Leads (each_written wl items ++ each_written clause_written x.1) ls r
+    leads : Leads (flat_map wl items ++ flat_map clause_written x.1) ls r
     shaped : list_all fl items ≡ true
 
   nothing_behind : {A : Type 0} (xs : List A) → xs ++ [] ≡ xs
   nothing_behind [] = refl
   nothing_behind (x ∷ xs) = ap (λ z. x ∷ z) (nothing_behind xs)
 
-  last_context : (found : List LibraryPackage) (x : Packages) (context : List ContextClause) (ls m r : List Lexeme) → Leads (each_written clause_written context) ls m → done (found, context) m ≡ done x r → MorePackages found x ls r
+  last_context : (found : List LibraryPackage) (x : Packages) (context : List ContextClause) (ls m r : List Lexeme) → Leads (flat_map clause_written context) ls m → done (found, context) m ≡ done x r → MorePackages found x ls r
   last_context found x context ls m r l e =
       let is = pair_of (found, context) x m r e in
       record {
         items = [];
         is = nothing_behind found ∙ ap (λ (z : Packages). z.0) is.0;
-        leads = subst (λ (z : List ContextClause). Leads (each_written clause_written z) ls r) (ap (λ (z : Packages). z.1) is.0) (subst (λ (z : List Lexeme). Leads (each_written clause_written context) ls z) is.1 l);
+        leads = subst (λ (z : List ContextClause). Leads (flat_map clause_written z) ls r) (ap (λ (z : Packages). z.1) is.0) (subst (λ (z : List Lexeme). Leads (flat_map clause_written context) ls z) is.1 l);
         shaped = refl;
       }
 
-  context_was : (ls : List Lexeme) (context : List ContextClause) (m : List Lexeme) → context_of ls ≡ done context m → Leads (each_written clause_written context) ls m
-  context_was ls context m e = let f = context_exact.sound ls context m e in subst (λ (z : List ContextClause). Leads (each_written clause_written z) ls m) f.is f.leads
+  context_was : (ls : List Lexeme) (context : List ContextClause) (m : List Lexeme) → context_of ls ≡ done context m → Leads (flat_map clause_written context) ls m
+  context_was ls context m e = let f = context_exact.sound ls context m e in subst (λ (z : List ContextClause). Leads (flat_map clause_written z) ls m) f.is f.leads
 
   packages_sound : (fuel : ℕ) (found : List LibraryPackage) (ls : List Lexeme) (x : Packages) (r : List Lexeme) → packages_from left fuel found ls ≡ done x r → MorePackages found x ls r
   unfolding packages_from
@@ -394,7 +394,7 @@ module _ (left : ℕ) where
       let s = parts (context_of ls) (λ context. choose (sees_word (codes "package")) (package_of left >>= λ p. packages_from left fuel (found ++ record { context = context; «package» = p } ∷ [])) (pure (found, context))) x r e in
       by_test (sees_word (codes "package") s.rest) x ls s.value s.rest r (context_was ls s.value s.rest s.is) s.then (λ more m q. packages_sound fuel more m x r q)
     where
-      by_test : (v : Bool) (x : Packages) (ls : List Lexeme) (context : List ContextClause) (m r : List Lexeme) → Leads (each_written clause_written context) ls m
+      by_test : (v : Bool) (x : Packages) (ls : List Lexeme) (context : List ContextClause) (m r : List Lexeme) → Leads (flat_map clause_written context) ls m
           → cond {A = Read Packages} v (and_then (package_of left m) (λ p. packages_from left fuel (found ++ record { context = context; «package» = p } ∷ []))) (done (found, context) m) ≡ done x r
           → ((more : List LibraryPackage) (k : List Lexeme) → packages_from left fuel more k ≡ done x r → MorePackages more x k r) → MorePackages found x ls r
       by_test false x ls context m r l e more = last_context found x context ls m r l e
@@ -407,16 +407,16 @@ module _ (left : ℕ) where
           record {
             items = one ∷ b.items;
             is = sym (append_assoc found (one ∷ []) b.items) ∙ b.is;
-            leads = subst (λ (ws : List Written). Leads ws ls r) (sym (append_assoc (wl one) (each_written wl b.items) (each_written clause_written x.1)))
-                (leads_both (wl one) (each_written wl b.items ++ each_written clause_written x.1) ls s.rest r (leads_both (each_written clause_written context) (package_written s.value) ls m s.rest l here) b.leads);
+            leads = subst (λ (ws : List Written). Leads ws ls r) (sym (append_assoc (wl one) (flat_map wl b.items) (flat_map clause_written x.1)))
+                (leads_both (wl one) (flat_map wl b.items ++ flat_map clause_written x.1) ls s.rest r (leads_both (flat_map clause_written context) (package_written s.value) ls m s.rest l here) b.leads);
             shaped = both (subst (λ (z : Package). package_fits left z ≡ true) a.is a.shaped) b.shaped;
           }
 
   -- a package has tokens
   package_some : (p : LibraryPackage) (ls m : List Lexeme) → Leads (wl p) ls m → length m < length ls
   package_some p ls m l =
-      let t = leads_through (each_written clause_written p.context) (package_written p.«package») ls m l in
-      omega (arith, leads_length (each_written clause_written p.context) ls t.middle t.first, leads_length (package_written p.«package») t.middle m t.second, some p.«package»)
+      let t = leads_through (flat_map clause_written p.context) (package_written p.«package») ls m l in
+      omega (arith, leads_length (flat_map clause_written p.context) ls t.middle t.first, leads_length (package_written p.«package») t.middle m t.second, some p.«package»)
     where
       some : (p : Package) → 1 ≤ length (package_written p)
       some (packages.Declaration p) = omega arith
@@ -429,18 +429,18 @@ module _ (left : ℕ) where
   no_package r end = not_true (sees_word (codes "package") r) (second_true (ends_context r) (not_word (codes "package") r) end)
 
   packages_complete : (ps : List LibraryPackage) (cs : List ContextClause) (fuel : ℕ) (found : List LibraryPackage) (ls r : List Lexeme) → length ls ≤ fuel → list_all fl ps ≡ true
-      → Leads (each_written wl ps ++ each_written clause_written cs) ls r → ends_packages r ≡ true → packages_from left fuel found ls ≡ done (found ++ ps, cs) r
+      → Leads (flat_map wl ps ++ flat_map clause_written cs) ls r → ends_packages r ≡ true → packages_from left fuel found ls ≡ done (found ++ ps, cs) r
   unfolding packages_from
   packages_complete [] cs zero found ls r enough o l end =
       rw (context_exact.complete cs ls r tt refl l (ends_no_context r end), nothing_behind found) refl
   packages_complete [] cs (suc fuel) found ls r enough o l end =
       rw (context_exact.complete cs ls r tt refl l (ends_no_context r end), no_package r end, nothing_behind found) refl
   packages_complete (p ∷ ps) cs zero found ls r enough o l end =
-      let t = leads_through (wl p) (each_written wl ps ++ each_written clause_written cs) ls r (subst (λ (ws : List Written). Leads ws ls r) (append_assoc (wl p) (each_written wl ps) (each_written clause_written cs)) l) in
+      let t = leads_through (wl p) (flat_map wl ps ++ flat_map clause_written cs) ls r (subst (λ (ws : List Written). Leads ws ls r) (append_assoc (wl p) (flat_map wl ps) (flat_map clause_written cs)) l) in
       absurd (omega (arith, package_some p ls t.middle t.first))
   packages_complete (p ∷ ps) cs (suc fuel) found ls r enough o l end =
-      let t = leads_through (wl p) (each_written wl ps ++ each_written clause_written cs) ls r (subst (λ (ws : List Written). Leads ws ls r) (append_assoc (wl p) (each_written wl ps) (each_written clause_written cs)) l) in
-      let u = leads_through (each_written clause_written p.context) (package_written p.«package») ls t.middle t.first in
+      let t = leads_through (wl p) (flat_map wl ps ++ flat_map clause_written cs) ls r (subst (λ (ws : List Written). Leads ws ls r) (append_assoc (wl p) (flat_map wl ps) (flat_map clause_written cs)) l) in
+      let u = leads_through (flat_map clause_written p.context) (package_written p.«package») ls t.middle t.first in
       let seen = package_begins p.«package» u.middle t.middle u.second in
       rw (
         context_exact.complete p.context ls u.middle tt refl u.first (package_ends_context u.middle seen),
@@ -455,7 +455,7 @@ module _ (left : ℕ) where
   packages_exact = record {
     sound = λ ls x r e.
         let m = packages_sound (length ls) [] ls x r e in
-        record { item = x; is = refl; fits = tt; leads = subst (λ (z : List LibraryPackage). Leads (each_written wl z ++ each_written clause_written x.1) ls r) m.is m.leads; shaped = subst (λ (z : List LibraryPackage). list_all fl z ≡ true) m.is m.shaped };
+        record { item = x; is = refl; fits = tt; leads = subst (λ (z : List LibraryPackage). Leads (flat_map wl z ++ flat_map clause_written x.1) ls r) m.is m.leads; shaped = subst (λ (z : List LibraryPackage). list_all fl z ≡ true) m.is m.shaped };
     complete = λ x ls r q o l end. packages_complete x.0 x.1 (length ls) [] ls r (omega arith) o l end;
   }
 
@@ -512,9 +512,9 @@ module _ (left : ℕ) where
   unfolding starts
   main_no_pragma m ls r l = first_is no_pragma true (word_at m.place (codes "procedure")) (λ k ks. refl) (identifier_written m.name ∷ (aspects_written m.aspects ++ body_written sequence_written m.name m.body)) ls r l
 
-  behind_pragmas : (ps : List LibraryPackage) (cs : List ContextClause) (m : MainProcedure) (ls r : List Lexeme) → Leads (each_written wl ps ++ (each_written clause_written cs ++ main_written m)) ls r → no_pragma ls ≡ true
+  behind_pragmas : (ps : List LibraryPackage) (cs : List ContextClause) (m : MainProcedure) (ls r : List Lexeme) → Leads (flat_map wl ps ++ (flat_map clause_written cs ++ main_written m)) ls r → no_pragma ls ≡ true
   behind_pragmas ps cs m ls r l =
-      first_each no_pragma true wl (each_written clause_written cs ++ main_written m) library_no_pragma
+      first_each no_pragma true wl (flat_map clause_written cs ++ main_written m) library_no_pragma
       (λ ls r l. first_each no_pragma true clause_written (main_written m) clause_no_pragma (main_no_pragma m) cs ls r l) ps ls r l
 
   -- a source that was read to its end
@@ -534,17 +534,17 @@ module _ (left : ℕ) where
       let f = (pragmas_exact left).sound ls a.value a.rest a.is in
       let g = packages_exact.sound a.rest b.value b.rest b.is in
       let h = main_exact.sound b.rest c.value c.rest c.is in
-      let pragmas_lead : Leads (each_written pragma_written a.value) ls a.rest = subst (λ (z : List Pragma). Leads (each_written pragma_written z) ls a.rest) f.is f.leads in
+      let pragmas_lead : Leads (flat_map pragma_written a.value) ls a.rest = subst (λ (z : List Pragma). Leads (flat_map pragma_written z) ls a.rest) f.is f.leads in
       let packages_lead : Leads (packages_written b.value) a.rest b.rest = subst (λ (z : Packages). Leads (packages_written z) a.rest b.rest) g.is g.leads in
       let main_leads : Leads (main_written c.value) b.rest [] = subst (λ (z : List Lexeme). Leads (main_written c.value) b.rest z) n.1.0 (subst (λ (z : MainProcedure). Leads (main_written z) b.rest c.rest) h.is h.leads) in
-      let rest : Leads (each_written wl b.value.0 ++ (each_written clause_written b.value.1 ++ main_written c.value)) a.rest [] =
-      subst (λ (ws : List Written). Leads ws a.rest []) (append_assoc (each_written wl b.value.0) (each_written clause_written b.value.1) (main_written c.value))
+      let rest : Leads (flat_map wl b.value.0 ++ (flat_map clause_written b.value.1 ++ main_written c.value)) a.rest [] =
+      subst (λ (ws : List Written). Leads ws a.rest []) (append_assoc (flat_map wl b.value.0) (flat_map clause_written b.value.1) (main_written c.value))
       (leads_both (packages_written b.value) (main_written c.value) a.rest b.rest [] packages_lead main_leads) in
       let okay : unit_fits left made ≡ true =
       both (subst (λ (z : List Pragma). list_all (pragma_fits left) z ≡ true) f.is f.shaped)
       (both (subst (λ (z : Packages). list_all fl z.0 ≡ true) g.is g.shaped) (subst (λ (z : MainProcedure). main_fits left z ≡ true) h.is h.shaped)) in
       record {
-        leads = subst (λ (z : Tree). Leads (unit_written z) ls []) n.0 (leads_both (each_written pragma_written a.value) _ ls a.rest [] pragmas_lead rest);
+        leads = subst (λ (z : Tree). Leads (unit_written z) ls []) n.0 (leads_both (flat_map pragma_written a.value) _ ls a.rest [] pragmas_lead rest);
         shaped = subst (λ (z : Tree). unit_fits left z ≡ true) n.0 okay;
         over = n.1.1;
       }
@@ -552,10 +552,10 @@ module _ (left : ℕ) where
   pub source_complete : (unit : Tree) (ls : List Lexeme) → unit_fits left unit ≡ true → Leads (unit_written unit) ls [] → source_of left ls ≡ done unit []
   unfolding source_of
   source_complete unit ls o l =
-      let behind : List Written = each_written wl unit.packages ++ (each_written clause_written unit.context ++ main_written unit.main) in
-      let t = leads_through (each_written pragma_written unit.pragmas) behind ls [] l in
+      let behind : List Written = flat_map wl unit.packages ++ (flat_map clause_written unit.context ++ main_written unit.main) in
+      let t = leads_through (flat_map pragma_written unit.pragmas) behind ls [] l in
       let u = leads_through (packages_written (unit.packages, unit.context)) (main_written unit.main) t.middle []
-      (subst (λ (ws : List Written). Leads ws t.middle []) (sym (append_assoc (each_written wl unit.packages) (each_written clause_written unit.context) (main_written unit.main))) t.second) in
+      (subst (λ (ws : List Written). Leads ws t.middle []) (sym (append_assoc (flat_map wl unit.packages) (flat_map clause_written unit.context) (main_written unit.main))) t.second) in
       let rest_okay = second_true (list_all (pragma_fits left) unit.pragmas) (list_all fl unit.packages && main_fits left unit.main) o in
       rw (
         (pragmas_exact left).complete unit.pragmas ls t.middle tt (first_true (list_all (pragma_fits left) unit.pragmas) (list_all fl unit.packages && main_fits left unit.main) o) t.first (behind_pragmas unit.packages unit.context unit.main t.middle [] t.second),

@@ -29,7 +29,8 @@ use Rattle.ada_legality.specs.Types.{has_type, fits}
 use Rattle.ada_legality.specs.Calls.{formals_of_operation, named_parts, formal_names, parts_of_operation, formal_at, given_before, is_for_a_formal, is_misnamed, some_are_named, stray_actuals, some_are_misnamed, all_given, wrong_actuals, is_for, actual_from}
 use Rattle.ada_legality.specs.Reading.{Reading, asked_of, value_judged, fitted, actual_wanted, actual_if, actuals_fitted, actuals_numbered, actuals_judged}
 use Rattle.ada_legality.specs.ReadExpressions.{arguments_read, same_reading}
-use Rattle.ada_image.specs.BuiltExpressions.{Built, same_built, is_there, is_built_if_there, first_in, operation_built}
+use Rattle.ada_image.specs.BuiltExpressions.{Built, same_built, is_there, is_built_if_there, operation_built}
+use Rattle.ada_image.specs.Making.{first_given}
 use Rattle.image_laws.proofs.Images.Expressions.{argument_of, actuals-mapped}
 use Rattle.image_laws.specs.Clear.{Clear, has_values}
 use Rattle.image_laws.proofs.Forms.Nothing.{none-of, unless-none}
@@ -183,12 +184,12 @@ module _ {E : Type 0} (reading : E → Reading) (built : E → Built) (k : Known
           let v = fitted-values asking.ForActual (read_of e) t h (none-of _ _ (sym (ap (λ r. faults_in (actual_if k (one_formal name t omitted) r)) (read-from 0 name 0 xs ∙ ap (option_map read_of) q)) ∙ u)).0 well.typed in
           (λ o. well.built v, well.built v)
 
-  first-mapped : (name : List ℕ) (xs : List (Argument E)) → first_in same_built (actuals_for (name ∷ []) (map (argument_of built) xs)) ≡ option_map built (argument_from 0 name 0 xs)
+  first-mapped : (name : List ℕ) (xs : List (Argument E)) → first_given same_built (actuals_for (name ∷ []) (map (argument_of built) xs)) ≡ option_map built (argument_from 0 name 0 xs)
   unfolding actuals_for arguments_from
-  first-mapped name xs = ap (first_in same_built) (actuals-mapped built (name ∷ []) xs)
+  first-mapped name xs = ap (first_given same_built) (actuals-mapped built (name ∷ []) xs)
 
   abbrev first_built : List ℕ → List (Argument E) → Option Built
-  first_built name xs = first_in same_built (actuals_for (name ∷ []) (map (argument_of built) xs))
+  first_built name xs = first_given same_built (actuals_for (name ∷ []) (map (argument_of built) xs))
 
   module _ (clear : E → Clear) (law : (e : E) → ReadLaw (reading e) (clear e) (built e)) (place : Place) (is_span : Bool) (xs : List (Argument E)) (w : ArgumentsWell reading clear built law xs k) where
     -- of an actual that has to be there, and of one that may be

@@ -5,8 +5,9 @@ use Rattle.ada_tree.specs.declared.expressions.Expression.{Expression}
 use Rattle.ada_tree.specs.declared.statements.Assignment.{Assignment}
 use Rattle.ada_regions.specs.declared.types.AdaType.{AdaType}
 use Rattle.ada_regions.specs.declared.types.AdaType.TheVariants as types
-use Rattle.ada_image.specs.Layout.{is_array, is_kept, subtype_is}
+use Rattle.ada_image.specs.Layout.{is_kept, subtype_is}
 use Rattle.ada_regions.specs.Statics.{subtype_of_name}
+use Rattle.ada_regions.specs.TypeKinds.{is_array_type}
 use Rattle.ada_legality.specs.declared.reading.Asked.TheVariants as asking
 use Rattle.ada_legality.specs.declared.reading.Typed.{Typed}
 use Rattle.ada_legality.specs.declared.reading.Typed.TheVariants as typing
@@ -47,7 +48,7 @@ index-sound k (Some t) i c f = let p = and_parts _ _ c in expected_expressions_b
 
 target-sound : (k : Known) (a : Assignment) (i : Option Expression) → source_built a.value k.names ≡ true → target_index_clear (type_of_index_of k a.target) i k ≡ true
     → faults_in (found_if (value_found (type_of_index_of k a.target)) i k) ≡ [] → assigned_built a i k.names ≡ true
-target-sound k a None s c f = whole-sound (subtype_is is_kept (subtype_of_name k.names a.target)) (subtype_is is_array (subtype_of_name k.names a.target)) _ s
+target-sound k a None s c f = whole-sound (subtype_is is_kept (subtype_of_name k.names a.target)) (subtype_is is_array_type (subtype_of_name k.names a.target)) _ s
 target-sound k a (Some i) s c f = and_from _ _ (index-sound k (type_of_index_of k a.target) i c f) s
 
 pub read_assignments_built : ReadAssignmentsBuilt

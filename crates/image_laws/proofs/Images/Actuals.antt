@@ -27,10 +27,9 @@ use Rattle.ada_regions.specs.declared.types.Mode.TheVariants as mode
 use Rattle.ada_image.specs.declared.making.Within.{Within}
 use Rattle.ada_image.specs.Making.{◌>>=◌, pure, action_put}
 use Rattle.ada_image.specs.Layout.{is_thing, subtype_is}
-use Rattle.ada_image.specs.ImageOfExpressions.{expression_image, expression_made, object_named, thing_in, first_argument, actuals_for, index_made, variable_made, kind_named}
+use Rattle.ada_image.specs.ImageOfExpressions.{expression_image, expression_made, object_named, thing_in, first_argument, actuals_for, index_made, variable_made, kind_named, optional_value}
 use Rattle.ada_image.specs.ImageOfCalls.{call_of_form as image_call_of_form, FunctionCall, function_call, function_call_put, call_put, call_of_name, target_made, variable_in_form, variable_in, in_made, out_made, in_out_made, mode_made, thing_actual, actual_made, actuals_made, names_of, arguments_made, callee_of, value_or_none}
-use Rattle.ada_image.specs.ImageOfStatements.{condition_made}
-use Rattle.ada_image.specs.ImageOfProcedures.{is_in_time, moment_of, setting_with, setting_made, variable_of, optional_value}
+use Rattle.ada_image.specs.ImageOfProcedures.{is_in_time, moment_of, setting_with, setting_made, variable_of}
 use Rattle.ada_image.specs.ReadStatements.{same_next, same_callee, same_entry_owner, same_handler, value_stands_if, condition_stands, target_stands, variable_stands_in_form, variable_stands, variable_stands_if, mode_stands, thing_stands, actuals_stand, arguments_stand, call_stands, setting_stands}
 use Rattle.ada_image.specs.BuiltStatements.{value_there, value_if_there, variable_form_built, variable_built, variable_there, mode_built, actuals_built, arguments_built, call_of_form, call_in, call_built}
 use Rattle.image_laws.proofs.Images.Steps.{Step, step-pure, step-so, step-then, Put, action-step}
@@ -75,8 +74,8 @@ unfolding value_or_none
 value-step None within b = absurd (false≢true b)
 value-step (Some e) within b = expression-step e within b
 
-pub condition-step : (e : Option Expression) (within : Within) → value_if_there e within.names ≡ true → Step (condition_made within e) (λ p x. condition_stands p within e x ≡ true)
-unfolding condition_made
+pub condition-step : (e : Option Expression) (within : Within) → value_if_there e within.names ≡ true → Step (optional_value within e) (λ p x. condition_stands p within e x ≡ true)
+unfolding optional_value
 condition-step None within b = step-pure None _ (λ p. refl)
 condition-step (Some e) within b = step-then (expression_made e within) (λ x. pure (Some x)) (expression-step e within b) (λ x. step-pure (Some x) _ (λ p h. h))
 

@@ -31,11 +31,11 @@ use Rattle.ada_regions.specs.Words.{and_then}
 use Rattle.ada_regions.specs.PredefinedUnits.{names_of_formals}
 use Rattle.ada_regions.specs.Names.{denoted_by, kind_at, entity_of}
 use Rattle.ada_image.specs.declared.making.Within.{Within}
-use Rattle.ada_image.specs.Making.{Making, ◌>>=◌, action_put}
-use Rattle.ada_image.specs.ImageOfExpressions.{actuals_for, kind_named}
+use Rattle.ada_image.specs.Making.{Making, ◌>>=◌, action_put, first_given}
+use Rattle.ada_image.specs.ImageOfExpressions.{actuals_for, kind_named, optional_value}
 use Rattle.ada_image.specs.ImageOfCalls.{function_call_put, entry_call_put, arguments_made, owner_of_entry, value_or_none, pieces_made, put_line_put, not_built}
 use Rattle.ada_image.specs.ImageOfStatements.{unit_of_kind, no_unit, unit_of_entry}
-use Rattle.ada_image.specs.ImageOfProcedures.{first_of, second_of, third_of, thing_of, moment_of, variable_of, optional_value, handler_of, setting_made, set_event_put, set_timer_put, cancel_put, budget_put, task_put, values_put, procedure_with, procedure_put}
+use Rattle.ada_image.specs.ImageOfProcedures.{second_of, third_of, thing_of, moment_of, variable_of, handler_of, setting_made, set_event_put, set_timer_put, cancel_put, budget_put, task_put, values_put, procedure_with, procedure_put}
 use Rattle.ada_image.specs.CallStatements.{entity_call_put, item_call_put, denoted_call_put, signs_in_actuals, call_statement_put}
 use Rattle.ada_image.specs.ReadStatements.{same_entry_owner, goes_nowhere, value_stands_if, variable_stands_if, condition_stands, setting_stands, thing_is, handler_is, procedure_stands, entry_call_stands, is_call_of_main, entity_call_stands, item_call_stands, call_of_name_stands, call_statement_stands}
 use Rattle.ada_image.specs.BuiltStatements.{value_there, value_if_there, variable_there, arguments_built, text_built, procedure_built, entity_call_built, item_call_built, denoted_call_built, call_statement_built}
@@ -57,7 +57,7 @@ module _ (within : Within) (signs : ℕ) (next : Option StatementNo) where
   handler-same : (e : Option Expression) (p : Image) → handler_is p within e (handler_of within e) ≡ true
   handler-same e p = same-handler (handler_of within e)
 
-  line-step : (xs : List (Argument Expression)) (es : List (Option Expression)) → text_built (first_of es) within.names ≡ true → Stand (λ p. procedure_stands p within operations.PutLine xs es) (put_line_put within es signs next)
+  line-step : (xs : List (Argument Expression)) (es : List (Option Expression)) → text_built (first_given es) within.names ≡ true → Stand (λ p. procedure_stands p within operations.PutLine xs es) (put_line_put within es signs next)
   unfolding put_line_put
   line-step xs [] b = absurd (false≢true b)
   line-step xs (e ∷ es) b =
@@ -66,45 +66,45 @@ module _ (within : Within) (signs : ℕ) (next : Option StatementNo) where
 
   -- a timing event or a timer is set
   set-step : (f : DeclNo → Setting → Option HandlerName → StatementForm) (test : Image → StatementForm → Bool) (xs : List (Argument Expression)) (es : List (Option Expression))
-      → ((p : Image) (d : DeclNo) (s : Setting) (h : Option HandlerName) → test p (f d s h) ≡ (thing_is p within (first_of es) d && (setting_stands p within xs s && handler_is p within (third_of es) h)))
-      → value_there (moment_of xs) within.names ≡ true → Stand test (setting_made within xs >>= (λ s. action_put (f (thing_of within (first_of es)) s (handler_of within (third_of es))) signs next))
+      → ((p : Image) (d : DeclNo) (s : Setting) (h : Option HandlerName) → test p (f d s h) ≡ (thing_is p within (first_given es) d && (setting_stands p within xs s && handler_is p within (third_of es) h)))
+      → value_there (moment_of xs) within.names ≡ true → Stand test (setting_made within xs >>= (λ s. action_put (f (thing_of within (first_given es)) s (handler_of within (third_of es))) signs next))
   set-step f test xs es same b =
-      step-then (setting_made within xs) (λ s. action_put (f (thing_of within (first_of es)) s (handler_of within (third_of es))) signs next) (setting-step xs within b)
-      (λ s. step-so (λ p r h k. stood (test p) h (same p _ _ _ ∙ and_from _ _ (thing-same (first_of es) p) (and_from _ _ k (handler-same (third_of es) p)))) (action-step (f (thing_of within (first_of es)) s (handler_of within (third_of es))) signs next))
+      step-then (setting_made within xs) (λ s. action_put (f (thing_of within (first_given es)) s (handler_of within (third_of es))) signs next) (setting-step xs within b)
+      (λ s. step-so (λ p r h k. stood (test p) h (same p _ _ _ ∙ and_from _ _ (thing-same (first_given es) p) (and_from _ _ k (handler-same (third_of es) p)))) (action-step (f (thing_of within (first_given es)) s (handler_of within (third_of es))) signs next))
 
   cancel-step : (f : DeclNo → VariableName → StatementForm) (test : Image → StatementForm → Bool) (es : List (Option Expression))
-      → ((p : Image) (d : DeclNo) (v : VariableName) → test p (f d v) ≡ (thing_is p within (first_of es) d && variable_stands_if p within (second_of es) v))
+      → ((p : Image) (d : DeclNo) (v : VariableName) → test p (f d v) ≡ (thing_is p within (first_given es) d && variable_stands_if p within (second_of es) v))
       → variable_there (second_of es) within.names ≡ true → Stand test (cancel_put f within es signs next)
   unfolding cancel_put
   cancel-step f test es same b =
-      step-then (variable_of within (second_of es)) (λ v. action_put (f (thing_of within (first_of es)) v) signs next) (variable-there (second_of es) within b)
-      (λ v. step-so (λ p r h k. stood (test p) h (same p _ _ ∙ and_from _ _ (thing-same (first_of es) p) k)) (action-step (f (thing_of within (first_of es)) v) signs next))
+      step-then (variable_of within (second_of es)) (λ v. action_put (f (thing_of within (first_given es)) v) signs next) (variable-there (second_of es) within b)
+      (λ v. step-so (λ p r h k. stood (test p) h (same p _ _ ∙ and_from _ _ (thing-same (first_given es) p) k)) (action-step (f (thing_of within (first_given es)) v) signs next))
 
   budget-step : (f : DeclNo → ExprNo → StatementForm) (test : Image → StatementForm → Bool) (es : List (Option Expression))
-      → ((p : Image) (d : DeclNo) (e : ExprNo) → test p (f d e) ≡ (thing_is p within (first_of es) d && value_stands_if p within (second_of es) e))
+      → ((p : Image) (d : DeclNo) (e : ExprNo) → test p (f d e) ≡ (thing_is p within (first_given es) d && value_stands_if p within (second_of es) e))
       → value_there (second_of es) within.names ≡ true → Stand test (budget_put f within es signs next)
   unfolding budget_put
   budget-step f test es same b =
-      step-then (value_or_none within (second_of es)) (λ e. action_put (f (thing_of within (first_of es)) e) signs next) (value-step (second_of es) within b)
-      (λ e. step-so (λ p r h k. stood (test p) h (same p _ _ ∙ and_from _ _ (thing-same (first_of es) p) k)) (action-step (f (thing_of within (first_of es)) e) signs next))
+      step-then (value_or_none within (second_of es)) (λ e. action_put (f (thing_of within (first_given es)) e) signs next) (value-step (second_of es) within b)
+      (λ e. step-so (λ p r h k. stood (test p) h (same p _ _ ∙ and_from _ _ (thing-same (first_given es) p) k)) (action-step (f (thing_of within (first_given es)) e) signs next))
 
   task-step : (f : ExprNo → Option ExprNo → StatementForm) (test : Image → StatementForm → Bool) (es : List (Option Expression))
-      → ((p : Image) (e : ExprNo) (t : Option ExprNo) → test p (f e t) ≡ (value_stands_if p within (first_of es) e && condition_stands p within (second_of es) t))
-      → (value_there (first_of es) within.names && value_if_there (second_of es) within.names) ≡ true → Stand test (task_put f within es signs next)
+      → ((p : Image) (e : ExprNo) (t : Option ExprNo) → test p (f e t) ≡ (value_stands_if p within (first_given es) e && condition_stands p within (second_of es) t))
+      → (value_there (first_given es) within.names && value_if_there (second_of es) within.names) ≡ true → Stand test (task_put f within es signs next)
   unfolding task_put
   task-step f test es same b =
       let parts = and_parts _ _ b in
-      step-then (value_or_none within (first_of es)) (λ e. optional_value within (second_of es) >>= (λ t. action_put (f e t) signs next)) (value-step (first_of es) within parts.0)
+      step-then (value_or_none within (first_given es)) (λ e. optional_value within (second_of es) >>= (λ t. action_put (f e t) signs next)) (value-step (first_given es) within parts.0)
       (λ e. step-then (optional_value within (second_of es)) (λ t. action_put (f e t) signs next) (optional-step (second_of es) within parts.1)
       (λ t. step-so (λ p r h k l. stood (test p) h (same p _ _ ∙ and_from _ _ l k)) (action-step (f e t) signs next)))
 
   values-step : (f : ExprNo → ExprNo → StatementForm) (test : Image → StatementForm → Bool) (es : List (Option Expression))
-      → ((p : Image) (a b : ExprNo) → test p (f a b) ≡ (value_stands_if p within (first_of es) a && value_stands_if p within (second_of es) b))
-      → (value_there (first_of es) within.names && value_there (second_of es) within.names) ≡ true → Stand test (values_put f within es signs next)
+      → ((p : Image) (a b : ExprNo) → test p (f a b) ≡ (value_stands_if p within (first_given es) a && value_stands_if p within (second_of es) b))
+      → (value_there (first_given es) within.names && value_there (second_of es) within.names) ≡ true → Stand test (values_put f within es signs next)
   unfolding values_put
   values-step f test es same b =
       let parts = and_parts _ _ b in
-      step-then (value_or_none within (first_of es)) (λ x. value_or_none within (second_of es) >>= (λ y. action_put (f x y) signs next)) (value-step (first_of es) within parts.0)
+      step-then (value_or_none within (first_given es)) (λ x. value_or_none within (second_of es) >>= (λ y. action_put (f x y) signs next)) (value-step (first_given es) within parts.0)
       (λ x. step-then (value_or_none within (second_of es)) (λ y. action_put (f x y) signs next) (value-step (second_of es) within parts.1)
       (λ y. step-so (λ p r h k l. stood (test p) h (same p _ _ ∙ and_from _ _ l k)) (action-step (f x y) signs next)))
 
@@ -135,8 +135,8 @@ module _ (within : Within) (signs : ℕ) (next : Option StatementNo) where
   procedure-step operations.BudgetHasExpired xs es b = absurd (false≢true b)
   procedure-step operations.BudgetRemaining xs es b = absurd (false≢true b)
   procedure-step operations.SetBudget xs es b =
-      step-so (λ p r h. stood (procedure_stands p within operations.SetBudget xs es) h (and_from _ _ (thing-same (first_of es) p) (handler-same (second_of es) p)))
-      (action-step (action.SetBudget (thing_of within (first_of es)) (handler_of within (second_of es))) signs next)
+      step-so (λ p r h. stood (procedure_stands p within operations.SetBudget xs es) h (and_from _ _ (thing-same (first_given es) p) (handler-same (second_of es) p)))
+      (action-step (action.SetBudget (thing_of within (first_given es)) (handler_of within (second_of es))) signs next)
   procedure-step operations.CancelBudget xs es b = cancel-step action.CancelBudget (λ p. procedure_stands p within operations.CancelBudget xs es) es (λ p d v. refl) b
   procedure-step operations.SetPriority xs es b = task-step action.SetPriority (λ p. procedure_stands p within operations.SetPriority xs es) es (λ p e t. refl) b
   procedure-step operations.GetPriority xs es b = absurd (false≢true b)

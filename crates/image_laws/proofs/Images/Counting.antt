@@ -40,9 +40,9 @@ use Rattle.ada_image.specs.declared.making.SequencePlace.{SequencePlace}
 use Rattle.ada_image.specs.declared.making.SequencePlace.TheVariants as sequence_place
 use Rattle.ada_image.specs.Making.{Making, ◌>>=◌, ◌>>◌, pure, action_put, reserved, put_at, first_put, the_action, in_loop, in_construct, in_scope, in_handler}
 use Rattle.ada_image.specs.Layout.{scope_no}
-use Rattle.ada_image.specs.ImageOfExpressions.{expression_made, signs_in}
+use Rattle.ada_image.specs.ImageOfExpressions.{expression_made, signs_in, optional_value}
 use Rattle.ada_image.specs.CallStatements.{call_statement_put}
-use Rattle.ada_image.specs.ImageOfStatements.{SequenceMaking, scope_at, choices_made, handled_made, entry_at, delay_put, condition_made, guard_of, inside, inside_if, branch_put, elsifs_put, if_put, alternatives_put, case_put, label_of, loop_body, forever_put, while_put, parameter_of, for_put, iteration_put, loop_put, block_put, handlers_put, accept_body_put, accept_put, alternative_put, select_alternative_put, select_alternatives_put, else_put, selective_accept_put, call_before, delay_before, timed_call_put, conditional_call_put, trigger_put, asynchronous_put, select_put, statement_put, statements_put}
+use Rattle.ada_image.specs.ImageOfStatements.{SequenceMaking, scope_at, choices_made, handled_made, entry_at, delay_put, guard_of, inside, inside_if, branch_put, elsifs_put, if_put, alternatives_put, case_put, label_of, loop_body, forever_put, while_put, parameter_of, for_put, iteration_put, loop_put, block_put, handlers_put, accept_body_put, accept_put, alternative_put, select_alternative_put, select_alternatives_put, else_put, selective_accept_put, call_before, delay_before, timed_call_put, conditional_call_put, trigger_put, asynchronous_put, select_put, statement_put, statements_put}
 use Rattle.ada_image.specs.ImageOfDeclarations.{same_making, sequence_put}
 use Rattle.image_laws.specs.ActionsOfText.{Actions, actions_if, elsifs_actions, case_actions, handlers_actions, turns_actions, accept_actions, alternative_actions, alternatives_actions, statement_actions, statements_actions, same_actions, sequence_actions}
 use Rattle.image_laws.proofs.Images.Keeping.{Adds, Keeps, no-more, keeps-pure, keeps-then, action-keeps, expression-keeps, condition-keeps, call-statement-keeps, assignment-keeps, delay-keeps, return-keeps, raise-keeps, exit-keeps, abort-keeps, requeue-keeps}
@@ -327,7 +327,7 @@ module _ {E : Type 0} (g : E → Sequence) (law : (e : E) → CountsLaw (sequenc
   unfolding select_alternatives_put select_alternative_put
   alternatives-count [] next within = counts-pure _
   alternatives-count (x ∷ xs) next within =
-      counts-behind (condition_made within (guard_of x.guard))
+      counts-behind (optional_value within (guard_of x.guard))
       (λ guard. alternative_put same_making within (mapped_alternative sequence_put (mapped_alternative g x)).alternative next >>= (λ kind. select_alternatives_put same_making within (alternatives_made xs) next >>= (λ others. pure (record { guard = guard; kind = kind } ∷ others))))
       (alternatives_opened xs within + alternative_opened x within) (counts-of (condition-keeps within (guard_of x.guard)))
       (λ guard. counts-then (alternative_put same_making within (mapped_alternative sequence_put (mapped_alternative g x)).alternative next)

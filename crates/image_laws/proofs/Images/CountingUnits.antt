@@ -1,5 +1,6 @@
 -- Sequences, packages and whole sources have as many actions as their texts.
 use Rattle.std.proofs.Common.{◌≡◌, ℕ, ◌+◌, Bool, false, not, ◌&&◌, List, [], ◌∷◌, ◌++◌, map, Option, Some, None, refl, sym, subst, ◌∙◌}
+use Rattle.std.specs.Bool.{then_some}
 use Rattle.std.specs.Prelude.{unwrap_or}
 use Rattle.std.specs.List.{list_any}
 use Rattle.ada_tree.specs.declared.declarations.Declaration.{Declaration}
@@ -22,7 +23,7 @@ use Rattle.ada_image.specs.declared.making.SequencePlace.{SequencePlace}
 use Rattle.ada_image.specs.declared.making.SequencePlace.TheVariants as sequence_place
 use Rattle.ada_image.specs.Making.{◌>>=◌, ◌>>◌, action_put, put_at, first_put, the_action, in_construct}
 use Rattle.ada_image.specs.ImageOfStatements.{SequenceMaking, statements_put, handlers_put}
-use Rattle.ada_image.specs.ImageOfDeclarations.{same_making, sequence_put, making_layer, kind_declared, subtype_declared_as, object_makes_task, makes_task, declarations_put, make_tasks, part_if, activation_put, end_of_activation_put, inner_bodies_put, body_put, unhandled_put, with_handlers_put, handled_put, whole_put, parts_put}
+use Rattle.ada_image.specs.ImageOfDeclarations.{same_making, sequence_put, making_layer, kind_declared, subtype_declared_as, object_makes_task, makes_task, declarations_put, make_tasks, activation_put, end_of_activation_put, inner_bodies_put, body_put, unhandled_put, with_handlers_put, handled_put, whole_put, parts_put}
 use Rattle.ada_image.specs.ImageOfUnits.{outermost, has_body, part_of, package_part, package_declaration_put, package_statements_put, package_body_put, package_put, packages_put, actions_made}
 use Rattle.image_laws.specs.ActionsOfText.{Actions, one_if, activation_actions, declaration_actions, declarations_actions, handlers_actions, statements_actions, unhandled_actions, handled_actions, bodies_actions, parts_actions, same_actions, actions_layer, sequence_actions, package_statements_actions, package_actions, packages_actions, actions_of}
 use Rattle.image_laws.proofs.Images.Keeping.{action-keeps, declarations-keep, activation-keeps, end-keeps}
@@ -122,7 +123,7 @@ module _ {E : Type 0} (g : E → Sequence) (law : (e : E) → CountsLaw (sequenc
   -- ---- all of a body
 
   abbrev handled_of : Bool → SequenceParts E → Within → ℕ
-  handled_of tasks s within = handled_actions same_actions (part_if tasks 0) (counted s) (counted s).handlers within.names
+  handled_of tasks s within = handled_actions same_actions (then_some tasks 0) (counted s) (counted s).handlers within.names
 
   abbrev bodies_of : SequenceParts E → Within → ℕ
   bodies_of s within = bodies_actions same_actions (counted s).declarations within.names
@@ -131,7 +132,7 @@ module _ {E : Type 0} (g : E → Sequence) (law : (e : E) → CountsLaw (sequenc
       → Counts (whole_put same_making within is_task_body (made s)) (declarations_actions (made s).declarations within.names + one_if is_task_body + handled_of (make_tasks within (made s).declarations) s within + bodies_of s within)
   unfolding whole_put
   whole-made s is_task_body within =
-      let part = part_if (make_tasks within (made s).declarations) 0 in
+      let part = then_some (make_tasks within (made s).declarations) 0 in
       let handled = handled_of (make_tasks within (made s).declarations) s within in
       let declared = declarations_actions (made s).declarations within.names in
       counts-then (inner_bodies_put same_making within (made s).declarations)
@@ -195,7 +196,7 @@ module _ (n : Names) where
   unfolding package_put package_declaration_put package_body_put
   package-counts all (packages.Declaration x) next =
       let ds = x.declarations ++ unwrap_or x.private [] in
-      let part = part_if (not (has_body all x.name.text) && make_tasks (outermost n) ds) (part_of all x.name.text) in
+      let part = then_some (not (has_body all x.name.text) && make_tasks (outermost n) ds) (part_of all x.name.text) in
       counts-then (inner_bodies_put sequence_put (outermost n) ds) (λ u. activation_put part next >>= (λ first. declarations_put (outermost n) (part_of all x.name.text) ds first))
       (bodies_actions sequence_actions ds n) (declarations_actions ds n + activation_actions part) (inners-count sequence_put sequence_actions sequence-counts ds (outermost n))
       (λ u. counts-then (activation_put part next) (λ first. declarations_put (outermost n) (part_of all x.name.text) ds first) (activation_actions part) (declarations_actions ds n) (counts-of (activation-keeps part next))

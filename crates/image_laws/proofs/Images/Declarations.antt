@@ -15,12 +15,13 @@ use Rattle.profile_machine.specs.declared.statements.StatementForm.TheVariants a
 use Rattle.profile_machine.specs.Program.{next_of}
 use Rattle.ada_regions.specs.declared.types.Subtype.{Subtype}
 use Rattle.ada_regions.specs.Words.{all_of}
+use Rattle.ada_regions.specs.TypeKinds.{is_task_type, is_controlled_type}
 use Rattle.ada_image.specs.declared.making.Within.{Within}
 use Rattle.ada_image.specs.Making.{action_put}
 use Rattle.ada_image.specs.Layout.{subtype_is}
 use Rattle.ada_image.specs.ImageOfExpressions.{signs_if}
 use Rattle.ada_image.specs.ImageOfCalls.{FunctionCall}
-use Rattle.ada_image.specs.ImageOfDeclarations.{is_task, is_controlled, number_declared, subtype_declared_as, signs_of_object, initialize_if, function_call_if, object_declaration_put, object_elaborated, object_put, objects_put, single_put, declaration_put, declarations_put, makes_task, make_tasks, activation_put, end_of_activation_put}
+use Rattle.ada_image.specs.ImageOfDeclarations.{number_declared, subtype_declared_as, signs_of_object, initialize_if, function_call_if, object_declaration_put, object_elaborated, object_put, objects_put, single_put, declaration_put, declarations_put, makes_task, make_tasks, activation_put, end_of_activation_put}
 use Rattle.ada_image.specs.ReadStatements.{is_declared}
 use Rattle.ada_image.specs.NothingLost.{and_behind, is_create, is_initialize, is_declare, is_activate, is_end_of_activation, one_action, action_if, declares, object_read, objects_read, single_read, declaration_read, declarations_read, activation_read}
 use Rattle.ada_image.specs.BuiltExpressions.{Built}
@@ -59,17 +60,17 @@ call-if_built (Some e) within b = ap (λ c. call_if_built c within.names) (sym (
 
 elaborated-step : (i : Identifier) (initial : Option Expression) (next : Option StatementNo) (within : Within) → initial_built initial within.names ≡ true
     → Step (object_elaborated within (number_declared within i) (subtype_declared_as within i) initial next)
-    (λ p x. and_behind (one_action p (declares p within (number_declared within i) (function_call_if within initial)) x) (action_if p (subtype_is is_controlled (subtype_declared_as within i)) (is_initialize (number_declared within i))) ≡ Some next)
+    (λ p x. and_behind (one_action p (declares p within (number_declared within i) (function_call_if within initial)) x) (action_if p (subtype_is is_controlled_type (subtype_declared_as within i)) (is_initialize (number_declared within i))) ≡ Some next)
 unfolding object_elaborated
 elaborated-step i initial next within b =
     let d = number_declared within i in let s = subtype_declared_as within i in
-    step-then (initialize_if (subtype_is is_controlled s) d next) (λ behind. object_declaration_put within d s (function_call_if within initial) (signs_if within initial) behind) (initialize-step (subtype_is is_controlled s) d next)
-    (λ behind. step-so (λ p x h k. ap (λ z. and_behind z (action_if p (subtype_is is_controlled s) (is_initialize d))) h ∙ k) (declare-step d s (function_call_if within initial) (signs_if within initial) behind within (call-if_built initial within b)))
+    step-then (initialize_if (subtype_is is_controlled_type s) d next) (λ behind. object_declaration_put within d s (function_call_if within initial) (signs_if within initial) behind) (initialize-step (subtype_is is_controlled_type s) d next)
+    (λ behind. step-so (λ p x h k. ap (λ z. and_behind z (action_if p (subtype_is is_controlled_type s) (is_initialize d))) h ∙ k) (declare-step d s (function_call_if within initial) (signs_if within initial) behind within (call-if_built initial within b)))
 
 object-chosen : (task : Bool) (part : ℕ) (i : Identifier) (initial : Option Expression) (next : Option StatementNo) (within : Within) → initial_built initial within.names ≡ true
     → Step (cond task (action_put (action.CreateTask (number_declared within i) part) 0 next) (object_elaborated within (number_declared within i) (subtype_declared_as within i) initial next))
     (λ p x. cond task (one_action p (is_create (number_declared within i) part) x)
-    (and_behind (one_action p (declares p within (number_declared within i) (function_call_if within initial)) x) (action_if p (subtype_is is_controlled (subtype_declared_as within i)) (is_initialize (number_declared within i)))) ≡ Some next)
+    (and_behind (one_action p (declares p within (number_declared within i) (function_call_if within initial)) x) (action_if p (subtype_is is_controlled_type (subtype_declared_as within i)) (is_initialize (number_declared within i)))) ≡ Some next)
 object-chosen true part i initial next within b =
     one-step (action.CreateTask (number_declared within i) part) (is_create (number_declared within i) part) 0 next (and_from _ _ (same-number (number_declared within i).0) (same-number part))
 object-chosen false part i initial next within b = elaborated-step i initial next within b
@@ -77,7 +78,7 @@ object-chosen false part i initial next within b = elaborated-step i initial nex
 object-step : (part : ℕ) (i : Identifier) (initial : Option Expression) (next : Option StatementNo) (within : Within) → initial_built initial within.names ≡ true
     → Step (object_put within part initial i next) (λ p x. object_read p within part initial i x ≡ Some next)
 unfolding object_put
-object-step part i initial next within b = object-chosen (subtype_is is_task (subtype_declared_as within i)) part i initial next within b
+object-step part i initial next within b = object-chosen (subtype_is is_task_type (subtype_declared_as within i)) part i initial next within b
 
 objects-step : (part : ℕ) (is : List Identifier) (initial : Option Expression) (next : Option StatementNo) (within : Within) → initial_built initial within.names ≡ true
     → Step (objects_put within part initial is next) (λ p x. objects_read p within part initial is x ≡ Some next)

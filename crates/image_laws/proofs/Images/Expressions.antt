@@ -25,6 +25,7 @@ use Rattle.profile_machine.specs.declared.expressions.Expression.{Expression as 
 use Rattle.profile_machine.specs.declared.expressions.Expression.TheVariants as valuation
 use Rattle.profile_machine.specs.declared.expressions.UnaryOperator.TheVariants as unary
 use Rattle.profile_machine.specs.declared.expressions.BinaryOperator.{BinaryOperator}
+use Rattle.profile_machine.specs.Words.{same_number, same_bool}
 use Rattle.ada_regions.specs.declared.predefined.Operation.{Operation}
 use Rattle.ada_regions.specs.declared.predefined.Operation.TheVariants as operations
 use Rattle.ada_regions.specs.declared.predefined.Predefined.{Predefined}
@@ -39,11 +40,11 @@ use Rattle.ada_regions.specs.Statics.{literal_value, negated, micros_of}
 use Rattle.ada_lex.specs.Meaning.{whole_of, decimals_of}
 use Rattle.ann_base.specs.Lists.{is_empty}
 use Rattle.ada_image.specs.declared.making.Within.{Within}
-use Rattle.ada_image.specs.Making.{value_put}
+use Rattle.ada_image.specs.Making.{value_put, first_given}
 use Rattle.ada_image.specs.Layout.{is_thing, subtype_is}
-use Rattle.ada_image.specs.ImageOfExpressions.{expression_image, expression_made, ExpressionImage, logical_operator, relational_operator, adding_operator, multiplying_operator, highest_operator, no_value, no_declaration_no, object_named, thing_in, index_made, variable_made, variable_put, object_made, entity_made, argument_from, arguments_from, actuals_for, first_argument, first_actual, images_for, image_or_none, optional_made, span_made, same_ticks_made, of_task_made, port_made, name_in, of_thing_made, function_made, item_made, index_in, denoted_made, named_made, signed_made, binary_put, operands_made, addends_made, factors_made, logical_made, relational_made, adding_made, multiplying_made, form_image, same_image}
-use Rattle.ada_image.specs.ReadExpressions.{expression_reading, expression_stands, same_decl, same_truth, ExpressionReading, Standing, same_whole, is_value, is_binary, is_variable_at, is_thing_at, entity_stands, actual_stands, optional_stands, actual_thing, function_stands, first_of_actuals, item_stands, index_of, denoted_stands, named_stands, operands_stand, addends_stand, factors_stand, signed_stands, form_reading, same_reading, at_number}
-use Rattle.ada_image.specs.BuiltExpressions.{expression_built, Built, is_there, is_built_if_there, first_in, entity_built, operation_built, item_built, denoted_built, named_built, operands_built, addends_built, factors_built, form_built, same_built}
+use Rattle.ada_image.specs.ImageOfExpressions.{expression_image, expression_made, ExpressionImage, logical_operator, relational_operator, adding_operator, multiplying_operator, highest_operator, no_value, no_declaration_no, object_named, thing_in, index_made, variable_made, variable_put, object_made, entity_made, argument_from, arguments_from, actuals_for, first_argument, images_for, image_or_none, optional_made, span_made, same_ticks_made, of_task_made, port_made, name_in, of_thing_made, function_made, item_made, index_in, denoted_made, named_made, signed_made, binary_put, operands_made, addends_made, factors_made, logical_made, relational_made, adding_made, multiplying_made, form_image, same_image}
+use Rattle.ada_image.specs.ReadExpressions.{expression_reading, expression_stands, same_decl, ExpressionReading, Standing, is_value, is_binary, is_variable_at, is_thing_at, entity_stands, actual_stands, optional_stands, actual_thing, function_stands, first_of_actuals, item_stands, index_of, denoted_stands, named_stands, operands_stand, addends_stand, factors_stand, signed_stands, form_reading, same_reading, at_number}
+use Rattle.ada_image.specs.BuiltExpressions.{expression_built, Built, is_there, is_built_if_there, entity_built, operation_built, item_built, denoted_built, named_built, operands_built, addends_built, factors_built, form_built, same_built}
 use Rattle.image_laws.proofs.Images.Steps.{Step, step-pure, step-so, step-then, IsAt, value-step}
 use Rattle.image_laws.proofs.Images.Values.{same-number, same-object, known-step, unary-step, binary-step, thing-step, attribute-step}
 
@@ -95,11 +96,11 @@ least : (n : ℤ) → int_le n n ≡ true
 least (pos n) = le-leb n n (omega arith)
 least (negsuc n) = le-leb n n (omega arith)
 
-pub same-truth : (b : Bool) → same_truth b b ≡ true
+pub same-truth : (b : Bool) → same_bool b b ≡ true
 same-truth true = refl
 same-truth false = refl
 
-pub same-whole : (n : ℤ) → same_whole n n ≡ true
+pub same-whole : (n : ℤ) → same_number n n ≡ true
 same-whole n = and_from _ _ (least n) (least n)
 
 None≢Some : {X : Type 0} {x : X} → None ≡ Some x → ⊥
@@ -208,8 +209,8 @@ module _ {E : Type 0} (image : E → ExpressionImage) (reading : Image → E →
   builts es = map (option_map built) es
 
   -- of an actual that has to be there
-  actual-step : (f : ExprNo → Valuation) (es : List (Option E)) (within : Within) → is_there same_built (first_in same_built (builts es)) within.names ≡ true
-      → Step (λ l. value_put (f (image_or_none (first_actual (images es)) within l).1) (image_or_none (first_actual (images es)) within l).0)
+  actual-step : (f : ExprNo → Valuation) (es : List (Option E)) (within : Within) → is_there same_built (first_given same_built (builts es)) within.names ≡ true
+      → Step (λ l. value_put (f (image_or_none (first_given (images es)) within l).1) (image_or_none (first_given (images es)) within l).0)
       (λ p e. (x : ExprNo) × IsAt (f x) p e × (actual_stands p (actual_read p es) within x ≡ true))
   unfolding image_or_none
   actual-step f [] within b = absurd (false≢true b)
@@ -217,36 +218,36 @@ module _ {E : Type 0} (image : E → ExpressionImage) (reading : Image → E →
   actual-step f (Some e ∷ es) within b = step-then ((image e).made within) (λ x. value_put (f x)) ((law e).stands within b) (λ x. step-so (λ p y h r. (x, h, r)) (value-step (f x)))
 
   -- of one that may be there
-  optional-step : (f : Option ExprNo → Valuation) (es : List (Option E)) (within : Within) → is_built_if_there same_built (first_in same_built (builts es)) within.names ≡ true
-      → Step (of_task_made f (first_actual (images es)) within) (λ p e. (x : Option ExprNo) × IsAt (f x) p e × (optional_stands p (actual_read p es) within x ≡ true))
+  optional-step : (f : Option ExprNo → Valuation) (es : List (Option E)) (within : Within) → is_built_if_there same_built (first_given same_built (builts es)) within.names ≡ true
+      → Step (of_task_made f (first_given (images es)) within) (λ p e. (x : Option ExprNo) × IsAt (f x) p e × (optional_stands p (actual_read p es) within x ≡ true))
   unfolding of_task_made optional_made
   optional-step f [] within b = step-so (λ p y h. (None, h, refl)) (value-step (f None))
   optional-step f (None ∷ es) within b = step-so (λ p y h. (None, h, refl)) (value-step (f None))
   optional-step f (Some e ∷ es) within b = step-then ((image e).made within) (λ x. value_put (f (Some x))) ((law e).stands within b) (λ x. step-so (λ p y h r. (Some x, h, r)) (value-step (f (Some x))))
 
-  thing-same : (es : List (Option E)) (within : Within) (p : Image) → actual_thing p within (actual_read p es) ≡ thing_in within (name_in (first_actual (images es)))
+  thing-same : (es : List (Option E)) (within : Within) (p : Image) → actual_thing p within (actual_read p es) ≡ thing_in within (name_in (first_given (images es)))
   thing-same [] within p = refl
   thing-same (None ∷ es) within p = refl
   thing-same (Some e ∷ es) within p = ap (thing_in within) ((law e).name p)
 
-  thing-function : (f : DeclNo → Valuation) (es : List (Option E)) (within : Within) → Step (of_thing_made f (first_actual (images es)) within) (IsAt (f (thing_in within (name_in (first_actual (images es))))))
+  thing-function : (f : DeclNo → Valuation) (es : List (Option E)) (within : Within) → Step (of_thing_made f (first_given (images es)) within) (IsAt (f (thing_in within (name_in (first_given (images es))))))
   unfolding of_thing_made
-  thing-function f es within = value-step (f (thing_in within (name_in (first_actual (images es)))))
+  thing-function f es within = value-step (f (thing_in within (name_in (first_given (images es)))))
 
   abbrev FunctionStep : Operation → Type 0
   FunctionStep o = (es : List (Option E)) (within : Within) → operation_built same_built o (builts es) within.names ≡ true
       → Step (function_made o (images es) within) (λ p e. function_stands p o (actual_read p es) within (at_number p e) ≡ true)
 
   thing-stands : (o : Operation) (f : DeclNo → Valuation) → ((p : Image) (within : Within) (e : Option ExpressionReading) (d : DeclNo) → function_stands p o e within (f d) ≡ same_decl d (actual_thing p within e))
-      → (es : List (Option E)) (within : Within) → Step (of_thing_made f (first_actual (images es)) within) (λ p e. function_stands p o (actual_read p es) within (at_number p e) ≡ true)
+      → (es : List (Option E)) (within : Within) → Step (of_thing_made f (first_given (images es)) within) (λ p e. function_stands p o (actual_read p es) within (at_number p e) ≡ true)
   thing-stands o f same es within =
-      step-so (λ p e h. ap (function_stands p o (actual_read p es) within) h ∙ same p within (actual_read p es) (thing_in within (name_in (first_actual (images es))))
-      ∙ ap (same_decl (thing_in within (name_in (first_actual (images es))))) (thing-same es within p) ∙ same-number (thing_in within (name_in (first_actual (images es)))).0)
+      step-so (λ p e h. ap (function_stands p o (actual_read p es) within) h ∙ same p within (actual_read p es) (thing_in within (name_in (first_given (images es))))
+      ∙ ap (same_decl (thing_in within (name_in (first_given (images es))))) (thing-same es within p) ∙ same-number (thing_in within (name_in (first_given (images es)))).0)
       (thing-function f es within)
 
-  span-function : (o : Operation) (ticks : ℤ) → ((p : Image) (within : Within) (e : Option ExpressionReading) (x : ExprNo) → function_stands p o e within (valuation.Span ticks x) ≡ (same_whole ticks ticks && actual_stands p e within x))
-      → (es : List (Option E)) (within : Within) → is_there same_built (first_in same_built (builts es)) within.names ≡ true
-      → Step (span_made ticks (first_actual (images es)) within) (λ p e. function_stands p o (actual_read p es) within (at_number p e) ≡ true)
+  span-function : (o : Operation) (ticks : ℤ) → ((p : Image) (within : Within) (e : Option ExpressionReading) (x : ExprNo) → function_stands p o e within (valuation.Span ticks x) ≡ (same_number ticks ticks && actual_stands p e within x))
+      → (es : List (Option E)) (within : Within) → is_there same_built (first_given same_built (builts es)) within.names ≡ true
+      → Step (span_made ticks (first_given (images es)) within) (λ p e. function_stands p o (actual_read p es) within (at_number p e) ≡ true)
   unfolding span_made
   span-function o ticks same es within b =
       step-so (λ p e h. ap (function_stands p o (actual_read p es) within) h.1 ∙ same p within (actual_read p es) h.0 ∙ and_from _ _ (same-whole ticks) h.2) (actual-step (valuation.Span ticks) es within b)

@@ -36,9 +36,9 @@ use Rattle.ada_regions.specs.PredefinedUnits.{names_of_formals}
 use Rattle.ada_regions.specs.Names.{denoted_by, kind_at}
 use Rattle.ada_image.specs.declared.making.Lists.{Lists}
 use Rattle.ada_image.specs.declared.making.Within.{Within}
-use Rattle.ada_image.specs.Making.{Making, ◌>>=◌, pure, value_put}
+use Rattle.ada_image.specs.Making.{Making, ◌>>=◌, pure, value_put, first_given}
 use Rattle.ada_image.specs.Layout.{is_thing, subtype_is}
-use Rattle.ada_image.specs.ImageOfExpressions.{ExpressionImage, logical_operator, relational_operator, adding_operator, multiplying_operator, no_value, no_declaration_no, object_named, kind_named, index_made, variable_made, variable_put, object_made, entity_made, actuals_for, first_actual, images_for, image_or_none, optional_made, span_made, same_ticks_made, of_task_made, port_made, of_thing_made, function_made, item_made, index_in, denoted_made, named_made, unary_made, signed_made, count_of, count_made, attribute_made, binary_put, operands_made, addends_made, factors_made, logical_made, relational_made, adding_made, multiplying_made, form_image, same_image, image_layer, expression_image, expression_made}
+use Rattle.ada_image.specs.ImageOfExpressions.{ExpressionImage, logical_operator, relational_operator, adding_operator, multiplying_operator, no_value, no_declaration_no, object_named, kind_named, index_made, variable_made, variable_put, object_made, entity_made, actuals_for, images_for, image_or_none, optional_made, span_made, same_ticks_made, of_task_made, port_made, of_thing_made, function_made, item_made, index_in, denoted_made, named_made, unary_made, signed_made, count_of, count_made, attribute_made, binary_put, operands_made, addends_made, factors_made, logical_made, relational_made, adding_made, multiplying_made, form_image, same_image, image_layer, expression_image, expression_made}
 use Rattle.image_laws.proofs.Images.Steps.{Grown, grown-same, grown-then, value-step}
 use Rattle.image_laws.proofs.Images.Expressions.{operand_of, addend_of, multiplied_of, argument_of, mapped_form, actuals-mapped, mapped-twice}
 
@@ -150,13 +150,13 @@ module _ {E : Type 0} (image : E → ExpressionImage) (grows : (e : E) (within :
   abbrev images : List (Option E) → List (Option ExpressionImage)
   images es = images_for same_image (map (option_map image) es)
 
-  actual-grows : (f : ExprNo → Valuation) (es : List (Option E)) (within : Within) → Grows (image_or_none (first_actual (images es)) within >>= (λ x. value_put (f x)))
+  actual-grows : (f : ExprNo → Valuation) (es : List (Option E)) (within : Within) → Grows (image_or_none (first_given (images es)) within >>= (λ x. value_put (f x)))
   unfolding image_or_none
   actual-grows f [] within = grows-then no_value (λ x. value_put (f x)) (value-grows _) (λ x. value-grows _)
   actual-grows f (None ∷ es) within = grows-then no_value (λ x. value_put (f x)) (value-grows _) (λ x. value-grows _)
   actual-grows f (Some e ∷ es) within = grows-then ((image e).made within) (λ x. value_put (f x)) (grows e within) (λ x. value-grows _)
 
-  optional-grows : (f : Option ExprNo → Valuation) (es : List (Option E)) (within : Within) → Grows (of_task_made f (first_actual (images es)) within)
+  optional-grows : (f : Option ExprNo → Valuation) (es : List (Option E)) (within : Within) → Grows (of_task_made f (first_given (images es)) within)
   unfolding of_task_made optional_made
   optional-grows f [] within = value-grows (f None)
   optional-grows f (None ∷ es) within = value-grows (f None)

@@ -44,16 +44,17 @@ use Rattle.ada_regions.specs.Words.{all_of}
 use Rattle.ada_regions.specs.PredefinedUnits.{names_of_formals}
 use Rattle.ada_regions.specs.Names.{denoted_by, kind_at}
 use Rattle.ada_regions.specs.Statics.{subtype_of_name}
+use Rattle.ada_regions.specs.TypeKinds.{is_task_type, is_controlled_type, is_array_type}
 use Rattle.ada_image.specs.declared.making.Lists.{Lists}
 use Rattle.ada_image.specs.declared.making.Within.{Within}
-use Rattle.ada_image.specs.Making.{action as action_made, Making, ◌>>=◌, pure, value_put, action_put}
-use Rattle.ada_image.specs.Layout.{is_array, is_kept, is_thing, subtype_is}
-use Rattle.ada_image.specs.ImageOfExpressions.{expression_made, signs_in, signs_if, object_named, first_argument, actuals_for, index_made, variable_made}
+use Rattle.ada_image.specs.Making.{action as action_made, Making, ◌>>=◌, pure, value_put, action_put, first_given}
+use Rattle.ada_image.specs.Layout.{is_kept, is_thing, subtype_is}
+use Rattle.ada_image.specs.ImageOfExpressions.{expression_made, signs_in, signs_if, object_named, first_argument, actuals_for, index_made, variable_made, optional_value}
 use Rattle.ada_image.specs.ImageOfCalls.{FunctionCall, function_call, target_made, variable_in_form, variable_in, in_made, out_made, in_out_made, mode_made, thing_actual, actual_made, actuals_made, names_of, arguments_made, callee_of, owner_of_entry, call_put, entry_call_put, function_call_put, value_or_none, image_piece, image_made, piece_in_form, piece_made, joined_made, all_joined, pieces_in_form, pieces_made, put_line_put, not_built}
-use Rattle.ada_image.specs.ImageOfProcedures.{first_of, second_of, third_of, thing_of, moment_of, is_in_time, setting_with, variable_of, optional_value, handler_of, setting_made, set_event_put, set_timer_put, cancel_put, budget_put, task_put, values_put, procedure_with, procedure_put}
+use Rattle.ada_image.specs.ImageOfProcedures.{second_of, third_of, thing_of, moment_of, is_in_time, setting_with, variable_of, handler_of, setting_made, set_event_put, set_timer_put, cancel_put, budget_put, task_put, values_put, procedure_with, procedure_put}
 use Rattle.ada_image.specs.CallStatements.{entity_call_put, item_call_put, denoted_call_put, signs_in_actuals, call_statement_put}
-use Rattle.ada_image.specs.ImageOfStatements.{array_assigned, controlled_assigned, value_assigned, assigned_whole, assigned, assignment_put, delay_form, delay_put, no_function, value_returned, return_put, raise_put, loop_left, loop_statement, condition_made, exit_put, abort_put, requeue_put}
-use Rattle.ada_image.specs.ImageOfDeclarations.{is_task, is_controlled, number_declared, kind_declared, subtype_declared_as, function_call_if, initialize_if, object_declaration_put, object_elaborated, object_put, objects_put, single_put, declaration_put, declarations_put, activation_put, end_of_activation_put}
+use Rattle.ada_image.specs.ImageOfStatements.{array_assigned, controlled_assigned, value_assigned, assigned_whole, assigned, assignment_put, delay_form, delay_put, no_function, value_returned, return_put, raise_put, loop_left, loop_statement, exit_put, abort_put, requeue_put}
+use Rattle.ada_image.specs.ImageOfDeclarations.{number_declared, kind_declared, subtype_declared_as, function_call_if, initialize_if, object_declaration_put, object_elaborated, object_put, objects_put, single_put, declaration_put, declarations_put, activation_put, end_of_activation_put}
 use Rattle.ada_image.specs.ImageOfUnits.{outermost}
 use Rattle.image_laws.specs.ActionsOfText.{one_if, object_actions, name_actions, names_actions, single_actions, declaration_actions, declarations_actions, activation_actions}
 use Rattle.image_laws.proofs.Images.Growing.{expression-grows}
@@ -151,8 +152,8 @@ module _ (within : Within) where
   optional-keeps None = record { firsts = λ l. refl; actions = no-more }
   optional-keeps (Some e) = keeps-then (expression_made e within) (λ x. pure (Some x)) (expression-keeps e within) (λ x. keeps-pure _)
 
-  pub condition-keeps : (e : Option Expression) → Keeps (condition_made within e)
-  unfolding condition_made
+  pub condition-keeps : (e : Option Expression) → Keeps (optional_value within e)
+  unfolding optional_value
   condition-keeps None = record { firsts = λ l. refl; actions = no-more }
   condition-keeps (Some e) = keeps-then (expression_made e within) (λ x. pure (Some x)) (expression-keeps e within) (λ x. keeps-pure _)
 
@@ -227,30 +228,30 @@ module _ (within : Within) where
     line-keeps (e ∷ es) = keeps-then (pieces_made within e) (λ pieces. action_put (action.PutLine pieces) signs next) (text-keeps e) (λ pieces. action-keeps _ signs next)
 
     set-keeps : (f : DeclNo → Setting → Option HandlerName → StatementForm) (xs : List (Argument Expression)) (es : List (Option Expression))
-        → Adds (setting_made within xs >>= (λ s. action_put (f (thing_of within (first_of es)) s (handler_of within (third_of es))) signs next)) 1
+        → Adds (setting_made within xs >>= (λ s. action_put (f (thing_of within (first_given es)) s (handler_of within (third_of es))) signs next)) 1
     unfolding setting_made
     set-keeps f xs es =
-        keeps-then (value_or_none within (moment_of xs)) (λ e. action_put (f (thing_of within (first_of es)) (setting_with (is_in_time within xs) e) (handler_of within (third_of es))) signs next)
+        keeps-then (value_or_none within (moment_of xs)) (λ e. action_put (f (thing_of within (first_given es)) (setting_with (is_in_time within xs) e) (handler_of within (third_of es))) signs next)
         (value-keeps (moment_of xs)) (λ e. action-keeps _ signs next)
 
     cancel-keeps : (f : DeclNo → VariableName → StatementForm) (es : List (Option Expression)) → Adds (cancel_put f within es signs next) 1
     unfolding cancel_put
-    cancel-keeps f es = keeps-then (variable_of within (second_of es)) (λ v. action_put (f (thing_of within (first_of es)) v) signs next) (variable-of-keeps (second_of es)) (λ v. action-keeps _ signs next)
+    cancel-keeps f es = keeps-then (variable_of within (second_of es)) (λ v. action_put (f (thing_of within (first_given es)) v) signs next) (variable-of-keeps (second_of es)) (λ v. action-keeps _ signs next)
 
     budget-keeps : (f : DeclNo → ExprNo → StatementForm) (es : List (Option Expression)) → Adds (budget_put f within es signs next) 1
     unfolding budget_put
-    budget-keeps f es = keeps-then (value_or_none within (second_of es)) (λ e. action_put (f (thing_of within (first_of es)) e) signs next) (value-keeps (second_of es)) (λ e. action-keeps _ signs next)
+    budget-keeps f es = keeps-then (value_or_none within (second_of es)) (λ e. action_put (f (thing_of within (first_given es)) e) signs next) (value-keeps (second_of es)) (λ e. action-keeps _ signs next)
 
     task-keeps : (f : ExprNo → Option ExprNo → StatementForm) (es : List (Option Expression)) → Adds (task_put f within es signs next) 1
     unfolding task_put
     task-keeps f es =
-        keeps-then (value_or_none within (first_of es)) (λ e. optional_value within (second_of es) >>= (λ t. action_put (f e t) signs next)) (value-keeps (first_of es))
+        keeps-then (value_or_none within (first_given es)) (λ e. optional_value within (second_of es) >>= (λ t. action_put (f e t) signs next)) (value-keeps (first_given es))
         (λ e. keeps-then (optional_value within (second_of es)) (λ t. action_put (f e t) signs next) (optional-keeps (second_of es)) (λ t. action-keeps _ signs next))
 
     values-keep : (f : ExprNo → ExprNo → StatementForm) (es : List (Option Expression)) → Adds (values_put f within es signs next) 1
     unfolding values_put
     values-keep f es =
-        keeps-then (value_or_none within (first_of es)) (λ a. value_or_none within (second_of es) >>= (λ b. action_put (f a b) signs next)) (value-keeps (first_of es))
+        keeps-then (value_or_none within (first_given es)) (λ a. value_or_none within (second_of es) >>= (λ b. action_put (f a b) signs next)) (value-keeps (first_given es))
         (λ a. keeps-then (value_or_none within (second_of es)) (λ b. action_put (f a b) signs next) (value-keeps (second_of es)) (λ b. action-keeps _ signs next))
 
     procedure-keeps : (o : Operation) (xs : List (Argument Expression)) (es : List (Option Expression)) → Adds (procedure_with within o xs es signs next) 1
@@ -343,7 +344,7 @@ module _ (within : Within) where
 
   assigned-keeps : (a : Assignment) (index : Option Expression) (signs : ℕ) (next : Option StatementNo) → Adds (assigned within a index signs next) 1
   unfolding assigned assigned_whole
-  assigned-keeps a None signs next = whole-assigned-keeps (subtype_is is_kept (subtype_of_name within.names a.target)) (subtype_is is_array (subtype_of_name within.names a.target)) a signs next
+  assigned-keeps a None signs next = whole-assigned-keeps (subtype_is is_kept (subtype_of_name within.names a.target)) (subtype_is is_array_type (subtype_of_name within.names a.target)) a signs next
   assigned-keeps a (Some i) signs next = value-assigned-keeps a (function_call within a.value) signs next
 
   pub assignment-keeps : (a : Assignment) (next : Option StatementNo) → Adds (assignment_put within a next) 1
@@ -372,7 +373,7 @@ module _ (within : Within) where
   pub exit-keeps : (e : Exit) (next : Option StatementNo) → Adds (exit_put within e next) 1
   unfolding exit_put
   exit-keeps e next =
-      keeps-then (condition_made within e.condition) (λ c. action_put (action.Exit c (loop_statement (loop_left within e.loop_name))) (signs_if within e.condition) next) (condition-keeps e.condition) (λ c. action-keeps _ _ next)
+      keeps-then (optional_value within e.condition) (λ c. action_put (action.Exit c (loop_statement (loop_left within e.loop_name))) (signs_if within e.condition) next) (condition-keeps e.condition) (λ c. action-keeps _ _ next)
 
   pub abort-keeps : (tasks : OneOrMore Name) (next : Option StatementNo) → Adds (abort_put within tasks next) 1
   unfolding abort_put
@@ -394,14 +395,14 @@ module _ (within : Within) where
   declare-keeps d s None signs next = action-keeps _ _ next
   declare-keeps d s (Some c) signs next = call-keeps c (destination.Declaration d) signs next
 
-  elaborated-keeps : (d : DeclNo) (s : Option Subtype) (initial : Option Expression) (next : Option StatementNo) → Adds (object_elaborated within d s initial next) (1 + one_if (subtype_is is_controlled s))
+  elaborated-keeps : (d : DeclNo) (s : Option Subtype) (initial : Option Expression) (next : Option StatementNo) → Adds (object_elaborated within d s initial next) (1 + one_if (subtype_is is_controlled_type s))
   unfolding object_elaborated
   elaborated-keeps d s initial next =
-      adds-then (initialize_if (subtype_is is_controlled s) d next) (λ behind. object_declaration_put within d s (function_call_if within initial) (signs_if within initial) behind) (one_if (subtype_is is_controlled s)) 1
-      (initialize-keeps (subtype_is is_controlled s) d next) (λ behind. declare-keeps d s (function_call_if within initial) (signs_if within initial) behind)
+      adds-then (initialize_if (subtype_is is_controlled_type s) d next) (λ behind. object_declaration_put within d s (function_call_if within initial) (signs_if within initial) behind) (one_if (subtype_is is_controlled_type s)) 1
+      (initialize-keeps (subtype_is is_controlled_type s) d next) (λ behind. declare-keeps d s (function_call_if within initial) (signs_if within initial) behind)
 
   object-keeps : (task : Bool) (part : ℕ) (i : Identifier) (s : Option Subtype) (initial : Option Expression) (next : Option StatementNo)
-      → Adds (cond task (action_put (action.CreateTask (number_declared within i) part) 0 next) (object_elaborated within (number_declared within i) s initial next)) (cond task 1 (1 + one_if (subtype_is is_controlled s)))
+      → Adds (cond task (action_put (action.CreateTask (number_declared within i) part) 0 next) (object_elaborated within (number_declared within i) s initial next)) (cond task 1 (1 + one_if (subtype_is is_controlled_type s)))
   object-keeps true part i s initial next = action-keeps _ 0 next
   object-keeps false part i s initial next = elaborated-keeps (number_declared within i) s initial next
 
@@ -413,8 +414,8 @@ module _ (within : Within) where
   name-keeps : (part : ℕ) (i : Identifier) (initial : Option Expression) (next : Option StatementNo) → Adds (object_put within part initial i next) (name_actions i within.names)
   unfolding object_put
   name-keeps part i initial next =
-      subst (λ s. Adds (cond (subtype_is is_task (subtype_declared_as within i)) (action_put (action.CreateTask (number_declared within i) part) 0 next) (object_elaborated within (number_declared within i) (subtype_declared_as within i) initial next)) (object_actions s))
-      (subtype-same i) (object-keeps (subtype_is is_task (subtype_declared_as within i)) part i (subtype_declared_as within i) initial next)
+      subst (λ s. Adds (cond (subtype_is is_task_type (subtype_declared_as within i)) (action_put (action.CreateTask (number_declared within i) part) 0 next) (object_elaborated within (number_declared within i) (subtype_declared_as within i) initial next)) (object_actions s))
+      (subtype-same i) (object-keeps (subtype_is is_task_type (subtype_declared_as within i)) part i (subtype_declared_as within i) initial next)
 
   objects-keep : (part : ℕ) (initial : Option Expression) (is : List Identifier) (next : Option StatementNo) → Adds (objects_put within part initial is next) (names_actions is within.names)
   unfolding objects_put

@@ -1,5 +1,6 @@
 -- Sequences, packages and whole sources begin the scopes of their texts.
 use Rattle.std.proofs.Common.{◌≡◌, ℕ, Bool, false, not, ◌&&◌, List, [], ◌∷◌, ◌++◌, Option, Some, None, refl, sym, ap, subst, ◌∙◌}
+use Rattle.std.specs.Bool.{then_some}
 use Rattle.std.specs.Prelude.{unwrap_or}
 use Rattle.ada_tree.specs.declared.statements.Handler.{Handler}
 use Rattle.ada_tree.specs.declared.statements.Sequence.{Sequence}
@@ -19,7 +20,7 @@ use Rattle.ada_image.specs.declared.making.SequencePlace.{SequencePlace}
 use Rattle.ada_image.specs.declared.making.SequencePlace.TheVariants as sequence_place
 use Rattle.ada_image.specs.Making.{◌>>=◌, ◌>>◌, action_put, reserved, put_at, first_put, the_action, in_construct}
 use Rattle.ada_image.specs.ImageOfStatements.{SequenceMaking, statements_put, handlers_put}
-use Rattle.ada_image.specs.ImageOfDeclarations.{same_making, sequence_put, making_layer, declarations_put, make_tasks, part_if, activation_put, end_of_activation_put, inner_bodies_put, body_put, unhandled_put, with_handlers_put, handled_put, whole_put, parts_put}
+use Rattle.ada_image.specs.ImageOfDeclarations.{same_making, sequence_put, making_layer, declarations_put, make_tasks, activation_put, end_of_activation_put, inner_bodies_put, body_put, unhandled_put, with_handlers_put, handled_put, whole_put, parts_put}
 use Rattle.ada_image.specs.ImageOfUnits.{has_body, part_of, package_part, package_declaration_put, package_statements_put, package_body_put, package_put, packages_put, actions_made}
 use Rattle.image_laws.specs.ScopesOfText.{Scopes, body_scopes, declarations_scopes, handler_scopes, statements_scopes, handled_scopes, parts_scopes, same_scopes, scopes_layer, sequence_scopes, package_statements_scopes, package_scopes, packages_scopes, scopes_begun}
 use Rattle.image_laws.specs.ActionsOfText.{one_if, declarations_actions, activation_actions}
@@ -73,7 +74,7 @@ module _ {E : Type 0} (g : E → Sequence) (law : (e : E) → OpensLaw (sequence
   whole-opens : (s : SequenceParts E) (is_task_body : Bool) (within : Within) → Opens (whole_put same_making within is_task_body (made s)) (handled_scopes same_scopes (opened s) within.names ++ declared s within)
   unfolding whole_put
   whole-opens s is_task_body within =
-      let part = part_if (make_tasks within (made s).declarations) 0 in
+      let part = then_some (make_tasks within (made s).declarations) 0 in
       opens-then (inner_bodies_put same_making within (made s).declarations)
       (λ u. handled_put same_making within part (made s) (made s).handlers None >>= (λ first. end_of_activation_put is_task_body first >>= (λ ended. declarations_put within 0 (made s).declarations ended)))
       (declared s within) (handled_scopes same_scopes (opened s) within.names) (layer-inners g law s.declarations within)
@@ -128,7 +129,7 @@ package-opens : (all : List LibraryPackage) (x : Package) (next : Option Stateme
 unfolding package_put package_declaration_put package_body_put
 package-opens all (packages.Declaration x) next within =
     let ds = x.declarations ++ unwrap_or x.private [] in
-    let part = part_if (not (has_body all x.name.text) && make_tasks within ds) (part_of all x.name.text) in
+    let part = then_some (not (has_body all x.name.text) && make_tasks within ds) (part_of all x.name.text) in
     opens-before (inner_bodies_put sequence_put within ds) (λ u. activation_put part next >>= (λ first. declarations_put within (part_of all x.name.text) ds first)) (declarations_scopes sequence_scopes ds within.names)
     (inners-open sequence_put sequence_scopes sequence-opens ds within)
     (λ u. adds-then (activation_put part next) (λ first. declarations_put within (part_of all x.name.text) ds first) (activation_actions part) (declarations_actions ds within.names) (activation-keeps part next) (λ first. declarations-keep within (part_of all x.name.text) ds first))

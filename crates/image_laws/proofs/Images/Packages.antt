@@ -1,5 +1,6 @@
 -- The packages of a source read one after another, and behind them the call of the main procedure.
 use Rattle.std.proofs.Common.{◌≡◌, ℕ, true, false, cond, not, ◌&&◌, List, [], ◌∷◌, ◌++◌, Option, Some, None, refl, ap, ◌∙◌}
+use Rattle.std.specs.Bool.{then_some}
 use Rattle.std.specs.Prelude.{unwrap_or}
 use Rattle.std.proofs.lemmas.Bool.{and_from, and_parts}
 use Rattle.ada_tree.specs.declared.declarations.Declaration.{Declaration}
@@ -16,7 +17,7 @@ use Rattle.profile_machine.specs.declared.statements.StatementForm.TheVariants a
 use Rattle.ada_image.specs.declared.making.Within.{Within}
 use Rattle.ada_image.specs.declared.making.SequencePlace.TheVariants as sequence_place
 use Rattle.ada_image.specs.Making.{◌>>=◌, ◌>>◌, action_put, first_put}
-use Rattle.ada_image.specs.ImageOfDeclarations.{sequence_put, inner_bodies_put, declarations_put, make_tasks, part_if, activation_put, body_put}
+use Rattle.ada_image.specs.ImageOfDeclarations.{sequence_put, inner_bodies_put, declarations_put, make_tasks, activation_put, body_put}
 use Rattle.ada_image.specs.ImageOfUnits.{has_body, part_of, package_part, package_declaration_put, package_statements_put, package_body_put, package_put, packages_put, actions_made}
 use Rattle.ada_image.specs.ReadStatements.{first_of_scope, is_call_of_main}
 use Rattle.ada_image.specs.NothingLost.{sequence_reads, and_behind, ends_at, reads_on, one_action, activation_read, inner_bodies_read, body_reads, package_statements_read, package_read, bodies_in_package, elaboration_reads}
@@ -55,7 +56,7 @@ declaration-step : (all : List LibraryPackage) (x : PackageDeclaration) (next : 
 unfolding package_declaration_put
 declaration-step all x next within b =
     let ds = x.declarations ++ unwrap_or x.private [] in
-    let part = part_if (not (has_body all x.name.text) && make_tasks within ds) (part_of all x.name.text) in
+    let part = then_some (not (has_body all x.name.text) && make_tasks within ds) (part_of all x.name.text) in
     step-then (inner_bodies_put sequence_put within ds) (λ u. activation_put part next >>= (λ first. declarations_put within (part_of all x.name.text) ds first)) (inner-bodies ds within b)
     (λ u. step-then (activation_put part next) (λ first. declarations_put within (part_of all x.name.text) ds first) (activation-step part next)
     (λ first. step-so (λ p y h k l. (l, ap (λ z. and_behind z (activation_read p part)) h ∙ k.0)) (package-declarations-step sequence_built (part_of all x.name.text) ds first within b)))

@@ -30,13 +30,14 @@ use Rattle.profile_machine.specs.Program.{form_of, next_of}
 use Rattle.ada_image.specs.declared.making.Within.{Within}
 use Rattle.ada_image.specs.Making.{Making, ◌>>=◌, pure, action_put, reserved, put_at, the_action, in_construct}
 use Rattle.ada_image.specs.CallStatements.{call_statement_put}
-use Rattle.ada_image.specs.ImageOfStatements.{SequenceMaking, delay_put, condition_made, guard_of, inside, inside_if, accept_put, alternative_put, select_alternative_put, select_alternatives_put, else_put, selective_accept_put, call_before, delay_before, timed_call_put, conditional_call_put, trigger_put, asynchronous_put, select_put, statement_put}
+use Rattle.ada_image.specs.ImageOfStatements.{SequenceMaking, delay_put, guard_of, inside, inside_if, accept_put, alternative_put, select_alternative_put, select_alternatives_put, else_put, selective_accept_put, call_before, delay_before, timed_call_put, conditional_call_put, trigger_put, asynchronous_put, select_put, statement_put}
 use Rattle.ada_image.specs.ImageOfDeclarations.{same_making, sequence_put}
 use Rattle.ada_image.specs.ReadStatements.{delay_stands, call_statement_stands, trigger_stands, inside_stands, inside_stands_if, accept_stands, alternative_stands, select_alternatives_stand, else_stands, call_before_stands, delay_before_stands, form_stands}
 use Rattle.ada_image.specs.NothingLost.{SequenceReading, same_sequence_reading, sequence_reads}
 use Rattle.ada_image.specs.BuiltExpressions.{Built, expression_built}
 use Rattle.ada_image.specs.BuiltStatements.{call_statement_built, trigger_built}
 use Rattle.ada_image.specs.BuiltSequences.{sequence_if_built, accept_body_built, alternative_built, select_alternatives_built, statement_built, same_sequence_built, sequence_built}
+use Rattle.ada_image.specs.ImageOfExpressions.{optional_value}
 use Rattle.image_laws.proofs.Images.Steps.{Step, step-pure, step-so, step-then, Put, action-step, Filled, filled-step}
 use Rattle.image_laws.proofs.Images.Actuals.{Stood, stood, condition-step}
 use Rattle.image_laws.proofs.Images.Calls.{call-statement-step}
@@ -148,7 +149,7 @@ module _ {E : Type 0} (g : E → Sequence) (law : (e : E) → SequenceLaw (seque
   select-alternatives-step [] next within b = step-pure [] _ (λ p. refl)
   select-alternatives-step (x ∷ xs) next within b =
       let parts = and_parts _ _ b in let more = and_parts _ _ parts.1 in
-      step-then (condition_made within (guard_of x.guard))
+      step-then (optional_value within (guard_of x.guard))
       (λ guard. alternative_put same_making within (alternative_made x).alternative next >>= (λ kind. select_alternatives_put same_making within (map (mapped_alternative sequence_put) (map (mapped_alternative g) xs)) next >>= (λ others. pure (record { guard = guard; kind = kind } ∷ others))))
       (condition-step (guard_of x.guard) within parts.0)
       (λ guard. step-then (alternative_put same_making within (alternative_made x).alternative next)

@@ -1,5 +1,6 @@
 -- Each sequence that is built reads as its text, by induction over the tree.
 use Rattle.std.proofs.Common.{◌≡◌, ℕ, Bool, true, List, [], ◌∷◌, map, Option, Some, None, sym, ap, subst, ◌∙◌}
+use Rattle.std.specs.Bool.{then_some}
 use Rattle.std.proofs.lemmas.Bool.{and_from, and_parts}
 use Rattle.ada_tree.specs.declared.statements.Handler.{Handler}
 use Rattle.ada_tree.specs.declared.statements.Sequence.{Sequence}
@@ -16,7 +17,7 @@ use Rattle.ada_image.specs.declared.making.SequencePlace.{SequencePlace}
 use Rattle.ada_image.specs.declared.making.SequencePlace.TheVariants as sequence_place
 use Rattle.ada_image.specs.Making.{◌>>=◌, ◌>>◌, pure, the_action, in_construct}
 use Rattle.ada_image.specs.ImageOfStatements.{SequenceMaking, statements_put, handlers_put}
-use Rattle.ada_image.specs.ImageOfDeclarations.{same_making, sequence_put, making_layer, declarations_put, make_tasks, part_if, activation_put, end_of_activation_put, inner_bodies_put, unhandled_put, with_handlers_put, handled_put, whole_put, parts_put}
+use Rattle.ada_image.specs.ImageOfDeclarations.{same_making, sequence_put, making_layer, declarations_put, make_tasks, activation_put, end_of_activation_put, inner_bodies_put, unhandled_put, with_handlers_put, handled_put, whole_put, parts_put}
 use Rattle.ada_image.specs.ReadStatements.{same_next, statements_stand, handlers_stand}
 use Rattle.ada_image.specs.NothingLost.{SequenceReading, same_sequence_reading, sequence_reading_layer, sequence_reads, and_behind, reads_on, is_end_of_activation, action_if, unhandled_reads, handled_form_reads, with_handlers_reads, handled_reads, whole_reads, parts_read}
 use Rattle.ada_image.specs.BuiltExpressions.{Built}
@@ -107,7 +108,7 @@ module _ {E : Type 0} (g : E → Sequence) (law : (e : E) → SequenceLaw (seque
   unfolding whole_put
   whole-step s is_task_body within b =
       let parts = and_parts _ _ b in let more = and_parts _ _ parts.1 in
-      let part = part_if (make_tasks within (made s).declarations) 0 in
+      let part = then_some (make_tasks within (made s).declarations) 0 in
       step-then (inner_bodies_put same_making within (made s).declarations)
       (λ u. handled_put same_making within part (made s) (made s).handlers None >>= (λ first. end_of_activation_put is_task_body first >>= (λ ended. declarations_put within 0 (made s).declarations ended)))
       (layer-inners g law s.declarations within parts.0)
@@ -115,9 +116,9 @@ module _ {E : Type 0} (g : E → Sequence) (law : (e : E) → SequenceLaw (seque
       (handled-step s s.handlers part None within more.0 more.1)
       (λ first. step-then (end_of_activation_put is_task_body first) (λ ended. declarations_put within 0 (made s).declarations ended) (end-step is_task_body first)
       (λ ended. step-so (λ p x h k l i. and_from _ _ i
-      (ap (λ z. reads_on (λ rest. handled_reads p same_sequence_reading within (part_if (make_tasks within (read p s).declarations) 0) (read p s) (read p s).handlers rest None) (and_behind z (action_if p is_task_body is_end_of_activation))) h
-      ∙ ap (reads_on (λ rest. handled_reads p same_sequence_reading within (part_if (make_tasks within (read p s).declarations) 0) (read p s) (read p s).handlers rest None)) k
-      ∙ ap (λ t. handled_reads p same_sequence_reading within (part_if t 0) (read p s) (read p s).handlers first None) (part-same s within p) ∙ l))
+      (ap (λ z. reads_on (λ rest. handled_reads p same_sequence_reading within (then_some (make_tasks within (read p s).declarations) 0) (read p s) (read p s).handlers rest None) (and_behind z (action_if p is_task_body is_end_of_activation))) h
+      ∙ ap (reads_on (λ rest. handled_reads p same_sequence_reading within (then_some (make_tasks within (read p s).declarations) 0) (read p s) (read p s).handlers rest None)) k
+      ∙ ap (λ t. handled_reads p same_sequence_reading within (then_some t 0) (read p s) (read p s).handlers first None) (part-same s within p) ∙ l))
       (declarations-step sequence_put (λ p. sequence_reads p) sequence_built 0 (map (mapped_declaration g) s.declarations) ended within parts.0))))
 
   whole-to : (s : SequenceParts E) (is_task_body : Bool) (within : Within) (next : Option StatementNo) → next ≡ None → parts_built same_sequence_built (built s) within.names ≡ true

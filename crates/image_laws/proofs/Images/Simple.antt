@@ -21,12 +21,13 @@ use Rattle.profile_machine.specs.declared.statements.Destination.TheVariants as 
 use Rattle.profile_machine.specs.declared.statements.StatementForm.TheVariants as action
 use Rattle.ada_regions.specs.Names.{last_part}
 use Rattle.ada_regions.specs.Statics.{static_value, subtype_of_name}
+use Rattle.ada_regions.specs.TypeKinds.{is_array_type}
 use Rattle.ada_image.specs.declared.making.Within.{Within}
 use Rattle.ada_image.specs.Making.{◌>>=◌, action_put}
-use Rattle.ada_image.specs.Layout.{is_array, is_kept, subtype_is, scope_no}
-use Rattle.ada_image.specs.ImageOfExpressions.{expression_image, expression_made, signs_in, signs_if, object_named, thing_named, thing_in}
+use Rattle.ada_image.specs.Layout.{is_kept, subtype_is, scope_no}
+use Rattle.ada_image.specs.ImageOfExpressions.{expression_image, expression_made, signs_in, signs_if, object_named, thing_named, thing_in, optional_value}
 use Rattle.ada_image.specs.ImageOfCalls.{FunctionCall, function_call, function_call_put, target_made, owner_of_entry}
-use Rattle.ada_image.specs.ImageOfStatements.{array_name, array_assigned, controlled_assigned, value_assigned, assigned_whole, assigned, assignment_put, delay_form, delay_put, no_function, value_returned, return_put, exception_named, raise_put, loop_left, loop_statement, condition_made, exit_put, static_or_zero, choice_made, choices_made, handled_made, entry_at, abort_put, unit_of_entry, requeue_put}
+use Rattle.ada_image.specs.ImageOfStatements.{array_name, array_assigned, controlled_assigned, value_assigned, assigned_whole, assigned, assignment_put, delay_form, delay_put, no_function, value_returned, return_put, exception_named, raise_put, loop_left, loop_statement, exit_put, static_or_zero, choice_made, choices_made, handled_made, entry_at, abort_put, unit_of_entry, requeue_put}
 use Rattle.ada_image.specs.ReadExpressions.{same_decl, is_value}
 use Rattle.ada_image.specs.ReadStatements.{same_choice, same_handled, all_same, goes_into, is_returned, assigns_value, assigns_array, assigns_controlled, assignment_stands, delay_stands, returns_value, return_stands, raise_stands, exit_stands, abort_stands, requeue_stands}
 use Rattle.ada_image.specs.BuiltExpressions.{expression_built}
@@ -99,7 +100,7 @@ module _ (a : Assignment) (signs : ℕ) (next : Option StatementNo) (within : Wi
 
   by-index : (index : Option Expression) → a.index ≡ index → assigned_built a index within.names ≡ true → Step (assigned within a index signs next) (λ p r. Stood p next (λ s f. assignment_stands p within a index f) r)
   unfolding assigned assigned_whole
-  by-index None is b = whole-assigned (subtype_is is_kept (subtype_of_name within.names a.target)) (subtype_is is_array (subtype_of_name within.names a.target)) is b
+  by-index None is b = whole-assigned (subtype_is is_kept (subtype_of_name within.names a.target)) (subtype_is is_array_type (subtype_of_name within.names a.target)) is b
   by-index (Some i) is b = let parts = and_parts _ _ b in source-assigned (ap (λ x. value_if_there x within.names) is ∙ parts.0) parts.1
 
 pub assignment-step : (a : Assignment) (next : Option StatementNo) (within : Within) → assignment_built a within.names ≡ true
@@ -146,7 +147,7 @@ raise-step (Some name) next within = step-so (λ p r h. stood (raise_stands p wi
 pub exit-step : (e : Exit) (next : Option StatementNo) (within : Within) → value_if_there e.condition within.names ≡ true → Step (exit_put within e next) (λ p r. Stood p next (λ s f. exit_stands p within e f) r)
 unfolding exit_put
 exit-step e next within b =
-    step-then (condition_made within e.condition) (λ c. action_put (action.Exit c (loop_statement (loop_left within e.loop_name))) (signs_if within e.condition) next) (condition-step e.condition within b)
+    step-then (optional_value within e.condition) (λ c. action_put (action.Exit c (loop_statement (loop_left within e.loop_name))) (signs_if within e.condition) next) (condition-step e.condition within b)
     (λ c. step-so (λ p r h k. stood (exit_stands p within e) h (and_from _ _ k (same-number (loop_statement (loop_left within e.loop_name)).0)))
     (action-step (action.Exit c (loop_statement (loop_left within e.loop_name))) (signs_if within e.condition) next))
 

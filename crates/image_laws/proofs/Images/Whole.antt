@@ -17,15 +17,16 @@ use Rattle.ada_regions.specs.declared.table.NumberedEntry.{NumberedEntry}
 use Rattle.ada_regions.specs.declared.table.NumberedEntryBody.{NumberedEntryBody}
 use Rattle.ada_regions.specs.declared.table.NumberedTask.{NumberedTask}
 use Rattle.ada_regions.specs.Numbered.{names_of}
+use Rattle.ada_regions.specs.TypeKinds.{is_array_type}
 use Rattle.ada_image.specs.declared.making.Lists.{Lists}
 use Rattle.ada_image.specs.declared.making.MadeLists.{MadeLists}
 use Rattle.ada_image.specs.declared.making.Within.{Within}
 use Rattle.ada_image.specs.Making.{Making, ◌>>=◌, pure, nothing_made}
-use Rattle.ada_image.specs.Layout.{is_array, subtype_is, scope_no}
-use Rattle.ada_image.specs.ImageOfExpressions.{expression_image, expression_made}
+use Rattle.ada_image.specs.Layout.{subtype_is, scope_no}
+use Rattle.ada_image.specs.ImageOfExpressions.{expression_image, expression_made, optional_value}
 use Rattle.ada_image.specs.ImageOfCalls.{function_call}
 use Rattle.ada_image.specs.ImageOfStatements.{array_name}
-use Rattle.ada_image.specs.UnitsOfImage.{aspect_value, deadline_made, task_unit_with, task_units_made, entry_with, entry_body_made, entries_made}
+use Rattle.ada_image.specs.UnitsOfImage.{aspect_value, task_unit_with, task_units_made, entry_with, entry_body_made, entries_made}
 use Rattle.ada_image.specs.ImageOfUnits.{scalar_initial, scalar_or_array, initial_of_call, initial_made, numbered_object, declaration_made, declarations_made, outermost, actions_made, all_made, program_with, program_from, program_of}
 use Rattle.ada_image.specs.BuiltUnits.{unit_built}
 use Rattle.image_laws.specs.OwnScopes.{are_own, is_built_with}
@@ -44,8 +45,8 @@ use Rattle.image_laws.proofs.Images.Scopes.{own-firsts-stand}
 
 -- ---- deadlines, barriers and initial values
 
-deadline-grows : (within : Within) (e : Option Expression) → Grows (deadline_made within e)
-unfolding deadline_made
+deadline-grows : (within : Within) (e : Option Expression) → Grows (optional_value within e)
+unfolding optional_value
 deadline-grows within None = grows-pure {X = Option ExprNo} None
 deadline-grows within (Some e) = grows-then (expression_made e within) (λ x. pure (Some x)) (expression-grows e within) (λ x. grows-pure (Some x))
 
@@ -53,7 +54,7 @@ tasks-grow : (within : Within) (number : ℕ) (ts : List NumberedTask) → Grows
 unfolding task_units_made
 tasks-grow within number [] = grows-pure {X = List TaskUnit} []
 tasks-grow within number (t ∷ ts) =
-    grows-then (deadline_made within (aspect_value (codes "relative_deadline") t.aspects)) (λ deadline. task_units_made within (suc number) ts >>= (λ others. pure (task_unit_with within.names number t deadline ∷ others)))
+    grows-then (optional_value within (aspect_value (codes "relative_deadline") t.aspects)) (λ deadline. task_units_made within (suc number) ts >>= (λ others. pure (task_unit_with within.names number t deadline ∷ others)))
     (deadline-grows within (aspect_value (codes "relative_deadline") t.aspects))
     (λ deadline. grows-then (task_units_made within (suc number) ts) (λ others. pure (task_unit_with within.names number t deadline ∷ others)) (tasks-grow within (suc number) ts) (λ others. grows-pure (task_unit_with within.names number t deadline ∷ others)))
 
@@ -81,7 +82,7 @@ array-grows false within e = scalar-grows within e
 call-grows : (called : Bool) (within : Within) (s : Option Subtype) (e : Expression) → Grows (initial_of_call within s e called)
 unfolding initial_of_call scalar_or_array
 call-grows true within s e = grows-pure initial.Default
-call-grows false within s e = array-grows (subtype_is is_array s) within e
+call-grows false within s e = array-grows (subtype_is is_array_type s) within e
 
 initial-grows : (within : Within) (s : Option Subtype) (e : Option Expression) → Grows (initial_made within s e)
 unfolding initial_made

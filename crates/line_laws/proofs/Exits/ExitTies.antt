@@ -12,6 +12,7 @@ use Rattle.trace_text.specs.declared.events.Who.{Who}
 use Rattle.trace_text.specs.declared.events.Who.TheVariants as who
 use Rattle.trace_text.specs.Queue.{who_eq}
 use Rattle.trace_text.specs.Laws.{actions_after, closed}
+use Rattle.world_tables.specs.Lists.{rest_of}
 use Rattle.profile_machine.specs.declared.image.Image.{Image}
 use Rattle.profile_machine.specs.declared.numbers.ScopeNo.{ScopeNo}
 use Rattle.profile_machine.specs.declared.world.World.{World}
@@ -29,7 +30,7 @@ use Rattle.profile_machine.specs.Lines.{event_of}
 use Rattle.profile_machine.specs.Program.{scope_of}
 use Rattle.profile_machine.specs.Steps.{in_order, placed_by}
 use Rattle.profile_machine.specs.Tasks.{nobody, edit_task, with_frames}
-use Rattle.profile_machine.specs.Frames.{push, pop, without_first, new_frame}
+use Rattle.profile_machine.specs.Frames.{push, pop, new_frame}
 use Rattle.profile_machine.specs.Scopes.{begin_scope, draw_region, open_scope, next_id, region_of_next, new_scope_mark}
 use Rattle.profile_machine.specs.Masters.{forget_task}
 use Rattle.profile_machine.specs.Tasking.{add_task}
@@ -142,7 +143,7 @@ pushed-tied name f w none =
     (λ t o. let e : bit (is_on o (nature f.mark).action) + count o (natures t.frames) ≡ 0 + count o (natures t.frames) = ap (λ a. bit (is_on o a) + count o (natures t.frames)) none in omega (arith, e))
 
 pub popped-tied : (name : Who) (w : World) (c : Credit) (s : List shown.Action) → Tied s c w → Tied s c (pop name w)
-popped-tied name w = edited-tied name (λ t. with_frames (without_first t.frames) t) w (λ t. refl) (λ t o. count-pop o t.frames)
+popped-tied name w = edited-tied name (λ t. with_frames (rest_of t.frames) t) w (λ t. refl) (λ t o. count-pop o t.frames)
 
 blank-in : (s : List shown.Action) (c : Credit) (name : Who) (o : ℕ) (t : Task) → InLines s c name o t → InLines s c name o nobody
 blank-in s c name o t h = let g : count o (natures t.frames) + c name o ≤ opened name o s = h in let goal : 0 + c name o ≤ opened name o s = omega (arith, g) in goal
@@ -236,13 +237,13 @@ ended-tied name m w c s h top n k =
     let x = m.object.0 in
     let t = closed x name s in
     let least = closed-least n name k x s in
-    edited_to (λ u. (count k (natures u.frames) + c n k ≤ opened n k s) × (same_who n name ≡ true → action_first (natures u.frames) ≡ Some m.object)) (InLines t c n k) n name (λ u. with_frames (without_first u.frames) u) w (λ u. refl)
+    edited_to (λ u. (count k (natures u.frames) + c n k ≤ opened n k s) × (same_who n name ≡ true → action_first (natures u.frames) ≡ Some m.object)) (InLines t c n k) n name (λ u. with_frames (rest_of u.frames) u) w (λ u. refl)
     (λ same u g.
     let g' : count k (natures u.frames) + c n k ≤ opened n k s = g.0 in
     let e = count-top k m.object u.frames (g.1 same) in
     let b = bit-same k x (who_eq n name) (sym (same_who-eq n name) ∙ same) in
     let l : opened n k s ≤ opened n k t + bit (eqb k x && who_eq n name) = least in
-    let goal : count k (natures (without_first u.frames)) + c n k ≤ opened n k t = omega (arith, g', e, b, l) in goal)
+    let goal : count k (natures (rest_of u.frames)) + c n k ≤ opened n k t = omega (arith, g', e, b, l) in goal)
     (λ apart u g.
     let g' : count k (natures u.frames) + c n k ≤ opened n k s = g.0 in
     let b = bit-apart k x (who_eq n name) (sym (same_who-eq n name) ∙ apart) in

@@ -8,8 +8,9 @@ use Rattle.trace_text.specs.declared.events.Who.TheVariants as who
 use Rattle.trace_text.specs.Queue.{who_eq}
 use Rattle.trace_text.specs.Laws.{closed}
 use Rattle.ann_base.specs.declared.identities.ObjectNo.{ObjectNo}
+use Rattle.world_tables.specs.Lists.{rest_of}
 use Rattle.profile_machine.specs.declared.world.marks.Frame.{Frame}
-use Rattle.profile_machine.specs.Frames.{edit_first, without_first}
+use Rattle.profile_machine.specs.Frames.{edit_first}
 use Rattle.machine_laws.proofs.FinestMoves.{Nature, natures, nature, action_in, action_first}
 
 abbrev pub bit : Bool → ℕ
@@ -87,11 +88,11 @@ pub count-first : (o : ℕ) (f : Frame → Frame) (fs : List Frame) → ((x : Fr
 count-first o f [] same = refl
 count-first o f (x ∷ xs) same = ap (λ a. bit (is_on o a) + count o (natures xs)) (same x)
 
-pub count-pop : (o : ℕ) (fs : List Frame) → count o (natures (without_first fs)) ≤ count o (natures fs)
+pub count-pop : (o : ℕ) (fs : List Frame) → count o (natures (rest_of fs)) ≤ count o (natures fs)
 count-pop o [] = omega arith
 count-pop o (f ∷ fs) = let one = bit-least (is_on o (nature f.mark).action) in omega (arith, one)
 
 -- where the object of the action on top is known
-pub count-top : (o : ℕ) (x : ObjectNo) (fs : List Frame) → action_first (natures fs) ≡ Some x → count o (natures fs) ≡ bit (eqb o x.0) + count o (natures (without_first fs))
+pub count-top : (o : ℕ) (x : ObjectNo) (fs : List Frame) → action_first (natures fs) ≡ Some x → count o (natures fs) ≡ bit (eqb o x.0) + count o (natures (rest_of fs))
 count-top o x [] e = absurd cc
 count-top o x (f ∷ fs) e = ap (λ a. bit (is_on o a) + count o (natures fs)) e

@@ -10,6 +10,7 @@ use Rattle.ann_base.specs.declared.identities.ObjectNo.{ObjectNo}
 use Rattle.ann_base.specs.declared.identities.TaskNo.{TaskNo}
 use Rattle.trace_text.specs.declared.events.QueueEnd.TheVariants.{Tail}
 use Rattle.trace_text.specs.declared.events.Who.{Who}
+use Rattle.world_tables.specs.Lists.{rest_of}
 use Rattle.trace_text.specs.declared.events.Who.TheVariants as who
 use Rattle.profile_machine.specs.declared.image.Image.{Image}
 use Rattle.profile_machine.specs.declared.numbers.StatementNo.{StatementNo}
@@ -46,7 +47,7 @@ use Rattle.profile_machine.specs.Program.{next_of, form_of, is_robin_level, edf_
 use Rattle.profile_machine.specs.Steps.{Step, Done, done, goes_on_with, says, changes, looks, when, nothing, for_some, ◌▷◌}
 use Rattle.profile_machine.specs.Tasks.{task_of, edit_task, with_frames, with_state, with_ticks, waiting_in, waiting_of}
 use Rattle.profile_machine.specs.Dispatching.{active, deadline_shown, level_kept_by, keep_level, granted, grant_quantum, says_ready, to_tail, ready}
-use Rattle.profile_machine.specs.Frames.{frames_of, top_of, edit_first, edit_top, goes_on, goes, push, pop, without_first, new_frame, left_so, leaving_of, with_mark, leaves, raises, has_room, open_handled, open_at, open_sequence, onward_of, exit_loop, stands_in, pass_on}
+use Rattle.profile_machine.specs.Frames.{frames_of, top_of, edit_first, edit_top, goes_on, goes, push, pop, new_frame, left_so, leaving_of, with_mark, leaves, raises, has_room, open_handled, open_at, open_sequence, onward_of, exit_loop, stands_in, pass_on}
 use Rattle.profile_machine.specs.Appointments.{drop_delay, appoint}
 use Rattle.profile_machine.specs.Operators.{Valued, checked}
 use Rattle.profile_machine.specs.Program.{declaration_of}
@@ -134,7 +135,7 @@ module _ (me : Who) (o : ObjectNo) where
   push_other-spares name f apart = edits_other-spares name (λ t. with_frames (f ∷ t.frames) t) apart (λ t. refl)
 
   pop_other-spares : (name : Who) → Apart me name → Spares me o (pop name)
-  pop_other-spares name apart = edits_other-spares name (λ t. with_frames (without_first t.frames) t) apart (λ t. refl)
+  pop_other-spares name apart = edits_other-spares name (λ t. with_frames (rest_of t.frames) t) apart (λ t. refl)
 
   edit_call-spares : (c : CallNo) (f : Call → Call) → Spares me o (edit_call c f)
   unfolding Spares

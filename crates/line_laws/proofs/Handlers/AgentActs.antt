@@ -25,7 +25,7 @@ use Rattle.profile_machine.specs.declared.world.lines.Part.TheVariants.{Own}
 use Rattle.profile_machine.specs.declared.world.lines.Said.{Said}
 use Rattle.world_tables.specs.Lists.{first_of}
 use Rattle.ann_base.specs.Lists.{is_empty}
-use Rattle.profile_machine.specs.Program.{form_of, marks_of, subprogram_of}
+use Rattle.profile_machine.specs.Program.{form_of, marks_of, subprogram_of, size_of_body}
 use Rattle.profile_machine.specs.Steps.{Step, says, changes, looks, when, ◌▷◌}
 use Rattle.profile_machine.specs.Tasks.{edit_task, with_ticks, waiting_in, waiting_of, is_runnable}
 use Rattle.profile_machine.specs.Frames.{top_of, push, new_frame, has_room, is_protected, leaving_of, open_at, onward_of, open_sequence, open_if_ready}
@@ -36,7 +36,7 @@ use Rattle.profile_machine.specs.Protected.{entering, new_protected_mark, open_a
 use Rattle.profile_machine.specs.Serving.{end_release}
 use Rattle.profile_machine.specs.Masters.{waits_at_terminate}
 use Rattle.profile_machine.specs.Tasking.{block_at_terminate, take_terminates, unwind_all}
-use Rattle.profile_machine.specs.Handlers.{argument_values, scope_size_of, begin_handler, begin_handler_if_room, enter_handler, call_handler, release}
+use Rattle.profile_machine.specs.Handlers.{argument_values, begin_handler, begin_handler_if_room, enter_handler, call_handler, release}
 use Rattle.profile_machine.specs.Act.{end_mark, act_frame, act_without, act_top, act}
 use Rattle.profile_machine.specs.Instant.{effect}
 use Rattle.machine_laws.proofs.Moves.{LetsIn, Puts, own}
@@ -111,7 +111,7 @@ handler-from p r w good h =
 if_room-from : (p : Image) (r : Release) (w : World) → Busy Emptied None w → LetsIn who.Agent r.handler.object Write w → From Acted w (begin_handler_if_room p r)
 unfolding begin_handler_if_room
 if_room-from p r w good h =
-    let room = λ (v : World). has_room v who.Agent (1 + marks_of p (subprogram_of p r.handler.procedure).scope) (scope_size_of p r.handler.procedure) in
+    let room = λ (v : World). has_room v who.Agent (1 + marks_of p (subprogram_of p r.handler.procedure).scope) (size_of_body p r.handler.procedure) in
     looks_by Acted (λ v. elim (room v) as (λ _. Step) [ true ↦ begin_handler p r | false ↦ end_release r.number ]) w
     (either_by Acted (room w) (begin_handler p r) (end_release r.number) w (handler-from p r w good h) (end_release-from r.number w good))
 

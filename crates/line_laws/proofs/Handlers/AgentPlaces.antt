@@ -1,5 +1,6 @@
 -- Whether the agent is in the ready queues, of the world and of what lines show: the last of its `ready` and `block` lines tells.
 use Rattle.std.proofs.Common.{◌≡◌, Bool, true, false, cond, not, ◌||◌, List, [], ◌∷◌, ◌++◌, Option, Some, refl, sym, ap, ◌∙◌}
+use Rattle.std.specs.Prelude.{is_some}
 use Rattle.ann_base.specs.declared.identities.TaskNo.{TaskNo}
 use Rattle.trace_text.specs.declared.events.Entry.{Entry}
 use Rattle.trace_text.specs.declared.events.Event.{Event}
@@ -10,7 +11,6 @@ use Rattle.trace_text.specs.declared.events.Who.{Who}
 use Rattle.trace_text.specs.declared.events.Who.TheVariants as who
 use Rattle.trace_text.specs.Queue as shown
 use Rattle.trace_text.specs.Queue.{who_eq, entry_of, queue_after}
-use Rattle.trace_text.specs.Laws.{is_some_entry}
 use Rattle.profile_machine.specs.declared.world.tasks.Placed.{Placed}
 use Rattle.profile_machine.specs.Words.{same_who}
 use Rattle.profile_machine.specs.Steps.{is_above, put_at_tail, put_at_head, put_at, take_out, places_after, places_after_all}
@@ -97,11 +97,11 @@ present : List Entry → Bool
 present [] = false
 present (e ∷ queue) = is_agent e.who || present queue
 
-found-test : (e : Entry) (name : Who) (rest : Option Entry) (b : Bool) → e.who ≡ name → is_some_entry rest ≡ b → is_some_entry (cond (who_eq who.Agent e.who) (Some e) rest) ≡ (is_agent e.who || b)
-found-test e who.Agent rest b is k = ap (λ q. is_some_entry (cond (who_eq who.Agent q) (Some e) rest)) is ∙ sym (ap (λ q. is_agent q || b) is)
-found-test e (who.Task n) rest b is k = ap (λ q. is_some_entry (cond (who_eq who.Agent q) (Some e) rest)) is ∙ k ∙ sym (ap (λ q. is_agent q || b) is)
+found-test : (e : Entry) (name : Who) (rest : Option Entry) (b : Bool) → e.who ≡ name → is_some rest ≡ b → is_some (cond (who_eq who.Agent e.who) (Some e) rest) ≡ (is_agent e.who || b)
+found-test e who.Agent rest b is k = ap (λ q. is_some (cond (who_eq who.Agent q) (Some e) rest)) is ∙ sym (ap (λ q. is_agent q || b) is)
+found-test e (who.Task n) rest b is k = ap (λ q. is_some (cond (who_eq who.Agent q) (Some e) rest)) is ∙ k ∙ sym (ap (λ q. is_agent q || b) is)
 
-entry-present : (queue : List Entry) → is_some_entry (entry_of who.Agent queue) ≡ present queue
+entry-present : (queue : List Entry) → is_some (entry_of who.Agent queue) ≡ present queue
 unfolding present
 entry-present [] = refl
 entry-present (e ∷ queue) = found-test e e.who (entry_of who.Agent queue) (present queue) refl (entry-present queue)
@@ -157,7 +157,7 @@ present-all : (lines : List Event) (queue : List Entry) → present (queue_behin
 present-all [] queue = refl
 present-all (x ∷ xs) queue = present-all xs (queue_after queue x) ∙ ap (λ q. placed_behind q xs) (present-after x queue)
 
-pub seen-behind : (lines : List Event) (queue : List Entry) → is_some_entry (entry_of who.Agent (queue_behind queue lines)) ≡ placed_behind (is_some_entry (entry_of who.Agent queue)) lines
+pub seen-behind : (lines : List Event) (queue : List Entry) → is_some (entry_of who.Agent (queue_behind queue lines)) ≡ placed_behind (is_some (entry_of who.Agent queue)) lines
 seen-behind lines queue =
     entry-present (queue_behind queue lines) ∙ present-all lines queue ∙ ap (λ q. placed_behind q lines) (sym (entry-present queue))
 

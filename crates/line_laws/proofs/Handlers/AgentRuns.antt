@@ -6,7 +6,7 @@ use Rattle.std.proofs.lemmas.Bool.{false≢true}
 use Rattle.trace_text.specs.declared.events.Event.{Event}
 use Rattle.trace_text.specs.declared.events.Who.TheVariants as who
 use Rattle.trace_text.specs.Queue.{AtEachTick, entry_of, somebody_eq}
-use Rattle.trace_text.specs.Laws.{Releases, no_releases, see_releases, is_in_order, is_some_entry, is_same, is_agent_right, HandlersOk}
+use Rattle.trace_text.specs.Laws.{Releases, no_releases, see_releases, is_in_order, is_same, is_agent_right, HandlersOk}
 use Rattle.trace_text.proofs.LawsFollowed.{ticks_hold, somebody_is}
 use Rattle.profile_machine.specs.declared.image.Image.{Image}
 use Rattle.profile_machine.specs.declared.run_data.Item.{Item}
@@ -36,7 +36,7 @@ abbrev behind : Releases → List Event → Releases
 behind = seen_behind see_releases is_in_order
 
 abbrev seen_in : Releases → Bool
-seen_in s = is_some_entry (entry_of who.Agent s.sight.queue)
+seen_in s = is_some (entry_of who.Agent s.sight.queue)
 
 behind-queue : (lines : List Event) (s : Releases) → (behind s lines).sight.queue ≡ queue_behind s.sight.queue lines
 behind-queue [] s = refl
@@ -47,7 +47,7 @@ behind-runner [] s = refl
 behind-runner (x ∷ xs) s = behind-runner xs (see_releases s x)
 
 behind-seen : (lines : List Event) (s : Releases) → seen_in (behind s lines) ≡ placed_behind (seen_in s) lines
-behind-seen lines s = ap (λ q. is_some_entry (entry_of who.Agent q)) (behind-queue lines s) ∙ seen-behind lines s.sight.queue
+behind-seen lines s = ap (λ q. is_some (entry_of who.Agent q)) (behind-queue lines s) ∙ seen-behind lines s.sight.queue
 
 -- ---- lines and worlds have in common
 

@@ -27,10 +27,11 @@ use Rattle.profile_machine.specs.declared.world.lines.Part.TheVariants.{Own, The
 use Rattle.profile_machine.specs.declared.world.lines.MeetingEnd.TheVariants as meeting
 use Rattle.profile_machine.specs.declared.world.lines.Said.{Said}
 use Rattle.ann_base.specs.Lists.{is_empty}
+use Rattle.world_tables.specs.Lists.{rest_of}
 use Rattle.profile_machine.specs.Steps.{Step, says, changes, when, nothing, for_some, ◌▷◌}
 use Rattle.profile_machine.specs.Tasks.{edit_task, with_state}
 use Rattle.profile_machine.specs.Dispatching.{block, says_block, without_kept_level, word_of}
-use Rattle.profile_machine.specs.Frames.{frames_of, top_of, pop, without_first, edit_top}
+use Rattle.profile_machine.specs.Frames.{frames_of, top_of, pop, edit_top}
 use Rattle.profile_machine.specs.Calls.{with_call, call_of, enqueue}
 use Rattle.profile_machine.specs.CallEnds.{deliver}
 use Rattle.profile_machine.specs.Inheritance.{lose_running}
@@ -116,13 +117,13 @@ pub record Heads (release : Option ℕ) (w : World) : Type 0 where
   pub rest : List Nature
   pub heads : natures w.agent.frames ≡ action_of release ∷ rest
 
-rest-natures : (fs : List Frame) (n : Nature) (rest : List Nature) → natures fs ≡ n ∷ rest → natures (without_first fs) ≡ rest
+rest-natures : (fs : List Frame) (n : Nature) (rest : List Nature) → natures fs ≡ n ∷ rest → natures (rest_of fs) ≡ rest
 rest-natures [] n rest e = cc
 rest-natures (f ∷ fs) n rest e = cc
 
 exited : (Stands : List Nature → Type 0) (m : ProtectedMark) (w : World) → (h : Heads m.release w) → Stands h.rest → BusyStep Stands None w (own (said.Exit who.Agent m.object) ∷ []) (close_action who.Agent m.object (pop who.Agent w))
 exited Stands m w h stands =
-    let out = agent_marked h.busy.colour w (without_first w.agent.frames) h.busy.apart (owned-popped h.busy.colour w.agent.frames h.busy.apart.marks) in
+    let out = agent_marked h.busy.colour w (rest_of w.agent.frames) h.busy.apart (owned-popped h.busy.colour w.agent.frames h.busy.apart.marks) in
     record {
       busy = record {
         colour = h.busy.colour;

@@ -1,5 +1,6 @@
 -- Tocks keep the agent ready exactly where it has something to serve; where it is chosen it serves a release behind the tock.
 use Rattle.std.proofs.Common.{◌≡◌, Bool, true, false, cond, not, ◌||◌, List, [], ◌∷◌, ◌++◌, Option, Some, None, is_some, refl, sym, ap, subst, ◌∙◌}
+use Rattle.std.specs.Prelude.{unwrap_or}
 use Rattle.std.proofs.lemmas.Bool.{false≢true, eqb-true}
 use Rattle.trace_text.specs.declared.events.Event.{Event}
 use Rattle.trace_text.specs.declared.events.Event.TheVariants as line
@@ -17,7 +18,7 @@ use Rattle.profile_machine.specs.Dispatching.{choose}
 use Rattle.profile_machine.specs.Handlers.{charge}
 use Rattle.profile_machine.specs.Steps.{rests}
 use Rattle.profile_machine.specs.Tasks.{task_of, with_ticks}
-use Rattle.profile_machine.specs.Run.{say, says_run, serve_if_free, serve, ticks_or, begin_action, one_tick_less, spend_tick, says_idle, next_tick, tock}
+use Rattle.profile_machine.specs.Run.{say, says_run, serve_if_free, serve, begin_action, one_tick_less, spend_tick, says_idle, next_tick, tock}
 use Rattle.machine_laws.specs.LineKinds.{is_of_effect, AllAre}
 use Rattle.machine_laws.proofs.FineMoves.{natures}
 use Rattle.machine_laws.proofs.Kept.Combinators.{Alters}
@@ -135,7 +136,7 @@ module _ (p : Image) (name : Who) where
       let moves = spares h.colour true in
       let begun = begin_action p name w in
       let paid = charge p name begun in
-      let first = moves.edits_task name (with_ticks (Some (ticks_or (task_of w name).ticks_left (cost p w name)))) w h.apart (λ t. refl) (λ t. refl) (λ t. refl) (λ t. refl) (λ t. refl) in
+      let first = moves.edits_task name (with_ticks (Some (unwrap_or (task_of w name).ticks_left (cost p w name)))) w h.apart (λ t. refl) (λ t. refl) (λ t. refl) (λ t. refl) (λ t. refl) in
       let second = charge-alters moves (spared_settings h.colour true) p name begun (moves.behind w begun first) in
       let third = moves.edits_task name (λ t. with_ticks (one_tick_less t.ticks_left) t) paid (moves.behind begun paid second) (λ t. refl) (λ t. refl) (λ t. refl) (λ t. refl) (λ t. refl) in
       moves.goes_on w begun (charged p name w) {xs = []} {ys = []} first (moves.goes_on begun paid (charged p name w) {xs = []} {ys = []} second third)

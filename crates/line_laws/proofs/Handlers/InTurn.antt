@@ -1,6 +1,7 @@
 -- Every run serves releases in turn: the release that the agent serves is the last that was taken up, and the one behind the
 -- last that was served.
 use Rattle.std.proofs.Common.{◌≡◌, ℕ, ℤ, suc, ◌+◌, ◌≤◌, Bool, true, false, cond, ◌&&◌, if◌then◌else◌, option_map, eqb, leb, List, [], ◌∷◌, ◌++◌, map, length, Option, Some, None, refl, sym, ap, subst, ◌∙◌, eq-eqb, arith}
+use Rattle.std.specs.Prelude.{unwrap_or}
 use Rattle.std.proofs.lemmas.Bool.{le-leb}
 use Rattle.trace_text.specs.declared.events.Event.{Event}
 use Rattle.trace_text.specs.declared.events.Event.TheVariants as line
@@ -26,7 +27,7 @@ use Rattle.profile_machine.specs.Cost.{cost}
 use Rattle.profile_machine.specs.Handlers.{charge}
 use Rattle.profile_machine.specs.Instant.{instant}
 use Rattle.profile_machine.specs.declared.world.appointments.HandlerOf.{HandlerOf}
-use Rattle.profile_machine.specs.Run.{opens, opening, blank_world, with_serving, say, serve_if_free, serve, says_idle, ticks_or, one_tick_less, begin_action, spend_tick, tock, run_of}
+use Rattle.profile_machine.specs.Run.{opens, opening, blank_world, with_serving, say, serve_if_free, serve, says_idle, one_tick_less, begin_action, spend_tick, tock, run_of}
 use Rattle.machine_laws.proofs.FinestMoves.{all_of}
 use Rattle.machine_laws.proofs.Moves.{Moves, AreOthers, own, is_told_apart}
 use Rattle.machine_laws.proofs.Kept.Combinators.{Leads, Alters, settles-leads}
@@ -338,7 +339,7 @@ unfolding Alters
 charged-unmoved p name w =
     let begun = begin_action p name w in
     let paid = charge p name begun in
-    unmoved-then w begun (charged p name w) (edit_task-unmoved name (with_ticks (Some (ticks_or (task_of w name).ticks_left (cost p w name)))) w)
+    unmoved-then w begun (charged p name w) (edit_task-unmoved name (with_ticks (Some (unwrap_or (task_of w name).ticks_left (cost p w name)))) w)
     (unmoved-then begun paid (charged p name w) (charge-alters (all_of tells_turns).fine (all_of tells_turns).settings p name begun tt) (edit_task-unmoved name (λ t. with_ticks (one_tick_less t.ticks_left) t) paid))
 
 served-lead_on : (p : Image) (name : Who) (s : Releases) (w : World) → ShowsTurn s w → let done = serve name w in LeadsOn s (done.1 ++ []) (charged p name done.0)

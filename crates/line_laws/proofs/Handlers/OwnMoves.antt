@@ -6,6 +6,7 @@ use Rattle.ann_base.specs.declared.identities.RegionNo.{RegionNo}
 use Rattle.trace_text.specs.declared.events.Event.{Event}
 use Rattle.trace_text.specs.declared.events.QueueEnd.{QueueEnd}
 use Rattle.trace_text.specs.declared.events.Who.{Who}
+use Rattle.world_tables.specs.Lists.{rest_of}
 use Rattle.trace_text.specs.declared.events.Who.TheVariants as who
 use Rattle.profile_machine.specs.declared.image.Image.{Image}
 use Rattle.profile_machine.specs.declared.numbers.ScopeNo.{ScopeNo}
@@ -18,7 +19,7 @@ use Rattle.profile_machine.specs.declared.world.lines.Part.{Part}
 use Rattle.profile_machine.specs.declared.world.lines.Said.{Said}
 use Rattle.profile_machine.specs.Program.{scope_of}
 use Rattle.profile_machine.specs.Tasks.{with_frames}
-use Rattle.profile_machine.specs.Frames.{edit_first, goes_on, push, pop, without_first, new_frame, top_of, is_protected, in_protected}
+use Rattle.profile_machine.specs.Frames.{edit_first, goes_on, push, pop, new_frame, top_of, is_protected, in_protected}
 use Rattle.profile_machine.specs.Scopes.{begin_scope, draw_region, region_of_next, open_scope, next_id, new_scope_mark}
 use Rattle.profile_machine.specs.Protected.{new_protected_mark}
 use Rattle.machine_laws.proofs.FineMoves.{FineMoves, Anybody, Nature, nature, natures, is_abortable, ready_line, gone_on}
@@ -49,11 +50,11 @@ natures-pushed : (Stands : List Nature → Type 0) → Stacking Stands → (n : 
 natures-pushed Stands stacking n fs f rest e release abortable h =
     subst (λ q. Stands (n ∷ natures q)) (sym e) (stacking.opened n (nature f.mark) (natures rest) release abortable (subst (λ q. Stands (natures q)) e h))
 
-natures-popped : (Stands : List Nature → Type 0) → Stacking Stands → (fs : List Frame) (f : Frame) (rest : List Frame) → fs ≡ f ∷ rest → is_protected f.mark ≡ false → Stands (natures fs) → Stands (natures (without_first fs))
+natures-popped : (Stands : List Nature → Type 0) → Stacking Stands → (fs : List Frame) (f : Frame) (rest : List Frame) → fs ≡ f ∷ rest → is_protected f.mark ≡ false → Stands (natures fs) → Stands (natures (rest_of fs))
 natures-popped Stands stacking fs f rest e action h =
-    subst (λ q. Stands (natures (without_first q))) (sym e) (stacking.ended (nature f.mark) (natures rest) action (subst (λ q. Stands (natures q)) e h))
+    subst (λ q. Stands (natures (rest_of q))) (sym e) (stacking.ended (nature f.mark) (natures rest) action (subst (λ q. Stands (natures q)) e h))
 
-pub owned-popped : (colour : Colour) (fs : List Frame) → MarksOwned colour (natures fs) → MarksOwned colour (natures (without_first fs))
+pub owned-popped : (colour : Colour) (fs : List Frame) → MarksOwned colour (natures fs) → MarksOwned colour (natures (rest_of fs))
 owned-popped colour [] h = tt
 owned-popped colour (f ∷ fs) h = h.1
 
@@ -119,7 +120,7 @@ module _ {Stands : List Nature → Type 0} (stacking : Stacking Stands) (held : 
       record {
         busy = record {
           colour = good.colour;
-          apart = agent_marked good.colour w (without_first w.agent.frames) good.apart (owned-popped good.colour w.agent.frames good.apart.marks);
+          apart = agent_marked good.colour w (rest_of w.agent.frames) good.apart (owned-popped good.colour w.agent.frames good.apart.marks);
           held_owned = good.held_owned;
           marks = natures-popped Stands stacking w.agent.frames f found.0 found.1 action good.marks;
           runs = good.runs;

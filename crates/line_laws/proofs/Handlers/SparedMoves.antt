@@ -28,9 +28,10 @@ use Rattle.profile_machine.specs.declared.world.tasks.Waiting.{Waiting}
 use Rattle.profile_machine.specs.Dispatching.{word_of}
 use Rattle.profile_machine.specs.Protected.{open_action}
 use Rattle.ann_base.specs.Lists.{is_empty}
+use Rattle.world_tables.specs.Lists.{rest_of}
 use Rattle.profile_machine.specs.Program.{scope_of}
 use Rattle.profile_machine.specs.Tasks.{task_at, edit_task_found, edit_task, with_state, with_frames, is_runnable, is_runnable_state, waiting_in, waiting_of, is_who}
-use Rattle.profile_machine.specs.Frames.{edit_first, edit_top, goes_on, push, pop, without_first, new_frame}
+use Rattle.profile_machine.specs.Frames.{edit_first, edit_top, goes_on, push, pop, new_frame}
 use Rattle.profile_machine.specs.Scopes.{begin_scope, draw_region, region_of_next, open_scope, next_id, new_scope_mark}
 use Rattle.profile_machine.specs.Masters.{waits_for_activation, forget_task}
 use Rattle.profile_machine.specs.Controlled.{top_region}
@@ -223,13 +224,13 @@ module _ (colour : Colour) (wakes : Bool) where
   no_region : (drawn : ℕ) (r : Option RegionNo) → r ≡ None → RegionFree colour drawn r
   no_region drawn r e = subst (RegionFree colour drawn) (sym e) tt
 
-  first-marks : (drawn : ℕ) (fs : List Frame) → MarksFree colour drawn (natures fs) → MarksFree colour drawn (natures (without_first fs))
+  first-marks : (drawn : ℕ) (fs : List Frame) → MarksFree colour drawn (natures fs) → MarksFree colour drawn (natures (rest_of fs))
   first-marks drawn [] h = tt
   first-marks drawn (f ∷ fs) h = h.2
 
   popped : (name : Who) (w : World) → G w → IsTask name → R w [] (pop name w)
   popped name w good is =
-      task_edited name (λ t. with_frames (without_first t.frames) t) w good is (λ t h. record { named = h.named; marks = first-marks w.drawn.regions t.frames h.marks; master = h.master })
+      task_edited name (λ t. with_frames (rest_of t.frames) t) w good is (λ t h. record { named = h.named; marks = first-marks w.drawn.regions t.frames h.marks; master = h.master })
 
   frames_edited : (name : Who) (f : List Frame → List Frame) (w : World) → G w → ((fs : List Frame) → natures (f fs) ≡ natures fs) → R w [] (edit_task name (λ t. with_frames (f t.frames) t) w)
   frames_edited name f w good same =

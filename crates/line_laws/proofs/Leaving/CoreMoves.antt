@@ -21,10 +21,10 @@ use Rattle.profile_machine.specs.declared.world.lines.Line.TheVariants as said
 use Rattle.profile_machine.specs.declared.world.lines.Part.{Part}
 use Rattle.profile_machine.specs.declared.world.lines.Said.{Said}
 use Rattle.profile_machine.specs.Words.{same_who}
-use Rattle.world_tables.specs.Lists.{first_of}
+use Rattle.world_tables.specs.Lists.{first_of, rest_of}
 use Rattle.profile_machine.specs.Tasks.{task_at, task_of, edit_task_found, edit_task, with_state, with_frames, waiting_in, waiting_of}
 use Rattle.profile_machine.specs.Dispatching.{keep_level, without_kept_level, level_kept_by, granted}
-use Rattle.profile_machine.specs.Frames.{top_of, push, pop, without_first, edit_first, goes_on}
+use Rattle.profile_machine.specs.Frames.{top_of, push, pop, edit_first, goes_on}
 use Rattle.profile_machine.specs.Program.{edf_low}
 use Rattle.profile_machine.specs.Masters.{region_of_mark, waits_at_terminate}
 use Rattle.profile_machine.specs.Controlled.{top_region, region_or_none}
@@ -190,7 +190,7 @@ awake-as who.Agent w t e awake = refl
 
 pub pop-base : (acts : Who → Bool) (loose : Bool) (name : Who) (w : World) → Inv w → Awake name w → ((s : List Told) → Tied s w → Tied s (pop name w)) → Base acts loose w [] (pop name w)
 pop-base acts loose name w inv awake tied =
-    marks-base acts loose name without_first w inv (λ t e h. popped-good w.calls w.drawn.calls name t.frames t.state (awake-as name w t e awake) h) tied
+    marks-base acts loose name rest_of w inv (λ t e h. popped-good w.calls w.drawn.calls name t.frames t.state (awake-as name w t e awake) h) tied
 
 -- below a mark that is not special somebody is free
 pub popped-free : (name : Who) (f : Frame) (w : World) → Inv w → top_of w name ≡ Some f → is_special f.mark ≡ false → Free name (pop name w)
@@ -198,14 +198,14 @@ popped-free name f w inv top plain =
     let q = topped name w f top in
     let good = good-of name w q.task inv q.found in
     let sound : Sound (f ∷ q.below) = subst Sound q.shape good.sound in
-    let is = of_self name (λ t. with_frames (without_first t.frames) t) w q.task q.found (λ u. refl) in
-    subst (λ (x : Task). top_leaving (first_of x.frames) ≡ false) (sym is) (subst (λ fs. top_leaving (first_of (without_first fs)) ≡ false) (sym q.shape) (below-top f q.below plain sound))
+    let is = of_self name (λ t. with_frames (rest_of t.frames) t) w q.task q.found (λ u. refl) in
+    subst (λ (x : Task). top_leaving (first_of x.frames) ≡ false) (sym is) (subst (λ fs. top_leaving (first_of (rest_of fs)) ≡ false) (sym q.shape) (below-top f q.below plain sound))
 
 pub pop-free : (name : Who) (f : Frame) (w : World) (n : Who) → Inv w → top_of w name ≡ Some f → is_special f.mark ≡ false → Free n w → Free n (pop name w)
 pop-free name f w n inv top plain h =
     by_test (same_who n name)
     (λ e. subst (λ k. Free k (pop name w)) (sym (who_path n name e)) (popped-free name f w inv top plain))
-    (λ e. subst (λ (x : Task). top_leaving (first_of x.frames) ≡ false) (sym (of_other n name (λ t. with_frames (without_first t.frames) t) w (λ u. refl) e)) h)
+    (λ e. subst (λ (x : Task). top_leaving (first_of x.frames) ≡ false) (sym (of_other n name (λ t. with_frames (rest_of t.frames) t) w (λ u. refl) e)) h)
 
 -- who has something to go on with is free
 pub onward-free : (name : Who) (f : Frame) (s : StatementNo) (w : World) → Inv w → top_of w name ≡ Some f → f.onward ≡ Some s → Free name w

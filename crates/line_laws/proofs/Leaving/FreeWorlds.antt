@@ -13,9 +13,9 @@ use Rattle.profile_machine.specs.declared.world.marks.Frame.{Frame}
 use Rattle.profile_machine.specs.declared.world.marks.Mark.{Mark}
 use Rattle.profile_machine.specs.declared.numbers.StatementNo.{StatementNo}
 use Rattle.profile_machine.specs.Words.{set_where}
-use Rattle.world_tables.specs.Lists.{first_of}
+use Rattle.world_tables.specs.Lists.{first_of, rest_of}
 use Rattle.profile_machine.specs.Tasks.{task_at, task_of, edit_task_found, edit_task, is_who, waiting_in, nobody}
-use Rattle.profile_machine.specs.Frames.{without_first, edit_first, goes_on}
+use Rattle.profile_machine.specs.Frames.{edit_first, goes_on}
 use Rattle.profile_machine.specs.Calls.{is_call}
 use Rattle.line_laws.proofs.Leaving.FineMoves.{Alike, nature, is_special, own_call_of, top_leaving, waits, MakesCalls}
 use Rattle.line_laws.proofs.Leaving.TaskLemmas.{found-holds, who_path}
@@ -176,7 +176,7 @@ pub special-opens : (mark : Mark) (fs : List Frame) → is_special mark ≡ true
 special-opens mark fs special = below-special mark fs special
 
 -- a mark ends, of who does not wait
-pub popped-good : (calls : List Call) (drawn : ℕ) (name : Who) (fs : List Frame) (state : State) → waits_as name state ≡ false → Good calls drawn name fs state → Good calls drawn name (without_first fs) state
+pub popped-good : (calls : List Call) (drawn : ℕ) (name : Who) (fs : List Frame) (state : State) → waits_as name state ≡ false → Good calls drawn name fs state → Good calls drawn name (rest_of fs) state
 popped-good calls drawn name [] state awake h = h
 popped-good calls drawn name (f ∷ fs) state awake h = record { sound = h.sound.2; free = λ e. absurd (let never : true ≡ false = sym e ∙ awake in cc); own = h.own.1 }
 

@@ -9,9 +9,9 @@ use Rattle.profile_machine.specs.declared.world.tasks.Task.{Task}
 use Rattle.profile_machine.specs.declared.world.tasks.State.TheVariants.{Runnable, Blocked}
 use Rattle.profile_machine.specs.declared.world.marks.Frame.{Frame}
 use Rattle.profile_machine.specs.Words.{same_who}
-use Rattle.world_tables.specs.Lists.{first_of}
+use Rattle.world_tables.specs.Lists.{first_of, rest_of}
 use Rattle.profile_machine.specs.Tasks.{task_of, edit_task, with_state, with_frames, waiting_in, is_who, found_task, nobody}
-use Rattle.profile_machine.specs.Frames.{edit_first, goes_on, without_first}
+use Rattle.profile_machine.specs.Frames.{edit_first, goes_on}
 use Rattle.profile_machine.specs.Tasking.{add_task}
 use Rattle.machine_laws.proofs.Moves.{MoveRelation}
 use Rattle.line_laws.proofs.Leaving.FineMoves.{FineMoves, Nature, nature, Alike, Free, Awake, waits, waiting_now, top_leaving}
@@ -189,8 +189,8 @@ extra-steady a n = record {
     top = subst (Top n) (sym (of_other a name (λ t. with_frames (f ∷ t.frames) t) w (λ u. refl) (differs a name apart))) x.top;
   };
   pops = λ name f w apart inv top plain x. record {
-    awake = awake-edited a name (λ t. with_frames (without_first t.frames) t) w (λ u. refl) (λ u. refl) x.awake;
-    top = subst (Top n) (sym (of_other a name (λ t. with_frames (without_first t.frames) t) w (λ u. refl) (differs a name apart))) x.top;
+    awake = awake-edited a name (λ t. with_frames (rest_of t.frames) t) w (λ u. refl) (λ u. refl) x.awake;
+    top = subst (Top n) (sym (of_other a name (λ t. with_frames (rest_of t.frames) t) w (λ u. refl) (differs a name apart))) x.top;
   };
   readies = λ name w x. record {
     awake = ready-awake a name w x.awake;

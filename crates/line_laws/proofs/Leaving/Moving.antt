@@ -24,11 +24,11 @@ use Rattle.profile_machine.specs.declared.world.lines.Said.{Said}
 use Rattle.profile_machine.specs.Steps.{placed_by}
 use Rattle.trace_text.specs.declared.events.QueueEnd.TheVariants.{Tail}
 use Rattle.profile_machine.specs.declared.world.calls.Call.{Call}
-use Rattle.world_tables.specs.Lists.{first_of}
+use Rattle.world_tables.specs.Lists.{first_of, rest_of}
 use Rattle.profile_machine.specs.Tasks.{task_of, edit_task, with_state, with_frames, waiting_in}
 use Rattle.profile_machine.specs.Dispatching.{active, deadline_shown, word_of, keep_level, level_kept_by, granted, without_kept_level}
 use Rattle.profile_machine.specs.Program.{scope_of, edf_low, is_robin_level}
-use Rattle.profile_machine.specs.Frames.{top_of, push, pop, edit_first, goes_on, new_frame, without_first}
+use Rattle.profile_machine.specs.Frames.{top_of, push, pop, edit_first, goes_on, new_frame}
 use Rattle.profile_machine.specs.Scopes.{begin_scope, draw_region, open_scope, next_id, region_of_next, new_scope_mark}
 use Rattle.profile_machine.specs.Masters.{forget_task, region_of_mark}
 use Rattle.profile_machine.specs.Controlled.{top_region, registered_as, no_longer_registered}
@@ -65,7 +65,7 @@ pushed-state : (name : Who) (f : Frame) (w : World) (t : TaskNo) → state_in (p
 pushed-state name f w t = edited-state name (λ u. with_frames (f ∷ u.frames) u) w t (λ u. refl) (λ u. refl)
 
 popped-state : (name : Who) (w : World) (t : TaskNo) → state_in (pop name w) t ≡ state_in w t
-popped-state name w t = edited-state name (λ u. with_frames (without_first u.frames) u) w t (λ u. refl) (λ u. refl)
+popped-state name w t = edited-state name (λ u. with_frames (rest_of u.frames) u) w t (λ u. refl) (λ u. refl)
 
 pushed-inv : (name : Who) (f : Frame) (w : World) → Inv w → ((t : Task) → task_of w name ≡ t → Below f.mark t.frames) → being_left_in f.mark ≡ false → own_call_of f.mark ≡ None → Inv (push name f w)
 pushed-inv name f w inv below not_left none = edited-inv name (λ t. with_frames (f ∷ t.frames) t) w (λ u. refl) (λ t e h. opened-good w.calls w.drawn.calls name f t.frames t.state (below t e, not_left, λ c k. absurd (let one : None ≡ Some c = sym none ∙ k in cc)) h) inv

@@ -16,10 +16,10 @@ use Rattle.profile_machine.specs.declared.world.marks.ScopeMark.{ScopeMark}
 use Rattle.profile_machine.specs.declared.world.scopes.Located.{Located}
 use Rattle.profile_machine.specs.declared.world.appointments.Registered.{Registered}
 use Rattle.profile_machine.specs.Words.{without}
-use Rattle.world_tables.specs.Lists.{first_of}
+use Rattle.world_tables.specs.Lists.{first_of, rest_of}
 use Rattle.profile_machine.specs.Cost.{of_region}
 use Rattle.profile_machine.specs.Tasks.{task_at, edit_task_found, edit_task, with_frames, nobody}
-use Rattle.profile_machine.specs.Frames.{top_of, edit_first, edit_top, push, pop, without_first, with_mark}
+use Rattle.profile_machine.specs.Frames.{top_of, edit_first, edit_top, push, pop, with_mark}
 use Rattle.profile_machine.specs.Scopes.{region_drawn}
 use Rattle.profile_machine.specs.Masters.{forget_task}
 use Rattle.profile_machine.specs.Controlled.{registered_as, no_longer_registered, edit_top_scope, edit_scope_mark, next_to_finalize, is_number}
@@ -89,12 +89,12 @@ pub pushed-tied : (s : List Told) (name : Who) (f : Frame) (w : World) → (natu
 pushed-tied s name f w none h =
     edited-tied s name (λ t. with_frames (f ∷ t.frames) t) w (λ t e r. fewer-same (flags_in r (natures (f ∷ t.frames))) (flags_in r (natures t.frames)) (no_flag r (nature f.mark) (natures t.frames) (nature f.mark).region refl none)) h
 
-first_less : (r : ℕ) (fs : List Frame) → Fewer (flags_in r (natures (without_first fs))) (flags_in r (natures fs))
+first_less : (r : ℕ) (fs : List Frame) → Fewer (flags_in r (natures (rest_of fs))) (flags_in r (natures fs))
 first_less r [] = fewer-same [] [] refl
 first_less r (f ∷ fs) = fewer-natures r (nature f.mark) (natures fs)
 
 pub popped-tied : (s : List Told) (name : Who) (w : World) → Tied s w → Tied s (pop name w)
-popped-tied s name w h = edited-tied s name (λ t. with_frames (without_first t.frames) t) w (λ t e r. first_less r t.frames) h
+popped-tied s name w h = edited-tied s name (λ t. with_frames (rest_of t.frames) t) w (λ t e r. first_less r t.frames) h
 
 -- a task that is gone, and a new one
 pub forgotten-tied : (s : List Told) (name : Who) (w : World) → Tied s w → Tied s (forget_task name w)
@@ -303,10 +303,10 @@ ended-rest s r registered d o low h = record {
 }
 
 abbrev mark_popped : Task → Task
-mark_popped t = with_frames (without_first t.frames) t
+mark_popped t = with_frames (rest_of t.frames) t
 
 popped-flags : (name : Who) (w : World) (r : RegionNo) (b : Bool) (q : ℕ) (t : RegionOnTop name w r b) → flags_in q (natures (mark_popped t.task).frames) ≡ flags_in q (natures t.below)
-popped-flags name w r b q t = ap (λ fs. flags_in q (natures (without_first fs))) t.shape
+popped-flags name w r b q t = ap (λ fs. flags_in q (natures (rest_of fs))) t.shape
 
 ended-marks : (s : List Told) (name : Who) (w : World) (r : RegionNo) (t : RegionOnTop name w r true) → Tied s w → (q : ℕ) → let v = edit_task name mark_popped w in Single (Flag q (ended r.0 ∷ s) w.drawn.regions) (flags q v.tasks v.agent)
 ended-marks s name w r t h q =

@@ -22,9 +22,9 @@ use Rattle.profile_machine.specs.declared.world.marks.ScopeMark.{ScopeMark}
 use Rattle.profile_machine.specs.declared.world.scopes.ScopeId.{ScopeId}
 use Rattle.profile_machine.specs.declared.world.tasks.Task.{Task}
 use Rattle.profile_machine.specs.Steps.{Step, changes, says, looks, when, for_some, for_each, ◌▷◌}
-use Rattle.world_tables.specs.Lists.{first_of}
+use Rattle.world_tables.specs.Lists.{first_of, rest_of}
 use Rattle.profile_machine.specs.Tasks.{with_frames}
-use Rattle.profile_machine.specs.Frames.{top_of, pop, edit_top, edit_first, without_first}
+use Rattle.profile_machine.specs.Frames.{top_of, pop, edit_top, edit_first}
 use Rattle.profile_machine.specs.Scopes.{end_scope, cells_of, scope_in_use}
 use Rattle.profile_machine.specs.Controlled.{next_to_finalize, finalize, edit_top_scope}
 use Rattle.profile_machine.specs.Tasking.{leaves_as, being_left_mark, left_so_frame, is_made_in, end_made, complete_if_task, wait_for_dependents, leave_region, is_task_scope, behind_scope, raises_behind, left_by, says_left, end_of_scope, go_on_leaving, end_scope_mark_of, end_scope_mark}
@@ -148,7 +148,7 @@ left-base a f m (Some r) w inv awake top is region ended =
     record {
       tells = has_left-tells NotLeaving a f m r w top is region e.0 e.1;
       called = out.called;
-      claims = λ t. claim-quiet (acting a) true t w (own (line.Left a r) ∷ []) (pop a w) (edited-state a (λ u. with_frames (without_first u.frames) u) w t (λ u. refl) (λ u. refl)) (refl, tt);
+      claims = λ t. claim-quiet (acting a) true t w (own (line.Left a r) ∷ []) (pop a w) (edited-state a (λ u. with_frames (rest_of u.frames) u) w t (λ u. refl) (λ u. refl)) (refl, tt);
       inv = out.inv;
     }
 

@@ -3,6 +3,7 @@ use Rattle.std.proofs.Common.{◌≡◌, ℕ, Bool, true, false, cond, List, [],
 use Rattle.ada_tree.specs.declared.names.Identifier.{Identifier}
 use Rattle.ada_tree.specs.declared.names.Name.{Name}
 use Rattle.ada_tree.specs.declared.declarations.SubprogramSpecification.{SubprogramSpecification}
+use Rattle.world_tables.specs.Lists.{rest_of}
 use Rattle.profile_machine.specs.declared.numbers.SubprogramNo.{SubprogramNo}
 use Rattle.ada_regions.specs.declared.entities.Denoted.{Denoted}
 use Rattle.ada_regions.specs.declared.entities.EntityKind.{EntityKind}
@@ -11,7 +12,7 @@ use Rattle.ada_regions.specs.declared.entities.Sought.TheVariants as answer
 use Rattle.ada_regions.specs.declared.table.Enclosure.{Enclosure}
 use Rattle.ada_regions.specs.declared.table.Names.{Names}
 use Rattle.ada_regions.specs.Words.{and_then}
-use Rattle.ada_regions.specs.Names.{binding_in, innermost_frame, frames_outside, enclosure_of, enclosure_here, region_here, denoted_at, denoted_by, kind_at}
+use Rattle.ada_regions.specs.Names.{binding_in, innermost_frame, enclosure_of, enclosure_here, region_here, denoted_at, denoted_by, kind_at}
 use Rattle.ada_regions.specs.Occurrences.{Declared, the_package, the_main_procedure, an_object, a_component, a_parameter, a_loop_parameter, an_enumeration, a_literal, an_array, a_derived_type, a_subtype, an_exception, a_label, a_subprogram, an_entry, a_task, a_protected}
 use Rattle.ada_regions.specs.Visibility.{sought, answered, resolved}
 use Rattle.ada_regions.specs.SelectedNames.{selected, selection_answered, parts_resolved, name_resolved}
@@ -139,5 +140,5 @@ scopes-completed_or outer None i s n = scopes-subprogram outer false _ i s n
 pub scopes-completed : (i : Identifier) (s : SubprogramSpecification) (n : Names) → SameScopes n (completed i s n)
 unfolding completed owned
 scopes-completed i s n =
-    let outer = enclosure_of (innermost_frame (frames_outside n.frames)) in
+    let outer = enclosure_of (innermost_frame (rest_of n.frames)) in
     scopes-completed_or outer (completed_in n outer.region i.text) i s n

@@ -18,7 +18,7 @@ use Rattle.ada_tree.specs.declared.declarations.SubprogramSpecification.{Subprog
 use Rattle.ada_tree.specs.declared.declarations.EntryHead.{EntryHead}
 use Rattle.ada_tree.specs.declared.declarations.OperationBody.{OperationBody}
 use Rattle.ada_tree.specs.declared.declarations.OperationBody.TheVariants as body_of
-use Rattle.ada_tree.specs.Written.{word, word_at, identifier_written, each_written, optional}
+use Rattle.ada_tree.specs.Written.{word, word_at, identifier_written, optional}
 use Rattle.ada_tree.specs.SpellingExpressions.{expression_written}
 use Rattle.ada_tree.specs.SpellingStatements.{parameters_written, statement_written, handler_written}
 use Rattle.ada_tree.specs.SpellingDeclarations.{aspects_written, overriding_written, subprogram_word, result_written, specification_written, entry_head_written, body_written, operation_body_written, declaration_written}
@@ -75,7 +75,7 @@ module _ (n : Names) (level : ℕ) (all : (m : ℕ) → suc m ≤ level → Sequ
   begins-operation_body m le (body_of.Entry h b) fits = begins-entry_body h b (begins-body m le h.name false b (second_true (entry_head_fits m h) (body_fits sequence_fits m b) fits))
 
   begins-operations : (m : ℕ) → m ≤ level → (os : List (OperationBody Sequence)) → list_all (operation_body_fits sequence_fits m) os ≡ true
-      → Begins n (operations_scopes sequence_scopes os n) (flat_map (names_in_operation_body names_in_sequence) os) (each_written (operation_body_written sequence_written) os)
+      → Begins n (operations_scopes sequence_scopes os n) (flat_map (names_in_operation_body names_in_sequence) os) (flat_map (operation_body_written sequence_written) os)
   begins-operations m le [] fits = begins-none _ _
   begins-operations m le (o ∷ os) fits = begins-turned (begins-operation_body m le o (first_true _ _ fits)) (begins-operations m le os (second_true _ _ fits))
 
@@ -99,7 +99,7 @@ module _ (n : Names) (level : ℕ) (all : (m : ℕ) → suc m ≤ level → Sequ
   begins-declaration (declaration.Use place name) fits = begins-none _ _
 
   pub begins-declarations : (ds : List (Declaration Sequence)) → list_all (declaration_fits sequence_fits level) ds ≡ true
-      → Begins n (declarations_scopes sequence_scopes ds n) (flat_map (names_in_declaration names_in_sequence) ds) (each_written (declaration_written sequence_written) ds)
+      → Begins n (declarations_scopes sequence_scopes ds n) (flat_map (names_in_declaration names_in_sequence) ds) (flat_map (declaration_written sequence_written) ds)
   begins-declarations [] fits = begins-none _ _
   begins-declarations (d ∷ ds) fits = begins-turned (begins-declaration d (first_true _ _ fits)) (begins-declarations ds (second_true _ _ fits))
 
@@ -112,7 +112,7 @@ module _ (n : Names) (level : ℕ) (all : (m : ℕ) → suc m ≤ level → Sequ
   begins-one s e = let inside = opened level (parts_fit sequence_fits s) e in begins-statement n inside.inner (within-level inside.inner inside.less) s inside.holds
 
   begins-statements : (ss : List (Statement Sequence)) → list_all (statement_fits sequence_fits level) ss ≡ true
-      → Begins n (statements_scopes sequence_scopes ss n) (flat_map (names_in_statement names_in_sequence) ss) (each_written (statement_written sequence_written) ss)
+      → Begins n (statements_scopes sequence_scopes ss n) (flat_map (names_in_statement names_in_sequence) ss) (flat_map (statement_written sequence_written) ss)
   begins-statements [] e = begins-none _ _
   begins-statements (s ∷ ss) e = begins-both (begins-one s (first_true _ _ e)) (begins-statements ss (second_true _ _ e))
 
@@ -135,7 +135,7 @@ module _ (n : Names) (level : ℕ) (all : (m : ℕ) → suc m ≤ level → Sequ
   -- ---- handlers: statements alone have none, so handlers may have them at the same level
 
   begins-each_handler : (hs : List (Handler Sequence)) → list_all (handler_fits sequence_fits level) hs ≡ true
-      → Begins n (handler_scopes sequence_scopes hs n) (flat_map (names_in_handler names_in_sequence) hs) (each_written (handler_written sequence_written) hs)
+      → Begins n (handler_scopes sequence_scopes hs n) (flat_map (names_in_handler names_in_sequence) hs) (flat_map (handler_written sequence_written) hs)
   begins-each_handler [] e = begins-none _ _
   begins-each_handler (h ∷ hs) e = begins-turned (begins-handler h (begins-alone h.statements (first_true _ _ e))) (begins-each_handler hs (second_true _ _ e))
 

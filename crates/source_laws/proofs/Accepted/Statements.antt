@@ -23,7 +23,7 @@ use Rattle.ada_tree.specs.declared.selects.SelectForm.TheVariants as select
 use Rattle.ada_tree.specs.declared.selects.SelectAlternative.{SelectAlternative}
 use Rattle.ada_tree.specs.declared.selects.Alternative.{Alternative}
 use Rattle.ada_tree.specs.declared.selects.Alternative.TheVariants as alternative
-use Rattle.ada_tree.specs.Written.{word, each_written, behind, optional}
+use Rattle.ada_tree.specs.Written.{word, behind, optional}
 use Rattle.ada_tree.specs.SpellingStatements.{call_written, delay_written, trigger_written, statements_written, elsif_written, else_written, case_alternative_written, block_opened, handler_written, accept_body_written, accept_written, alternative_written, select_alternative_written, select_form_written, statement_written}
 use Rattle.ada_tree.specs.Spelling.{sequence_written}
 use Rattle.ada_tree.specs.ShapeExpressions.{optional_fits}
@@ -77,7 +77,7 @@ module _ (n : Names) (left : ℕ) (all : (m : ℕ) → m ≤ left → SequencesB
   begins-elsif e fits = begins-skip _ (begins-past _ (begins-skip _ (begins-behind _ (begins-statements e.statements (second_true _ _ fits)))))
 
   begins-elsifs : (es : List (Elsif Sequence)) → list_all (elsif_fits sequence_fits left) es ≡ true
-      → Begins n (elsif_scopes sequence_scopes es n) (flat_map (names_in_elsif names_in_sequence) es) (each_written (elsif_written sequence_written) es)
+      → Begins n (elsif_scopes sequence_scopes es n) (flat_map (names_in_elsif names_in_sequence) es) (flat_map (elsif_written sequence_written) es)
   begins-elsifs [] fits = begins-none _ _
   begins-elsifs (e ∷ es) fits = begins-both (begins-elsif e (first_true _ _ fits)) (begins-elsifs es (second_true _ _ fits))
 
@@ -94,7 +94,7 @@ module _ (n : Names) (left : ℕ) (all : (m : ℕ) → m ≤ left → SequencesB
   begins-case_alternative a fits = begins-skip _ (begins-past _ (begins-skip _ (begins-behind _ (begins-statements a.statements (second_true _ _ fits)))))
 
   begins-cases : (xs : List (CaseAlternative Sequence)) → list_all (case_alternative_fits sequence_fits left) xs ≡ true
-      → Begins n (case_scopes sequence_scopes xs n) (flat_map (names_in_case_alternative names_in_sequence) xs) (each_written (case_alternative_written sequence_written) xs)
+      → Begins n (case_scopes sequence_scopes xs n) (flat_map (names_in_case_alternative names_in_sequence) xs) (flat_map (case_alternative_written sequence_written) xs)
   begins-cases [] fits = begins-none _ _
   begins-cases (x ∷ xs) fits = begins-turned (begins-case_alternative x (first_true _ _ fits)) (begins-cases xs (second_true _ _ fits))
 
@@ -141,7 +141,7 @@ module _ (n : Names) (left : ℕ) (all : (m : ℕ) → m ≤ left → SequencesB
   begins-select_alternative a fits = begins-behind _ (begins-past _ (begins-alternative a.alternative (second_true _ _ fits)))
 
   begins-others : (xs : List (SelectAlternative Sequence)) → list_all (select_alternative_fits sequence_fits left) xs ≡ true
-      → Begins n (alternatives_scopes sequence_scopes xs n) (flat_map (names_in_select_alternative names_in_sequence) xs) (each_written (behind (word (codes "or")) (select_alternative_written sequence_written)) xs)
+      → Begins n (alternatives_scopes sequence_scopes xs n) (flat_map (names_in_select_alternative names_in_sequence) xs) (flat_map (behind (word (codes "or")) (select_alternative_written sequence_written)) xs)
   begins-others [] fits = begins-none _ _
   begins-others (x ∷ xs) fits = begins-turned (begins-skip _ (begins-select_alternative x (first_true _ _ fits))) (begins-others xs (second_true _ _ fits))
 

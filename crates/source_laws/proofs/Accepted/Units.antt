@@ -12,7 +12,7 @@ use Rattle.ada_tree.specs.declared.units.Package.TheVariants as packages
 use Rattle.ada_tree.specs.declared.units.PackageDeclaration.{PackageDeclaration}
 use Rattle.ada_tree.specs.declared.units.PackageBody.{PackageBody}
 use Rattle.ada_tree.specs.declared.units.MainProcedure.{MainProcedure}
-use Rattle.ada_tree.specs.Written.{each_written, optional}
+use Rattle.ada_tree.specs.Written.{optional}
 use Rattle.ada_tree.specs.SpellingDeclarations.{aspects_written}
 use Rattle.ada_tree.specs.Spelling.{pragma_written, clause_written, declarations_written, private_part_written, package_statements_written, package_written, library_package_written, main_written, unit_written}
 use Rattle.ada_tree.specs.ShapeExpressions.{optional_fits}
@@ -52,34 +52,34 @@ module _ (n : Names) where
   -- ---- library units
 
   begins-package_declaration : (level : ℕ) (context : List ContextClause) (p : PackageDeclaration) → package_declaration_fits level p ≡ true
-      → Begins n (package_scopes (packages.Declaration p) n) (names_in_package_declaration context p) (each_written clause_written context ++ package_written (packages.Declaration p))
+      → Begins n (package_scopes (packages.Declaration p) n) (names_in_package_declaration context p) (flat_map clause_written context ++ package_written (packages.Declaration p))
   begins-package_declaration level context p e =
-      subst (λ scopes. Begins n scopes (names_in_package_declaration context p) (each_written clause_written context ++ package_written (packages.Declaration p))) (sym (scopes-append p.declarations (unwrap_or p.private [])))
-      (begins-region the_context (begins-behind (names_in_context context) (begins-past (each_written clause_written context) (begins-skip _ (begins-skip _ (begins-skip _
+      subst (λ scopes. Begins n scopes (names_in_package_declaration context p) (flat_map clause_written context ++ package_written (packages.Declaration p))) (sym (scopes-append p.declarations (unwrap_or p.private [])))
+      (begins-region the_context (begins-behind (names_in_context context) (begins-past (flat_map clause_written context) (begins-skip _ (begins-skip _ (begins-skip _
       (begins-quiet (declares_unit p.name the_package) (begins-region (package_region p.name)
       (begins-turned (begins-part level p.declarations (first_true _ _ e)) (begins-front _ (begins-private level p.private (second_true _ _ e))))))))))))
 
   begins-package_body : (level : ℕ) (context : List ContextClause) (p : PackageBody) → package_parts_fit p level ≡ true
-      → Begins n (package_scopes (packages.Body p) n) (names_in_package_body context p) (each_written clause_written context ++ package_written (packages.Body p))
+      → Begins n (package_scopes (packages.Body p) n) (names_in_package_body context p) (flat_map clause_written context ++ package_written (packages.Body p))
   begins-package_body level context p e =
-      begins-region (the_context_of p.name) (begins-region further_context (begins-behind (names_in_context context) (begins-past (each_written clause_written context)
+      begins-region (the_context_of p.name) (begins-region further_context (begins-behind (names_in_context context) (begins-past (flat_map clause_written context)
       (begins-skip _ (begins-skip _ (begins-skip _ (begins-skip _ (begins-region (package_body p.name)
       (begins-turned (begins-part level p.declarations (first_true _ _ e)) (begins-front _ (begins-statements level p.sequence (second_true _ _ e))))))))))))
 
   begins-package : (level : ℕ) (context : List ContextClause) (p : Package) → package_fits level p ≡ true
-      → Begins n (package_scopes p n) (names_in_package context p) (each_written clause_written context ++ package_written p)
+      → Begins n (package_scopes p n) (names_in_package context p) (flat_map clause_written context ++ package_written p)
   begins-package level context (packages.Declaration p) e = begins-package_declaration level context p e
   begins-package level context (packages.Body p) e = let inside = opened level (package_parts_fit p) e in begins-package_body inside.inner context p inside.holds
 
   begins-packages : (level : ℕ) (ls : List LibraryPackage) → list_all (library_package_fits level) ls ≡ true
-      → Begins n (packages_scopes ls n) (flat_map names_in_library_package ls) (each_written library_package_written ls)
+      → Begins n (packages_scopes ls n) (flat_map names_in_library_package ls) (flat_map library_package_written ls)
   begins-packages level [] e = begins-none _ _
   begins-packages level (l ∷ ls) e = begins-both (begins-package level l.context l.package (first_true _ _ e)) (begins-packages level ls (second_true _ _ e))
 
   begins-main : (level : ℕ) (context : List ContextClause) (m : MainProcedure) → main_fits level m ≡ true
-      → Begins n (body_scopes sequence_scopes m.place false m.body.sequence n) (names_in_main context m) (each_written clause_written context ++ main_written m)
+      → Begins n (body_scopes sequence_scopes m.place false m.body.sequence n) (names_in_main context m) (flat_map clause_written context ++ main_written m)
   begins-main level context m e =
-      begins-region the_context (begins-behind (names_in_context context) (begins-past (each_written clause_written context) (begins-behind (names_in_aspects m.aspects)
+      begins-region the_context (begins-behind (names_in_context context) (begins-past (flat_map clause_written context) (begins-behind (names_in_aspects m.aspects)
       (begins-quiet (declares_unit m.name the_main_procedure) (begins-scope (main_body m.name m.place) m.place (codes "procedure") refl (begins-skip _ (begins-past (aspects_written m.aspects)
       (begins-body n level (λ k less. begins-sequence n k) level (omega arith) m.name false m.body (second_true _ _ e)))))))))
 
@@ -89,4 +89,4 @@ module _ (n : Names) where
       → Begins n (packages_scopes unit.packages n ++ body_scopes sequence_scopes unit.main.place false unit.main.body.sequence n) (names_in_unit unit) (unit_written unit)
   begins-unit level unit e =
       let behind = second_true _ _ e in
-      begins-past (each_written pragma_written unit.pragmas) (begins-both (begins-packages level unit.packages (first_true _ _ behind)) (begins-main level unit.context unit.main (second_true _ _ behind)))
+      begins-past (flat_map pragma_written unit.pragmas) (begins-both (begins-packages level unit.packages (first_true _ _ behind)) (begins-main level unit.context unit.main (second_true _ _ behind)))

@@ -5,6 +5,7 @@ use Rattle.ada_tree.specs.declared.names.Identifier.{Identifier}
 use Rattle.ada_tree.specs.declared.names.Name.{Name}
 use Rattle.ada_tree.specs.declared.declarations.SubprogramSpecification.{SubprogramSpecification}
 use Rattle.ada_tree.specs.declared.expressions.Expression.{Expression}
+use Rattle.world_tables.specs.Lists.{rest_of}
 use Rattle.profile_machine.specs.declared.numbers.EntryNo.{EntryNo}
 use Rattle.profile_machine.specs.declared.numbers.SubprogramNo.{SubprogramNo}
 use Rattle.ada_regions.specs.declared.types.AdaType.{AdaType}
@@ -23,7 +24,7 @@ use Rattle.ada_regions.specs.declared.table.PackageContext.{PackageContext}
 use Rattle.ada_regions.specs.declared.table.UseClause.{UseClause}
 use Rattle.ada_regions.specs.declared.table.Names.{Names}
 use Rattle.ada_regions.specs.Words.{and_then}
-use Rattle.ada_regions.specs.Names.{noted, innermost_frame, frames_outside, enclosure_of, enclosure_here, region_here, scope_in, kind_at, region_of_entity, entity_denoted, denoted_by}
+use Rattle.ada_regions.specs.Names.{noted, innermost_frame, enclosure_of, enclosure_here, region_here, scope_in, kind_at, region_of_entity, entity_denoted, denoted_by}
 use Rattle.ada_regions.specs.Occurrences.{Occurrence, Declared, Region, the_package, the_main_procedure, an_object, a_component, a_parameter, a_loop_parameter, an_enumeration, a_literal, an_array, a_derived_type, a_subtype, an_exception, a_label, a_subprogram, an_entry, a_task, a_protected, the_context, the_context_of, further_context, package_region, package_body, main_body, a_profile, subprogram_body, a_unit, task_body, protected_body, entry_body, an_accept, a_block, a_loop, a_record, begins, ends, private_from_here, hides, heads, declares, declares_unit, completes, is_called, mentions, mentions_simply, mentions_entry, with_unit, use_package}
 use Rattle.ada_regions.specs.Visibility.{sought, answered, resolved}
 use Rattle.ada_regions.specs.SelectedNames.{selected, selection_answered, parts_resolved, name_resolved}
@@ -139,13 +140,13 @@ clauses-completed_or f None i s n = clauses-subprogram f false (scope_in n.frame
 
 -- the innermost region gets an owner
 abbrev pub with_owner : Option ℕ → List ℕ → Clauses → Clauses
-with_owner e name c = record c { frames = record (innermost_frame c.frames) { owner = e; name = Some name } ∷ frames_outside c.frames }
+with_owner e name c = record c { frames = record (innermost_frame c.frames) { owner = e; name = Some name } ∷ rest_of c.frames }
 
 pub clauses-completed : (i : Identifier) (s : SubprogramSpecification) (n : Names) → (e : Option ℕ) × (clauses (completed i s n) ≡ with_owner e i.text (clauses n))
 unfolding completed owned
 clauses-completed i s n = (
-  entity_denoted (completed_or_declared (enclosure_of (innermost_frame (frames_outside n.frames))) (completed_in n (enclosure_of (innermost_frame (frames_outside n.frames))).region i.text) i s n) i.place,
-  ap (with_owner _ i.text) (clauses-completed_or (enclosure_of (innermost_frame (frames_outside n.frames))) (completed_in n (enclosure_of (innermost_frame (frames_outside n.frames))).region i.text) i s n),
+  entity_denoted (completed_or_declared (enclosure_of (innermost_frame (rest_of n.frames))) (completed_in n (enclosure_of (innermost_frame (rest_of n.frames))).region i.text) i s n) i.place,
+  ap (with_owner _ i.text) (clauses-completed_or (enclosure_of (innermost_frame (rest_of n.frames))) (completed_in n (enclosure_of (innermost_frame (rest_of n.frames))).region i.text) i s n),
 )
 
 -- ---- regions that begin
@@ -373,19 +374,19 @@ RegionApart (begins r) n = region_here (behind (begins r) n) ≡ 0 → ⊥
 RegionApart (completes i s) n = region_here n ≡ 0 → ⊥
 RegionApart _ n = Unit {0}
 
-unowned-outside : (fs : List Frame) → Unowned fs → Unowned (frames_outside fs)
+unowned-outside : (fs : List Frame) → Unowned fs → Unowned (rest_of fs)
 unowned-outside [] u = tt
 unowned-outside (f ∷ fs) u = u.1
 
-unowned-private : (fs : List Frame) → Unowned fs → Unowned (record (innermost_frame fs) { exports = false } ∷ frames_outside fs)
+unowned-private : (fs : List Frame) → Unowned fs → Unowned (record (innermost_frame fs) { exports = false } ∷ rest_of fs)
 unowned-private [] u = ((λ e q. cc), tt)
 unowned-private (f ∷ fs) u = u
 
-unowned-called : (name : List ℕ) (fs : List Frame) → Unowned fs → Unowned (record (innermost_frame fs) { name = Some name } ∷ frames_outside fs)
+unowned-called : (name : List ℕ) (fs : List Frame) → Unowned fs → Unowned (record (innermost_frame fs) { name = Some name } ∷ rest_of fs)
 unowned-called name [] u = ((λ e q. cc), tt)
 unowned-called name (f ∷ fs) u = u
 
-unowned-owned : (e : Option ℕ) (name : List ℕ) (fs : List Frame) → ((innermost_frame fs).region ≡ 0 → ⊥) → Unowned fs → Unowned (record (innermost_frame fs) { owner = e; name = Some name } ∷ frames_outside fs)
+unowned-owned : (e : Option ℕ) (name : List ℕ) (fs : List Frame) → ((innermost_frame fs).region ≡ 0 → ⊥) → Unowned fs → Unowned (record (innermost_frame fs) { owner = e; name = Some name } ∷ rest_of fs)
 unowned-owned e name [] other u = ((λ q r. other r), tt)
 unowned-owned e name (f ∷ fs) other u = ((λ q r. other r), u.1)
 

@@ -2,6 +2,7 @@
 use Rattle.std.proofs.Common.{◌≡◌, ℕ, Bool, true, false, cond, List, [], ◌∷◌, ◌++◌, length, map, Option, Some, None, is_some, refl, sym, ap, ◌∙◌}
 use Rattle.ada_tree.specs.declared.names.Identifier.{Identifier}
 use Rattle.ada_tree.specs.declared.names.Name.{Name}
+use Rattle.world_tables.specs.Lists.{rest_of}
 use Rattle.ada_regions.specs.declared.entities.Denoted.{Denoted}
 use Rattle.ada_regions.specs.declared.entities.Entity.{Entity}
 use Rattle.ada_regions.specs.declared.entities.EntityKind.{EntityKind}
@@ -11,7 +12,7 @@ use Rattle.ada_regions.specs.declared.table.Enclosure.{Enclosure}
 use Rattle.ada_regions.specs.declared.table.Frame.{Frame}
 use Rattle.ada_regions.specs.declared.table.PackageContext.{PackageContext}
 use Rattle.ada_regions.specs.declared.table.Names.{Names}
-use Rattle.ada_regions.specs.Names.{Bindings, binding_in, bound_in, innermost_frame, frames_outside, enclosure_here, region_here, denoted_by}
+use Rattle.ada_regions.specs.Names.{Bindings, binding_in, bound_in, innermost_frame, enclosure_here, region_here, denoted_by}
 use Rattle.ada_regions.specs.Visibility.{sought, answered, resolved}
 use Rattle.ada_regions.specs.SelectedNames.{selected, selection_answered, parts_resolved, name_resolved}
 use Rattle.ada_regions.specs.Declaring.{hidden, entered, with_binding}
@@ -53,7 +54,7 @@ pub innermost-opened : (fs : List Frame) → innermost (map opened_as fs) ≡ op
 innermost-opened [] = refl
 innermost-opened (f ∷ fs) = refl
 
-pub outside-opened : (fs : List Frame) → outside (map opened_as fs) ≡ map opened_as (frames_outside fs)
+pub outside-opened : (fs : List Frame) → outside (map opened_as fs) ≡ map opened_as (rest_of fs)
 outside-opened [] = refl
 outside-opened (f ∷ fs) = refl
 
@@ -118,7 +119,7 @@ exports_no_more os = record (innermost os) { exports = false } ∷ outside os
 pub known-made_private : (n : Names) → known (made_private n) ≡ record (known n) { opened = exports_no_more (known n).opened }
 known-made_private n = ap (λ os. record (known n) { opened = os }) (go n.frames)
   where
-    go : (fs : List Frame) → map opened_as (record (innermost_frame fs) { exports = false } ∷ frames_outside fs) ≡ exports_no_more (map opened_as fs)
+    go : (fs : List Frame) → map opened_as (record (innermost_frame fs) { exports = false } ∷ rest_of fs) ≡ exports_no_more (map opened_as fs)
     go [] = refl
     go (f ∷ fs) = refl
 
@@ -129,7 +130,7 @@ first_again os = innermost os ∷ outside os
 pub known-named_as : (i : Identifier) (n : Names) → known (named_as i n) ≡ record (known n) { opened = first_again (known n).opened }
 known-named_as i n = ap (λ os. record (known n) { opened = os }) (go n.frames)
   where
-    go : (fs : List Frame) → map opened_as (record (innermost_frame fs) { name = Some i.text } ∷ frames_outside fs) ≡ first_again (map opened_as fs)
+    go : (fs : List Frame) → map opened_as (record (innermost_frame fs) { name = Some i.text } ∷ rest_of fs) ≡ first_again (map opened_as fs)
     go [] = refl
     go (f ∷ fs) = refl
 
@@ -137,7 +138,7 @@ pub known-owned : (e : Option ℕ) (name : List ℕ) (n : Names) → known (owne
 unfolding owned
 known-owned e name n = ap (λ os. record (known n) { opened = os }) (go n.frames)
   where
-    go : (fs : List Frame) → map opened_as (record (innermost_frame fs) { owner = e; name = Some name } ∷ frames_outside fs) ≡ first_again (map opened_as fs)
+    go : (fs : List Frame) → map opened_as (record (innermost_frame fs) { owner = e; name = Some name } ∷ rest_of fs) ≡ first_again (map opened_as fs)
     go [] = refl
     go (f ∷ fs) = refl
 

@@ -2,6 +2,7 @@
 use Rattle.std.proofs.Common.{◌≡◌, ℕ, suc, Bool, true, false, cond, not, ◌&&◌, [], ◌∷◌, ◌++◌, length, Option, Some, None, is_some, refl, sym, ap, ◌∙◌}
 use Rattle.ada_tree.specs.declared.names.Identifier.{Identifier}
 use Rattle.ada_tree.specs.declared.declarations.SubprogramSpecification.{SubprogramSpecification}
+use Rattle.world_tables.specs.Lists.{rest_of}
 use Rattle.profile_machine.specs.declared.numbers.SubprogramNo.{SubprogramNo}
 use Rattle.ada_regions.specs.declared.types.AdaType.TheVariants as types
 use Rattle.ada_regions.specs.declared.entities.Entity.{Entity}
@@ -11,7 +12,7 @@ use Rattle.ada_regions.specs.declared.entities.UnitKind.{UnitKind}
 use Rattle.ada_regions.specs.declared.entities.UnitKind.TheVariants as unit
 use Rattle.ada_regions.specs.declared.table.Enclosure.{Enclosure}
 use Rattle.ada_regions.specs.declared.table.Names.{Names}
-use Rattle.ada_regions.specs.Names.{enclosure_of, enclosure_here, innermost_frame, frames_outside, scope_in}
+use Rattle.ada_regions.specs.Names.{enclosure_of, enclosure_here, innermost_frame, scope_in}
 use Rattle.ada_regions.specs.Occurrences.{Occurrence, Declared, Region, the_package, the_main_procedure, an_object, a_component, a_parameter, a_loop_parameter, an_enumeration, a_literal, an_array, a_derived_type, a_subtype, an_exception, a_label, a_subprogram, an_entry, a_task, a_protected, package_region, a_unit, a_record, declares, declares_unit, completes}
 use Rattle.ada_regions.specs.Subtypes.{formals_of}
 use Rattle.ada_regions.specs.Declaring.{entered_here, entered_as_unit, is_taken, unit_is_taken, library_frame, type_of_kind, declared, object_declared, component_declared, parameter_declared, loop_parameter_declared, enumeration_declared, literal_declared, array_declared, derived_declared, subtype_declared, exception_declared, subprogram_declared, entry_declared, unit_entered, task_declared, protected_declared, numbered, numbered_subprogram, protected_unit_of}
@@ -152,10 +153,10 @@ known-main_declared i n = enters-standard (declares_unit i the_main_procedure) i
 -- ---- bodies of subprograms
 
 abbrev pub outer : Names → Enclosure
-outer n = enclosure_of (innermost_frame (frames_outside n.frames))
+outer n = enclosure_of (innermost_frame (rest_of n.frames))
 
 pub outer-opened : (n : Names) → enclosing (outer n) ≡ innermost (outside (known n).opened)
-outer-opened n = sym (ap innermost (outside-opened n.frames) ∙ innermost-opened (frames_outside n.frames))
+outer-opened n = sym (ap innermost (outside-opened n.frames) ∙ innermost-opened (rest_of n.frames))
 
 known-numbered_if : (s : SubprogramSpecification) (n : Names) (number : Option SubprogramNo) → known (numbered_if s n number) ≡ known n
 unfolding numbered_if

@@ -6,7 +6,7 @@ use Rattle.ann_base.specs.declared.places.Place.{Place}
 use Rattle.ada_tree.specs.declared.names.Identifier.{Identifier}
 use Rattle.ada_tree.specs.declared.names.Name.{Name}
 use Rattle.ada_tree.specs.declared.names.OneOrMore.{OneOrMore}
-use Rattle.ada_tree.specs.Written.{Written, delimiter, identifier_written, each_written, behind, separated, all_written, optional, enclosed, one_identifier, name_written, identifiers_written}
+use Rattle.ada_tree.specs.Written.{Written, delimiter, identifier_written, behind, separated, all_written, optional, enclosed, one_identifier, name_written, identifiers_written}
 use Rattle.ada_tree.specs.ShapeExpressions.{all_fit, optional_fits}
 use Rattle.ada_regions.specs.Words.{same_place}
 use Rattle.ada_regions.specs.Occurrences.{Occurrence, Occurrences, Declared, Region, begins, ends, hides, declares, in_all, if_there, one, within_region, hides_all, declares_all}
@@ -82,7 +82,7 @@ covers-name i o e x = record { at = λ p. (let h = one-place p o i e in let s = 
 pub covers-label : {l a : Occurrences} {ws : List Written} (i : Identifier) (o : Occurrence) → places_in o ≡ i.place ∷ [] → Covers l a ws → Covers (o ∷ l) a (identifier_written i ∷ ws)
 covers-label i o e x = record { at = λ p. (let h = one-place p o i e in let s = x.at p in omega arith) }
 
-parts-counted : (p : Place) (xs : List Identifier) → count p (map place_of xs) ≡ written_at p (each_written (behind (delimiter (codes ".")) one_identifier) xs)
+parts-counted : (p : Place) (xs : List Identifier) → count p (map place_of xs) ≡ written_at p (flat_map (behind (delimiter (codes ".")) one_identifier) xs)
 parts-counted p [] = refl
 parts-counted p (x ∷ xs) = let h = parts-counted p xs in omega arith
 
@@ -146,7 +146,7 @@ covers-named_region {l} {a} r i e x = record { at = λ p. (let h = one-place p (
 -- ---- lists of parts
 
 pub covers-each : {X : Type 0} (g f : X → Occurrences) (w : X → List Written) (fits : X → Bool) → ((x : X) → fits x ≡ true → Covers (g x) (f x) (w x))
-    → (xs : List X) → list_all fits xs ≡ true → Covers (flat_map g xs) (flat_map f xs) (each_written w xs)
+    → (xs : List X) → list_all fits xs ≡ true → Covers (flat_map g xs) (flat_map f xs) (flat_map w xs)
 covers-each g f w fits all [] e = covers-none []
 covers-each g f w fits all (x ∷ xs) e =
     covers-both (all x (first_true (fits x) (list_all fits xs) e)) (covers-each g f w fits all xs (second_true (fits x) (list_all fits xs) e))
@@ -168,7 +168,7 @@ covers-there g f w fits all None e = covers-none []
 covers-there g f w fits all (Some x) e = all x e
 
 -- the same of parts that have no labels, and that any shape has
-pub covers-flat : {X : Type 0} (f : X → Occurrences) (w : X → List Written) → ((x : X) → Covers [] (f x) (w x)) → (xs : List X) → Covers [] (flat_map f xs) (each_written w xs)
+pub covers-flat : {X : Type 0} (f : X → Occurrences) (w : X → List Written) → ((x : X) → Covers [] (f x) (w x)) → (xs : List X) → Covers [] (flat_map f xs) (flat_map w xs)
 covers-flat f w all [] = covers-none []
 covers-flat f w all (x ∷ xs) = covers-both (all x) (covers-flat f w all xs)
 
@@ -204,7 +204,7 @@ covers-declares what names = covers-in_all (delimiter (codes ",")) (λ i. one (d
 -- ---- lists of parts that have no labels
 
 pub covers-each_plain : {X : Type 0} (f : X → Occurrences) (w : X → List Written) (fits : X → Bool) → ((x : X) → fits x ≡ true → Covers [] (f x) (w x))
-    → (xs : List X) → list_all fits xs ≡ true → Covers [] (flat_map f xs) (each_written w xs)
+    → (xs : List X) → list_all fits xs ≡ true → Covers [] (flat_map f xs) (flat_map w xs)
 covers-each_plain f w fits all [] e = covers-none []
 covers-each_plain f w fits all (x ∷ xs) e =
     covers-then (all x (first_true (fits x) (list_all fits xs) e)) (covers-each_plain f w fits all xs (second_true (fits x) (list_all fits xs) e))

@@ -7,7 +7,7 @@ use Rattle.ada_tree.specs.declared.expressions.Expression.TheViews.{roll-Express
 use Rattle.ada_tree.specs.declared.expressions.Expression.TheFolds.{ind-Expression, map-Expression}
 use Rattle.ada_tree.specs.declared.expressions.ExpressionForm.{ExpressionForm}
 use Rattle.ada_tree.specs.declared.expressions.ExpressionForm.TheVariants as form
-use Rattle.ada_tree.specs.Written.{Written, delimiter_at, each_written, behind, optional, enclosed}
+use Rattle.ada_tree.specs.Written.{Written, delimiter_at, behind, optional, enclosed}
 use Rattle.ada_tree.specs.SpellingExpressions.{logical_written, adding_text, multiplying_written, designator_written, formal_written, addend_written, multiplied_written, form_written, expression_written}
 use Rattle.ada_tree.proofs.ExpressionFolds.{expression_is_written}
 use Rattle.ada_regions.specs.Occurrences.{Occurrences, mentions}
@@ -17,7 +17,7 @@ use Rattle.source_laws.proofs.Sources.Counting.{Covers, covers-none, covers-both
 
 -- each item of a list that was mapped
 covers-mapped : {X Y : Type 0} (f : Y → Occurrences) (w : Y → List Written) (g : X → Y) → ((x : X) → Covers [] (f (g x)) (w (g x)))
-    → (xs : List X) → Covers [] (flat_map f (map g xs)) (each_written w (map g xs))
+    → (xs : List X) → Covers [] (flat_map f (map g xs)) (flat_map w (map g xs))
 covers-mapped f w g all [] = covers-none []
 covers-mapped f w g all (x ∷ xs) = covers-both (all x) (covers-mapped f w g all xs)
 

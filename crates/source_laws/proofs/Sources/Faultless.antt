@@ -3,6 +3,7 @@ use Rattle.std.proofs.Common.{◌≡◌, ℕ, ◌+◌, ◌≤◌, suc, Bool, tru
 use Rattle.std.specs.List.{flat_map, list_any}
 use Rattle.ann_base.specs.declared.places.Place.{Place}
 use Rattle.ada_tree.specs.declared.units.Unit.{Unit as Tree}
+use Rattle.world_tables.specs.Lists.{first_of}
 use Rattle.ada_legality.specs.declared.faults.Fault.{Fault}
 use Rattle.ada_legality.specs.declared.findings.BodyKind.{BodyKind}
 use Rattle.ada_legality.specs.declared.findings.BodyKind.TheVariants as completing
@@ -10,7 +11,7 @@ use Rattle.ada_legality.specs.declared.findings.Finding.{Finding}
 use Rattle.ada_legality.specs.declared.findings.Finding.TheVariants as finding
 use Rattle.ada_legality.specs.declared.rules.Rule.TheVariants as rule
 use Rattle.ada_legality.specs.Findings.{Found, broken_if}
-use Rattle.ada_legality.specs.Faults.{comes_before, same_fault, fault_put, in_order_of_text, fault_in, faults_in, found_of, faults_where, faults_of, first_fault_in, first_fault_of}
+use Rattle.ada_legality.specs.Faults.{comes_before, same_fault, fault_put, in_order_of_text, fault_in, faults_in, found_of, faults_where, faults_of, first_fault_of}
 use Rattle.ada_legality.specs.WholeSource.{same_kind, is_body_of, bodies_of, has_known_body, is_other_profile_of, is_uncompleted, judged_beside, judged_from}
 use Rattle.ada_regions.specs.declared.table.Names.{Names}
 use Rattle.ada_regions.specs.NamesInUnits.{names_in_unit}
@@ -29,11 +30,11 @@ put-some f (g ∷ gs) e = go (same_fault f g) (comes_before f g) e
     go false true q = cc
     go false false q = cc
 
-ordered-none : (fs : List Fault) → first_fault_in (in_order_of_text fs) ≡ None → fs ≡ []
+ordered-none : (fs : List Fault) → first_of (in_order_of_text fs) ≡ None → fs ≡ []
 ordered-none [] e = refl
 ordered-none (f ∷ fs) e = absurd (put-some f (in_order_of_text fs) (first-none (fault_put f (in_order_of_text fs)) e))
   where
-    first-none : (gs : List Fault) → first_fault_in gs ≡ None → gs ≡ []
+    first-none : (gs : List Fault) → first_of gs ≡ None → gs ≡ []
     first-none [] q = refl
     first-none (g ∷ gs) q = cc
 

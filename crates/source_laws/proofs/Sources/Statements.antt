@@ -34,9 +34,9 @@ use Rattle.ada_tree.specs.declared.selects.Alternative.{Alternative}
 use Rattle.ada_tree.specs.declared.selects.Alternative.TheVariants as alternative
 use Rattle.ada_tree.specs.declared.selects.Trigger.{Trigger}
 use Rattle.ada_tree.specs.declared.selects.Trigger.TheVariants as trigger
-use Rattle.ada_tree.specs.Written.{word, delimiter, flag, optional, name_written}
+use Rattle.ada_tree.specs.Written.{word, delimiter, flag, optional, name_written, one_identifier}
 use Rattle.ada_tree.specs.SpellingExpressions.{expression_written}
-use Rattle.ada_tree.specs.SpellingStatements.{semicolon, index_written, assignment_written, call_written, delay_written, choice_written, label_written, iteration_written, loop_name_written, when_written, exit_written, exceptions_written, guard_written, trigger_written, statements_written, elsif_written, else_written, if_written, case_alternative_written, case_written, loop_written, block_opened, block_written, handler_written, accept_body_written, accept_written, alternative_written, select_alternative_written, select_form_written, statement_written}
+use Rattle.ada_tree.specs.SpellingStatements.{semicolon, index_written, assignment_written, call_written, delay_written, choice_written, label_written, iteration_written, when_written, exit_written, exceptions_written, guard_written, trigger_written, statements_written, elsif_written, else_written, if_written, case_alternative_written, case_written, loop_written, block_opened, block_written, handler_written, accept_body_written, accept_written, alternative_written, select_alternative_written, select_form_written, statement_written}
 use Rattle.ada_tree.specs.Spelling.{sequence_written}
 use Rattle.ada_tree.specs.ShapeExpressions.{within, optional_fits}
 use Rattle.ada_tree.specs.ShapeStatements.{statements_fit, elsif_fits, if_fits, case_alternative_fits, case_fits, loop_fits, block_role, block_fits, accept_body_fits, accept_fits, accept_opens, alternative_fits, select_alternative_fits, select_form_fits, parts_fit}
@@ -78,7 +78,7 @@ covers-iteration (iteration.For place parameter reverse low high) =
 
 covers-exit : (e : Exit) → Covers [] (names_in_exit e) (exit_written e)
 covers-exit e =
-    covers-skip _ (covers-then (covers-optional (λ name. one (mentions_simply name)) loop_name_written (λ name. covers-name name (mentions_simply name) refl (covers-none _)) e.loop_name)
+    covers-skip _ (covers-then (covers-optional (λ name. one (mentions_simply name)) one_identifier (λ name. covers-name name (mentions_simply name) refl (covers-none _)) e.loop_name)
     (covers-front semicolon (covers-optional names_in_expression when_written (λ c. covers-skip _ (covers-expression c)) e.condition)))
 
 covers-exceptions : (e : HandledExceptions) → Covers [] (names_in_exceptions e) (exceptions_written e)

@@ -1,6 +1,6 @@
 -- At no place stand more names of a source than identifiers of its spelling.
 use Rattle.std.proofs.Common.{◌≡◌, ℕ, ◌+◌, ◌≤◌, Bool, true, false, List, [], ◌∷◌, ◌++◌, map, refl, arith}
-use Rattle.std.specs.Prelude.{codes}
+use Rattle.std.specs.Prelude.{codes, flat_map}
 use Rattle.ann_base.specs.declared.places.Place.{Place}
 use Rattle.ada_tree.specs.declared.names.Identifier.{Identifier}
 use Rattle.ada_tree.specs.declared.names.Name.{Name}
@@ -15,7 +15,7 @@ use Rattle.ada_tree.specs.declared.units.Package.TheVariants as packages
 use Rattle.ada_tree.specs.declared.units.PackageDeclaration.{PackageDeclaration}
 use Rattle.ada_tree.specs.declared.units.PackageBody.{PackageBody}
 use Rattle.ada_tree.specs.declared.units.MainProcedure.{MainProcedure}
-use Rattle.ada_tree.specs.Written.{word, delimiter, each_written, name_written, end_name_written}
+use Rattle.ada_tree.specs.Written.{word, delimiter, name_written, end_name_written}
 use Rattle.ada_tree.specs.SpellingStatements.{semicolon}
 use Rattle.ada_tree.specs.SpellingDeclarations.{declaration_written}
 use Rattle.ada_tree.specs.Spelling.{sequence_written, pragma_written, clause_written, declarations_written, private_part_written, package_statements_written, package_written, library_package_written, main_written, unit_written}
@@ -48,7 +48,7 @@ covers-clause_name false name = covers-with name
 covers-clause : (c : ContextClause) → Covers [] (names_in_clause c) (clause_written c)
 covers-clause c = covers-skip _ (covers-front semicolon (covers-in_all (delimiter (codes ",")) (λ name. one (clause_with c.is_use name)) name_written (covers-clause_name c.is_use) c.names))
 
-covers-context : (context : List ContextClause) → Covers [] (names_in_context context) (each_written clause_written context)
+covers-context : (context : List ContextClause) → Covers [] (names_in_context context) (flat_map clause_written context)
 covers-context context = covers-flat names_in_clause clause_written covers-clause context
 
 -- ---- library units
@@ -61,7 +61,7 @@ module _ (level : ℕ) where
   covers-private_part ds e = covers-quiet private_from_here refl (covers-skip _ (covers-part ds e))
 
   covers-package_declaration : (context : List ContextClause) (p : PackageDeclaration) → package_declaration_fits level p ≡ true
-      → Covers [] (names_in_package_declaration context p) (each_written clause_written context ++ package_written (packages.Declaration p))
+      → Covers [] (names_in_package_declaration context p) (flat_map clause_written context ++ package_written (packages.Declaration p))
   covers-package_declaration context p e =
       covers-region the_context refl (covers-then (covers-context context) (covers-skip _ (covers-name p.name (declares_unit p.name the_package) refl (covers-region (package_region p.name) refl (covers-skip _
       (covers-then (covers-part p.declarations (first_true _ _ e)) (covers-front (word (codes "end") ∷ (end_name_written p.named_at_end p.name ++ semicolon))
@@ -71,20 +71,20 @@ covers-package_statements : (level : ℕ) (s : Sequence) → package_statements_
 covers-package_statements level s e = covers-skip _ (covers-sequence level s role.Handled e)
 
 covers-package_body : (level : ℕ) (context : List ContextClause) (p : PackageBody) → package_parts_fit p level ≡ true
-    → Covers [] (names_in_package_body context p) (each_written clause_written context ++ package_written (packages.Body p))
+    → Covers [] (names_in_package_body context p) (flat_map clause_written context ++ package_written (packages.Body p))
 covers-package_body level context p e =
     covers-region (the_context_of p.name) refl (covers-region further_context refl (covers-then (covers-context context) (covers-skip _ (covers-skip _ (covers-named_region (package_body p.name) p.name refl (covers-skip _
     (covers-then (covers-part level p.declarations (first_true _ _ e)) (covers-front (word (codes "end") ∷ (end_name_written p.named_at_end p.name ++ semicolon))
     (covers-there_plain names_in_package_statements package_statements_written (package_statements_fit level) (covers-package_statements level) p.sequence (second_true _ _ e))))))))))
 
-covers-package : (level : ℕ) (context : List ContextClause) (p : Package) → package_fits level p ≡ true → Covers [] (names_in_package context p) (each_written clause_written context ++ package_written p)
+covers-package : (level : ℕ) (context : List ContextClause) (p : Package) → package_fits level p ≡ true → Covers [] (names_in_package context p) (flat_map clause_written context ++ package_written p)
 covers-package level context (packages.Declaration p) e = covers-package_declaration level context p e
 covers-package level context (packages.Body p) e = let inside = opened level (package_parts_fit p) e in covers-package_body inside.inner context p inside.holds
 
 covers-library_package : (level : ℕ) (l : LibraryPackage) → library_package_fits level l ≡ true → Covers [] (names_in_library_package l) (library_package_written l)
 covers-library_package level l e = covers-package level l.context l.package e
 
-covers-main : (level : ℕ) (context : List ContextClause) (m : MainProcedure) → main_fits level m ≡ true → Covers [] (names_in_main context m) (each_written clause_written context ++ main_written m)
+covers-main : (level : ℕ) (context : List ContextClause) (m : MainProcedure) → main_fits level m ≡ true → Covers [] (names_in_main context m) (flat_map clause_written context ++ main_written m)
 covers-main level context m e =
     covers-region the_context refl (covers-then (covers-context context)
     (covers-middle (names_in_aspects m.aspects) (declares_unit m.name the_main_procedure) (within_region (main_body m.name m.place) (in_body (names_in_sequence m.body.sequence)))
@@ -96,6 +96,6 @@ covers-main level context m e =
 pub covers-unit : (level : ℕ) (unit : Tree) → unit_fits level unit ≡ true → Covers [] (names_in_unit unit) (unit_written unit)
 covers-unit level unit e =
     let behind = second_true _ _ e in
-    covers-past (each_written pragma_written unit.pragmas)
+    covers-past (flat_map pragma_written unit.pragmas)
     (covers-then (covers-each_plain names_in_library_package library_package_written (library_package_fits level) (covers-library_package level) unit.packages (first_true _ _ behind))
     (covers-main level unit.context unit.main (second_true _ _ behind)))

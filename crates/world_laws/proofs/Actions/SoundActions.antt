@@ -22,9 +22,10 @@ use Rattle.profile_machine.specs.declared.world.marks.Mark.TheVariants.{InProtec
 use Rattle.profile_machine.specs.declared.world.marks.ProtectedMark.{ProtectedMark}
 use Rattle.profile_machine.specs.Words.{same_who, same_object, same_region, is_the, without, set_where, edit_found, edit_where}
 use Rattle.ann_base.specs.Lists.{is_empty}
+use Rattle.world_tables.specs.Lists.{rest_of}
 use Rattle.profile_machine.specs.Values.{is_object, object_of}
 use Rattle.profile_machine.specs.Tasks.{nobody, task_at, edit_task, with_frames, is_runnable_state}
-use Rattle.profile_machine.specs.Frames.{push, pop, new_frame, without_first}
+use Rattle.profile_machine.specs.Frames.{push, pop, new_frame}
 use Rattle.profile_machine.specs.Inheritance.{same_cause, inherit, lose}
 use Rattle.profile_machine.specs.Protected.{is_action_of, has_open, new_protected_mark, open_action, ceiling_of}
 use Rattle.profile_machine.specs.Serving.{close_action}
@@ -184,7 +185,7 @@ module _ (name : Who) (m : ProtectedMark) (w : World) (top : top_nature (marks_o
   ended-apart n t apart h = (h.0, h.1, each-edited (Hold n (natures t.frames) t.inherited) (is_object m.object) closes w.objects (λ x g. closed-hold n (natures t.frames) t.inherited x apart g) h.2, h.3)
 
   ended-same : (n : Who) → same_who n name ≡ true → (t : Task) (fs : List Frame) → Falls object_key (suc w.drawn.objects) w.objects → top_nature (natures fs) ≡ Some (acted m)
-      → SureOn w.drawn w.calls w.objects w.tasks n (natures fs) t.state t.inherited → SureOn w.drawn w.calls closed_objects w.tasks n (natures (without_first fs)) t.state t.inherited
+      → SureOn w.drawn w.calls w.objects w.tasks n (natures fs) t.state t.inherited → SureOn w.drawn w.calls closed_objects w.tasks n (natures (rest_of fs)) t.state t.inherited
   ended-same n same t [] falls e h = absurd cc
   ended-same n same t (f ∷ fs) falls e h =
       let action : (nature f.mark).action ≡ Some m.object = ap (λ (i : Nature). i.action) (some-nature (nature f.mark) (acted m) e) in
@@ -202,7 +203,7 @@ module _ (name : Who) (m : ProtectedMark) (w : World) (top : top_nature (marks_o
         λ r d. (h.3 r d).1,
       )
 
-  ended-guards : (fs : List Frame) → guards (natures fs) ≡ false → guards (natures (without_first fs)) ≡ false
+  ended-guards : (fs : List Frame) → guards (natures fs) ≡ false → guards (natures (rest_of fs)) ≡ false
   ended-guards [] e = e
   ended-guards (f ∷ fs) e = guards-tail (nature f.mark) (natures fs) e
 
@@ -215,7 +216,7 @@ module _ (name : Who) (m : ProtectedMark) (w : World) (top : top_nature (marks_o
 
   ended-sound : Sound w → Sound (close_action name m.object (pop name w))
   ended-sound h =
-      let f = λ (t : Task). with_frames (without_first t.frames) t in
+      let f = λ (t : Task). with_frames (rest_of t.frames) t in
       let v = pop name w in
       let lists = found-tasks f (λ t. refl) (λ t. refl) name w w.drawn.tasks (task_at w name) refl h.1 h.2 in
       let fewer : (r : RegionNo) → dependents v.tasks r ≡ true → dependents w.tasks r ≡ true = λ r e. sym (dependents-edited f (λ t. refl) (λ t. refl) name w r) ∙ e in
@@ -231,18 +232,18 @@ module _ (name : Who) (m : ProtectedMark) (w : World) (top : top_nature (marks_o
             (λ g. fewer-sure w.drawn w.calls closed_objects w.tasks v.tasks n nobody fewer (nobody-ended n g)) (refl, h.5 n),
       )
     where
-      popped-in : (r : RegionNo) (fs : List Frame) → in_region r (natures (without_first fs)) ≡ true → in_region r (natures fs) ≡ true
+      popped-in : (r : RegionNo) (fs : List Frame) → in_region r (natures (rest_of fs)) ≡ true → in_region r (natures fs) ≡ true
       popped-in r [] e = e
       popped-in r (f ∷ fs) e = or-right (is_the same_region (nature f.mark).region r) (in_region r (natures fs)) e
 
   pub end-good : (F : Naming) → Good F w → Good F (close_action name m.object (pop name w))
-  end-good F h = (ended-sound h.0, edit-free name (λ t. with_frames (without_first t.frames) t) w (λ t. refl) (λ t. refl) F (λ n same is t g e. ended-guards t.frames e) h.1)
+  end-good F h = (ended-sound h.0, edit-free name (λ t. with_frames (rest_of t.frames) t) w (λ t. refl) (λ t. refl) F (λ n same is t g e. ended-guards t.frames e) h.1)
 
   -- what is known of the marks that are left
-  behind : (P : List Nature → Type 0) → ((fs : List Frame) → top_nature (natures fs) ≡ Some (acted m) → SureOn w.drawn w.calls w.objects w.tasks name (natures fs) (one_of w.tasks w.agent name).state (one_of w.tasks w.agent name).inherited → P (natures (without_first fs)))
+  behind : (P : List Nature → Type 0) → ((fs : List Frame) → top_nature (natures fs) ≡ Some (acted m) → SureOn w.drawn w.calls w.objects w.tasks name (natures fs) (one_of w.tasks w.agent name).state (one_of w.tasks w.agent name).inherited → P (natures (rest_of fs)))
       → Sound w → (let v = pop name w in P (marks_of v.tasks v.agent name))
   behind P k h =
-      edited_to (λ t. t ≡ one_of w.tasks w.agent name) (λ t. P (natures t.frames)) name name (λ t. with_frames (without_first t.frames) t) w (λ t. refl)
+      edited_to (λ t. t ≡ one_of w.tasks w.agent name) (λ t. P (natures t.frames)) name name (λ t. with_frames (rest_of t.frames) t) w (λ t. refl)
       (λ same t g. k t.frames (top-here name same t g) (subst (λ (u : Task). SureOn w.drawn w.calls w.objects w.tasks name (natures u.frames) (one_of w.tasks w.agent name).state (one_of w.tasks w.agent name).inherited) (sym g) (h.5 name)))
       (λ apart t g. absurd (false≢true (sym apart ∙ who-self name)))
       (λ g. absurd (no-nature (top-here name (who-self name) nobody g))) refl
@@ -250,7 +251,7 @@ module _ (name : Who) (m : ProtectedMark) (w : World) (top : top_nature (marks_o
   pub end-once : Sound w → (let v = pop name w in marks m.object (marks_of v.tasks v.agent name) ≡ false)
   end-once h = behind (λ ns. marks m.object ns ≡ false) once h
     where
-      once : (fs : List Frame) → top_nature (natures fs) ≡ Some (acted m) → SureOn w.drawn w.calls w.objects w.tasks name (natures fs) (one_of w.tasks w.agent name).state (one_of w.tasks w.agent name).inherited → marks m.object (natures (without_first fs)) ≡ false
+      once : (fs : List Frame) → top_nature (natures fs) ≡ Some (acted m) → SureOn w.drawn w.calls w.objects w.tasks name (natures fs) (one_of w.tasks w.agent name).state (one_of w.tasks w.agent name).inherited → marks m.object (natures (rest_of fs)) ≡ false
       once [] e g = refl
       once (f ∷ fs) e g = (subst (λ a. ActionSound w.drawn.objects a (natures fs)) (ap (λ (i : Nature). i.action) (some-nature (nature f.mark) (acted m) e)) g.0.0.1).1
 
@@ -258,7 +259,7 @@ module _ (name : Who) (m : ProtectedMark) (w : World) (top : top_nature (marks_o
   pub end-free : (acted m).floor ≡ true → Sound w → (let v = pop name w in Free name v)
   end-free floor h = behind (λ ns. guards ns ≡ false) low h
     where
-      low : (fs : List Frame) → top_nature (natures fs) ≡ Some (acted m) → SureOn w.drawn w.calls w.objects w.tasks name (natures fs) (one_of w.tasks w.agent name).state (one_of w.tasks w.agent name).inherited → guards (natures (without_first fs)) ≡ false
+      low : (fs : List Frame) → top_nature (natures fs) ≡ Some (acted m) → SureOn w.drawn w.calls w.objects w.tasks name (natures fs) (one_of w.tasks w.agent name).state (one_of w.tasks w.agent name).inherited → guards (natures (rest_of fs)) ≡ false
       low [] e g = refl
       low (f ∷ fs) e g = g.0.0.0 (ap (λ (i : Nature). i.floor) (some-nature (nature f.mark) (acted m) e) ∙ floor)
 

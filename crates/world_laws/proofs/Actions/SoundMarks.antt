@@ -4,6 +4,7 @@ use Rattle.std.proofs.lemmas.Bool.{eqb-true, false≢true}
 use Rattle.ann_base.specs.declared.identities.ObjectNo.{ObjectNo}
 use Rattle.ann_base.specs.declared.identities.RegionNo.{RegionNo}
 use Rattle.trace_text.specs.declared.events.Who.{Who}
+use Rattle.world_tables.specs.Lists.{rest_of}
 use Rattle.profile_machine.specs.declared.image.Image.{Image}
 use Rattle.profile_machine.specs.declared.numbers.ScopeNo.{ScopeNo}
 use Rattle.profile_machine.specs.declared.world.World.{World}
@@ -19,7 +20,7 @@ use Rattle.profile_machine.specs.declared.world.scopes.Beginning.{Beginning}
 use Rattle.profile_machine.specs.Words.{same_who, same_region, is_the}
 use Rattle.profile_machine.specs.Program.{scope_of}
 use Rattle.profile_machine.specs.Tasks.{with_frames}
-use Rattle.profile_machine.specs.Frames.{push, pop, without_first, new_frame}
+use Rattle.profile_machine.specs.Frames.{push, pop, new_frame}
 use Rattle.profile_machine.specs.Scopes.{begin_scope, draw_region, region_drawn, open_scope, next_id, region_of_next, new_scope_mark}
 use Rattle.profile_machine.specs.Tasking.{is_task_scope}
 use Rattle.line_laws.proofs.Exclusion.ObjectLists.{by_test}
@@ -162,12 +163,12 @@ module _ (drawn : Drawn) (calls : List Call) (objects : List Object) (tasks : Li
   each-fewer n ns is [] e h = tt
   each-fewer n ns is (x ∷ xs) e h = ((h.0.0 ∙ marks-plain x.number n ns e, h.0.1), each-fewer n ns is xs e h.1)
 
-  popped-sure : (fs : List Frame) (state : State) (is : List Inherited) → first_action (natures fs) ≡ None → SureOn drawn calls objects tasks name (natures fs) state is → SureOn drawn calls objects tasks name (natures (without_first fs)) state is
+  popped-sure : (fs : List Frame) (state : State) (is : List Inherited) → first_action (natures fs) ≡ None → SureOn drawn calls objects tasks name (natures fs) state is → SureOn drawn calls objects tasks name (natures (rest_of fs)) state is
   popped-sure [] state is e h = h
   popped-sure (f ∷ fs) state is e h =
       (h.0.1, λ x. h.1 (guards-plain (nature f.mark) (natures fs) e ∙ x), each-fewer (nature f.mark) (natures fs) is objects e h.2, λ r d. (h.3 r d).1)
 
-popped-guards : (fs : List Frame) → first_action (natures fs) ≡ None → guards (natures fs) ≡ false → guards (natures (without_first fs)) ≡ false
+popped-guards : (fs : List Frame) → first_action (natures fs) ≡ None → guards (natures fs) ≡ false → guards (natures (rest_of fs)) ≡ false
 popped-guards [] e x = x
 popped-guards (f ∷ fs) e x = sym (guards-plain (nature f.mark) (natures fs) e) ∙ x
 
@@ -175,7 +176,7 @@ or-right : (a b : Bool) → b ≡ true → (a || b) ≡ true
 or-right true b e = refl
 or-right false b e = e
 
-popped-in : (r : RegionNo) (fs : List Frame) → in_region r (natures (without_first fs)) ≡ true → in_region r (natures fs) ≡ true
+popped-in : (r : RegionNo) (fs : List Frame) → in_region r (natures (rest_of fs)) ≡ true → in_region r (natures fs) ≡ true
 popped-in r [] e = e
 popped-in r (f ∷ fs) e = or-right (is_the same_region (nature f.mark).region r) (in_region r (natures fs)) e
 
@@ -183,8 +184,8 @@ pub pop-good : (F : Naming) (name : Who) (w : World) → first_action (marks_of 
 pop-good F name w none h =
     let none-here : (n : Who) → same_who n name ≡ true → (t : Task) → t ≡ one_of w.tasks w.agent n → first_action (natures t.frames) ≡ None = λ n same t g.
     ap (λ (u : Task). first_action (natures u.frames)) g ∙ ap (λ m. first_action (marks_of w.tasks w.agent m)) (same_who-path n name same) ∙ none in (
-      edit-sound name (λ t. with_frames (without_first t.frames) t) w (λ t. refl) (λ t. refl)
+      edit-sound name (λ t. with_frames (rest_of t.frames) t) w (λ t. refl) (λ t. refl)
           (λ n same t g k. popped-sure w.drawn w.calls w.objects w.tasks n t.frames t.state t.inherited (none-here n same t g) k)
-          (less-owner name (λ t. with_frames (without_first t.frames) t) w (λ t. refl) (λ t. refl) (λ t g r e. popped-in r t.frames e) h.0.4) h.0,
-      edit-free name (λ t. with_frames (without_first t.frames) t) w (λ t. refl) (λ t. refl) F (λ n same is t g e. popped-guards t.frames (none-here n same t g) e) h.1,
+          (less-owner name (λ t. with_frames (rest_of t.frames) t) w (λ t. refl) (λ t. refl) (λ t g r e. popped-in r t.frames e) h.0.4) h.0,
+      edit-free name (λ t. with_frames (rest_of t.frames) t) w (λ t. refl) (λ t. refl) F (λ n same is t g e. popped-guards t.frames (none-here n same t g) e) h.1,
     )

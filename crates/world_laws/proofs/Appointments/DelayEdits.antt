@@ -5,6 +5,7 @@ use Rattle.std.specs.Prelude.{ℤ, find, int_lt, unwrap_or}
 use Rattle.ann_base.specs.declared.identities.CallNo.{CallNo}
 use Rattle.ann_base.specs.declared.identities.TaskNo.{TaskNo}
 use Rattle.trace_text.specs.declared.events.Who.{Who}
+use Rattle.world_tables.specs.Lists.{rest_of}
 use Rattle.trace_text.specs.declared.events.Who.TheVariants as who
 use Rattle.profile_machine.specs.declared.world.World.{World}
 use Rattle.profile_machine.specs.declared.world.appointments.Appointment.{Appointment}
@@ -14,7 +15,7 @@ use Rattle.profile_machine.specs.declared.world.marks.Frame.{Frame}
 use Rattle.profile_machine.specs.declared.world.tasks.State.{State}
 use Rattle.profile_machine.specs.declared.world.tasks.Task.{Task}
 use Rattle.profile_machine.specs.Appointments.{appoint, drop_appointment, put_appointment, is_delay_of}
-use Rattle.profile_machine.specs.Frames.{push, pop, without_first}
+use Rattle.profile_machine.specs.Frames.{push, pop}
 use Rattle.profile_machine.specs.Masters.{forget_task}
 use Rattle.profile_machine.specs.Tasking.{add_task}
 use Rattle.profile_machine.specs.Tasks.{task_at, task_of, is_who, nobody, edit_task_found, edit_task, waiting_in, waiting_of, with_state, with_frames}
@@ -105,12 +106,12 @@ pushed-owned name f w called h n =
     (λ e. of_edited (λ u. OwnIn w.calls w.drawn.calls n (natures u.frames)) n name g w (λ u. refl) (λ u k. (subst (λ m. (c : CallNo) → nature f.mark ≡ Some c → Caller c m w) (sym (who_path n name e)) called, k)) (h n))
     (λ e. subst (λ (u : Task). OwnIn w.calls w.drawn.calls n (natures u.frames)) (sym (of_other n name g w (λ u. refl) e)) (h n)))
 
-rest-owned : (calls : List Call) (last : ℕ) (n : Who) (fs : List Frame) → OwnIn calls last n (natures fs) → OwnIn calls last n (natures (without_first fs))
+rest-owned : (calls : List Call) (last : ℕ) (n : Who) (fs : List Frame) → OwnIn calls last n (natures fs) → OwnIn calls last n (natures (rest_of fs))
 rest-owned calls last n [] h = h
 rest-owned calls last n (f ∷ fs) h = h.1
 
 pub popped-owned : (name : Who) (w : World) → Owned w → Owned (pop name w)
-popped-owned name w h = edited-owned name (λ t. with_frames (without_first t.frames) t) w (λ u. refl) (λ n u k. rest-owned w.calls w.drawn.calls n u.frames k) h
+popped-owned name w h = edited-owned name (λ t. with_frames (rest_of t.frames) t) w (λ u. refl) (λ n u k. rest-owned w.calls w.drawn.calls n u.frames k) h
 
 -- ---- a new task, and one that is gone
 

@@ -4,6 +4,7 @@ use Rattle.ann_base.specs.declared.identities.CallNo.{CallNo}
 use Rattle.ann_base.specs.declared.identities.TaskNo.{TaskNo}
 use Rattle.trace_text.specs.declared.events.Event.{Event}
 use Rattle.trace_text.specs.declared.events.Who.{Who}
+use Rattle.world_tables.specs.Lists.{rest_of}
 use Rattle.trace_text.specs.declared.events.Who.TheVariants as who
 use Rattle.profile_machine.specs.declared.image.Image.{Image}
 use Rattle.profile_machine.specs.declared.world.World.{World}
@@ -17,7 +18,6 @@ use Rattle.profile_machine.specs.declared.world.tasks.Waiting.{Waiting}
 use Rattle.profile_machine.specs.Calls.{edit_call, forget_call}
 use Rattle.profile_machine.specs.Dispatching.{word_of}
 use Rattle.profile_machine.specs.EntryCalls.{add_call}
-use Rattle.profile_machine.specs.Frames.{without_first}
 use Rattle.profile_machine.specs.Steps.{places_after_all, placed_by}
 use Rattle.profile_machine.specs.Tasks.{task_of, waiting_of, with_frames, with_state}
 use Rattle.machine_laws.proofs.Moves.{lines_of}
@@ -159,7 +159,7 @@ module _ (e : Excuse) {E : GoodWorld} (lasting : Lasting E) where
       edits_task = λ name f w g same frames state. silently w _ (edited-steady name f w same state) (edited-numbered name f w same g.0.numbered) (plain-owned name f w same (λ u. ap natures (frames u)) g.0.owned) g;
       edits_frames = λ name f w g marks. silently w _ (edited-steady name (λ t. with_frames (f t.frames) t) w (λ u. refl) (λ u. refl)) (edited-numbered name (λ t. with_frames (f t.frames) t) w (λ u. refl) g.0.numbered) (plain-owned name (λ t. with_frames (f t.frames) t) w (λ u. refl) (λ u. marks u.frames) g.0.owned) g;
       pushes = λ name f w g called. silently w _ (edited-steady name (λ t. with_frames (f ∷ t.frames) t) w (λ u. refl) (λ u. refl)) (edited-numbered name (λ t. with_frames (f ∷ t.frames) t) w (λ u. refl) g.0.numbered) (pushed-owned name f w called g.0.owned) g;
-      pops = λ name w g. silently w _ (edited-steady name (λ t. with_frames (without_first t.frames) t) w (λ u. refl) (λ u. refl)) (edited-numbered name (λ t. with_frames (without_first t.frames) t) w (λ u. refl) g.0.numbered) (popped-owned name w g.0.owned) g;
+      pops = λ name w g. silently w _ (edited-steady name (λ t. with_frames (rest_of t.frames) t) w (λ u. refl) (λ u. refl)) (edited-numbered name (λ t. with_frames (rest_of t.frames) t) w (λ u. refl) g.0.numbered) (popped-owned name w g.0.owned) g;
       readies = λ name w g idle. silently w _ (state-steady name Runnable w idle) (edited-numbered name (with_state Runnable) w (λ u. refl) g.0.numbered) (plain-owned name (with_state Runnable) w (λ u. refl) (λ u. refl) g.0.owned) g;
       blocks = λ name waiting w g idle. silently w _ (state-steady name (Blocked waiting) w idle) (edited-numbered name (with_state (Blocked waiting)) w (λ u. refl) g.0.numbered) (plain-owned name (with_state (Blocked waiting)) w (λ u. refl) (λ u. refl) g.0.owned) g;
       places = λ p part name end w g idle. told (ready_line p part name end w) w (λ t d. apart_from name w t idle d) g;

@@ -24,7 +24,7 @@ use Rattle.profile_machine.specs.Frames.{open_if_ready}
 use Rattle.profile_machine.specs.Handlers.{charge}
 use Rattle.profile_machine.specs.Instant.{timers_due, script_items, quantum_spent, moments_due, is_over, instant, finish_action, events_due, effect_of_runner, effect, budgets_due}
 use Rattle.profile_machine.specs.Masters.{waits_at_terminate, may_terminate, leave_by_terminate}
-use Rattle.profile_machine.specs.Run.{with_serving, tock, ticks_or, spend_tick, serve_if_free, serve, says_run, says_idle, say, opens, opening, one_tick_less, next_tick, environment_task, environment, blank_world, begin_action}
+use Rattle.profile_machine.specs.Run.{with_serving, tock, spend_tick, serve_if_free, serve, says_run, says_idle, say, opens, opening, one_tick_less, next_tick, environment_task, environment, blank_world, begin_action}
 use Rattle.profile_machine.specs.Scopes.{plainly}
 use Rattle.profile_machine.specs.Steps.{◌▶◌, when, settles, settled, rests, placed_by, nothing, looks, for_each, changes, Move, Done, done}
 use Rattle.profile_machine.specs.Tasking.{unwind_all, take_terminates, block_at_terminate}
@@ -200,7 +200,7 @@ charged-stays : (p : Image) (name : Who) (w : World) → Good w → Stays w (spe
 unfolding Alters
 charged-stays p name w good =
     let begun = begin_action p name w in
-    let first = resting.edits_task name (with_ticks (Some (ticks_or (task_of w name).ticks_left (cost p w name)))) w (good, tt) (λ t. refl) (λ t. refl) (λ t. refl) in
+    let first = resting.edits_task name (with_ticks (Some (unwrap_or (task_of w name).ticks_left (cost p w name)))) w (good, tt) (λ t. refl) (λ t. refl) (λ t. refl) in
     let charged = charge p name begun in
     let second = charge-alters resting p name begun (first.good, tt) in
     stays_then w begun (spend_tick name charged) first

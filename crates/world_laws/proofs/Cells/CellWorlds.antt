@@ -1,5 +1,6 @@
 -- The opening has right cells, and instants and tocks keep them: so each world that a run reaches has them.
 use Rattle.std.proofs.Common.{ℕ, ℤ, List, [], ◌∷◌, Option, Some, None, refl}
+use Rattle.std.specs.Prelude.{unwrap_or}
 use Rattle.trace_text.specs.declared.events.Event.{Event}
 use Rattle.trace_text.specs.declared.events.Event.TheVariants as written
 use Rattle.trace_text.specs.declared.events.Who.{Who}
@@ -16,7 +17,7 @@ use Rattle.profile_machine.specs.Dispatching.{choose}
 use Rattle.profile_machine.specs.Handlers.{charge}
 use Rattle.profile_machine.specs.Cost.{cost}
 use Rattle.profile_machine.specs.Instant.{instant}
-use Rattle.profile_machine.specs.Run.{begin_action, blank_world, idle_tick, next_tick, one_tick_less, opening, opens, say, says_idle, says_run, serve, serve_first, serve_if_free, silently, spend_tick, tick_of, ticks_or, tock, tock_of, with_serving}
+use Rattle.profile_machine.specs.Run.{begin_action, blank_world, idle_tick, next_tick, one_tick_less, opening, opens, say, says_idle, says_run, serve, serve_first, serve_if_free, silently, spend_tick, tick_of, tock, tock_of, with_serving}
 use Rattle.machine_laws.specs.Reached.{Comes, opened, ticked, Reached, before, behind}
 use Rattle.world_laws.specs.CellWorlds.{ReachedCellsAreRight}
 use Rattle.world_laws.proofs.Cells.RightCells.{Alters, Keeps, Leads, Right, changes-keeps, cond-leads, rests-leads, says-keeps, settles-leads, then-keeps, then-leads, watches-leads}
@@ -57,7 +58,7 @@ unfolding Right
 next_tick-alters ran = record { at = λ w right. right }
 
 begin_action-alters : (p : Image) (name : Who) → Alters p (begin_action p name)
-begin_action-alters p name = record { at = λ w right. (edit_task-alters name (with_ticks (Some (ticks_or (task_of w name).ticks_left (cost p w name))))).at w right }
+begin_action-alters p name = record { at = λ w right. (edit_task-alters name (with_ticks (Some (unwrap_or (task_of w name).ticks_left (cost p w name))))).at w right }
 
 spend_tick-alters : {p : Image} (name : Who) → Alters p (spend_tick name)
 spend_tick-alters name = edit_task-alters name (λ t. with_ticks (one_tick_less t.ticks_left) t)

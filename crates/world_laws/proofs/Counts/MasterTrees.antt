@@ -14,9 +14,9 @@ use Rattle.profile_machine.specs.declared.world.marks.Frame.{Frame}
 use Rattle.profile_machine.specs.declared.world.tasks.Task.{Task}
 use Rattle.profile_machine.specs.declared.world.tasks.State.TheVariants.{Runnable, Blocked}
 use Rattle.profile_machine.specs.Words.{set_where, same_region, is_the}
-use Rattle.world_tables.specs.Lists.{first_of}
+use Rattle.world_tables.specs.Lists.{first_of, rest_of}
 use Rattle.profile_machine.specs.Tasks.{nobody, task_at, task_of, is_who, found_task, edit_task_found, edit_task, with_state, with_frames}
-use Rattle.profile_machine.specs.Frames.{top_of, edit_first, edit_top, push, goes_on, new_frame, without_first}
+use Rattle.profile_machine.specs.Frames.{top_of, edit_first, edit_top, push, goes_on, new_frame}
 use Rattle.profile_machine.specs.Masters.{region_of_mark, has_region, owns, owner_of, masters_beyond, masters_from}
 use Rattle.profile_machine.specs.Controlled.{region_or_none, top_region}
 use Rattle.profile_machine.specs.Tasking.{add_task}
@@ -135,7 +135,7 @@ pushed-branches drawn f e t h = (h.0, (subst (RegionGrown (age t.master) drawn) 
 tree-pushed : (name : Who) (f : Frame) (w : World) → Tree w → (nature f.mark).region ≡ None → Tree (push name f w)
 tree-pushed name f w h e = tree-edited name (λ t. with_frames (f ∷ t.frames) t) w (pushed-branches w.drawn.regions f e) h
 
-popped-marks : (old drawn : ℕ) (fs : List Frame) → MarksGrown old drawn (natures fs) → MarksGrown old drawn (natures (without_first fs))
+popped-marks : (old drawn : ℕ) (fs : List Frame) → MarksGrown old drawn (natures fs) → MarksGrown old drawn (natures (rest_of fs))
 popped-marks old drawn [] h = tt
 popped-marks old drawn (f ∷ fs) h = h.1
 
@@ -224,7 +224,7 @@ tree_is_kept = record {
     edits_frames = λ name f w h same. tree-edited name (λ t. with_frames (f t.frames) t) w (framed-branches w.drawn.regions f same) h;
     pushes_on = λ name onward f g w h may top region release abortable. tree-pushed name f (edit_top name (goes_on onward) w) (tree-on name onward w h) region;
     opens_abortable = λ name f w h o region release. tree-pushed name f w h region;
-    pops = λ name f w h may top action. tree-edited name (λ t. with_frames (without_first t.frames) t) w (λ t b. (b.0, popped-marks (age t.master) w.drawn.regions t.frames b.1)) h;
+    pops = λ name f w h may top action. tree-edited name (λ t. with_frames (rest_of t.frames) t) w (λ t b. (b.0, popped-marks (age t.master) w.drawn.regions t.frames b.1)) h;
     readies = λ name w h o. tree-edited name (with_state Runnable) w (λ t b. b) h;
     blocks = λ name waiting w h o. tree-edited name (with_state (Blocked waiting)) w (λ t b. b) h;
     places = λ p part name end w h may. h;
@@ -269,7 +269,7 @@ tree_is_kept = record {
     owned = λ name f r w h may top is. tt;
     awaits_dependents = λ name r w h may owns is. tt;
   };
-  exits = record { exits = λ name m w h may end. tree-edited name (λ t. with_frames (without_first t.frames) t) w (λ t b. (b.0, popped-marks (age t.master) w.drawn.regions t.frames b.1)) h };
+  exits = record { exits = λ name m w h may end. tree-edited name (λ t. with_frames (rest_of t.frames) t) w (λ t b. (b.0, popped-marks (age t.master) w.drawn.regions t.frames b.1)) h };
   pushes = tree-pushed;
   releases = λ handler argument w h. h;
   takes_up = λ r rest w h. h;

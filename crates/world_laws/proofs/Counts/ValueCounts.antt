@@ -1,6 +1,6 @@
 -- Operands have smaller numbers, so a value needs no more turns than its number.
 use Rattle.std.proofs.Common.{◌≡◌, ℕ, zero, suc, ◌+◌, ◌<◌, ◌≤◌, length, Bool, true, false, List, [], ◌∷◌, Option, Some, None, refl, sym, ap, subst, ◌∙◌, arith, ltb, slice_index_or}
-use Rattle.std.specs.Prelude.{Ok, Err, pos}
+use Rattle.std.specs.Prelude.{Ok, Err, pos, option_to_list}
 use Rattle.std.specs.List.{list_all}
 use Rattle.std.proofs.lemmas.Bool.{and_parts, ltb-true, ltb-false}
 use Rattle.std.proofs.lemmas.List.{get_or_past}
@@ -16,7 +16,7 @@ use Rattle.profile_machine.specs.declared.world.tasks.Task as world
 use Rattle.profile_machine.specs.Program.{expression_of}
 use Rattle.profile_machine.specs.Operators.{Valued, unary_value, binary_value, decides}
 use Rattle.profile_machine.specs.Values.{Seen, object_cell, indexed, component_cell, variable_by, read, live_task, named_task, task_in, of_task_by, port_value, span, both_values, form_value, value_by}
-use Rattle.world_laws.specs.ValueLaws.{if_there, operands, operands_before, operands_rise_from, ValuesEnd}
+use Rattle.world_laws.specs.ValueLaws.{operands, operands_before, operands_rise_from, ValuesEnd}
 
 abbrev Values : Type 0
 Values = ExprNo → Valued Value
@@ -35,15 +35,15 @@ then-each (Ok x) f g h = h x
 then-each (Err e) f g h = refl
 
 module _ (u v : Values) (q : Seen) where
-  indexed-same : (index : Option ExprNo) (x : Variable) → Agree u v (if_there index) → indexed u q index x ≡ indexed v q index x
+  indexed-same : (index : Option ExprNo) (x : Variable) → Agree u v (option_to_list index) → indexed u q index x ≡ indexed v q index x
   indexed-same None x h = refl
   indexed-same (Some e) x h = then-same (u e) (v e) (component_cell q x) h.0
 
-  named-same : (task : Option ExprNo) → Agree u v (if_there task) → named_task u q task ≡ named_task v q task
+  named-same : (task : Option ExprNo) → Agree u v (option_to_list task) → named_task u q task ≡ named_task v q task
   named-same None h = refl
   named-same (Some e) h = then-same (u e) (v e) (λ x. Ok (task_in x)) h.0
 
-  task-same : (f : world.Task → Value) (task : Option ExprNo) → Agree u v (if_there task) → of_task_by f u q task ≡ of_task_by f v q task
+  task-same : (f : world.Task → Value) (task : Option ExprNo) → Agree u v (option_to_list task) → of_task_by f u q task ≡ of_task_by f v q task
   task-same f task h = then-same (named_task u q task) (named_task v q task) (λ t. live_task q.world t >>= λ found. Ok (f found)) (named-same task h)
 
   both-same : (operator : BinaryOperator) (right : ExprNo) (decided : Bool) (left : Value) → u right ≡ v right

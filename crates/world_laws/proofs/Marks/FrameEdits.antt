@@ -10,7 +10,8 @@ use Rattle.profile_machine.specs.declared.world.marks.Mark.TheVariants.{Scope, H
 use Rattle.profile_machine.specs.declared.world.tasks.Waiting.{Waiting}
 use Rattle.profile_machine.specs.Words.{same_call, is_the}
 use Rattle.ann_base.specs.Lists.{is_empty}
-use Rattle.profile_machine.specs.Frames.{edit_first, without_first}
+use Rattle.world_tables.specs.Lists.{rest_of}
+use Rattle.profile_machine.specs.Frames.{edit_first}
 use Rattle.profile_machine.specs.Unwinding.{struck_frame, edit_last}
 use Rattle.profile_machine.specs.CallEnds.{is_abortable_of, edit_depth}
 use Rattle.profile_machine.specs.WellFormed.{awaits_trigger, awaits_trigger_at, is_triggered}
@@ -120,11 +121,11 @@ pushed-waits f no_wait untriggered waiting fs h c is = (no_wait, cond-false (is_
 
 -- ---- and ends
 
-pub popped-struck : (abnormal : Bool) (fs : List Frame) → StruckRightly abnormal fs → StruckRightly abnormal (without_first fs)
+pub popped-struck : (abnormal : Bool) (fs : List Frame) → StruckRightly abnormal fs → StruckRightly abnormal (rest_of fs)
 popped-struck abnormal [] h = tt
 popped-struck abnormal (x ∷ xs) h = h.1
 
-pub popped-finalizes : (registered : List Registered) (drawn : ℕ) (fs : List Frame) → FinalizesRightly registered drawn fs → FinalizesRightly registered drawn (without_first fs)
+pub popped-finalizes : (registered : List Registered) (drawn : ℕ) (fs : List Frame) → FinalizesRightly registered drawn fs → FinalizesRightly registered drawn (rest_of fs)
 popped-finalizes registered drawn [] h = tt
 popped-finalizes registered drawn (x ∷ xs) h = h.1
 

@@ -15,9 +15,9 @@ use Rattle.profile_machine.specs.declared.world.tasks.State.TheVariants.{Runnabl
 use Rattle.profile_machine.specs.declared.world.tasks.Waiting.{Waiting}
 use Rattle.profile_machine.specs.declared.world.tasks.Waiting.TheVariants as waits_for
 use Rattle.profile_machine.specs.Words.{same_who, same_call}
-use Rattle.world_tables.specs.Lists.{first_of}
+use Rattle.world_tables.specs.Lists.{first_of, rest_of}
 use Rattle.profile_machine.specs.Tasks.{nobody, is_who, is_made, is_made_state, task_at, task_of, found_task, edit_task_found, edit_task, with_state, with_frames, waiting_in}
-use Rattle.profile_machine.specs.Frames.{frames_of, top_of, new_frame, edit_first, edit_top, push, pop, without_first}
+use Rattle.profile_machine.specs.Frames.{frames_of, top_of, new_frame, edit_first, edit_top, push, pop}
 use Rattle.profile_machine.specs.Appointments.{is_trigger_of, is_appointed}
 use Rattle.profile_machine.specs.Unwinding.{struck_frame, edit_last, strike_outermost}
 use Rattle.profile_machine.specs.CallEnds.{is_abortable_of, depth_of_abortable, edit_depth, edit_frame, edit_abortable_at, triggered_mark, waited_mark, waits_for_end}
@@ -294,7 +294,7 @@ popped-step false d x xs here ends h clear = (h, clear-below d x xs here clear)
 one-less : (n : ℕ) → suc n - 1 ≡ n
 one-less n = omega arith
 
-popped-awaits : (d : ℕ) (f : Frame) (fs : List Frame) → first_of fs ≡ Some f → ((awaits_trigger f.mark ≡ false) ⊎ (eqb d (length fs - 1) ≡ false)) → StandsAt d fs → StandsAt d (without_first fs)
+popped-awaits : (d : ℕ) (f : Frame) (fs : List Frame) → first_of fs ≡ Some f → ((awaits_trigger f.mark ≡ false) ⊎ (eqb d (length fs - 1) ≡ false)) → StandsAt d fs → StandsAt d (rest_of fs)
 popped-awaits d f [] top ends h = cc
 popped-awaits d f (x ∷ xs) top ends h =
     let one : f ≡ x = cc in
@@ -315,10 +315,10 @@ ends-at n d name f w same is (inl no_trigger) = inl no_trigger
 ends-at n d name f w same is (inr none) = inr (other_depth n d name w same is none)
 
 pub pop-leads : (name : Who) (f : Frame) (w : World) → GoodMarks w → top_of w name ≡ Some f → Ends name f w → LeadsTo w [] (pop name w)
-pop-leads name f w good top ends = edit-leads name (λ t. with_frames (without_first t.frames) t) w (record {
+pop-leads name f w good top ends = edit-leads name (λ t. with_frames (rest_of t.frames) t) w (record {
   named = λ t. refl;
   marks = λ t e h. record { struck = popped-struck t.abnormal t.frames h.struck; finalizes = popped-finalizes w.registered w.drawn.controlled t.frames h.finalizes };
-  waits = λ k is t e h. calm-waits name w k t (without_first t.frames) ends.1 is e;
+  waits = λ k is t e h. calm-waits name w k t (rest_of t.frames) ends.1 is e;
   awaits = λ n d is same t frames h.
       popped-awaits d f t.frames (ap first_of frames ∙ top) (subst (λ fs. (awaits_trigger f.mark ≡ false) ⊎ (eqb d (length fs - 1) ≡ false)) (sym frames) (ends-at n d name f w same is ends.0)) h;
   begun = λ t e. e;

@@ -14,7 +14,7 @@ use Rattle.profile_machine.specs.Dispatching.{active, deadline_shown}
 use Rattle.profile_machine.specs.Steps.{is_above}
 use Rattle.profile_machine.specs.Tasks.{is_runnable, task_of}
 use Rattle.profile_machine.specs.WellFormed.{all_adjacent, all_differ, is_at_active, is_placed, ready_are_placed}
-use Rattle.profile_machine.specs.Words.{same_moment, same_option, same_who}
+use Rattle.profile_machine.specs.Words.{same_option, same_who, same_number}
 use Rattle.profile_machine.specs.declared.image.Image.{Image}
 use Rattle.profile_machine.specs.declared.run_data.Item.{Item}
 use Rattle.profile_machine.specs.declared.world.World.{World}
@@ -122,12 +122,12 @@ entry-stands p w x h found = subst (λ place. IsAt p place (core (task_of w x.wh
 int_le-self : (a : ℤ) → int_le a a ≡ true
 int_le-self a = grind arith
 
-same_moment-self : (a : ℤ) → same_moment a a ≡ true
+same_moment-self : (a : ℤ) → same_number a a ≡ true
 same_moment-self a = ap (λ b. b && b) (int_le-self a)
 
-same-deadline : (a b : Option ℤ) → a ≡ b → same_option same_moment a b ≡ true
-same-deadline None b e = subst (λ c. same_option same_moment None c ≡ true) e refl
-same-deadline (Some a) b e = subst (λ c. same_option same_moment (Some a) c ≡ true) e (same_moment-self a)
+same-deadline : (a b : Option ℤ) → a ≡ b → same_option same_number a b ≡ true
+same-deadline None b e = subst (λ c. same_option same_number None c ≡ true) e refl
+same-deadline (Some a) b e = subst (λ c. same_option same_number (Some a) c ≡ true) e (same_moment-self a)
 
 same-level : (a b : ℕ) → a ≡ b → eqb a b ≡ true
 same-level a b e = eq-eqb a b e
@@ -136,7 +136,7 @@ placed-at-active : (p : Image) (w : World) → all_differ (λ x y. same_who x.wh
 placed-at-active p w differ h =
     entries-hold (is_at_active p w) w.places differ (λ x found.
     let stands = entry-stands p w x h found in
-    ap (λ b. b && same_option same_moment x.deadline (deadline_shown p (task_of w x.who))) (same-level x.level (active p (task_of w x.who)) stands.0)
+    ap (λ b. b && same_option same_number x.deadline (deadline_shown p (task_of w x.who))) (same-level x.level (active p (task_of w x.who)) stands.0)
     ∙ same-deadline x.deadline (deadline_shown p (task_of w x.who)) stands.1)
 
 ready-placed : (p : Image) (w : World) → AllStand p w.places w → ready_are_placed w ≡ true

@@ -4,6 +4,7 @@ use Rattle.std.proofs.lemmas.Bool.{eqb-true, true≢false}
 use Rattle.ann_base.specs.declared.identities.CallNo.{CallNo}
 use Rattle.ann_base.specs.declared.identities.TaskNo.{TaskNo}
 use Rattle.trace_text.specs.declared.events.Who.{Who}
+use Rattle.world_tables.specs.Lists.{rest_of}
 use Rattle.trace_text.specs.declared.events.Who.TheVariants as who
 use Rattle.profile_machine.specs.declared.world.World.{World}
 use Rattle.profile_machine.specs.declared.world.calls.Call.{Call}
@@ -12,7 +13,7 @@ use Rattle.profile_machine.specs.declared.world.tasks.State.{State}
 use Rattle.profile_machine.specs.declared.world.tasks.Task.{Task}
 use Rattle.profile_machine.specs.Words.{same_call, has, is_the}
 use Rattle.profile_machine.specs.Tasks.{task_of, edit_task, waiting_in, with_state, with_frames}
-use Rattle.profile_machine.specs.Frames.{frames_of, without_first}
+use Rattle.profile_machine.specs.Frames.{frames_of}
 use Rattle.profile_machine.specs.Appointments.{is_appointed, is_trigger_of}
 use Rattle.profile_machine.specs.Calls.{call_of}
 use Rattle.profile_machine.specs.Values.{queue_at}
@@ -173,15 +174,15 @@ abbrev pub Unset : Who → World → List Frame → Type 0
 Unset name w [] = Unit {0}
 Unset name w (f ∷ fs) = (n : TaskNo) → name ≡ who.Task n → is_appointed (is_trigger_of n (length fs)) w ≡ true → awaits_part (nature f.mark).part ≡ true → ⊥
 
-served-below : (c : CallNo) (fs : List Frame) → served_in c (natures (without_first fs)) ≤ served_in c (natures fs)
+served-below : (c : CallNo) (fs : List Frame) → served_in c (natures (rest_of fs)) ≤ served_in c (natures fs)
 served-below c [] = omega arith
 served-below c (f ∷ fs) = fewer-below (is_the same_call (nature f.mark).service c) (served_in c (natures fs))
 
-some-below : (test : Nature → Bool) (fs : List Frame) → some_nature test (natures (without_first fs)) ≡ true → some_nature test (natures fs) ≡ true
+some-below : (test : Nature → Bool) (fs : List Frame) → some_nature test (natures (rest_of fs)) ≡ true → some_nature test (natures fs) ≡ true
 some-below test [] h = h
 some-below test (f ∷ fs) h = or-on (test (nature f.mark)) (some_nature test (natures fs)) h
 
-awaits-below : (name : Who) (w : World) (n : TaskNo) (depth : ℕ) (fs : List Frame) → Unset name w fs → name ≡ who.Task n → is_appointed (is_trigger_of n depth) w ≡ true → awaits_at depth (natures fs) ≡ true → awaits_at depth (natures (without_first fs)) ≡ true
+awaits-below : (name : Who) (w : World) (n : TaskNo) (depth : ℕ) (fs : List Frame) → Unset name w fs → name ≡ who.Task n → is_appointed (is_trigger_of n depth) w ≡ true → awaits_at depth (natures fs) ≡ true → awaits_at depth (natures (rest_of fs)) ≡ true
 awaits-below name w n depth [] unset is set h = h
 awaits-below name w n depth (f ∷ fs) unset is set h = step (eqb (length (natures fs)) depth) refl h where
   step : (b : Bool) → eqb (length (natures fs)) depth ≡ b → cond b (awaits_part (nature f.mark).part) (awaits_at depth (natures fs)) ≡ true → awaits_at depth (natures fs) ≡ true
@@ -190,10 +191,10 @@ awaits-below name w n depth (f ∷ fs) unset is set h = step (eqb (length (natur
       absurd (unset n is (subst (λ d. is_appointed (is_trigger_of n d) w ≡ true) (sym same) set) k)
   step false e k = k
 
-pub pop-calm : {E : Kind} (name : Who) (w : World) → E.steady name ≡ false → Unset name w (frames_of w name) → ((c : CallNo) (d : Call) → waiting_in (task_of w name).state ≡ waits_end c → call_of w c ≡ Some d → is_ending c (frames_of w name) ≡ true → ⊥) → Calm E w (edit_task name (λ t. with_frames (without_first t.frames) t) w)
+pub pop-calm : {E : Kind} (name : Who) (w : World) → E.steady name ≡ false → Unset name w (frames_of w name) → ((c : CallNo) (d : Call) → waiting_in (task_of w name).state ≡ waits_end c → call_of w c ≡ Some d → is_ending c (frames_of w name) ≡ true → ⊥) → Calm E w (edit_task name (λ t. with_frames (rest_of t.frames) t) w)
 pop-calm name w free unset none =
     let fs = frames_of w name in
-    edit_task-calm name (λ t. with_frames (without_first t.frames) t) w (λ t. refl)
+    edit_task-calm name (λ t. with_frames (rest_of t.frames) t) w (λ t. refl)
     record {
       named = refl;
       queues = λ k c h. h;

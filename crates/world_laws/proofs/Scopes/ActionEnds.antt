@@ -25,10 +25,10 @@ use Rattle.profile_machine.specs.declared.world.marks.ProtectedMark.{ProtectedMa
 use Rattle.profile_machine.specs.declared.world.scopes.ScopeId.{ScopeId}
 use Rattle.profile_machine.specs.declared.world.tasks.Task.{Task}
 use Rattle.profile_machine.specs.declared.world.tasks.Cause.TheVariants as inherited_by
-use Rattle.world_tables.specs.Lists.{first_of}
+use Rattle.world_tables.specs.Lists.{first_of, rest_of}
 use Rattle.profile_machine.specs.Steps.{Step, says, changes, for_some, ◌▷◌}
 use Rattle.profile_machine.specs.Tasks.{is_made, with_frames}
-use Rattle.profile_machine.specs.Frames.{edit_top, frames_of, is_protected, pop, top_of, without_first}
+use Rattle.profile_machine.specs.Frames.{edit_top, frames_of, is_protected, pop, top_of}
 use Rattle.profile_machine.specs.Inheritance.{lose_running}
 use Rattle.profile_machine.specs.Priorities.{set_deferred}
 use Rattle.profile_machine.specs.Scopes.{id_in}
@@ -102,7 +102,7 @@ top-none false mark rest is e = none-here (id_in mark) e where
   none-here None h = refl
   none-here (Some id) h = absurd (false≢true h)
 
-shielded-owns : (fs : List Frame) → shielded (natures fs) ≡ true → owns_in (natures (without_first fs)) ≡ owns_in (natures fs)
+shielded-owns : (fs : List Frame) → shielded (natures fs) ≡ true → owns_in (natures (rest_of fs)) ≡ owns_in (natures fs)
 shielded-owns [] h = refl
 shielded-owns (f ∷ fs) h = sym (opened-owns f fs (top-none (is_protected f.mark) f.mark (shielded (natures fs)) refl h))
 
@@ -115,7 +115,7 @@ pop-live : (name : Who) (w : World) → There name w → (n : Who) → Live n w 
 pop-live name w there n e =
     let v = pop name w in
     subst (λ (x : Task). is_made x ≡ false) (one_of-is v n)
-    (put-live name there.task (with_frames (without_first there.task.frames) there.task) w.tasks w.agent v.tasks v.agent (popped-put name w there) (λ h. h) n
+    (put-live name there.task (with_frames (rest_of there.task.frames) there.task) w.tasks w.agent v.tasks v.agent (popped-put name w there) (λ h. h) n
     (subst (λ (x : Task). is_made x ≡ false) (sym (one_of-is w n)) e))
 
 pub pop-led : (me : Who) (w : World) → ActingWorld me w → Shielded me w → Led me w (pop me w)
@@ -125,8 +125,8 @@ pop-led me w g h =
     let v = pop me w in
     let put = popped-put me w there in
     let here : shielded (natures t.frames) ≡ true = subst (λ (x : Task). shielded (natures x.frames) ≡ true) (there-is me w there) h in
-    let kept = marks-good nobody_free me t (with_frames (without_first t.frames) t) w.tasks w.agent v.tasks v.agent (scope_keys w.scopes) w.drawn.tasks w.drawn.scopes put g.0 refl (shielded-owns t.frames here) (λ e. e) in
-    let rest = edited-rest me (λ u. with_frames (without_first u.frames) u) w in
+    let kept = marks-good nobody_free me t (with_frames (rest_of t.frames) t) w.tasks w.agent v.tasks v.agent (scope_keys w.scopes) w.drawn.tasks w.drawn.scopes put g.0 refl (shielded-owns t.frames here) (λ e. e) in
+    let rest = edited-rest me (λ u. with_frames (rest_of u.frames) u) w in
     let good : GoodWorld v =
     subst (λ d. Good nobody_free v.tasks v.agent (scope_keys v.scopes) d.tasks d.scopes) (sym rest.1)
     (subst (λ ss. Good nobody_free v.tasks v.agent (scope_keys ss) w.drawn.tasks w.drawn.scopes) (sym rest.0) kept) in

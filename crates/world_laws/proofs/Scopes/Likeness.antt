@@ -8,9 +8,9 @@ use Rattle.profile_machine.specs.declared.world.World.{World}
 use Rattle.profile_machine.specs.declared.world.tasks.Task.{Task}
 use Rattle.profile_machine.specs.declared.world.marks.Frame.{Frame}
 use Rattle.profile_machine.specs.Words.{same_who, set_where}
-use Rattle.world_tables.specs.Lists.{first_of}
+use Rattle.world_tables.specs.Lists.{first_of, rest_of}
 use Rattle.profile_machine.specs.Tasks.{is_who, is_made, nobody, task_at, task_of, edit_task_found, edit_task, with_frames}
-use Rattle.profile_machine.specs.Frames.{push, pop, top_of, is_protected, without_first}
+use Rattle.profile_machine.specs.Frames.{push, pop, top_of, is_protected}
 use Rattle.profile_machine.specs.Scopes.{id_in}
 use Rattle.world_laws.proofs.Scopes.FineMoves.{nature, natures}
 use Rattle.world_laws.proofs.Scopes.ScopeKeys.{Key, bit, scope_keys}
@@ -40,7 +40,7 @@ like-frames t fs e = record { who = refl; marks = ap owns_in e; shield = λ h. a
 pub like-opened : (t : Task) (f : Frame) → (nature f.mark).id ≡ None → Like t (with_frames (f ∷ t.frames) t)
 like-opened t f none = record { who = refl; marks = opened-owns f t.frames none; shield = λ h. opened-shielded f t.frames none h; made = λ h. h }
 
-pub like-popped : (t : Task) (f : Frame) → first_of t.frames ≡ Some f → is_protected f.mark ≡ false → id_in f.mark ≡ None → Like t (with_frames (without_first t.frames) t)
+pub like-popped : (t : Task) (f : Frame) → first_of t.frames ≡ Some f → is_protected f.mark ≡ false → id_in f.mark ≡ None → Like t (with_frames (rest_of t.frames) t)
 like-popped t f top plain none = record { who = refl; marks = popped-owns f t.frames top none; shield = λ h. popped-shielded f t.frames top plain none h; made = λ h. h }
 
 -- ---- lists of tasks
@@ -143,7 +143,7 @@ found-top w name f t e top = subst (λ found. first_of (unwrap_or found nobody).
 
 pub popped-same : (name : Who) (f : Frame) (w : World) → top_of w name ≡ Some f → is_protected f.mark ≡ false → id_in f.mark ≡ None → Same w (pop name w)
 popped-same name f w top plain none =
-    edited-found name (λ t. with_frames (without_first t.frames) t) w (task_at w name) refl (λ t e. like-popped t f (found-top w name f t e top) plain none)
+    edited-found name (λ t. with_frames (rest_of t.frames) t) w (task_at w name) refl (λ t e. like-popped t f (found-top w name f t e top) plain none)
 
 pub opened-same : (name : Who) (f : Frame) (w : World) → (nature f.mark).id ≡ None → Same w (push name f w)
 opened-same name f w none = edited-same name (λ t. with_frames (f ∷ t.frames) t) w (λ t. like-opened t f none)

@@ -15,11 +15,11 @@ use Rattle.profile_machine.specs.declared.world.scopes.Beginning.{Beginning}
 use Rattle.profile_machine.specs.declared.world.scopes.ScopeId.{ScopeId}
 use Rattle.profile_machine.specs.declared.world.tasks.Task.{Task}
 use Rattle.profile_machine.specs.Words.{same_who}
-use Rattle.world_tables.specs.Lists.{first_of}
+use Rattle.world_tables.specs.Lists.{first_of, rest_of}
 use Rattle.profile_machine.specs.Program.{form_of, scope_of}
 use Rattle.profile_machine.specs.Calls.{parameters_of}
 use Rattle.profile_machine.specs.Tasks.{found_task, is_who, is_made, nobody, task_at, task_of, with_frames}
-use Rattle.profile_machine.specs.Frames.{new_frame, pop, push, top_of, without_first}
+use Rattle.profile_machine.specs.Frames.{new_frame, pop, push, top_of}
 use Rattle.profile_machine.specs.Scopes.{begin_scope, draw_region, end_scope, id_in, innermost, new_scope_mark, next_id, open_scope, plainly, region_of_next}
 use Rattle.profile_machine.specs.Rendezvous.{accept_scope, open_accept}
 use Rattle.profile_machine.specs.Tasking.{is_task_scope}
@@ -155,8 +155,8 @@ accepts-live p name s c w there =
 
 -- ---- a scope ends
 
-pub popped-put : (name : Who) (w : World) (there : There name w) → let v = pop name w in Put name there.task (with_frames (without_first there.task.frames) there.task) w.tasks w.agent v.tasks v.agent
-popped-put name w there = put-edit name (λ u. with_frames (without_first u.frames) u) w there.task there.found refl (λ h. h)
+pub popped-put : (name : Who) (w : World) (there : There name w) → let v = pop name w in Put name there.task (with_frames (rest_of there.task.frames) there.task) w.tasks w.agent v.tasks v.agent
+popped-put name w there = put-edit name (λ u. with_frames (rest_of u.frames) u) w there.task there.found refl (λ h. h)
 
 there-top : (name : Who) (f : Frame) (w : World) (there : There name w) → top_of w name ≡ Some f → first_of there.task.frames ≡ Some f
 there-top name f w there top = subst (λ (x : Task). first_of x.frames ≡ Some f) (there-is name w there) top
@@ -169,7 +169,7 @@ scope_ends-good free name f id w g top is =
     let named = there-named free name w there g in
     let marks = ended-owns f id t.frames (there-top name f w there top) is in
     let h = ends-good (popped-put name w there) named named free (scope_keys w.scopes) w.drawn.tasks w.drawn.scopes id.0 (is_task_mark f.mark) g marks (λ e. e) in
-    let rest = edited-rest name (λ u. with_frames (without_first u.frames) u) w in
+    let rest = edited-rest name (λ u. with_frames (rest_of u.frames) u) w in
     let keys : scope_keys (end_scope id v).scopes ≡ drop_number id.0 (scope_keys w.scopes) = scope_keys-without id v.scopes ∙ ap (λ ss. drop_number id.0 (scope_keys ss)) rest.0 in
     let drawn_tasks : v.drawn.tasks ≡ w.drawn.tasks = ap (λ d. d.tasks) rest.1 in
     let drawn_scopes : v.drawn.scopes ≡ w.drawn.scopes = ap (λ d. d.scopes) rest.1 in
@@ -182,7 +182,7 @@ scope_ends-live name f id w top n e =
     let there = top-there name f w top in
     let v = pop name w in
     subst (λ (x : Task). is_made x ≡ false) (one_of-is (end_scope id v) n)
-    (put-live name there.task (with_frames (without_first there.task.frames) there.task) w.tasks w.agent v.tasks v.agent (popped-put name w there) (λ h. h) n
+    (put-live name there.task (with_frames (rest_of there.task.frames) there.task) w.tasks w.agent v.tasks v.agent (popped-put name w there) (λ h. h) n
     (subst (λ (x : Task). is_made x ≡ false) (sym (one_of-is w n)) e))
 
 -- below a task's own scope it has none
@@ -193,5 +193,5 @@ own_ends-alone free name f id w g top is own =
     let put = popped-put name w there in
     let marks = ended-owns f id t.frames (there-top name f w there top) is in
     let whole = subst (λ (x : Task). bottomed (marks_of x) ≡ true) (put.own) (g.bottom name) in
-    let none = own-alone id.0 (is_task_mark f.mark) (owns_in (natures (without_first t.frames))) own (subst (λ ms. bottomed ms ≡ true) marks whole) in
+    let none = own-alone id.0 (is_task_mark f.mark) (owns_in (natures (rest_of t.frames))) own (subst (λ ms. bottomed ms ≡ true) marks whole) in
     subst (λ (x : Task). marks_of x ≡ []) (one_of-is (end_scope id (pop name w)) name) (subst (λ (x : Task). marks_of x ≡ []) (sym put.is) none)

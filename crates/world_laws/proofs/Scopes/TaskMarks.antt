@@ -5,8 +5,8 @@ use Rattle.trace_text.specs.declared.events.Who.{Who}
 use Rattle.profile_machine.specs.declared.world.scopes.ScopeId.{ScopeId}
 use Rattle.profile_machine.specs.declared.world.marks.Frame.{Frame}
 use Rattle.profile_machine.specs.declared.world.tasks.Task.{Task}
-use Rattle.world_tables.specs.Lists.{first_of}
-use Rattle.profile_machine.specs.Frames.{is_protected, without_first}
+use Rattle.world_tables.specs.Lists.{first_of, rest_of}
+use Rattle.profile_machine.specs.Frames.{is_protected}
 use Rattle.profile_machine.specs.Scopes.{id_in}
 use Rattle.world_laws.proofs.Scopes.FineMoves.{Nature, nature, natures, is_task_mark}
 use Rattle.world_laws.proofs.Scopes.ScopeKeys.{Key}
@@ -56,14 +56,14 @@ either-shielded false id rest none e = ap (λ x. cond (is_some x) false rest) no
 pub opened-shielded : (f : Frame) (fs : List Frame) → (nature f.mark).id ≡ None → shielded (natures fs) ≡ true → shielded (natures (f ∷ fs)) ≡ true
 opened-shielded f fs none e = either-shielded (is_protected f.mark) (id_in f.mark) (shielded (natures fs)) none e
 
-pub popped-owns : (f : Frame) (fs : List Frame) → first_of fs ≡ Some f → id_in f.mark ≡ None → owns_in (natures (without_first fs)) ≡ owns_in (natures fs)
+pub popped-owns : (f : Frame) (fs : List Frame) → first_of fs ≡ Some f → id_in f.mark ≡ None → owns_in (natures (rest_of fs)) ≡ owns_in (natures fs)
 popped-owns f [] top none = refl
 popped-owns f (g ∷ fs) top none = let same : g ≡ f = cc in sym (opened-owns g fs (ap (λ (x : Frame). id_in x.mark) same ∙ none))
 
 below-shielded : (action : Bool) (id : Option ScopeId) (rest : Bool) → action ≡ false → id ≡ None → cond action true (cond (is_some id) false rest) ≡ true → rest ≡ true
 below-shielded action id rest plain none e = sym (ap (λ a. cond a true (cond (is_some id) false rest)) plain ∙ ap (λ x. cond (is_some x) false rest) none) ∙ e
 
-pub popped-shielded : (f : Frame) (fs : List Frame) → first_of fs ≡ Some f → is_protected f.mark ≡ false → id_in f.mark ≡ None → shielded (natures fs) ≡ true → shielded (natures (without_first fs)) ≡ true
+pub popped-shielded : (f : Frame) (fs : List Frame) → first_of fs ≡ Some f → is_protected f.mark ≡ false → id_in f.mark ≡ None → shielded (natures fs) ≡ true → shielded (natures (rest_of fs)) ≡ true
 popped-shielded f [] top plain none e = e
 popped-shielded f (g ∷ fs) top plain none e =
     let same : g ≡ f = cc in
@@ -74,7 +74,7 @@ popped-shielded f (g ∷ fs) top plain none e =
 pub with_own-some : (x : Option ScopeId) (id : ScopeId) (b : Bool) (ms : List Own) → x ≡ Some id → with_own x b ms ≡ (id.0, b) ∷ ms
 with_own-some x id b ms e = ap (λ y. with_own y b ms) e
 
-pub ended-owns : (f : Frame) (id : ScopeId) (fs : List Frame) → first_of fs ≡ Some f → id_in f.mark ≡ Some id → owns_in (natures fs) ≡ (id.0, is_task_mark f.mark) ∷ owns_in (natures (without_first fs))
+pub ended-owns : (f : Frame) (id : ScopeId) (fs : List Frame) → first_of fs ≡ Some f → id_in f.mark ≡ Some id → owns_in (natures fs) ≡ (id.0, is_task_mark f.mark) ∷ owns_in (natures (rest_of fs))
 ended-owns f id [] top e = absurd cc
 ended-owns f id (g ∷ fs) top e =
     let same : g ≡ f = cc in

@@ -14,7 +14,7 @@ use Rattle.profile_machine.specs.declared.world.tasks.Waiting.{Waiting}
 use Rattle.profile_machine.specs.declared.world.tasks.Waiting.TheVariants as waits_for
 use Rattle.profile_machine.specs.Tasks.{task_of, edit_task, with_state, with_frames, is_runnable_state}
 use Rattle.profile_machine.specs.Dispatching.{without_kept_level}
-use Rattle.profile_machine.specs.Frames.{top_of, pop, without_first, onward_of, any_protected}
+use Rattle.profile_machine.specs.Frames.{top_of, pop, onward_of, any_protected}
 use Rattle.profile_machine.specs.Serving.{serves_nothing}
 use Rattle.profile_machine.specs.WellFormed.{begins_sequence}
 use Rattle.machine_laws.proofs.FineMoves.{GoodWorld, Nature, natures, is_abortable}
@@ -26,6 +26,7 @@ use Rattle.world_laws.proofs.Sequences.Loosened.{fine_loosens}
 use Rattle.world_laws.proofs.Sequences.Turned.{fine-turned}
 use Rattle.world_laws.proofs.Sequences.Actors.{Rests, nobody_free, nobody_stacks, Rooted, Standing, rooted_stacks, rooted-inside, rooted-unabortable, rooted-rest, Apart, acting_points, Acts, ActsPlainly, HasActed, acts_points, plainly_points, Is, acts_free, task_stacks, agent-task, fine-wide, acts-over, plainly-over, Any, any_callings}
 use Rattle.ann_base.specs.declared.identities.CallNo.{CallNo}
+use Rattle.world_tables.specs.Lists.{rest_of}
 use Rattle.profile_machine.specs.declared.world.calls.Call.{Call}
 use Rattle.profile_machine.specs.Calls.{call_of}
 use Rattle.world_laws.proofs.Sequences.OwnCalls.{Knows, knows_callings}
@@ -56,11 +57,11 @@ pub no-natures : (fs : List Frame) → natures fs ≡ [] → onward_in fs ≡ No
 no-natures [] e = refl
 no-natures (x ∷ xs) e = cc
 
-last-popped : (n : Nature) (fs : List Frame) → natures fs ≡ n ∷ [] → natures (without_first fs) ≡ []
+last-popped : (n : Nature) (fs : List Frame) → natures fs ≡ n ∷ [] → natures (rest_of fs) ≡ []
 last-popped n [] e = cc
 last-popped n (x ∷ xs) e = cc
 
-rest-popped : (n : Nature) (ns : List Nature) (fs : List Frame) → natures fs ≡ n ∷ ns → natures (without_first fs) ≡ ns
+rest-popped : (n : Nature) (ns : List Nature) (fs : List Frame) → natures fs ≡ n ∷ ns → natures (rest_of fs) ≡ ns
 rest-popped n ns [] e = cc
 rest-popped n ns (x ∷ xs) e = cc
 
@@ -190,7 +191,7 @@ module _ {p : Image} (fits : Fits p) where
 
   pub task-popped : (n : TaskNo) (C : Calling) (w : World) → KnowingWorld (who.Task n) Standing C w → KnowingWorld (who.Task n) Standing C (pop (who.Task n) w)
   task-popped n C w g =
-      fine-edited (who.Task n) (λ t. with_frames (without_first t.frames) t) w (λ t. refl) (λ t fit. fit) (λ is m. agent-task n is)
+      fine-edited (who.Task n) (λ t. with_frames (rest_of t.frames) t) w (λ t. refl) (λ t fit. fit) (λ is m. agent-task n is)
       (λ h. ((λ apart. absurd (false≢true (sym apart ∙ who-self (who.Task n)))), (λ same. h.1 same))) g
 
   pub task-sleeps : (n : TaskNo) (C : Calling) (w : World) → KnowingWorld (who.Task n) Standing C w → ActedWorld (who.Task n) (edit_task who.Agent (with_state (Blocked waits_for.Release)) w)
@@ -243,8 +244,8 @@ module _ {p : Image} (fits : Fits p) where
   pub last-popped_agent : (n : Nature) (w : World) → ActingWorld who.Agent (JustSo (n ∷ [])) w → PlainWorld who.Agent (JustSo []) (pop who.Agent w)
   last-popped_agent n w g =
       let empty = last-popped n w.agent.frames g.marks in
-      fine-turned who.Agent (λ t. with_frames (without_first t.frames) t) w (λ m cs h. tt) (λ t. refl) (λ t fit. fit) (λ is m. empty) (λ apart m. absurd (false≢true (sym apart)))
-      (λ h. ((λ apart. absurd (false≢true (sym apart))), (λ same. (h.1 same, ap (begins_sequence p) (no-natures (without_first w.agent.frames) empty)))))
+      fine-turned who.Agent (λ t. with_frames (rest_of t.frames) t) w (λ m cs h. tt) (λ t. refl) (λ t fit. fit) (λ is m. empty) (λ apart m. absurd (false≢true (sym apart)))
+      (λ h. ((λ apart. absurd (false≢true (sym apart))), (λ same. (h.1 same, ap (begins_sequence p) (no-natures (rest_of w.agent.frames) empty)))))
       (λ is h. (h.0, (λ same. (h.1 same, ap (begins_sequence p) (onward-nobody w who.Agent is)))))
       (λ b t k apart h. (h.0, (λ same. absurd (false≢true (sym apart ∙ same))))) g
 
@@ -277,7 +278,7 @@ module _ {p : Image} (fits : Fits p) where
   pub inner-popped_agent : (n : Nature) (ns : List Nature) (C : Calling) → Rooted ns → (w : World) → KnowingWorld who.Agent (JustSo (n ∷ ns)) C w → KnowingWorld who.Agent Rooted C (pop who.Agent w)
   inner-popped_agent n ns C root w g =
       let rest = subst Rooted (sym (rest-popped n ns w.agent.frames g.marks)) root in
-      fine-turned who.Agent (λ t. with_frames (without_first t.frames) t) w (λ m cs h. h) (λ t. refl) (λ t fit. fit) (λ is m. rest) (λ apart m. absurd (false≢true (sym apart)))
+      fine-turned who.Agent (λ t. with_frames (rest_of t.frames) t) w (λ m cs h. h) (λ t. refl) (λ t fit. fit) (λ is m. rest) (λ apart m. absurd (false≢true (sym apart)))
       (λ h. ((λ apart. absurd (false≢true (sym apart))), (λ same. h.1 same)))
       (λ is h. h)
       (λ b t k apart h. h) g

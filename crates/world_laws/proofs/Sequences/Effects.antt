@@ -26,18 +26,18 @@ use Rattle.profile_machine.specs.declared.world.tasks.Cause.TheVariants as inher
 use Rattle.profile_machine.specs.declared.world.tasks.State.{State}
 use Rattle.profile_machine.specs.declared.world.tasks.State.TheVariants.{Made, Runnable, Blocked}
 use Rattle.profile_machine.specs.Words.{same_who}
-use Rattle.world_tables.specs.Lists.{first_of}
-use Rattle.profile_machine.specs.Program.{subprogram_of, marks_of}
+use Rattle.world_tables.specs.Lists.{first_of, rest_of}
+use Rattle.profile_machine.specs.Program.{subprogram_of, marks_of, size_of_body}
 use Rattle.profile_machine.specs.Steps.{Move, says, changes, looks, when, nothing, settles, rests}
 use Rattle.profile_machine.specs.Tasks.{task_of, edit_task, with_ticks, is_runnable, is_runnable_state, with_frames, nobody, task_at}
-use Rattle.profile_machine.specs.Frames.{top_of, push, new_frame, without_first, onward_of, leaving_of, has_room, open_at, open_sequence, open_if_ready}
+use Rattle.profile_machine.specs.Frames.{top_of, push, new_frame, onward_of, leaving_of, has_room, open_at, open_sequence, open_if_ready}
 use Rattle.profile_machine.specs.Scopes.{open_scope}
 use Rattle.profile_machine.specs.Values.{object_of}
 use Rattle.profile_machine.specs.Inheritance.{inherit_running}
 use Rattle.profile_machine.specs.Protected.{entering, find_held, begin_action_on, open_action, new_protected_mark, ceiling_of, body_of_object}
 use Rattle.profile_machine.specs.Serving.{end_release, end_in_protected}
 use Rattle.profile_machine.specs.Tasking.{take_terminates, unwind_all}
-use Rattle.profile_machine.specs.Handlers.{argument_values, scope_size_of, begin_handler, begin_handler_if_room, enter_handler, call_handler}
+use Rattle.profile_machine.specs.Handlers.{argument_values, begin_handler, begin_handler_if_room, enter_handler, call_handler}
 use Rattle.profile_machine.specs.Act.{act_without, act_top, act}
 use Rattle.profile_machine.specs.Instant.{effect, is_over, effect_of_runner, finish_action, instant}
 use Rattle.profile_machine.specs.WellFormed.{begins_sequence}
@@ -60,7 +60,7 @@ use Rattle.world_laws.proofs.Sequences.Kept.Act.{act_frame-from}
 use Rattle.world_laws.proofs.Sequences.Kept.Instant.{behind_action-leads}
 use Rattle.machine_laws.proofs.Kept.Combinators.{From, Leads}
 
-top-natures : (fs : List Frame) (f : Frame) → first_of fs ≡ Some f → natures fs ≡ nature f.mark ∷ natures (without_first fs)
+top-natures : (fs : List Frame) (f : Frame) → first_of fs ≡ Some f → natures fs ≡ nature f.mark ∷ natures (rest_of fs)
 top-natures [] f e = cc
 top-natures (x ∷ xs) f e = let one : x ≡ f = cc in ap (λ g. nature g.mark ∷ natures xs) one
 
@@ -151,7 +151,7 @@ module _ {p : Image} (fits : Fits p) where
   agent_ends-from : (m : ProtectedMark) (f : Frame) (leaving : Leaving) (w : World) → ActingWorld fits who.Agent Rooted w → OwnKnown who.Agent w → top_of w who.Agent ≡ Some f → f.mark ≡ InProtected m → From (Behind (ActedWorld fits who.Agent)) w (end_in_protected p who.Agent m leaving)
   agent_ends-from m f leaving w g known top is =
       let shape = top-natures w.agent.frames f top in
-      agent_ends-by m leaving w (nature f.mark) (natures (without_first w.agent.frames)) m.release refl (ap (λ k. (nature k).release) is) (subst Rooted shape g.marks)
+      agent_ends-by m leaving w (nature f.mark) (natures (rest_of w.agent.frames)) m.release refl (ap (λ k. (nature k).release) is) (subst Rooted shape g.marks)
       (record { agent = g.agent; apart = g.apart; below = g.below; units = g.units; calls = g.calls; marks = shape; points = g.points }) (known f m top is)
 
   -- ---- the agent calls a handler
@@ -204,7 +204,7 @@ module _ {p : Image} (fits : Fits p) where
   unfolding begin_handler_if_room
   begun_if_room-turns r =
       looks-turns Alone (ActedWorld fits who.Agent) _ (λ w g. turns-from Alone (ActedWorld fits who.Agent) _ w g
-      (branch-turns Alone (ActedWorld fits who.Agent) (has_room w who.Agent (1 + marks_of p (subprogram_of p r.handler.procedure).scope) (scope_size_of p r.handler.procedure)) (begin_handler p r) (end_release r.number) (begun_handler-turns r) (served-turns r)))
+      (branch-turns Alone (ActedWorld fits who.Agent) (has_room w who.Agent (1 + marks_of p (subprogram_of p r.handler.procedure).scope) (size_of_body p r.handler.procedure)) (begin_handler p r) (end_release r.number) (begun_handler-turns r) (served-turns r)))
 
   held-turns : (r : Release) → Turns Alone (ActedWorld fits who.Agent) (find_held p who.Agent r.handler.object Write)
   unfolding find_held

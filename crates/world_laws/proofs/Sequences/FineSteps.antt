@@ -19,11 +19,11 @@ use Rattle.profile_machine.specs.declared.world.tasks.Task.{Task}
 use Rattle.profile_machine.specs.declared.world.tasks.State.TheVariants.{Made, Runnable}
 use Rattle.profile_machine.specs.declared.world.scopes.Beginning.{Beginning}
 use Rattle.profile_machine.specs.Words.{edit_at}
-use Rattle.world_tables.specs.Lists.{first_of}
+use Rattle.world_tables.specs.Lists.{first_of, rest_of}
 use Rattle.profile_machine.specs.Steps.{placed_by}
 use Rattle.profile_machine.specs.Tasks.{task_of, edit_task, with_state, with_frames, waiting_of, is_who, nobody}
 use Rattle.profile_machine.specs.Program.{scope_of}
-use Rattle.profile_machine.specs.Frames.{top_of, edit_first, new_frame, push, pop, without_first, goes_on, is_protected}
+use Rattle.profile_machine.specs.Frames.{top_of, edit_first, new_frame, push, pop, goes_on, is_protected}
 use Rattle.profile_machine.specs.Scopes.{edit_cells, begin_scope, draw_region, open_scope, end_scope, next_id, region_of_next, new_scope_mark, region_drawn}
 use Rattle.profile_machine.specs.Appointments.{appoint, drop_appointment}
 use Rattle.profile_machine.specs.Calls.{edit_object}
@@ -61,7 +61,7 @@ gone-natures onward (f ∷ fs) = refl
 first-is : (x f : Frame) (xs : List Frame) → first_of (x ∷ xs) ≡ Some f → x ≡ f
 first-is x f xs e = cc
 
-popped-marks : (A : Marking) (May : Naming) → Stacks A May → May who.Agent → (fs : List Frame) (f : Frame) → first_of fs ≡ Some f → is_protected f.mark ≡ false → A (natures fs) → A (natures (without_first fs))
+popped-marks : (A : Marking) (May : Naming) → Stacks A May → May who.Agent → (fs : List Frame) (f : Frame) → first_of fs ≡ Some f → is_protected f.mark ≡ false → A (natures fs) → A (natures (rest_of fs))
 popped-marks A May stacks may [] f e free h = absurd (let never : None ≡ Some f = e in cc)
 popped-marks A May stacks may (x ∷ xs) f e free h = stacks.popped may (nature x.mark) (natures xs) (ap (λ g. is_protected g.mark) (first-is x f xs e) ∙ free) h
 
@@ -121,9 +121,9 @@ module _ {p : Image} {P : Point} {A : Marking} {C : Calling} where
 
     fine-popped : (name : Who) (f : Frame) (w : World) → May name → top_of w name ≡ Some f → is_protected f.mark ≡ false → Fine p P A C w → Fine p P A C (pop name w)
     fine-popped name f w may top free_mark g =
-        fine-edited name (λ t. with_frames (without_first t.frames) t) w (λ t. refl) (λ t fit. fit)
+        fine-edited name (λ t. with_frames (rest_of t.frames) t) w (λ t. refl) (λ t fit. fit)
         (λ is a. popped-marks A May stacks (subst May is may) w.agent.frames f (subst (λ n. top_of w n ≡ Some f) is top) free_mark a)
-        (λ h. fine-freely name w (begins_sequence p (onward_in (without_first (task_of w name).frames))) may h) g
+        (λ h. fine-freely name w (begins_sequence p (onward_in (rest_of (task_of w name).frames))) may h) g
 
     pub fine_moves : FineMoves p (Fine p P A C) May IsTask
     fine_moves = record {

@@ -35,7 +35,7 @@ use Rattle.profile_machine.specs.Tasking.{unit_of_declaration}
 use Rattle.profile_machine.specs.Cost.{cost}
 use Rattle.profile_machine.specs.Handlers.{charge}
 use Rattle.profile_machine.specs.Instant.{instant}
-use Rattle.profile_machine.specs.Run.{opens, opening, blank_world, environment, say, says_run, with_serving, serve_if_free, serve, ticks_or, begin_action, one_tick_less, spend_tick, next_tick, says_idle, tock, environment_task}
+use Rattle.profile_machine.specs.Run.{opens, opening, blank_world, environment, say, says_run, with_serving, serve_if_free, serve, begin_action, one_tick_less, spend_tick, next_tick, says_idle, tock, environment_task}
 use Rattle.profile_machine.specs.WellFormed.{begins_sequence, has_opened}
 use Rattle.machine_laws.specs.Reached.{Comes, opened, ticked, Reached, before, behind}
 use Rattle.machine_laws.proofs.Kept.Run.{before_tick, tock-parts}
@@ -138,7 +138,7 @@ module _ (p : Image) (fit : sequences_fit p ≡ true) where
   serve-rests who.Agent w g = serve_if_free-rests w.serving w.agent.frames w.releases w g
 
   begins-rests : (name : Who) (w : World) → RestingWorld fits w → RestingWorld fits (begin_action p name w)
-  begins-rests name w g = fine-edited name (with_ticks (Some (ticks_or (task_of w name).ticks_left (cost p w name)))) w (λ t. refl) (λ t fit. fit) (λ is m. m) (λ h. h) g
+  begins-rests name w g = fine-edited name (with_ticks (Some (unwrap_or (task_of w name).ticks_left (cost p w name)))) w (λ t. refl) (λ t fit. fit) (λ is m. m) (λ h. h) g
 
   spends-rests : (name : Who) (w : World) → RestingWorld fits w → RestingWorld fits (spend_tick name w)
   spends-rests name w g = fine-edited name (λ t. with_ticks (one_tick_less t.ticks_left) t) w (λ t. refl) (λ t fit. fit) (λ is m. m) (λ h. h) g

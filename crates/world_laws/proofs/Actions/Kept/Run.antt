@@ -21,7 +21,7 @@ use Rattle.profile_machine.specs.Tasks.{is_who, nobody, task_of, with_ticks}
 use Rattle.profile_machine.specs.Dispatching.{choose, to_tail}
 use Rattle.profile_machine.specs.Cost.{cost}
 use Rattle.profile_machine.specs.Scopes.{open_scope, plainly}
-use Rattle.profile_machine.specs.Run.{begin_action, blank_world, environment, environment_task, one_tick_less, opening, opens, say, says_idle, serve, serve_if_free, silently, spend_tick, ticks_or, tock}
+use Rattle.profile_machine.specs.Run.{begin_action, blank_world, environment, environment_task, one_tick_less, opening, opens, say, says_idle, serve, serve_if_free, silently, spend_tick, tock}
 use Rattle.profile_machine.specs.Handlers.{charge}
 use Rattle.line_laws.proofs.Exits.TaskEdits.{one_of}
 use Rattle.machine_laws.proofs.Kept.Run.{before_tick, tock-parts}
@@ -116,7 +116,7 @@ serve-leads who.Agent w good = serve_if_free-good w.serving w.agent.frames w.rel
 
 begin_action-alters : (p : Image) (name : Who) → Alters (Good Nobody) (begin_action p name)
 unfolding Alters
-begin_action-alters p name w good = beside.edits_task name (with_ticks (Some (ticks_or (task_of w name).ticks_left (cost p w name)))) w good (λ t. refl) (λ t. refl) (λ t. refl) (λ t. refl) (λ t. refl)
+begin_action-alters p name w good = beside.edits_task name (with_ticks (Some (unwrap_or (task_of w name).ticks_left (cost p w name)))) w good (λ t. refl) (λ t. refl) (λ t. refl) (λ t. refl) (λ t. refl)
 
 spend_tick-alters : (name : Who) → Alters (Good Nobody) (spend_tick name)
 unfolding Alters

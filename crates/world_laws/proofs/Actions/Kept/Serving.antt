@@ -26,7 +26,7 @@ use Rattle.profile_machine.specs.Sending.{send_on}
 use Rattle.profile_machine.specs.Unwinding.{may_unwind}
 use Rattle.world_laws.proofs.Actions.Steady.{Holds, Steady, changes-steady, edit_top-spares, edit_top_protected-spares, deliver-steady, enqueue-steady, send_on-steady, settle_sent-steady, begin_call-steady}
 use Rattle.profile_machine.specs.declared.world.tasks.Cause.TheVariants as inherited_by
-use Rattle.profile_machine.specs.Frames.{frames_of, edit_top, pop, without_first}
+use Rattle.profile_machine.specs.Frames.{frames_of, edit_top, pop}
 use Rattle.profile_machine.specs.Inheritance.{lose_running, falls, lose}
 use Rattle.profile_machine.specs.Priorities.{set_deferred}
 use Rattle.profile_machine.specs.declared.world.tasks.Waiting.TheVariants as waits_for
@@ -38,6 +38,7 @@ use Rattle.profile_machine.specs.Protected.{served_next, edit_top_protected, beg
 use Rattle.profile_machine.specs.Values.{object_of}
 use Rattle.profile_machine.specs.Serving.{serves_nothing, is_served_now, serve_ends, end_release, close_action, wait_or_unwind, wait_for_own, resume_own, behind_action, release_object, settle_sent, begins_part, chosen_is_sent, serve_chosen, serve_next, serve_calls, go_on_by_mode, end_operation, finish_raised, finish_well, finish_call, end_entry_body, end_in_protected_by, end_in_protected, keep_values, keeps_sending, end_body_of_entry, part_of_start, with_body_left, no_longer_serves, not_left, outcome_by, is_own_call, may_open_abortable}
 use Rattle.std.proofs.Common.{◌≡◌, refl, sym, subst}
+use Rattle.world_tables.specs.Lists.{rest_of}
 use Rattle.machine_laws.proofs.Moves.{own}
 use Rattle.world_laws.proofs.Actions.FineMoves.{FineMoves}
 use Rattle.world_laws.proofs.Actions.Sound.{GoodWorld, Naming, Sound, Free, Good, MarksSound, ReleaseSound, OwnSound, marks_of}
@@ -171,7 +172,7 @@ module _ (p : Image) (name : Who) (m : ProtectedMark) where
       says_then-from beside Own (line.Exit name m.object) _ w
       (changes_then-from beside (pop name) _ w (changes_then-from beside (close_action name m.object) _ (pop name w)
       (ended-from m.release m.own_call v (end-good name m w h.1.0 Nobody h.0) (end-once name m w h.1.0 h.0.0) (λ floor. end-free name m w h.1.0 floor h.0.0) known.0
-      (others-edited (λ d cs o. OwnSound d.calls cs name m.own_call) name (λ t. with_frames (without_first t.frames) t) w known.1))))
+      (others-edited (λ d cs o. OwnSound d.calls cs name m.own_call) name (λ t. with_frames (rest_of t.frames) t) w known.1))))
 
   -- ---- steps that leave it there
 

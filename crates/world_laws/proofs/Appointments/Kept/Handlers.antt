@@ -30,8 +30,8 @@ use Rattle.profile_machine.specs.CallEnds.{store}
 use Rattle.profile_machine.specs.Frames.{has_room}
 use Rattle.profile_machine.specs.declared.world.marks.Purpose.TheVariants as opened_for
 use Rattle.profile_machine.specs.declared.world.marks.ResultTo.TheVariants as bound_for
-use Rattle.profile_machine.specs.Handlers.{add_release, says_release, wake_agent, release, with_room_for_release, scope_size_of, begin_handler, begin_handler_if_room, enter_handler, call_handler, interrupt, setting_of, answer, cancel_event_setting, appoint_event, event_set_to, set_event, cancel_event, clear_timer, with_timer_set, timer_set_beyond, timer_set_to, set_timer, cancel_timer, edit_budget, change_member, add_member, remove_member, fill_budget, replenish, add_to_budget, set_budget, cancel_budget, clock_risen, due_by_tick, charge_budget, timers_reached, quantum_spent_by, charge_clock, charge_group, charge_task, charge, handler_attached, argument_values}
-use Rattle.profile_machine.specs.Program.{is_robin_level, marks_of, subprogram_of}
+use Rattle.profile_machine.specs.Handlers.{add_release, says_release, wake_agent, release, with_room_for_release, begin_handler, begin_handler_if_room, enter_handler, call_handler, interrupt, setting_of, answer, cancel_event_setting, appoint_event, event_set_to, set_event, cancel_event, clear_timer, with_timer_set, timer_set_beyond, timer_set_to, set_timer, cancel_timer, edit_budget, change_member, add_member, remove_member, fill_budget, replenish, add_to_budget, set_budget, cancel_budget, clock_risen, due_by_tick, charge_budget, timers_reached, quantum_spent_by, charge_clock, charge_group, charge_task, charge, handler_attached, argument_values}
+use Rattle.profile_machine.specs.Program.{is_robin_level, marks_of, subprogram_of, size_of_body}
 use Rattle.profile_machine.specs.Protected.{entering, body_of_object}
 use Rattle.profile_machine.specs.Serving.{end_release}
 use Rattle.profile_machine.specs.Steps.{Step, says}
@@ -78,7 +78,7 @@ module _ {G : GoodWorld} {May : Naming} {R : StepRelation} {Q : MoveRelation} (m
   begin_handler_if_room-keeps : (p : Image) (r : Release) → May who.Agent → Keeps G R (begin_handler_if_room p r)
   unfolding begin_handler_if_room
   begin_handler_if_room-keeps p r may =
-      looks-keeps moves _ (λ w. branch-keeps moves (has_room w who.Agent (1 + marks_of p (subprogram_of p r.handler.procedure).scope) (scope_size_of p r.handler.procedure)) (begin_handler p r) (end_release r.number) (begin_handler-keeps p r may) (end_release-keeps moves r.number))
+      looks-keeps moves _ (λ w. branch-keeps moves (has_room w who.Agent (1 + marks_of p (subprogram_of p r.handler.procedure).scope) (size_of_body p r.handler.procedure)) (begin_handler p r) (end_release r.number) (begin_handler-keeps p r may) (end_release-keeps moves r.number))
 
   enter_handler-keeps : (p : Image) (r : Release) (is : Entering) → May who.Agent → Keeps G R (enter_handler p r is)
   unfolding enter_handler

@@ -19,14 +19,14 @@ use Rattle.profile_machine.specs.declared.world.scopes.Variable.{Variable}
 use Rattle.profile_machine.specs.declared.world.tasks.State.{State}
 use Rattle.profile_machine.specs.declared.world.tasks.State.TheVariants.{Made, Runnable, Blocked}
 use Rattle.profile_machine.specs.declared.world.tasks.Task as world
-use Rattle.profile_machine.specs.Program.{marks_of, subprogram_of}
+use Rattle.profile_machine.specs.Program.{marks_of, subprogram_of, size_of_body}
 use Rattle.profile_machine.specs.declared.world.lines.Part.{Part}
 use Rattle.profile_machine.specs.Steps.{Step}
 use Rattle.profile_machine.specs.Tasks.{task_of}
 use Rattle.profile_machine.specs.Frames.{has_room}
 use Rattle.profile_machine.specs.Values.{Seen}
 use Rattle.profile_machine.specs.Serving.{end_release}
-use Rattle.profile_machine.specs.Handlers.{add_release, says_release, wake_agent, release, with_room_for_release, scope_size_of, begin_handler, begin_handler_if_room, enter_handler, call_handler, interrupt, setting_of, answer, cancel_event_setting, appoint_event, event_set_to, set_event, cancel_event, clear_timer, with_timer_set, timer_set_beyond, timer_set_to, set_timer, cancel_timer, edit_budget, change_member, add_member, remove_member, fill_budget, replenish, add_to_budget, set_budget, cancel_budget, clock_risen, charge_budget, quantum_spent_by, charge_clock, charge_group, charge_task, charge}
+use Rattle.profile_machine.specs.Handlers.{add_release, says_release, wake_agent, release, with_room_for_release, begin_handler, begin_handler_if_room, enter_handler, call_handler, interrupt, setting_of, answer, cancel_event_setting, appoint_event, event_set_to, set_event, cancel_event, clear_timer, with_timer_set, timer_set_beyond, timer_set_to, set_timer, cancel_timer, edit_budget, change_member, add_member, remove_member, fill_budget, replenish, add_to_budget, set_budget, cancel_budget, clock_risen, charge_budget, quantum_spent_by, charge_clock, charge_group, charge_task, charge}
 use Rattle.world_laws.proofs.Cells.RightCells.{Right, Keeps, Alters, then-keeps, nothing-keeps, changes-keeps, says-keeps, looks-keeps, sees-keeps, branch-keeps, for_some-keeps, unchanged-alters, next-alters}
 use Rattle.world_laws.proofs.Cells.Kept.Tasks.{edit_task-alters}
 use Rattle.world_laws.proofs.Cells.Kept.Dispatching.{ready-keeps}
@@ -69,7 +69,7 @@ begin_handler-keeps p r = search (begin_action_on-keeps, then-keeps, looks-keeps
 pub begin_handler_if_room-keeps : (p : Image) (r : Release) → Keeps p (begin_handler_if_room p r)
 unfolding begin_handler_if_room
 begin_handler_if_room-keeps p r =
-    looks-keeps _ (λ w right. branch-keeps (has_room w who.Agent (1 + marks_of p (subprogram_of p r.handler.procedure).scope) (scope_size_of p r.handler.procedure)) (begin_handler p r) (end_release r.number) (search (begin_handler-keeps)) (search (end_release-keeps)))
+    looks-keeps _ (λ w right. branch-keeps (has_room w who.Agent (1 + marks_of p (subprogram_of p r.handler.procedure).scope) (size_of_body p r.handler.procedure)) (begin_handler p r) (end_release r.number) (search (begin_handler-keeps)) (search (end_release-keeps)))
 
 pub enter_handler-keeps : (p : Image) (r : Release) (is : Entering) → Keeps p (enter_handler p r is)
 unfolding enter_handler

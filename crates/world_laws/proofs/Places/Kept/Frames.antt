@@ -7,7 +7,7 @@ use Rattle.world_laws.proofs.Places.LevelMoves.{Silences}
 use Rattle.world_laws.proofs.Places.SameLemmas.{same_then}
 use Rattle.ceiling_laws.proofs.Runs.Triples.{Alters, At, Keeps, Leads, State, branch-keeps, branch-leads, changes-keeps, changes-leads, from-leads, from_at, looks-keeps, looks-leads, nothing-keeps, then-keeps, then-leads, to-leads, when-keeps}
 use Rattle.world_laws.proofs.Places.Cores.{Same}
-use Rattle.profile_machine.specs.Frames.{edit_first, edit_top, exit_loop, given, goes, goes_on, has_room, leaves, left_so, new_frame, onward_of, open_at, open_handled, open_if_ready, open_sequence, pass_on, pop, push, raise_if, raises, stands_in, top_of, with_room, without_first}
+use Rattle.profile_machine.specs.Frames.{edit_first, edit_top, exit_loop, given, goes, goes_on, has_room, leaves, left_so, new_frame, onward_of, open_at, open_handled, open_if_ready, open_sequence, pass_on, pop, push, raise_if, raises, stands_in, top_of, with_room}
 use Rattle.profile_machine.specs.Operators.{Valued}
 use Rattle.profile_machine.specs.Program.{form_of, next_of}
 use Rattle.profile_machine.specs.Steps.{Step, changes, ◌▷◌}
@@ -27,6 +27,7 @@ use Rattle.profile_machine.specs.declared.world.marks.Mark.TheVariants.{Handled}
 use Rattle.std.proofs.Common.{refl, subst, sym, ◌≡◌}
 use Rattle.std.specs.Prelude.{Bool, Err, List, None, Ok, Option, Result, Some, false, true, ℕ, ◌∷◌}
 use Rattle.trace_text.specs.declared.events.Who.{Who}
+use Rattle.world_tables.specs.Lists.{rest_of}
 
 -- a value is a world that has the levels and objects of this one
 unfoldable pub Gives : World → Valued World → Type 0
@@ -44,7 +45,7 @@ module _ {X : State} (quiet : Silences X) where
   push-alters name f = edit_frames-alters name (λ fs. f ∷ fs)
 
   pub pop-alters : (name : Who) → Alters X (pop name)
-  pop-alters name = edit_frames-alters name without_first
+  pop-alters name = edit_frames-alters name rest_of
 
   pub goes-keeps : (name : Who) (onward : Option StatementNo) → Keeps X (goes name onward)
   unfolding goes

@@ -13,8 +13,8 @@ use Rattle.world_laws.proofs.Places.LevelMoves.{BaseMoves, Naming, Silences}
 use Rattle.ceiling_laws.proofs.Runs.Triples.{Alters, At, Keeps, Leads, State, branch-leads, changes-keeps, for_some-keeps, from-leads, from_at, looks-keeps, looks-leads, looks-with, nothing-keeps, sees-keeps, then-keeps, then-leads}
 use Rattle.profile_machine.specs.CallEnds.{store}
 use Rattle.profile_machine.specs.Frames.{has_room}
-use Rattle.profile_machine.specs.Handlers.{add_member, add_release, add_to_budget, answer, appoint_event, argument_values, begin_handler, begin_handler_if_room, call_handler, cancel_budget, cancel_event, cancel_event_setting, cancel_timer, change_member, clear_timer, clock_of_timer, edit_budget, enter_handler, event_set_to, fill_budget, handler_attached, handler_named, has_room_for_release, interrupt, is_interrupt_handler, loaded, member_of, raised_by, release, remove_member, replenish, says_release, scope_size_of, set_budget, set_event, set_timer, set_value, setting_of, timer_set_beyond, timer_set_to, wake_agent, with_room_for_release, with_timer_set}
-use Rattle.profile_machine.specs.Program.{marks_of, next_of, subprogram_of}
+use Rattle.profile_machine.specs.Handlers.{add_member, add_release, add_to_budget, answer, appoint_event, argument_values, begin_handler, begin_handler_if_room, call_handler, cancel_budget, cancel_event, cancel_event_setting, cancel_timer, change_member, clear_timer, clock_of_timer, edit_budget, enter_handler, event_set_to, fill_budget, handler_attached, handler_named, has_room_for_release, interrupt, is_interrupt_handler, loaded, member_of, raised_by, release, remove_member, replenish, says_release, set_budget, set_event, set_timer, set_value, setting_of, timer_set_beyond, timer_set_to, wake_agent, with_room_for_release, with_timer_set}
+use Rattle.profile_machine.specs.Program.{marks_of, next_of, subprogram_of, size_of_body}
 use Rattle.profile_machine.specs.Protected.{begin_action_on, body_of_object, entering, find_held}
 use Rattle.profile_machine.specs.Serving.{end_release}
 use Rattle.profile_machine.specs.Steps.{Step, nothing}
@@ -186,7 +186,7 @@ module _ {p : Image} {actor : Who} {Fits : Fitting} {Sleeps : Sleeping} {May : A
   begin_handler_if_room-leads : (r : Release) → who.Agent ≡ actor → Leads (Admitted acting r.handler.object) Y (begin_handler_if_room p r)
   unfolding begin_handler_if_room
   begin_handler_if_room-leads r is =
-      looks-leads _ (λ w. branch-leads (has_room w who.Agent (1 + marks_of p (subprogram_of p r.handler.procedure).scope) (scope_size_of p r.handler.procedure)) (begin_handler p r) (end_release r.number)
+      looks-leads _ (λ w. branch-leads (has_room w who.Agent (1 + marks_of p (subprogram_of p r.handler.procedure).scope) (size_of_body p r.handler.procedure)) (begin_handler p r) (end_release r.number)
       (has_entered acting (begin_handler p r) (begin_handler-leads r is)) (from-leads (end_release r.number) (admitted_starts acting r.handler.object) (release_ends r.number is)))
 
   held_as : (o : ObjectNo) (name : Who) → name ≡ actor → Keeps I (find_held p name o Write)

@@ -6,6 +6,7 @@ use Rattle.ann_base.specs.Results.{◌>>=◌}
 use Rattle.ann_base.specs.declared.identities.CallNo.{CallNo}
 use Rattle.ann_base.specs.declared.identities.TaskNo.{TaskNo}
 use Rattle.trace_text.specs.declared.events.Who.{Who}
+use Rattle.world_tables.specs.Lists.{rest_of}
 use Rattle.trace_text.specs.declared.events.Who.TheVariants as who
 use Rattle.profile_machine.specs.declared.image.Image.{Image}
 use Rattle.profile_machine.specs.declared.numbers.StatementNo.{StatementNo}
@@ -27,7 +28,7 @@ use Rattle.profile_machine.specs.Words.{same_call, is_the}
 use Rattle.profile_machine.specs.Steps.{Step, changes, looks, when, ◌▷◌}
 use Rattle.profile_machine.specs.Tasks.{task_at, edit_task_found, edit_task, with_frames, waiting_of}
 use Rattle.profile_machine.specs.Dispatching.{ready, to_tail, says_ready}
-use Rattle.profile_machine.specs.Frames.{frames_of, pop, without_first, pass_on, leaving_of, open_sequence, with_mark}
+use Rattle.profile_machine.specs.Frames.{frames_of, pop, pass_on, leaving_of, open_sequence, with_mark}
 use Rattle.profile_machine.specs.Appointments.{is_appointed, is_trigger_of}
 use Rattle.profile_machine.specs.Calls.{call_of, is_call, edit_call, forget_call, unqueued}
 use Rattle.profile_machine.specs.Unwinding.{struck_frame, unwind}
@@ -131,7 +132,7 @@ module _ {late : CallNo → Bool} (p : Image) (name : Who) (f : Frame) (below : 
   popped-calm {E = E} x free go call out =
       let u = forget_call x w in
       let first : Calm E w u = forget_call-calm x w go out in
-      subst (Calm E w) (forgotten-edited name (λ t. with_frames (without_first t.frames) t) x w)
+      subst (Calm E w) (forgotten-edited name (λ t. with_frames (rest_of t.frames) t) x w)
       (calm-then w u (pop name u) first
       (pop-calm name u free (subst (Unset name u) (sym (frames-forgotten name x w)) (unset-forgotten name x w (frames_of w name) unset))
       (λ c d is e i. let was = first.calls c d e in

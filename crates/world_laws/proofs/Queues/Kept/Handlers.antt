@@ -23,7 +23,7 @@ use Rattle.profile_machine.specs.declared.world.tasks.State.{State}
 use Rattle.profile_machine.specs.declared.world.appointments.Due.TheVariants as due_for
 use Rattle.profile_machine.specs.declared.world.tasks.State.TheVariants.{Made, Runnable, Blocked}
 use Rattle.profile_machine.specs.declared.world.tasks.Task as world
-use Rattle.profile_machine.specs.Program.{is_robin_level, marks_of, subprogram_of}
+use Rattle.profile_machine.specs.Program.{is_robin_level, marks_of, subprogram_of, size_of_body}
 use Rattle.profile_machine.specs.declared.world.lines.Part.{Part}
 use Rattle.profile_machine.specs.declared.world.lines.Part.TheVariants.{Own}
 use Rattle.profile_machine.specs.Steps.{Step}
@@ -34,7 +34,7 @@ use Rattle.profile_machine.specs.CallEnds.{store}
 use Rattle.trace_text.specs.declared.events.Mode.TheVariants.{Write}
 use Rattle.profile_machine.specs.Protected.{entering}
 use Rattle.profile_machine.specs.Serving.{end_release}
-use Rattle.profile_machine.specs.Handlers.{add_release, says_release, wake_agent, release, with_room_for_release, scope_size_of, begin_handler, begin_handler_if_room, enter_handler, call_handler, interrupt, setting_of, answer, cancel_event_setting, appoint_event, event_set_to, set_event, cancel_event, clear_timer, with_timer_set, timer_set_beyond, timer_set_to, set_timer, cancel_timer, edit_budget, change_member, add_member, remove_member, fill_budget, replenish, add_to_budget, set_budget, cancel_budget, clock_risen, charge_budget, quantum_spent_by, charge_clock, charge_group, charge_task, charge, handler_attached}
+use Rattle.profile_machine.specs.Handlers.{add_release, says_release, wake_agent, release, with_room_for_release, begin_handler, begin_handler_if_room, enter_handler, call_handler, interrupt, setting_of, answer, cancel_event_setting, appoint_event, event_set_to, set_event, cancel_event, clear_timer, with_timer_set, timer_set_beyond, timer_set_to, set_timer, cancel_timer, edit_budget, change_member, add_member, remove_member, fill_budget, replenish, add_to_budget, set_budget, cancel_budget, clock_risen, charge_budget, quantum_spent_by, charge_clock, charge_group, charge_task, charge, handler_attached}
 use Rattle.std.proofs.Common.{◌≡◌, refl}
 use Rattle.std.specs.Prelude.{Bool}
 use Rattle.profile_machine.specs.Notation.{p, t}
@@ -93,7 +93,7 @@ begin_handler-keeps p r = search (begin_action_on-keeps, then-keeps, looks-keeps
 
 begin_handler_if_room-keeps : {E : Kind} (p : Image) (r : Release) → Keeps E who.Agent (begin_handler_if_room p r)
 unfolding begin_handler_if_room
-begin_handler_if_room-keeps p r = looks-keeps _ (λ w. branch-keeps (has_room w who.Agent (1 + marks_of p (subprogram_of p r.handler.procedure).scope) (scope_size_of p r.handler.procedure)) (begin_handler p r) (end_release r.number) (begin_handler-keeps p r) (any-keeps _ (end_release-calms r.number)))
+begin_handler_if_room-keeps p r = looks-keeps _ (λ w. branch-keeps (has_room w who.Agent (1 + marks_of p (subprogram_of p r.handler.procedure).scope) (size_of_body p r.handler.procedure)) (begin_handler p r) (end_release r.number) (begin_handler-keeps p r) (any-keeps _ (end_release-calms r.number)))
 
 enter_handler-keeps : {E : Kind} (p : Image) (r : Release) (is : Entering) → Keeps E who.Agent (enter_handler p r is)
 unfolding enter_handler

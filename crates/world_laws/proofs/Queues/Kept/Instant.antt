@@ -21,7 +21,7 @@ use Rattle.profile_machine.specs.declared.world.lines.Part.TheVariants.{Own}
 use Rattle.profile_machine.specs.declared.world.tasks.Task.{Task}
 use Rattle.profile_machine.specs.declared.world.tasks.Waiting.{Waiting}
 use Rattle.profile_machine.specs.declared.world.tasks.Waiting.TheVariants as waits_for
-use Rattle.profile_machine.specs.Words.{same_bool}
+use Rattle.profile_machine.specs.Words.{same_bool, is_flag}
 use Rattle.profile_machine.specs.Program.{next_of}
 use Rattle.profile_machine.specs.Steps.{Step, Move, Done, done, looks, nothing, settled, settles, rests, ◌▷◌, ◌▶◌}
 use Rattle.profile_machine.specs.Tasks.{edit_task_found, with_frames, is_who, nobody, task_at, task_of, waiting_of}
@@ -33,7 +33,7 @@ use Rattle.profile_machine.specs.Calls.{unqueued}
 use Rattle.profile_machine.specs.CallEnds.{deliver, edit_abortable, edit_depth, edit_abortable_at, trigger_at, triggered_mark}
 use Rattle.profile_machine.specs.Unwinding.{unwind}
 use Rattle.profile_machine.specs.Handlers.{clear_timer}
-use Rattle.profile_machine.specs.Instant.{effect, is_over, effect_of_runner, finish_action, is_flag, with_port, with_masked, with_kept_interrupt, interrupt_comes, deliver_kept_interrupt, script_item, with_script, take_item, items_due, script_items, take_delay, end_delay, time_out, is_the_same_due, come_due, take_due, all_due, appointments_due, events_due, moments_due, expire, expire_timer, no_timers_due, timers_due, run_out, no_budget_due, budgets_due, has_spent_quantum, spend_quantum, quantum_spent, instant}
+use Rattle.profile_machine.specs.Instant.{effect, is_over, effect_of_runner, finish_action, with_port, with_masked, with_kept_interrupt, interrupt_comes, deliver_kept_interrupt, script_item, with_script, take_item, items_due, script_items, take_delay, end_delay, time_out, is_the_same_due, come_due, take_due, all_due, appointments_due, events_due, moments_due, expire, expire_timer, no_timers_due, timers_due, run_out, no_budget_due, budgets_due, has_spent_quantum, spend_quantum, quantum_spent, instant}
 use Rattle.world_laws.proofs.Queues.CallChanges.{drop_appointment-calm, dropped-none, unqueued-calm, unqueued-out}
 use Rattle.world_laws.proofs.Queues.Calming.{named-found, same-calm}
 use Rattle.world_laws.proofs.Queues.Kept.Act.{Holds, any-holds, effect-holds, looks_at-holds, onward-holds, then-holds}

@@ -33,12 +33,12 @@ use Rattle.profile_machine.specs.Steps.{Step, changes, when, for_some, ◌▷◌
 use Rattle.profile_machine.specs.Tasks.{task_of, edit_task, found_task}
 use Rattle.profile_machine.specs.Dispatching.{active_of, to_tail}
 use Rattle.profile_machine.specs.Frames.{in_protected, frames_of}
-use Rattle.profile_machine.specs.Values.{value, moment, optional_task, whole_in, live_task}
+use Rattle.profile_machine.specs.Values.{value, moment, optional_task, whole_in, live_task, must_be_task}
 use Rattle.profile_machine.specs.Appointments.{is_timeout_of}
 use Rattle.profile_machine.specs.Calls.{is_call, call_of, edit_call, edit_queue, place_of_entry, put_call, take_call, enqueued, enqueue, unqueued}
 use Rattle.profile_machine.specs.Masters.{part_of}
 use Rattle.profile_machine.specs.Protected.{begun_call, begin_call}
-use Rattle.profile_machine.specs.Priorities.{is_queued, with_priority, placed_anew, reprioritize, call_waited_for, reprioritize_own, replace_in, says_base, set_base, says_deadline, is_runnable_at_edf, set_deadline, take_base, take_deadline, set_deferred, placing_of, defer_base, set_or_defer_base, set_base_of, priority_in_range, must_be_task, set_priority, quantum_of, set_quantum, defer_deadline, set_or_defer_deadline, set_deadline_of, delay_with_deadline, delay_and_set_deadline}
+use Rattle.profile_machine.specs.Priorities.{is_queued, with_priority, placed_anew, reprioritize, call_waited_for, reprioritize_own, replace_in, says_base, set_base, says_deadline, is_runnable_at_edf, set_deadline, take_base, take_deadline, set_deferred, placing_of, defer_base, set_or_defer_base, set_base_of, priority_in_range, set_priority, quantum_of, set_quantum, defer_deadline, set_or_defer_deadline, set_deadline_of, delay_with_deadline, delay_and_set_deadline}
 use Rattle.profile_machine.specs.WellFormed.{same_owner}
 use Rattle.world_laws.proofs.Queues.CallChanges.{Directed, Edits, edit_call-calm, edited_call-same, unqueued-calm, unqueued-out, unqueued-timed}
 use Rattle.world_laws.proofs.Queues.Calming.{edit_task-calls, same-calm}

@@ -51,7 +51,7 @@ use Rattle.ann_base.specs.declared.exceptions.Raised.{Raised}
 use Rattle.profile_machine.specs.CallEnds.{deliver}
 use Rattle.profile_machine.specs.Calls.{call_of, is_call, unqueued}
 use Rattle.profile_machine.specs.Dispatching.{ready}
-use Rattle.profile_machine.specs.Frames.{edit_first, frames_of, given, goes, open_sequence, raise_if, without_first}
+use Rattle.profile_machine.specs.Frames.{edit_first, frames_of, given, goes, open_sequence, raise_if}
 use Rattle.profile_machine.specs.Inheritance.{inherit}
 use Rattle.profile_machine.specs.Masters.{terminate}
 use Rattle.profile_machine.specs.Notation.{entry, p, scope, t}
@@ -62,7 +62,7 @@ use Rattle.profile_machine.specs.Sending.{begin_abortable, sent_call}
 use Rattle.profile_machine.specs.Steps.{Done, for_some, goes_on_with}
 use Rattle.profile_machine.specs.Tasks.{task_at, task_of, waiting_of, with_frames}
 use Rattle.profile_machine.specs.Words.{edit_where, has, is_the, same_call, same_who}
-use Rattle.world_tables.specs.Lists.{first_of}
+use Rattle.world_tables.specs.Lists.{first_of, rest_of}
 use Rattle.profile_machine.specs.declared.statements.StatementForm.{StatementForm}
 use Rattle.profile_machine.specs.declared.world.calls.Outcome.{Outcome}
 use Rattle.profile_machine.specs.declared.world.tasks.Task.{Task}
@@ -377,10 +377,10 @@ module _ (p : Image) (name : Who) (m : AcceptMark) (leaving : Leaving) (w : Worl
 
   popped-named : (n : Who) → n ≡ name → served m.call (pop name w) n ≡ 0
   popped-named (who.Task t) is =
-      edits_of.edited_to (λ u. u ≡ task_of w (who.Task t)) (λ u. served_in m.call (natures u.frames) ≡ 0) (who.Task t) name (λ u. with_frames (without_first u.frames) u) w (λ u. refl)
-      (λ same u e. subst (λ fs. served_in m.call (natures (without_first fs)) ≡ 0) (sym (ap (λ (x : Task). x.frames) e ∙ (ap (frames_of w) is ∙ top))) below-none)
+      edits_of.edited_to (λ u. u ≡ task_of w (who.Task t)) (λ u. served_in m.call (natures u.frames) ≡ 0) (who.Task t) name (λ u. with_frames (rest_of u.frames) u) w (λ u. refl)
+      (λ same u e. subst (λ fs. served_in m.call (natures (rest_of fs)) ≡ 0) (sym (ap (λ (x : Task). x.frames) e ∙ (ap (frames_of w) is ∙ top))) below-none)
       (λ apart u e. absurd (true≢false (sym (subst (λ x. same_who (who.Task t) x ≡ true) is (eq-eqb t.0 t.0 refl)) ∙ apart))) (λ e. refl) refl
-  popped-named who.Agent is = subst (λ x. served m.call (pop x w) who.Agent ≡ 0) is (subst (λ fs. served_in m.call (natures (without_first fs)) ≡ 0) (sym (ap (frames_of w) is ∙ top)) below-none)
+  popped-named who.Agent is = subst (λ x. served m.call (pop x w) who.Agent ≡ 0) is (subst (λ fs. served_in m.call (natures (rest_of fs)) ≡ 0) (sym (ap (frames_of w) is ∙ top)) below-none)
 
   popped-idle : (calm : Calm any_kind w (pop name w)) → Idle m.call (pop name w)
   popped-idle calm a = none-of (served m.call (pop name w) a) refl where

@@ -28,7 +28,7 @@ use Rattle.profile_machine.specs.Values.{queue_at}
 use Rattle.profile_machine.specs.Cost.{cost}
 use Rattle.profile_machine.specs.Handlers.{charge}
 use Rattle.profile_machine.specs.Instant.{instant}
-use Rattle.profile_machine.specs.Run.{environment_task, agent_at_first, blank_world, environment, opens, opening, say, silently, says_run, with_serving, serve_if_free, serve, ticks_or, begin_action, one_tick_less, spend_tick, next_tick, says_idle, idle_tick, tock_of, tock}
+use Rattle.profile_machine.specs.Run.{environment_task, agent_at_first, blank_world, environment, opens, opening, say, silently, says_run, with_serving, serve_if_free, serve, begin_action, one_tick_less, spend_tick, next_tick, says_idle, idle_tick, tock_of, tock}
 use Rattle.machine_laws.specs.Reached.{Comes, opened, ticked, Reached, before, behind}
 use Rattle.world_laws.proofs.Queues.Calming.{same-calm}
 use Rattle.world_laws.proofs.Queues.Kept.Combinators.{Keeps, any-keeps, changes-keeps, says-calms, then-keeps, world_behind}
@@ -155,7 +155,7 @@ tock_of-lasting p None = idle_tick-lasting p
 tock_of-lasting p (Some name) =
     then-lasting p (watches (λ w. says_run name w.ran)) (serve name ▶ silently (begin_action p name) ▶ silently (charge p name) ▶ silently (spend_tick name) ▶ silently (next_tick (Some name))) (λ w good. says_run-lasting p name w.ran w good)
     (then-lasting p (serve name) (silently (begin_action p name) ▶ silently (charge p name) ▶ silently (spend_tick name) ▶ silently (next_tick (Some name))) (serve-lasting p name)
-    (then-lasting p (silently (begin_action p name)) (silently (charge p name) ▶ silently (spend_tick name) ▶ silently (next_tick (Some name))) (λ w good. ticks-good p name (λ t. Some (ticks_or (task_of w name).ticks_left (cost p w name))) w good)
+    (then-lasting p (silently (begin_action p name)) (silently (charge p name) ▶ silently (spend_tick name) ▶ silently (next_tick (Some name))) (λ w good. ticks-good p name (λ t. Some (unwrap_or (task_of w name).ticks_left (cost p w name))) w good)
     (then-lasting p (silently (charge p name)) (silently (spend_tick name) ▶ silently (next_tick (Some name))) (λ w good. same-good p w (charge p name w) (charge-calm p name w) good)
     (then-lasting p (silently (spend_tick name)) (silently (next_tick (Some name))) (λ w good. ticks-good p name (λ t. one_tick_less t.ticks_left) w good)
     (λ w good. next_tick-good p (Some name) w good)))))

@@ -23,7 +23,7 @@ use Rattle.profile_machine.specs.declared.world.tasks.State.{State}
 use Rattle.profile_machine.specs.declared.world.appointments.Due.TheVariants as due_for
 use Rattle.profile_machine.specs.declared.world.tasks.State.TheVariants.{Made, Runnable, Blocked}
 use Rattle.profile_machine.specs.declared.world.tasks.Task as world
-use Rattle.profile_machine.specs.Program.{is_robin_level, marks_of, subprogram_of}
+use Rattle.profile_machine.specs.Program.{is_robin_level, marks_of, subprogram_of, size_of_body}
 use Rattle.profile_machine.specs.declared.world.lines.Part.{Part}
 use Rattle.profile_machine.specs.declared.world.lines.Part.TheVariants.{Own}
 use Rattle.profile_machine.specs.Steps.{Step, changes, says}
@@ -34,7 +34,7 @@ use Rattle.profile_machine.specs.CallEnds.{store}
 use Rattle.trace_text.specs.declared.events.Mode.TheVariants.{Write}
 use Rattle.profile_machine.specs.Protected.{begin_action_on, new_protected_mark}
 use Rattle.profile_machine.specs.Serving.{end_release}
-use Rattle.profile_machine.specs.Handlers.{add_release, says_release, wake_agent, release, with_room_for_release, scope_size_of, begin_handler, begin_handler_if_room, enter_handler, call_handler, interrupt, setting_of, answer, cancel_event_setting, appoint_event, event_set_to, set_event, cancel_event, clear_timer, with_timer_set, timer_set_beyond, timer_set_to, set_timer, cancel_timer, edit_budget, change_member, add_member, remove_member, fill_budget, replenish, add_to_budget, set_budget, cancel_budget, clock_risen, due_by_tick, charge_budget, timers_reached, quantum_spent_by, charge_clock, charge_group, charge_task, charge, handler_attached}
+use Rattle.profile_machine.specs.Handlers.{add_release, says_release, wake_agent, release, with_room_for_release, begin_handler, begin_handler_if_room, enter_handler, call_handler, interrupt, setting_of, answer, cancel_event_setting, appoint_event, event_set_to, set_event, cancel_event, clear_timer, with_timer_set, timer_set_beyond, timer_set_to, set_timer, cancel_timer, edit_budget, change_member, add_member, remove_member, fill_budget, replenish, add_to_budget, set_budget, cancel_budget, clock_risen, due_by_tick, charge_budget, timers_reached, quantum_spent_by, charge_clock, charge_group, charge_task, charge, handler_attached}
 use Rattle.std.proofs.Common.{refl}
 use Rattle.std.specs.Prelude.{Bool}
 use Rattle.machine_laws.proofs.Moves.{StepRelation, MoveRelation}
@@ -88,7 +88,7 @@ module _ {G : GoodWorld} {Acts : Naming} {R : StepRelation} {Q : MoveRelation} (
   begin_handler_if_room-keeps : (p : Image) (r : Release) → Acts who.Agent → Keeps G R (begin_handler_if_room p r)
   unfolding begin_handler_if_room
   begin_handler_if_room-keeps p r acts =
-      looks-keeps moves _ (λ w. branch-keeps moves (has_room w who.Agent (1 + marks_of p (subprogram_of p r.handler.procedure).scope) (scope_size_of p r.handler.procedure)) (begin_handler p r) (end_release r.number)
+      looks-keeps moves _ (λ w. branch-keeps moves (has_room w who.Agent (1 + marks_of p (subprogram_of p r.handler.procedure).scope) (size_of_body p r.handler.procedure)) (begin_handler p r) (end_release r.number)
       (begin_handler-keeps p r acts) (end_release-keeps moves r.number))
 
   enter_handler-keeps : (p : Image) (r : Release) (is : Entering) → Acts who.Agent → Keeps G R (enter_handler p r is)

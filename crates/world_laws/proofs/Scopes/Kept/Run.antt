@@ -1,6 +1,7 @@
 -- The opening of a run, and tocks: all of a tock but the tick itself is made of the same changes, of the lines of a
 -- tock, and of the release that the agent takes up.
 use Rattle.std.proofs.Common.{Bool, true, false, cond, List, [], ◌∷◌, Option, Some, None, refl}
+use Rattle.std.specs.Prelude.{unwrap_or}
 use Rattle.trace_text.specs.declared.events.Event.{Event}
 use Rattle.trace_text.specs.declared.events.Event.TheVariants as line
 use Rattle.trace_text.specs.declared.events.Who.{Who}
@@ -14,7 +15,7 @@ use Rattle.profile_machine.specs.Steps.{rests}
 use Rattle.profile_machine.specs.Tasks.{task_of, with_ticks}
 use Rattle.profile_machine.specs.Cost.{cost}
 use Rattle.profile_machine.specs.Handlers.{charge}
-use Rattle.profile_machine.specs.Run.{say, silently, says_run, with_serving, serve_if_free, serve, ticks_or, begin_action, one_tick_less, spend_tick, says_idle}
+use Rattle.profile_machine.specs.Run.{say, silently, says_run, with_serving, serve_if_free, serve, begin_action, one_tick_less, spend_tick, says_idle}
 use Rattle.machine_laws.proofs.Moves.{StepRelation, MoveRelation}
 use Rattle.world_laws.proofs.Scopes.Kept.Combinators.{then-leads, rests-leads, watches-leads}
 use Rattle.world_laws.proofs.Scopes.Kept.Handlers.{charge-alters}
@@ -28,7 +29,7 @@ use Rattle.machine_laws.proofs.Kept.Run.{before_tick}
 module _ {G : GoodWorld} {R : StepRelation} {Q : MoveRelation} (moves : FineMoves G Anybody Anybody R Q) where
   begin_action-alters : (p : Image) (name : Who) → Alters G R (begin_action p name)
   unfolding Alters
-  begin_action-alters p name w good = moves.edits_task name (with_ticks (Some (ticks_or (task_of w name).ticks_left (cost p w name)))) w good (λ t. refl) (λ t. refl) (λ t. refl) (λ t. refl)
+  begin_action-alters p name w good = moves.edits_task name (with_ticks (Some (unwrap_or (task_of w name).ticks_left (cost p w name)))) w good (λ t. refl) (λ t. refl) (λ t. refl) (λ t. refl)
 
   spend_tick-alters : (name : Who) → Alters G R (spend_tick name)
   unfolding Alters

@@ -268,7 +268,7 @@ def constant_value(e):
     if e.startswith("["): return tuple(constant_value(x.strip()) for x in e[1:-1].split(",") if x.strip())
     end = re.fullmatch(r"([ui])(\d+)::(MIN|MAX)", e)
     if end: return end_of_type(end[1], int(end[2]), end[3])
-    if re.fullmatch(r"[\d_]+(?:[ui](?:8|16|32|64|128|size))?", e): return int(re.match(r"[\d_]+", e)[0])
+    if re.fullmatch(r"-?[\d_]+(?:[ui](?:8|16|32|64|128|size))?", e): return int(re.match(r"-?[\d_]+", e)[0])
     if re.fullmatch(r"\w+::\w+", e): return Con(e.split("::")[1])
     raise SyntaxError(f"constant {e[:80]}")
 

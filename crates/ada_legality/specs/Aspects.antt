@@ -22,6 +22,7 @@ use Rattle.ada_tree.specs.declared.names.Identifier.{Identifier}
 use Rattle.ann_base.specs.declared.places.Place.{Place}
 use Rattle.std.specs.List.{list_any}
 use Rattle.std.specs.Prelude.{Bool, List, None, Option, Some, [], codes, cond, eqb, false, find, not, option_map, pos, suc, take, true, unwrap_or, ℕ, ℤ, ◌&&◌, ◌++◌, ◌||◌, ◌∷◌}
+use Rattle.profile_machine.specs.declared.limits.TheConstants.{LAST_OUTSIDE_LINE}
 use Rattle.ada_legality.specs.declared.parts.AspectName.TheVariants as aspect_is
 use Rattle.ada_legality.specs.declared.findings.Finding.TheVariants as finding
 use Rattle.ada_legality.specs.declared.parts.AspectOwner.TheVariants as owning
@@ -160,12 +161,12 @@ wrong_deadline of_task is_second a =
     broken_if rule.RelativeDeadlineAspect
     (is_deadline_name a.name && not (of_task && (is_deadline a && not is_second))) a.place
 
--- an interrupt (C.3.1) that is not static or not there: 0 to 15
+-- an interrupt (C.3.1) that is not static or not there
 unfoldable pub wrong_interrupt : AspectPart → Found
 wrong_interrupt a =
     broken_if rule.AttachedInterrupt
     (is_attach_name a.name
-    && (not (has_point a) && not (lies_between (pos 0) (pos 15) a.number))) a.place
+    && (not (has_point a) && not (lies_between (pos 0) (pos LAST_OUTSIDE_LINE) a.number))) a.place
 
 -- ---- on what an aspect stands
 

@@ -19,7 +19,7 @@ use Rattle.ada_tree.specs.declared.statements.Choice.{Choice}
 use Rattle.ann_base.specs.declared.places.Place.{Place}
 use Rattle.profile_machine.specs.declared.values.Constraint.{Constraint}
 use Rattle.std.specs.List.{list_all, list_any}
-use Rattle.profile_machine.specs.Operators.{integer_first, integer_last}
+use Rattle.profile_machine.specs.declared.limits.TheConstants.{INTEGER_FIRST, INTEGER_LAST}
 use Rattle.std.specs.Prelude.{Bool, List, None, Option, Some, [], cond, false, int_le, int_lt, is_some, length, not, option_map, pos, slice_get, true, unwrap_or, ℤ, ◌&&◌, ◌++◌, ◌+ℤ◌, ◌-◌, ◌||◌, ◌∷◌}
 use Rattle.ada_legality.specs.declared.reading.Asked.TheVariants as asking
 use Rattle.ada_tree.specs.declared.statements.Choice.TheVariants as choice
@@ -152,7 +152,7 @@ ends_of (constraint.Ticks low high) = Some (span low high)
 
 -- the values of a type
 unfoldable pub whole_range_of : Names → AdaType → Span
-whole_range_of n types.Integer = span integer_first integer_last
+whole_range_of n types.Integer = span INTEGER_FIRST INTEGER_LAST
 whole_range_of n types.Boolean = span (pos 0) (pos 1)
 whole_range_of n (types.Enumeration e) =
     span (pos 0) (pos (length (unwrap_or (slice_get n.enumerations e.0) []) - 1))

@@ -9,7 +9,7 @@ use Rattle.ada_lex.specs.Meaning.{decimals_of, whole_of}
 use Rattle.ada_regions.specs.Numbered.{last_priority_of}
 use Rattle.ada_regions.specs.PredefinedUnits.{item_in}
 use Rattle.ada_regions.specs.Statics.{subtype_of_item}
-use Rattle.profile_machine.specs.Operators.{integer_last}
+use Rattle.profile_machine.specs.declared.limits.TheConstants.{INTEGER_LAST}
 use Rattle.ada_regions.specs.Words.{all_of, and_then, entry_named}
 use Rattle.ann_base.specs.Lists.{is_empty}
 use Rattle.ada_regions.specs.declared.types.Subtype.{Subtype}
@@ -139,7 +139,7 @@ restrictions_with_number =
 abbrev pub is_numbered_restriction : Argument Expression → Identifier → Bool
 is_numbered_restriction a i =
     list_any (bytes_eq i.text) restrictions_with_number
-    && lies_between (pos 0) integer_last (number_in a)
+    && lies_between (pos 0) INTEGER_LAST (number_in a)
 
 -- a restriction of the profile
 unfoldable pub is_restriction : Argument Expression → Bool

@@ -21,7 +21,8 @@ use Rattle.ada_legality.specs.declared.standing.Known.{Known}
 use Rattle.ada_lex.specs.Meaning.{decimals_of, whole_of}
 use Rattle.ada_regions.specs.Completions.{holds_of}
 use Rattle.ada_regions.specs.Names.{denoted_by, kind_at}
-use Rattle.ada_regions.specs.Statics.{last_duration, last_integer, micros_of}
+use Rattle.ada_regions.specs.declared.predefined.TheConstants.{LAST_DURATION, LAST_INTEGER}
+use Rattle.ada_regions.specs.Statics.{micros_of}
 use Rattle.ada_regions.specs.Subtypes.{mark_denoted}
 use Rattle.ada_regions.specs.Words.{and_then}
 use Rattle.ann_base.specs.Lists.{is_empty}
@@ -88,15 +89,15 @@ literal_in r = unwrap_or r.literal no_literal
 -- at most six decimals, and a value of Duration
 abbrev pub lies_in_duration : List ℕ → Bool
 lies_in_duration text =
-    leb (length (decimals_of text)) 6 && leb (micros_of text) last_duration
+    leb (length (decimals_of text)) 6 && leb (micros_of text) LAST_DURATION
 
 -- a number as it stands in the tree
 unfoldable pub literal_at : Place → List ℕ → Literal
 literal_at at text = record {
   place = at;
   number_place = at;
-  is_integer = leb (whole_of text) last_integer;
-  is_negative_integer = leb (whole_of text) (last_integer + 1);
+  is_integer = leb (whole_of text) LAST_INTEGER;
+  is_negative_integer = leb (whole_of text) (LAST_INTEGER + 1);
   is_duration = lies_in_duration text;
 }
 

@@ -6,7 +6,7 @@ ghost use Rattle.ada_regions.specs.PredefinedUnits.{item_in, free, integers, who
 use crate::priorities::default_priority;
 use ada_regions::{AdaType, Operation, Predefined, PredefinedUnit, Subtype};
 use ann_base::{Moment, Raised};
-use profile_machine::{Constraint, TIME_FIRST, TIME_LAST, Value};
+use profile_machine::{Constraint, INTEGER_FIRST, INTEGER_LAST, TIME_FIRST, TIME_LAST, Value};
 
 /// A type whose values have no range.
 fn free(of_type: AdaType) -> Predefined
@@ -35,8 +35,8 @@ fn whole_integer() -> Subtype
     Subtype {
         of_type: AdaType::Integer,
         range: Constraint::Whole {
-            low: i32::MIN,
-            high: i32::MAX,
+            low: INTEGER_FIRST,
+            high: INTEGER_LAST,
         },
     }
 }
@@ -92,9 +92,9 @@ fn item_in_standard(name: &[u8]) -> Option<Predefined>
     if name == b"integer".as_slice() {
         Some(Predefined::Mark(whole_integer()))
     } else if name == b"natural".as_slice() {
-        Some(integers(0, i32::MAX))
+        Some(integers(0, INTEGER_LAST))
     } else if name == b"positive".as_slice() {
-        Some(integers(1, i32::MAX))
+        Some(integers(1, INTEGER_LAST))
     } else if name == b"boolean".as_slice() {
         Some(Predefined::Mark(whole_boolean()))
     } else if name == b"false".as_slice() {

@@ -2,8 +2,7 @@
 -- numbers that the standard leaves open are this profile's: 31 levels of Priority, or 98 where the range is wide, and
 -- times of 2^62 microseconds on both sides of the start.
 use Rattle.std.specs.Prelude.{ℕ, suc, ℤ, pos, Bool, true, false, cond, List, [], ◌∷◌, Option, Some, None, codes, eqb}
-use Rattle.profile_machine.specs.Operators.{time_first, integer_first, integer_last}
-use Rattle.profile_machine.specs.Tasks.{time_last}
+use Rattle.profile_machine.specs.declared.limits.TheConstants.{INTEGER_FIRST, INTEGER_LAST, TIME_FIRST, TIME_LAST}
 use Rattle.ann_base.specs.declared.exceptions.Raised.TheVariants as raised
 use Rattle.profile_machine.specs.declared.values.Value.TheVariants as value
 use Rattle.profile_machine.specs.declared.values.Constraint.{Constraint}
@@ -107,13 +106,13 @@ abbrev pub integers : ℤ → ℤ → Predefined
 integers low high = items.Mark (subtype_with types.Integer (constraint.Whole low high))
 
 abbrev pub whole_integer : Subtype
-whole_integer = subtype_with types.Integer (constraint.Whole integer_first integer_last)
+whole_integer = subtype_with types.Integer (constraint.Whole INTEGER_FIRST INTEGER_LAST)
 
 abbrev pub whole_boolean : Subtype
 whole_boolean = subtype_with types.Boolean (constraint.Truth false true)
 
 abbrev pub whole_duration : Subtype
-whole_duration = subtype_with types.Duration (constraint.Ticks time_first time_last)
+whole_duration = subtype_with types.Duration (constraint.Ticks TIME_FIRST TIME_LAST)
 
 -- ---- what each unit declares, where the last Priority is given
 
@@ -122,7 +121,7 @@ default_priority last = cond (eqb last LAST_WIDE_PRIORITY) DEFAULT_WIDE_PRIORITY
 
 unfoldable pub declared_in_standard : List (List ℕ × Predefined)
 declared_in_standard =
-    (codes "integer", items.Mark whole_integer) ∷ (codes "natural", integers (pos 0) integer_last) ∷ (codes "positive", integers (pos 1) integer_last)
+    (codes "integer", items.Mark whole_integer) ∷ (codes "natural", integers (pos 0) INTEGER_LAST) ∷ (codes "positive", integers (pos 1) INTEGER_LAST)
     ∷ (codes "boolean", items.Mark whole_boolean) ∷ (codes "false", items.Truth false) ∷ (codes "true", items.Truth true)
     ∷ (codes "duration", items.Mark whole_duration) ∷ (codes "constraint_error", items.Exception raised.Constraint)
     ∷ (codes "program_error", items.Exception raised.Program) ∷ (codes "storage_error", items.Exception raised.Storage)
@@ -140,7 +139,7 @@ declared_in_text_io = (codes "put_line", items.Operation operations.PutLine) ∷
 unfoldable pub declared_in_real_time : List (List ℕ × Predefined)
 declared_in_real_time =
     (codes "time", free types.Time) ∷ (codes "time_span", free types.TimeSpan) ∷ (codes "time_first", items.Constant types.Time (value.Ticks (pos 0)))
-    ∷ (codes "time_last", items.Constant types.Time (value.Ticks time_last))
+    ∷ (codes "time_last", items.Constant types.Time (value.Ticks TIME_LAST))
     ∷ (codes "time_span_zero", items.Constant types.TimeSpan (value.Ticks (pos 0))) ∷ (codes "clock", items.Operation operations.Clock)
     ∷ (codes "microseconds", items.Operation operations.Microseconds) ∷ (codes "milliseconds", items.Operation operations.Milliseconds)
     ∷ (codes "seconds", items.Operation operations.Seconds) ∷ (codes "minutes", items.Operation operations.Minutes)

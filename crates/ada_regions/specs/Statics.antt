@@ -1,6 +1,7 @@
 -- Static expressions (4.9): literals, minus a literal, constants of these, enumeration literals, First and Last. A number
 -- with a point is one of ticks, any other one a whole number.
 use Rattle.std.specs.Prelude.{ℕ, ◌+◌, ◌-◌, ◌*◌, pos, neg_ℤ, leb, cond, List, Option, Some, None, unwrap_or}
+use Rattle.ada_regions.specs.declared.predefined.TheConstants.{LAST_DURATION, LAST_INTEGER}
 use Rattle.ada_lex.specs.Meaning.{whole_of, decimals_of}
 use Rattle.ada_tree.specs.declared.names.Name.{Name}
 use Rattle.ada_tree.specs.declared.operators.Sign.{Sign}
@@ -57,25 +58,18 @@ negated (value.Ticks n) = value.Ticks (neg_ℤ n)
 negated (value.Task t) = value.Task t
 negated (value.Thing n) = value.Thing n
 
--- the last Integer, and the last value of Duration in ticks; the first of each is one further below 0
-abbrev pub last_integer : ℕ
-last_integer = 2147483647
-
-abbrev pub last_duration : ℕ
-last_duration = 4611686018427387903
-
 -- a literal, or its negative, that lies in Integer (3.5.4) or in Duration (9.6); one that does not is refused itself
 abbrev pub in_integer : ℕ → Option Value
-in_integer n = cond (leb n last_integer) (Some (value.Whole (pos n))) None
+in_integer n = cond (leb n LAST_INTEGER) (Some (value.Whole (pos n))) None
 
 abbrev pub in_duration : ℕ → Option Value
-in_duration n = cond (leb n last_duration) (Some (value.Ticks (pos n))) None
+in_duration n = cond (leb n LAST_DURATION) (Some (value.Ticks (pos n))) None
 
 abbrev pub negative_in_integer : ℕ → Option Value
-negative_in_integer n = cond (leb n (last_integer + 1)) (Some (value.Whole (neg_ℤ (pos n)))) None
+negative_in_integer n = cond (leb n (LAST_INTEGER + 1)) (Some (value.Whole (neg_ℤ (pos n)))) None
 
 abbrev pub negative_in_duration : ℕ → Option Value
-negative_in_duration n = cond (leb n (last_duration + 1)) (Some (value.Ticks (neg_ℤ (pos n)))) None
+negative_in_duration n = cond (leb n (LAST_DURATION + 1)) (Some (value.Ticks (neg_ℤ (pos n)))) None
 
 unfoldable pub static_literal : List ℕ → Option Value
 static_literal literal = cond (is_empty (decimals_of literal)) (in_integer (whole_of literal)) (in_duration (micros_of literal))

@@ -18,8 +18,8 @@ pub use faults::NameFault;
 pub use occurrences::{Occurrence, Occurrences};
 pub use parts::{AspectsOf, ExpressionOf};
 pub use predefined::{
-    DEFAULT_PRIORITY, DEFAULT_WIDE_PRIORITY, LAST_PRIORITY, LAST_WIDE_PRIORITY, Operation,
-    Predefined, PredefinedUnit,
+    DEFAULT_PRIORITY, DEFAULT_WIDE_PRIORITY, LAST_DURATION, LAST_INTEGER, LAST_PRIORITY,
+    LAST_WIDE_PRIORITY, Operation, Predefined, PredefinedUnit,
 };
 pub use table::{
     Binding, Enclosure, Frame, Names, NumberedControlled, NumberedDeclaration, NumberedEntry,

@@ -1,7 +1,12 @@
 //! The predefined units, and what they declare (ISO/IEC 8652:2012, annex A, C.7.1, annex D).
 use crate::types::{AdaType, Subtype};
 use ann_base::{Level, Raised};
-use profile_machine::Value;
+use profile_machine::{INTEGER_LAST, TIME_LAST, Value};
+
+/// The last Integer, and the last value of Duration in ticks, as a literal has them; the first of each is one further below 0.
+pub const LAST_INTEGER: u128 = INTEGER_LAST as u128;
+
+pub const LAST_DURATION: u128 = TIME_LAST as u128;
 
 /// The last value of System.Priority (13.7, D.1), and of the wide range for which a pragma asks (docs/LANGUAGE.md).
 pub const LAST_PRIORITY: Level = 30;

@@ -9,7 +9,7 @@ mod statics;
 mod subtypes;
 
 pub use formals::{formals_of, mode_of};
-pub use literals::{LAST_DURATION, LAST_INTEGER, micros_of, static_literal, static_negative};
+pub use literals::{micros_of, static_literal, static_negative};
 pub use ranges::{high_of, low_of, range_between, range_named};
 pub use statics::{
     attribute_value, literal_of, static_value, subtype_denoted, subtype_of_item, subtype_of_name,

@@ -5,14 +5,9 @@ ghost use Rattle.ada_lex.specs.Meaning.{whole_of};
 ghost use Rattle.ada_regions.specs.Statics.{digit_at, six_digits, micros_of, in_integer, in_duration, negative_in_integer, negative_in_duration, static_literal, static_negative};
 
 use ada_lex::{decimals, whole_value};
+use ada_regions::{LAST_DURATION, LAST_INTEGER};
 use ann_base::Moment;
-use profile_machine::{TIME_LAST, Value};
-
-/// The last Integer (3.5.4; this profile's choice).
-pub const LAST_INTEGER: u128 = i32::MAX as u128;
-
-/// The last value of Duration, in ticks (9.6; this profile's choice).
-pub const LAST_DURATION: u128 = TIME_LAST as u128;
+use profile_machine::Value;
 
 /// The digit at a place behind the point; 0 where none stands there.
 fn digit_at(digits: &[u8], place: usize) -> u64

@@ -6,7 +6,8 @@ use Rattle.text_lines.specs.Lines.{words_of}
 use Rattle.text_lines.specs.Numerals.{number_in}
 use Rattle.profile_machine.specs.declared.run_data.Item.{Item}
 use Rattle.profile_machine.specs.declared.run_data.Item.TheVariants as item
-use Rattle.event_script.specs.declared.faults.TheConstants.{LAST_TICK, MOST_ITEMS, MOST_NUMBER}
+use Rattle.event_script.specs.declared.faults.TheConstants.{LAST_TICK, MOST_ITEMS}
+use Rattle.profile_machine.specs.declared.limits.TheConstants.{LAST_OUTSIDE_LINE}
 use Rattle.event_script.specs.declared.faults.ScriptFaultKind.{ScriptFaultKind}
 use Rattle.event_script.specs.declared.faults.ScriptFaultKind.TheVariants.{BadLine, BadNumber}
 use Rattle.event_script.specs.declared.words.Keyword.{Keyword}
@@ -30,7 +31,7 @@ ends_in_time tick period count = nat_le (tick + (count - 1) * period) LAST_TICK
 -- what a line says is within the limits
 pub record IsTickAndNumber (once : TickAndNumber) : Type 0 where
   pub first : once.tick ≤ LAST_TICK
-  pub known : once.number ≤ MOST_NUMBER
+  pub known : once.number ≤ LAST_OUTSIDE_LINE
 
 pub record IsEntry (entry : Entry) : Type 0 where
   pub some : 1 ≤ entry.count
@@ -38,7 +39,7 @@ pub record IsEntry (entry : Entry) : Type 0 where
   pub first : entry.tick ≤ LAST_TICK
   pub apart : entry.period ≤ LAST_TICK
   pub last : entry.tick + (entry.count - 1) * entry.period ≤ LAST_TICK
-  pub known : number_in_item entry.item ≤ MOST_NUMBER
+  pub known : number_in_item entry.item ≤ LAST_OUTSIDE_LINE
 
 -- an item that comes once
 abbrev pub at_tick : ℕ → Item → Entry

@@ -1,7 +1,8 @@
 -- The numbers of a line of a script.
 use Rattle.std.specs.Prelude.{ℕ, ℤ, pos, neg_ℤ, ◌==◌, ◌+◌, if◌then◌else◌, List, [], ◌∷◌, Option, Some, None, option_map, Result, Ok, Err}
 use Rattle.text_lines.specs.Numerals.{is_numeral, number_in}
-use Rattle.event_script.specs.declared.faults.TheConstants.{LAST_TICK, MOST_NUMBER}
+use Rattle.event_script.specs.declared.faults.TheConstants.{LAST_TICK}
+use Rattle.profile_machine.specs.declared.limits.TheConstants.{LAST_OUTSIDE_LINE}
 use Rattle.event_script.specs.declared.numbers.TheConstants.{MOST_VALUE}
 use Rattle.event_script.specs.declared.faults.ScriptFaultKind.{ScriptFaultKind}
 use Rattle.event_script.specs.declared.faults.ScriptFaultKind.TheVariants.{BadNumber, NoSuchLine}
@@ -10,13 +11,13 @@ use Rattle.event_script.specs.declared.faults.ScriptFaultKind.TheVariants.{BadNu
 abbrev pub tick_in : List ℕ → Option ℕ
 tick_in word = number_in 0 LAST_TICK word
 
--- The number of an interrupt or of a port. Misspelt it is a bad number; above 15 nothing has it.
+-- The number of an interrupt or of a port. Misspelt it is a bad number; above the last nothing has it.
 abbrev pub number_within : Option ℕ → Result ℕ ScriptFaultKind
 number_within None = Err NoSuchLine
 number_within (Some number) = Ok number
 
 abbrev pub number_of : List ℕ → Result ℕ ScriptFaultKind
-number_of word = if is_numeral word then number_within (number_in 0 MOST_NUMBER word) else Err BadNumber
+number_of word = if is_numeral word then number_within (number_in 0 LAST_OUTSIDE_LINE word) else Err BadNumber
 
 -- The value of a port is a whole number of 32 bits, with a hyphen before it where it is negative.
 abbrev pub negative_in : List ℕ → Option ℤ

@@ -13,9 +13,6 @@ pub const MOST_ITEMS: usize = 100_000;
 /// The last tick at which an item comes, and the longest period.
 pub const LAST_TICK: u32 = trace_text::LAST_TICK as u32;
 
-/// The highest number of an interrupt, and of a port.
-pub const MOST_NUMBER: u32 = 15;
-
 /// Why a line of a script is refused.
 #[derive(Clone, Copy, Debug, Error)]
 pub enum ScriptFaultKind {

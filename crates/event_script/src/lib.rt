@@ -10,6 +10,6 @@ mod numbers;
 mod reading;
 mod words;
 
-pub use faults::{LAST_TICK, MOST_ITEMS, MOST_NUMBER, SCRIPT_BYTES, ScriptFault, ScriptFaultKind};
+pub use faults::{LAST_TICK, MOST_ITEMS, SCRIPT_BYTES, ScriptFault, ScriptFaultKind};
 pub use laws::cut_scripts_are_read_alike;
 pub use reading::read_script;

@@ -1,13 +1,15 @@
 //! The numbers of a line.
 ghost use Rattle.std.specs.Prelude.{◌≡◌, ◌≤◌, IfSome, IfOk};
 ghost use Rattle.event_script.specs.Numbers.{tick_in, number_of, negative_in, natural_in, value_in};
-ghost use Rattle.event_script.specs.declared.faults.TheConstants.{LAST_TICK, MOST_NUMBER};
+ghost use Rattle.event_script.specs.declared.faults.TheConstants.{LAST_TICK};
+ghost use Rattle.profile_machine.specs.declared.limits.TheConstants.{LAST_OUTSIDE_LINE};
 
-use crate::faults::{LAST_TICK, MOST_NUMBER, ScriptFaultKind};
+use crate::faults::{LAST_TICK, ScriptFaultKind};
+use profile_machine::{INTEGER_LAST, LAST_OUTSIDE_LINE};
 use text_lines::{is_numeral, number_in};
 
 /// The greatest value of a port, which is the last Integer.
-const MOST_VALUE: u32 = i32::MAX as u32;
+const MOST_VALUE: u32 = INTEGER_LAST as u32;
 
 /// The tick that a word is.
 pub fn tick_in(word: &[u8]) -> Option<u32>
@@ -20,12 +22,12 @@ pub fn tick_in(word: &[u8]) -> Option<u32>
 /// The number of an interrupt or of a port.
 pub fn number_of(word: &[u8]) -> Result<u8, ScriptFaultKind>
     ensures read { result ≡ number_of word.now }
-    ensures limits { IfOk result (λ number. number ≤ MOST_NUMBER) }
+    ensures limits { IfOk result (λ number. number ≤ LAST_OUTSIDE_LINE) }
 {
     if !is_numeral(word) {
         return Err(ScriptFaultKind::BadNumber);
     }
-    let number = number_in(word, 0, MOST_NUMBER).ok_or(ScriptFaultKind::NoSuchLine)?;
+    let number = number_in(word, 0, LAST_OUTSIDE_LINE).ok_or(ScriptFaultKind::NoSuchLine)?;
     Ok(number as u8)
 }
 

@@ -1,6 +1,7 @@
 -- A static literal has the value that the image has of it.
 use Rattle.std.proofs.Common.{◌≡◌, ℕ, List, Some, None, Bool, true, false, cond}
-use Rattle.std.specs.Prelude.{leb, pos}
+use Rattle.std.specs.Prelude.{◌+◌, leb, pos}
+use Rattle.ada_regions.specs.declared.predefined.TheConstants.{LAST_DURATION, LAST_INTEGER}
 use Rattle.ada_lex.specs.Meaning.{whole_of, decimals_of}
 use Rattle.profile_machine.specs.declared.values.Value.{Value}
 use Rattle.profile_machine.specs.declared.values.Value.TheVariants as value
@@ -22,11 +23,11 @@ negated_of_two false p q x y v e = kept q (negated y) v e
 pub value_of_static : (literal : List ℕ) (v : Value) → static_literal literal ≡ Some v → v ≡ literal_value literal
 unfolding static_literal literal_value
 value_of_static literal v e =
-    kept_of_two (is_empty (decimals_of literal)) (leb (whole_of literal) 2147483647) (leb (micros_of literal) 4611686018427387903)
+    kept_of_two (is_empty (decimals_of literal)) (leb (whole_of literal) LAST_INTEGER) (leb (micros_of literal) LAST_DURATION)
     (value.Whole (pos (whole_of literal))) (value.Ticks (pos (micros_of literal))) v e
 
 pub value_of_negative : (literal : List ℕ) (v : Value) → static_negative literal ≡ Some v → v ≡ negated (literal_value literal)
 unfolding static_negative literal_value
 value_of_negative literal v e =
-    negated_of_two (is_empty (decimals_of literal)) (leb (whole_of literal) 2147483648) (leb (micros_of literal) 4611686018427387904)
+    negated_of_two (is_empty (decimals_of literal)) (leb (whole_of literal) (LAST_INTEGER + 1)) (leb (micros_of literal) (LAST_DURATION + 1))
     (value.Whole (pos (whole_of literal))) (value.Ticks (pos (micros_of literal))) v e

@@ -5,6 +5,7 @@ ghost use Rattle.ada_legality.specs.Choices.{whole_range_of, range_typed};
 use crate::{ends_of, span};
 use ada_legality::{Span, Typed};
 use ada_regions::{AdaType, Names};
+use profile_machine::{INTEGER_FIRST, INTEGER_LAST};
 
 /// The last position of an enumeration type.
 fn last_literal(names: &Names<'_>, enumeration: usize) -> i128
@@ -23,7 +24,7 @@ pub fn whole_range_of(names: &Names<'_>, t: AdaType) -> Span
     ensures { result ≡ whole_range_of names.now t }
 {
     match t {
-        AdaType::Integer => span(i128::from(i32::MIN), i128::from(i32::MAX)),
+        AdaType::Integer => span(i128::from(INTEGER_FIRST), i128::from(INTEGER_LAST)),
         AdaType::Boolean => span(0, 1),
         AdaType::Enumeration(enumeration) => {
             span(0, last_literal(names, enumeration.0 as usize))

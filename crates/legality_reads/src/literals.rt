@@ -6,7 +6,8 @@ ghost use Rattle.ada_legality.specs.Reading.{no_literal, literal_in, lies_in_dur
 
 use ada_legality::{Finding, Literal, Read, Rule};
 use ada_lex::{decimals, whole_value};
-use ada_subtypes::{LAST_DURATION, LAST_INTEGER, micros_of};
+use ada_regions::{LAST_DURATION, LAST_INTEGER};
+use ada_subtypes::micros_of;
 use ann_base::{NoMemory, Place};
 use legality_types::{broken_if, broken_unless};
 use world_tables::List;

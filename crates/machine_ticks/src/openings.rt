@@ -12,7 +12,7 @@ use machine_program::{
 };
 use machine_scopes::{open_scope, plainly};
 use profile_machine::world::{Drawn, Line, Part, Purpose, State, Task, Waiting, World};
-use profile_machine::{DEFAULT_QUANTUM, Item, LINES_FROM_OUTSIDE};
+use profile_machine::{DEFAULT_QUANTUM, Item, LAST_OUTSIDE_LINE};
 use std::alloc::Global;
 use trace_text::{Created, Who};
 use world_tables::List;
@@ -102,9 +102,9 @@ fn blank_world(alloc: Global, p: &Program, script: List<(Moment, Item)>) -> Resu
         time: 0,
         ran: None,
         script,
-        ports: ports(alloc, 0, LINES_FROM_OUTSIDE)?,
-        masked: flags(alloc, false, LINES_FROM_OUTSIDE)?,
-        kept_interrupts: flags(alloc, false, LINES_FROM_OUTSIDE)?,
+        ports: ports(alloc, 0, LAST_OUTSIDE_LINE + 1)?,
+        masked: flags(alloc, false, LAST_OUTSIDE_LINE + 1)?,
+        kept_interrupts: flags(alloc, false, LAST_OUTSIDE_LINE + 1)?,
         tasks: tasks_at_first(alloc, p)?,
         agent: agent_at_first(alloc, p)?,
         places: List::new(alloc),

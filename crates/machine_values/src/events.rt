@@ -3,8 +3,8 @@ ghost use Rattle.std.specs.Prelude.{◌≡◌, ◌<ℤ◌, negsuc, OnErr, IfOk, 
 ghost use Rattle.profile_machine.specs.Values.{is_event, event_moment, timer_of, time_left, budget_of, port_value};
 
 use ann_base::{Moment, NoMemory, Raised, TaskNo};
-use profile_machine::Value;
 use profile_machine::world::{Appointment, Budget, Due, Timer, TimerSetting, World};
+use profile_machine::{LAST_OUTSIDE_LINE, Value};
 use world_tables::List;
 
 /// Whether an appointment is that of the event.
@@ -74,14 +74,14 @@ fn port_at(ports: &List<i32>, place: u32) -> i32
     ports.get_or(place as usize, 0)
 }
 
-/// The value of a port; they are numbered from 0 to 15.
+/// The value of a port; they are numbered from 0.
 ///
 /// Errors: `Constraint` for another number.
 pub fn port_value(world: &World, port: Value) -> Result<Value, Raised>
     ensures { result ≡ port_value world.now port }
 {
     match port {
-        Value::Whole(n) if 0 <= n && n <= 15 => {
+        Value::Whole(n) if 0 <= n && n <= LAST_OUTSIDE_LINE as i32 => {
             Ok(Value::Whole(port_at(&world.ports, n.unsigned_abs())))
         }
         Value::Whole(_) => Err(Raised::Constraint),

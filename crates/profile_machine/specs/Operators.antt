@@ -12,7 +12,7 @@ use Rattle.profile_machine.specs.declared.expressions.UnaryOperator.TheVariants 
 use Rattle.profile_machine.specs.declared.expressions.BinaryOperator.{BinaryOperator}
 use Rattle.profile_machine.specs.declared.expressions.BinaryOperator.TheVariants as binary
 use Rattle.profile_machine.specs.Words.{same_option, same_task, same_bool, same_number}
-use Rattle.profile_machine.specs.Tasks.{time_last}
+use Rattle.profile_machine.specs.declared.limits.TheConstants.{INTEGER_FIRST, INTEGER_LAST, TIME_FIRST, TIME_LAST}
 
 -- ---- a value or an exception
 
@@ -35,27 +35,17 @@ holds (Err e) = false
 
 -- ---- ends of the numbers (rules of this profile)
 
--- the first moment of all times
-abbrev pub time_first : ℤ
-time_first = neg_ℤ (pos 4611686018427387904)
-
--- Integer has 32 bits
-abbrev pub integer_first : ℤ
-integer_first = negsuc 2147483647
-
-abbrev pub integer_last : ℤ
-integer_last = pos 2147483647
-
+-- an Integer lies between its ends
 abbrev pub whole : ℤ → Valued Value
-whole n = unless (int_le integer_first n && int_le n integer_last) exception.Constraint (Whole n)
+whole n = unless (int_le INTEGER_FIRST n && int_le n INTEGER_LAST) exception.Constraint (Whole n)
 
 -- times and spans lie between their ends
 abbrev pub ticks : ℤ → Valued Value
-ticks n = unless (int_le time_first n && int_le n time_last) exception.Constraint (Ticks n)
+ticks n = unless (int_le TIME_FIRST n && int_le n TIME_LAST) exception.Constraint (Ticks n)
 
 -- a moment that would be set beyond an end is that end
 abbrev pub held_moment : ℤ → ℤ
-held_moment n = cond (int_lt n time_first) time_first (cond (int_lt time_last n) time_last n)
+held_moment n = cond (int_lt n TIME_FIRST) TIME_FIRST (cond (int_lt TIME_LAST n) TIME_LAST n)
 
 -- ---- ranges (3.5)
 

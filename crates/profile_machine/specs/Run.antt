@@ -9,7 +9,7 @@ use Rattle.trace_text.specs.declared.events.Ended.{Ended}
 use Rattle.trace_text.specs.declared.events.Ended.TheVariants as why
 use Rattle.trace_text.specs.declared.events.Who.{Who}
 use Rattle.trace_text.specs.declared.events.Who.TheVariants as who
-use Rattle.profile_machine.specs.declared.limits.TheConstants.{LINES_FROM_OUTSIDE, DEFAULT_QUANTUM}
+use Rattle.profile_machine.specs.declared.limits.TheConstants.{DEFAULT_QUANTUM, LAST_OUTSIDE_LINE}
 use Rattle.profile_machine.specs.declared.image.Image.{Image}
 use Rattle.profile_machine.specs.declared.run_data.Item.{Item}
 use Rattle.profile_machine.specs.declared.world.World.{World}
@@ -49,7 +49,7 @@ nothing_drawn = record { tasks = 1; objects = 0; calls = 0; regions = 0; control
 
 -- the world before the environment task is ready
 abbrev pub blank_world : Image → List (ℤ × Item) → World
-blank_world p script = record { time = 0; ran = None; script = script; ports = replicate LINES_FROM_OUTSIDE (pos 0); masked = replicate LINES_FROM_OUTSIDE false; kept_interrupts = replicate LINES_FROM_OUTSIDE false; tasks = environment_task p ∷ []; agent = agent_at_first p; places = []; quanta = replicate (interrupt_priority p + 1) DEFAULT_QUANTUM; ended = None; scopes = []; objects = []; calls = []; appointments = []; timers = []; timers_set = []; timers_due = []; budgets = []; budget_due = None; registered = []; releases = []; serving = None; drawn = nothing_drawn }
+blank_world p script = record { time = 0; ran = None; script = script; ports = replicate (LAST_OUTSIDE_LINE + 1) (pos 0); masked = replicate (LAST_OUTSIDE_LINE + 1) false; kept_interrupts = replicate (LAST_OUTSIDE_LINE + 1) false; tasks = environment_task p ∷ []; agent = agent_at_first p; places = []; quanta = replicate (interrupt_priority p + 1) DEFAULT_QUANTUM; ended = None; scopes = []; objects = []; calls = []; appointments = []; timers = []; timers_set = []; timers_due = []; budgets = []; budget_due = None; registered = []; releases = []; serving = None; drawn = nothing_drawn }
 
 abbrev pub environment : Who
 environment = who.Task (record { 0 = 0 })

@@ -9,15 +9,12 @@ use Rattle.profile_machine.specs.declared.world.tasks.State.{State}
 use Rattle.profile_machine.specs.declared.world.tasks.Waiting.{Waiting}
 use Rattle.profile_machine.specs.declared.world.marks.Frame.{Frame}
 use Rattle.profile_machine.specs.declared.world.tasks.State.TheVariants.{Made, Runnable, Blocked}
+use Rattle.profile_machine.specs.declared.limits.TheConstants.{TIME_LAST}
 use Rattle.profile_machine.specs.Words.{same_who, set_where}
-
--- the last moment of Time (D.8), as -2^62 and 2^62 - 1 are the ends of all times (own)
-abbrev pub time_last : ℤ
-time_last = pos 4611686018427387903
 
 -- a task, or the agent, as it begins
 abbrev pub new_task : Who → ℕ → State → Task
-new_task name base state = record { who = name; declared = None; unit = None; outer = None; state = state; frames = []; ticks_left = None; base = base; inherited = []; kept_level = None; deadline = time_last; relative_deadline = None; quantum = 0; cpu_ticks = 0; master = None; declarative_part = 0; activator = None; group_failed = false; completed = false; abnormal = false; deferred_base = None; deferred_deadline = None; budget = None; queues = [] }
+new_task name base state = record { who = name; declared = None; unit = None; outer = None; state = state; frames = []; ticks_left = None; base = base; inherited = []; kept_level = None; deadline = TIME_LAST; relative_deadline = None; quantum = 0; cpu_ticks = 0; master = None; declarative_part = 0; activator = None; group_failed = false; completed = false; abnormal = false; deferred_base = None; deferred_deadline = None; budget = None; queues = [] }
 
 -- ---- looking
 

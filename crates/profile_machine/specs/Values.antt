@@ -1,5 +1,6 @@
 -- The value of an expression, or its exception (clause 4).
 use Rattle.std.specs.Prelude.{ℕ, zero, suc, ◌+◌, ℤ, pos, ◌-ℤ◌, ◌*ℤ◌, int_le, nat_abs, Bool, true, false, cond, ◌&&◌, List, [], Option, Some, None, Ok, Err, eqb, find, length, option_and_then, slice_index_or}
+use Rattle.profile_machine.specs.declared.limits.TheConstants.{LAST_OUTSIDE_LINE}
 use Rattle.ann_base.specs.Results.{◌>>=◌}
 use Rattle.ann_base.specs.declared.identities.TaskNo.{TaskNo}
 use Rattle.ann_base.specs.declared.identities.ObjectNo.{ObjectNo}
@@ -226,9 +227,9 @@ no_budget = record { remaining = pos 0; handler = None }
 abbrev pub budget_of : World → ℕ → Budget
 budget_of w b = slice_index_or w.budgets b no_budget
 
--- ports are numbered from 0 to 15
+-- the value of a port; they are numbered from 0
 abbrev pub port_value : World → Value → Valued Value
-port_value w (Whole n) = unless (int_le (pos 0) n && int_le n (pos 15)) exception.Constraint (Whole (slice_index_or w.ports (nat_abs n) (pos 0)))
+port_value w (Whole n) = unless (int_le (pos 0) n && int_le n (pos LAST_OUTSIDE_LINE)) exception.Constraint (Whole (slice_index_or w.ports (nat_abs n) (pos 0)))
 port_value w _ = misfit
 
 -- ---- 'Count (9.9): of the object in whose body the name stands, or of the task that runs

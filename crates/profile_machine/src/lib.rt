@@ -22,8 +22,9 @@ pub use expressions::{BinaryOperator, Expression, ObjectName, UnaryOperator, Var
 pub use image::{Dispatching, DispatchingRange, Image, MainProcedure, Policies, Queuing};
 pub use image_lists::ImageList;
 pub use limits::{
-    CONTROLLED_CELLS, DEFAULT_QUANTUM, LAST_QUANTUM, LINES_FROM_OUTSIDE, MOST_CELLS,
-    MOST_LIVE_TASKS, MOST_MARKS, MOST_MARKS_OF_TASK, MOST_RELEASES, MOST_TIMERS, PROTECTED_CELLS,
+    CONTROLLED_CELLS, DEFAULT_QUANTUM, INTEGER_FIRST, INTEGER_LAST, LAST_OUTSIDE_LINE,
+    LAST_QUANTUM, MOST_CELLS, MOST_LIVE_TASKS, MOST_MARKS, MOST_MARKS_OF_TASK, MOST_RELEASES,
+    MOST_TIMERS, PROTECTED_CELLS, TIME_FIRST, TIME_LAST,
 };
 pub use numbers::{
     ControlledNo, DeclNo, EntryNo, EnumerationNo, ExprNo, ProtectedUnitNo, ScopeNo, StatementNo,
@@ -35,4 +36,4 @@ pub use statements::{
     Actual, Callee, CaseAlternative, Choice, Destination, EntryOwner, HandlerName, Piece,
     SelectAlternative, SelectKind, Setting, Statement, StatementForm,
 };
-pub use values::{CellRun, Constraint, TIME_FIRST, TIME_LAST, Value};
+pub use values::{CellRun, Constraint, Value};

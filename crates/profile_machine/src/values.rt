@@ -1,13 +1,6 @@
 //! Values, and the ranges that subtypes put on them.
 use ann_base::{Moment, TaskNo};
 
-/// The first moment of Time, and the first value of Duration, in ticks (9.6, D.8; this profile's choice): half of the first
-/// number of 64 bits, so that a sum of two has room.
-pub const TIME_FIRST: Moment = -4_611_686_018_427_387_904;
-
-/// The last moment of Time, and the last value of Duration, in ticks (9.6, D.8; this profile's choice).
-pub const TIME_LAST: Moment = 4_611_686_018_427_387_903;
-
 /// The value of a cell or an expression.
 #[derive(Clone, Copy, PartialEq, Eq)]
 pub enum Value {

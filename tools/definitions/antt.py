@@ -62,7 +62,7 @@ def in_one_line(chunk):
     for ln in body.split("\n"):
         depth = len(ln) - len(ln.lstrip())
         if least is None: least = depth
-        if depth == least: lines.append(ln.strip())
+        if depth == least and ln[depth] not in ")]}": lines.append(ln.strip())
         else: lines[-1] += " " + ln.strip()
     return head + "= do " + " ; ".join(lines)
 

@@ -10,7 +10,9 @@ use Rattle.ada_grammar.specs.ReadingExpressions.{expression_of}
 use Rattle.ada_grammar.specs.Reads.{Reads}
 
 pub record ReadsInside (left : ℕ) (pre : Global → MutBor (List Lexeme) → ℕ → Type 0)
-    (post : Global → MutBor (List Lexeme) → ℕ → Result Expression (OrMemory Stuck) → MutBor (List Lexeme) → Type 0) : Type 0 where
+    (post : Global → MutBor (List Lexeme) → ℕ → Result Expression (OrMemory Stuck) → MutBor (List Lexeme)
+    → Type 0) : Type 0 where
   pub callable : (alloc : Global) (old : MutBor (List Lexeme)) (m : ℕ) → m < left → pre alloc old m
-  pub reads : (alloc : Global) (old new : MutBor (List Lexeme)) (m : ℕ) (r : Result Expression (OrMemory Stuck)) → m < left → post alloc old m r new
+  pub reads : (alloc : Global) (old new : MutBor (List Lexeme)) (m : ℕ) (r : Result Expression (OrMemory Stuck))
+      → m < left → post alloc old m r new
       → Reads r new.now (expression_of m old.now)

@@ -12,5 +12,7 @@ abbrev pub TestsAs : (Bor (List Lexeme) → Bool → Type 0) → (List Lexeme �
 TestsAs post test = (cursor : Bor (List Lexeme)) (r : Bool) → post cursor r → r ≡ test cursor.now
 
 -- the value reads what the parser reads
-abbrev pub ReadsAs : {A : Type 0} → (MutBor (List Lexeme) → Result A (OrMemory Stuck) → MutBor (List Lexeme) → Type 0) → Parser A → Type 0
-ReadsAs {A = A} post part = (old new : MutBor (List Lexeme)) (r : Result A (OrMemory Stuck)) → post old r new → Reads r new.now (part old.now)
+abbrev pub ReadsAs : {A : Type 0} → (MutBor (List Lexeme) → Result A (OrMemory Stuck) → MutBor (List Lexeme)
+    → Type 0) → Parser A → Type 0
+ReadsAs {A = A} post part = (old new : MutBor (List Lexeme)) (r : Result A (OrMemory Stuck)) → post old r new
+    → Reads r new.now (part old.now)

@@ -154,7 +154,8 @@ below (suc left) = left
 -- items as long as one begins; each has a token at least, so the fuel is enough where it is the number of tokens
 unfoldable pub items_from : {A : Type 0} → (List Lexeme → Bool) → Parser A → ℕ → List A → Parser (List A)
 items_from begins item zero found = pure found
-items_from begins item (suc fuel) found = choose begins (item >>= λ x. items_from begins item fuel (found ++ x ∷ [])) (pure found)
+items_from begins item (suc fuel) found =
+    choose begins (item >>= λ x. items_from begins item fuel (found ++ x ∷ [])) (pure found)
 
 unfoldable pub items_of : {A : Type 0} → (List Lexeme → Bool) → Parser A → Parser (List A)
 items_of begins item = λ ls. items_from begins item (length ls) [] ls

@@ -50,7 +50,8 @@ module _ {Q : Type 0} (left : ℕ) (sequence : SequenceRole → Parser Q) where
   unfoldable pub subprogram_of : Parser (Declaration Q)
   subprogram_of = do
     specification ← specification_of left
-    choose (sees_delimiter (codes ";")) (the_delimiter (codes ";") >> pure (declarations.Subprogram specification)) (subprogram_body_of specification)
+    choose (sees_delimiter (codes ";")) (the_delimiter (codes ";") >> pure (declarations.Subprogram specification))
+        (subprogram_body_of specification)
 
   -- "body" NAME body, behind "task"
   unfoldable pub task_body_of : Place → Parser (Declaration Q)
@@ -77,7 +78,12 @@ module _ {Q : Type 0} (left : ℕ) (sequence : SequenceRole → Parser Q) (deepe
     the_word (codes "end")
     named ← end_name_of name.text
     the_delimiter (codes ";")
-    pure (declarations.ProtectedBody (record { place = place; name = name; operations = operation_bodies; named_at_end = named }))
+    pure (declarations.ProtectedBody (record {
+      place = place;
+      name = name;
+      operations = operation_bodies;
+      named_at_end = named;
+    }))
 
   unfoldable pub any_protected_of : Parser (Declaration Q)
   any_protected_of = do
@@ -96,7 +102,9 @@ module _ {Q : Type 0} (left : ℕ) (sequence : SequenceRole → Parser Q) (deepe
       (subprogram_of left sequence))))))
 
 abbrev pub begins_unit : List Lexeme → Bool
-begins_unit ls = sees_word (codes "task") ls || (sees_word (codes "protected") ls || (sees_word (codes "use") ls || begins_specification ls))
+begins_unit ls = sees_word (codes "task") ls
+    || (sees_word (codes "protected") ls || (sees_word (codes "use") ls || begins_specification ls))
 
 unfoldable pub begins_declaration : List Lexeme → Bool
-begins_declaration ls = sees_identifier ls || (sees_word (codes "type") ls || (sees_word (codes "subtype") ls || begins_unit ls))
+begins_declaration ls = sees_identifier ls
+    || (sees_word (codes "type") ls || (sees_word (codes "subtype") ls || begins_unit ls))

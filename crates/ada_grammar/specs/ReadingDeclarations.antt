@@ -25,7 +25,9 @@ use Rattle.ada_grammar.specs.ReadingSimple.{bounds_of, subtype_indication_of, pa
 
 -- [":=" expression]
 unfoldable pub initial_of : ℕ → Parser (Option Expression)
-initial_of left = choose (sees_delimiter (codes ":=")) (do the_delimiter (codes ":="); value ← expression_of left; pure (Some value)) (pure None)
+initial_of left =
+    choose (sees_delimiter (codes ":="))
+    (do the_delimiter (codes ":="); value ← expression_of left; pure (Some value)) (pure None)
 
 -- ["aliased"] ["constant"] subtype [":=" expression] ";", behind the names and the colon
 unfoldable pub object_of : {Q : Type 0} → ℕ → OneOrMore Identifier → Parser (Declaration Q)
@@ -35,7 +37,13 @@ object_of left names = do
   subtype ← subtype_indication_of left
   initial ← initial_of left
   the_delimiter (codes ";")
-  pure (declarations.Object (record { names = names; aliased = aliased; constant = constant; subtype = subtype; initial = initial }))
+  pure (declarations.Object (record {
+    names = names;
+    aliased = aliased;
+    constant = constant;
+    subtype = subtype;
+    initial = initial;
+  }))
 
 unfoldable pub exception_of : {Q : Type 0} → OneOrMore Identifier → Parser (Declaration Q)
 exception_of names = do
@@ -107,7 +115,9 @@ derived_of left = do
   pure (definitions.Derived parent components)
 
 unfoldable pub definition_of : ℕ → Parser TypeDefinition
-definition_of left = choose (sees_delimiter (codes "(")) (enumeration_of left) (choose (sees_word (codes "array")) (array_of left) (derived_of left))
+definition_of left =
+    choose (sees_delimiter (codes "(")) (enumeration_of left)
+    (choose (sees_word (codes "array")) (array_of left) (derived_of left))
 
 -- "type" NAME "is" definition ";"
 unfoldable pub type_of : {Q : Type 0} → ℕ → Parser (Declaration Q)
@@ -141,7 +151,9 @@ use_of = do
 
 -- NAME ["=>" expression]
 unfoldable pub aspect_value_of : ℕ → Parser (Option Expression)
-aspect_value_of left = choose (sees_delimiter (codes "=>")) (do the_delimiter (codes "=>"); value ← expression_of left; pure (Some value)) (pure None)
+aspect_value_of left =
+    choose (sees_delimiter (codes "=>"))
+    (do the_delimiter (codes "=>"); value ← expression_of left; pure (Some value)) (pure None)
 
 unfoldable pub aspect_of : ℕ → Parser Aspect
 aspect_of left = do
@@ -162,7 +174,8 @@ aspects_of left = choose (sees_word (codes "with")) (given_aspects_of left) (pur
 
 -- ["overriding"]
 unfoldable pub overriding_of : Parser (Option Place)
-overriding_of = choose (sees_word (codes "overriding")) (the_word (codes "overriding") >>= λ place. pure (Some place)) (pure None)
+overriding_of =
+    choose (sees_word (codes "overriding")) (the_word (codes "overriding") >>= λ place. pure (Some place)) (pure None)
 
 -- "procedure" NAME [parameters] [aspects]
 unfoldable pub procedure_of : ℕ → Option Place → Parser SubprogramSpecification
@@ -171,7 +184,14 @@ procedure_of left overriding = do
   name ← an_identifier
   parameters ← parameters_of left
   aspects ← aspects_of left
-  pure (record { overriding = overriding; place = place; name = name; parameters = parameters; result = None; aspects = aspects })
+  pure (record {
+    overriding = overriding;
+    place = place;
+    name = name;
+    parameters = parameters;
+    result = None;
+    aspects = aspects;
+  })
 
 -- "function" NAME [parameters] "return" subtype [aspects]
 unfoldable pub function_of : ℕ → Option Place → Parser SubprogramSpecification
@@ -182,7 +202,14 @@ function_of left overriding = do
   the_word (codes "return")
   result ← subtype_indication_of left
   aspects ← aspects_of left
-  pure (record { overriding = overriding; place = place; name = name; parameters = parameters; result = Some result; aspects = aspects })
+  pure (record {
+    overriding = overriding;
+    place = place;
+    name = name;
+    parameters = parameters;
+    result = Some result;
+    aspects = aspects;
+  })
 
 unfoldable pub specification_of : ℕ → Parser SubprogramSpecification
 specification_of left = do
@@ -190,7 +217,8 @@ specification_of left = do
   choose (sees_word (codes "function")) (function_of left overriding) (procedure_of left overriding)
 
 abbrev pub begins_specification : List Lexeme → Bool
-begins_specification ls = sees_word (codes "overriding") ls || (sees_word (codes "procedure") ls || sees_word (codes "function") ls)
+begins_specification ls = sees_word (codes "overriding") ls
+    || (sees_word (codes "procedure") ls || sees_word (codes "function") ls)
 
 -- "entry" NAME [parameters] ";"
 unfoldable pub entry_of : ℕ → Parser EntryDeclaration
@@ -216,7 +244,13 @@ task_of left place = do
   aspects ← aspects_of left
   definition ← task_definition_of left name.text
   the_delimiter (codes ";")
-  pure (declarations.Task (record { place = place; is_type = is_type; name = name; aspects = aspects; definition = definition }))
+  pure (declarations.Task (record {
+    place = place;
+    is_type = is_type;
+    name = name;
+    aspects = aspects;
+    definition = definition;
+  }))
 
 unfoldable pub specified_operation_of : ℕ → Parser ProtectedOperation
 specified_operation_of left = do
@@ -225,7 +259,9 @@ specified_operation_of left = do
   pure (operations.Subprogram specification)
 
 unfoldable pub operation_of : ℕ → Parser ProtectedOperation
-operation_of left = choose (sees_word (codes "entry")) (entry_of left >>= λ entry. pure (operations.Entry entry)) (specified_operation_of left)
+operation_of left =
+    choose (sees_word (codes "entry")) (entry_of left
+    >>= λ entry. pure (operations.Entry entry)) (specified_operation_of left)
 
 abbrev pub begins_operation : List Lexeme → Bool
 begins_operation ls = sees_word (codes "entry") ls || begins_specification ls
@@ -247,7 +283,15 @@ protected_of left place = do
   the_word (codes "end")
   named ← end_name_of name.text
   the_delimiter (codes ";")
-  pure (declarations.Protected (record { place = place; is_type = is_type; name = name; aspects = aspects; operations = named_operations; components = components; named_at_end = named }))
+  pure (declarations.Protected (record {
+    place = place;
+    is_type = is_type;
+    name = name;
+    aspects = aspects;
+    operations = named_operations;
+    components = components;
+    named_at_end = named;
+  }))
 
 -- "entry" NAME [parameters] "when" expression
 unfoldable pub entry_head_of : ℕ → Parser EntryHead

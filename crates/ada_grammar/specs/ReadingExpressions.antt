@@ -41,7 +41,9 @@ adding_of operator = the_delimiter (adding_text operator) >>= λ place. pure (pl
 
 abbrev pub compares : List Lexeme → Bool
 compares ls =
-    sees_delimiter (codes "=") ls || (sees_delimiter (codes "/=") ls || (sees_delimiter (codes "<") ls || (sees_delimiter (codes "<=") ls || (sees_delimiter (codes ">") ls || sees_delimiter (codes ">=") ls))))
+    sees_delimiter (codes "=") ls || (sees_delimiter (codes "/=") ls
+    || (sees_delimiter (codes "<") ls || (sees_delimiter (codes "<=") ls
+    || (sees_delimiter (codes ">") ls || sees_delimiter (codes ">=") ls))))
 
 unfoldable pub comparison_of : Parser (Place × RelationalOperator)
 comparison_of =
@@ -62,7 +64,8 @@ addition_of =
     (adding_of adding.Concatenation))
 
 abbrev pub multiplies : List Lexeme → Bool
-multiplies ls = sees_delimiter (codes "*") ls || (sees_delimiter (codes "/") ls || (sees_word (codes "mod") ls || sees_word (codes "rem") ls))
+multiplies ls = sees_delimiter (codes "*") ls
+    || (sees_delimiter (codes "/") ls || (sees_word (codes "mod") ls || sees_word (codes "rem") ls))
 
 unfoldable pub multiplying_delimiter_of : List ℕ → MultiplyingOperator → Parser (Place × MultiplyingOperator)
 multiplying_delimiter_of text operator = the_delimiter text >>= λ place. pure (place, operator)
@@ -84,7 +87,8 @@ joins ls = sees_word (codes "and") ls || (sees_word (codes "or") ls || sees_word
 unfoldable pub conjunction_of : Parser (Place × LogicalOperator)
 conjunction_of = do
   place ← the_word (codes "and")
-  choose (sees_word (codes "then")) (the_word (codes "then") >> pure (place, logical.AndThen)) (pure (place, logical.And))
+  choose (sees_word (codes "then")) (the_word (codes "then") >> pure (place, logical.AndThen))
+      (pure (place, logical.And))
 
 unfoldable pub disjunction_of : Parser (Place × LogicalOperator)
 disjunction_of = do
@@ -95,7 +99,8 @@ unfoldable pub exclusive_of : Parser (Place × LogicalOperator)
 exclusive_of = the_word (codes "xor") >>= λ place. pure (place, logical.Xor)
 
 unfoldable pub logical_operator_of : Parser (Place × LogicalOperator)
-logical_operator_of = choose (sees_word (codes "and")) conjunction_of (choose (sees_word (codes "or")) disjunction_of exclusive_of)
+logical_operator_of =
+    choose (sees_word (codes "and")) conjunction_of (choose (sees_word (codes "or")) disjunction_of exclusive_of)
 
 -- the same operator again
 unfoldable pub both_words_of : List ℕ → List ℕ → Parser Place
@@ -121,7 +126,8 @@ logical_text logical.OrElse = codes "or"
 -- ---- attributes (4.1.4)
 
 unfoldable pub this_attribute_of : Attribute → Parser AttributeDesignator
-this_attribute_of attribute = the_word (attribute_text attribute) >>= λ place. pure (record { place = place; attribute = attribute })
+this_attribute_of attribute = the_word (attribute_text attribute)
+    >>= λ place. pure (record { place = place; attribute = attribute })
 
 unfoldable pub attribute_word_of : Parser AttributeDesignator
 attribute_word_of =
@@ -134,7 +140,9 @@ attribute_word_of =
 
 -- ["'" ATTRIBUTE]
 unfoldable pub designator_of : Parser (Option AttributeDesignator)
-designator_of = choose (sees_delimiter (codes "'")) (do the_delimiter (codes "'"); word ← attribute_word_of; pure (Some word)) (pure None)
+designator_of =
+    choose (sees_delimiter (codes "'"))
+    (do the_delimiter (codes "'"); word ← attribute_word_of; pure (Some word)) (pure None)
 
 -- ---- the productions
 
@@ -151,7 +159,8 @@ module _ (left : ℕ) (inner : Parser Expression) where
     pure (record { formal = Some formal; value = value })
 
   unfoldable pub argument_of : Parser (Argument Expression)
-  argument_of = choose names_formal named_argument_of (inner >>= λ value. pure (record { formal = None; value = value }))
+  argument_of =
+      choose names_formal named_argument_of (inner >>= λ value. pure (record { formal = None; value = value }))
 
   -- "(" argument {"," argument} ")"
   unfoldable pub given_arguments_of : Parser (List (Argument Expression))
@@ -196,7 +205,9 @@ module _ (left : ℕ) (inner : Parser Expression) where
     pure (formed (form.Highest place operator operand))
 
   unfoldable pub factor_of : Parser Expression
-  factor_of = choose (sees_word (codes "abs")) (highest_of highest.Absolute) (choose (sees_word (codes "not")) (highest_of highest.Not) primary_of)
+  factor_of =
+      choose (sees_word (codes "abs")) (highest_of highest.Absolute)
+      (choose (sees_word (codes "not")) (highest_of highest.Not) primary_of)
 
   -- factor {("*" | "/" | "mod" | "rem") factor}
   unfoldable pub multiplied_of : Parser (Multiplied Expression)
@@ -222,7 +233,9 @@ module _ (left : ℕ) (inner : Parser Expression) where
     pure (formed (form.Signed place sign operand))
 
   unfoldable pub first_term_of : Parser Expression
-  first_term_of = choose (sees_delimiter (codes "+")) (signed_of signs.Plus) (choose (sees_delimiter (codes "-")) (signed_of signs.Minus) term_of)
+  first_term_of =
+      choose (sees_delimiter (codes "+")) (signed_of signs.Plus)
+      (choose (sees_delimiter (codes "-")) (signed_of signs.Minus) term_of)
 
   unfoldable pub addend_of : Parser (Addend Expression)
   addend_of = do
@@ -261,7 +274,10 @@ module _ (left : ℕ) (inner : Parser Expression) where
     operator ← logical_operator_of
     second ← relation_of
     others ← items_of (sees_word (logical_text operator.1)) (operand_of operator.1)
-    pure (formed (form.Logical operator.1 first (record { first = record { place = operator.0; relation = second }; others = others })))
+    pure (formed (form.Logical operator.1 first (record {
+      first = record { place = operator.0; relation = second };
+      others = others;
+    })))
 
   unfoldable pub logical_of : Parser Expression
   logical_of = relation_of >>= λ first. choose joins (joined_of first) (pure first)

@@ -14,7 +14,8 @@ use Rattle.ada_grammar.specs.ReadingBodies.{begins_declaration, declaration_of}
 
 -- a sequence of these parts
 abbrev pub made : List (Declaration Sequence) → OneOrMore (Statement Sequence) → List (Handler Sequence) → Sequence
-made before inside behind = roll-Sequence (record { parts = record { declarations = before; statements = inside; handlers = behind } })
+made before inside behind =
+    roll-Sequence (record { parts = record { declarations = before; statements = inside; handlers = behind } })
 
 -- Where so many levels are left, given how a sequence is read one level further in, and two.
 module _ (left : ℕ) (inner : SequenceRole → Parser Sequence) (deeper : SequenceRole → Parser Sequence) where

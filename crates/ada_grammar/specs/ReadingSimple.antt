@@ -1,4 +1,5 @@
--- Reading statements without others in them (clauses 3, 5, 6, 9, 11), where so many levels are left inside the statement.
+-- Reading statements without others in them (clauses 3, 5, 6, 9, 11), where so many levels are left inside the
+-- statement.
 use Rattle.std.specs.Prelude.{ℕ, Bool, true, false, List, [], ◌∷◌, Option, Some, None, codes}
 use Rattle.ada_tree.specs.declared.names.Identifier.{Identifier}
 use Rattle.ada_tree.specs.declared.names.Name.{Name}
@@ -49,7 +50,9 @@ range_of left = do
   pure (Some (constraints.Range bounds.0 bounds.1))
 
 unfoldable pub constraint_of : ℕ → Parser (Option Constraint)
-constraint_of left = choose (sees_delimiter (codes "(")) (access_of left) (choose (sees_word (codes "range")) (range_of left) (pure None))
+constraint_of left =
+    choose (sees_delimiter (codes "(")) (access_of left)
+    (choose (sees_word (codes "range")) (range_of left) (pure None))
 
 unfoldable pub subtype_indication_of : ℕ → Parser SubtypeIndication
 subtype_indication_of left = do
@@ -139,7 +142,9 @@ value_choice_of left = do
   choose (sees_delimiter (codes "..")) (do the_delimiter (codes ".."); high ← expression_of left; pure (choices.Range low high)) (pure (choices.Value low))
 
 unfoldable pub choice_of : ℕ → Parser Choice
-choice_of left = choose (sees_word (codes "others")) (the_word (codes "others") >>= λ place. pure (choices.Others place)) (value_choice_of left)
+choice_of left =
+    choose (sees_word (codes "others")) (the_word (codes "others")
+    >>= λ place. pure (choices.Others place)) (value_choice_of left)
 
 -- ["while" expression | "for" NAME "in" ["reverse"] expression ".." expression] (5.5)
 unfoldable pub while_of : ℕ → Parser Iteration
@@ -158,7 +163,9 @@ for_of left = do
   pure (iterations.For place parameter reverse bounds.0 bounds.1)
 
 unfoldable pub iteration_of : ℕ → Parser Iteration
-iteration_of left = choose (sees_word (codes "while")) (while_of left) (choose (sees_word (codes "for")) (for_of left) (pure iterations.Forever))
+iteration_of left =
+    choose (sees_word (codes "while")) (while_of left)
+    (choose (sees_word (codes "for")) (for_of left) (pure iterations.Forever))
 
 -- the name of a loop or a block behind its end, where it has one
 abbrev pub label_end_of : Option Identifier → Parser (Option Label)
@@ -170,7 +177,9 @@ unfoldable pub loop_name_of : Parser (Option Identifier)
 loop_name_of = choose sees_identifier (an_identifier >>= λ name. pure (Some name)) (pure None)
 
 unfoldable pub when_of : ℕ → Parser (Option Expression)
-when_of left = choose (sees_word (codes "when")) (do the_word (codes "when"); condition ← expression_of left; pure (Some condition)) (pure None)
+when_of left =
+    choose (sees_word (codes "when"))
+    (do the_word (codes "when"); condition ← expression_of left; pure (Some condition)) (pure None)
 
 unfoldable pub exit_of : {Q : Type 0} → ℕ → Parser (Statement Q)
 exit_of left = do
@@ -188,7 +197,8 @@ null_of = do
 
 -- "return" [expression] ";" (6.5)
 unfoldable pub result_value_of : ℕ → Parser (Option Expression)
-result_value_of left = choose (sees_delimiter (codes ";")) (pure None) (expression_of left >>= λ value. pure (Some value))
+result_value_of left =
+    choose (sees_delimiter (codes ";")) (pure None) (expression_of left >>= λ value. pure (Some value))
 
 unfoldable pub return_of : {Q : Type 0} → ℕ → Parser (Statement Q)
 return_of left = do
@@ -218,7 +228,8 @@ abort_of = do
 
 -- "requeue" name ["with" "abort"] ";" (9.5.4)
 unfoldable pub with_abort_of : Parser Bool
-with_abort_of = choose (sees_word (codes "with")) (do the_word (codes "with"); the_word (codes "abort"); pure true) (pure false)
+with_abort_of =
+    choose (sees_word (codes "with")) (do the_word (codes "with"); the_word (codes "abort"); pure true) (pure false)
 
 unfoldable pub requeue_of : {Q : Type 0} → Parser (Statement Q)
 requeue_of = do

@@ -1,4 +1,5 @@
--- Reading the statements that hold others (clauses 5, 9.5 to 9.7, 11), where so many levels are left inside the statement.
+-- Reading the statements that hold others (clauses 5, 9.5 to 9.7, 11), where so many levels are left inside the
+-- statement.
 use Rattle.std.specs.Prelude.{ℕ, zero, suc, Bool, true, false, ◌||◌, List, Option, Some, None, codes}
 use Rattle.ann_base.specs.declared.places.Place.{Place}
 use Rattle.ada_tree.specs.declared.names.Identifier.{Identifier}
@@ -36,12 +37,15 @@ begins_block ls = sees_word (codes "declare") ls || sees_word (codes "begin") ls
 
 abbrev pub begins_compound : List Lexeme → Bool
 begins_compound ls =
-    sees_word (codes "if") ls || (sees_word (codes "case") ls || (begins_loop ls || (begins_block ls || (sees_word (codes "accept") ls || sees_word (codes "select") ls))))
+    sees_word (codes "if") ls || (sees_word (codes "case") ls
+    || (begins_loop ls || (begins_block ls || (sees_word (codes "accept") ls || sees_word (codes "select") ls))))
 
 abbrev pub begins_simple : List Lexeme → Bool
 begins_simple ls =
-    sees_word (codes "null") ls || (sees_word (codes "delay") ls || (sees_word (codes "exit") ls || (sees_word (codes "return") ls
-    || (sees_word (codes "raise") ls || (sees_word (codes "abort") ls || (sees_word (codes "requeue") ls || sees_identifier ls))))))
+    sees_word (codes "null") ls || (sees_word (codes "delay") ls
+    || (sees_word (codes "exit") ls || (sees_word (codes "return") ls
+    || (sees_word (codes "raise") ls || (sees_word (codes "abort") ls
+    || (sees_word (codes "requeue") ls || sees_identifier ls))))))
 
 unfoldable pub begins_statement : List Lexeme → Bool
 begins_statement ls = begins_compound ls || begins_simple ls
@@ -75,7 +79,9 @@ module _ {Q : Type 0} (left : ℕ) (sequence : SequenceRole → Parser Q) where
 
   -- ["else" statements]
   unfoldable pub else_of : Parser (Option Q)
-  else_of = choose (sees_word (codes "else")) (do the_word (codes "else"); inside ← sequence role.Statements; pure (Some inside)) (pure None)
+  else_of =
+      choose (sees_word (codes "else"))
+      (do the_word (codes "else"); inside ← sequence role.Statements; pure (Some inside)) (pure None)
 
   -- "if" expression "then" statements {elsif} ["else" statements] "end" "if" ";" (5.3)
   unfoldable pub if_of : Parser (Statement Q)
@@ -89,7 +95,13 @@ module _ {Q : Type 0} (left : ℕ) (sequence : SequenceRole → Parser Q) where
     the_word (codes "end")
     the_word (codes "if")
     the_delimiter (codes ";")
-    pure (statements.If (record { place = place; condition = condition; statements = inside; elsifs = elsifs; otherwise = otherwise }))
+    pure (statements.If (record {
+      place = place;
+      condition = condition;
+      statements = inside;
+      elsifs = elsifs;
+      otherwise = otherwise;
+    }))
 
   -- "when" choice {"|" choice} "=>" statements (5.4)
   unfoldable pub case_alternative_of : Parser (CaseAlternative Q)
@@ -179,7 +191,8 @@ module _ {Q : Type 0} (left : ℕ) (sequence : SequenceRole → Parser Q) where
 
   -- statements where some stand there
   unfoldable pub optional_statements_of : Parser (Option Q)
-  optional_statements_of = choose begins_statement (sequence role.Statements >>= λ inside. pure (Some inside)) (pure None)
+  optional_statements_of =
+      choose begins_statement (sequence role.Statements >>= λ inside. pure (Some inside)) (pure None)
 
 -- an accept statement in a select, given the sequences inside it
 abbrev pub accept_opened_of : {Q : Type 0} → ℕ → (SequenceRole → Parser Q) → Parser (Accept Q)
@@ -208,7 +221,9 @@ module _ {Q : Type 0} (left : ℕ) (sequence : SequenceRole → Parser Q) (deepe
     pure (alternative.Terminate place)
 
   unfoldable pub alternative_of : Parser (Alternative Q)
-  alternative_of = choose (sees_word (codes "accept")) accept_alternative_of (choose (sees_word (codes "delay")) delay_alternative_of terminate_of)
+  alternative_of =
+      choose (sees_word (codes "accept")) accept_alternative_of
+      (choose (sees_word (codes "delay")) delay_alternative_of terminate_of)
 
   -- ["when" expression "=>"]
   unfoldable pub guard_of : Parser (Option Guard)
@@ -231,7 +246,10 @@ module _ {Q : Type 0} (left : ℕ) (sequence : SequenceRole → Parser Q) (deepe
   selective_of first = do
     others ← items_of (sees_word (codes "or")) next_alternative_of
     otherwise ← else_of left sequence
-    pure (select.SelectiveAccept (record { alternatives = record { first = first; others = others }; otherwise = otherwise }))
+    pure (select.SelectiveAccept (record {
+      alternatives = record { first = first; others = others };
+      otherwise = otherwise;
+    }))
 
   -- "then" "abort" statements, behind the triggering statement and those behind it (9.7.4)
   unfoldable pub asynchronous_of : Trigger → Option Q → Parser (SelectForm Q)
@@ -272,10 +290,13 @@ module _ {Q : Type 0} (left : ℕ) (sequence : SequenceRole → Parser Q) (deepe
   delay_select_of = do
     delay ← delay_opened_of left
     inside ← optional_statements_of left sequence
-    choose (sees_word (codes "then")) (asynchronous_of (trigger.Delay delay) inside) (selective_of (record { guard = None; alternative = alternative.Delay delay inside }))
+    choose (sees_word (codes "then")) (asynchronous_of (trigger.Delay delay) inside)
+        (selective_of (record { guard = None; alternative = alternative.Delay delay inside }))
 
   unfoldable pub select_form_of : Parser (SelectForm Q)
-  select_form_of = choose sees_identifier call_select_of (choose (sees_word (codes "delay")) delay_select_of (select_alternative_of >>= λ first. selective_of first))
+  select_form_of =
+      choose sees_identifier call_select_of (choose (sees_word (codes "delay")) delay_select_of
+      (select_alternative_of >>= λ first. selective_of first))
 
   -- "select" form "end" "select" ";"
   unfoldable pub select_of : Parser (Statement Q)

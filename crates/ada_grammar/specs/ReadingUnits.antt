@@ -64,7 +64,9 @@ context_of = items_of begins_clause clause_of
 
 -- NAME "is" {declaration} ["private" {declaration}] "end" [NAME] ";", behind "package" (7.1)
 unfoldable pub private_part_of : ℕ → Parser (Option (List (Declaration Sequence)))
-private_part_of left = choose (sees_word (codes "private")) (do the_word (codes "private"); hidden ← declarations_at left; pure (Some hidden)) (pure None)
+private_part_of left =
+    choose (sees_word (codes "private"))
+    (do the_word (codes "private"); hidden ← declarations_at left; pure (Some hidden)) (pure None)
 
 unfoldable pub package_declaration_of : ℕ → Place → Parser Package
 package_declaration_of left place = do
@@ -75,11 +77,19 @@ package_declaration_of left place = do
   the_word (codes "end")
   named ← end_name_of name.text
   the_delimiter (codes ";")
-  pure (packages.Declaration (record { place = place; name = name; declarations = visible; private = hidden; named_at_end = named }))
+  pure (packages.Declaration (record {
+    place = place;
+    name = name;
+    declarations = visible;
+    private = hidden;
+    named_at_end = named;
+  }))
 
 -- "body" NAME "is" {declaration} ["begin" handled sequence] "end" [NAME] ";", behind "package" (7.2)
 unfoldable pub package_statements_of : ℕ → Parser (Option Sequence)
-package_statements_of left = choose (sees_word (codes "begin")) (do the_word (codes "begin"); inside ← sequence_of left role.Handled; pure (Some inside)) (pure None)
+package_statements_of left =
+    choose (sees_word (codes "begin"))
+    (do the_word (codes "begin"); inside ← sequence_of left role.Handled; pure (Some inside)) (pure None)
 
 unfoldable pub package_body_of : ℕ → Place → Parser Package
 package_body_of left place = do
@@ -91,7 +101,13 @@ package_body_of left place = do
   the_word (codes "end")
   named ← end_name_of name.text
   the_delimiter (codes ";")
-  pure (packages.Body (record { place = place; name = name; declarations = before; sequence = inside; named_at_end = named }))
+  pure (packages.Body (record {
+    place = place;
+    name = name;
+    declarations = before;
+    sequence = inside;
+    named_at_end = named;
+  }))
 
 unfoldable pub package_of : ℕ → Parser Package
 package_of left = do
@@ -103,7 +119,9 @@ unfoldable pub packages_from : ℕ → ℕ → List LibraryPackage → Parser (L
 packages_from left zero found = context_of >>= λ context. pure (found, context)
 packages_from left (suc fuel) found = do
   context ← context_of
-  choose (sees_word (codes "package")) (package_of left >>= λ package_read. packages_from left fuel (found ++ record { context = context; «package» = package_read } ∷ [])) (pure (found, context))
+  choose (sees_word (codes "package")) (package_of left
+      >>= λ package_read. packages_from left fuel (found ++ record { context = context; «package» = package_read }
+      ∷ [])) (pure (found, context))
 
 unfoldable pub packages_of : ℕ → Parser (List LibraryPackage × List ContextClause)
 packages_of left = λ ls. packages_from left (length ls) [] ls

@@ -1,5 +1,5 @@
--- Expressions that an image has: forms that are values, and names in them that denote what has a value. A text, `null`, an
--- Image, an Access and the call of a function of the source among operators are none; legality refuses them there.
+-- Expressions that an image has: forms that are values, and names in them that denote what has a value. A text, `null`,
+-- an Image, an Access and the call of a function of the source among operators are none; legality refuses them there.
 use Rattle.std.specs.Prelude.{Bool, true, false, cond, ◌&&◌, List, [], ◌∷◌, Option, Some, None, option_map, unwrap_or, is_some}
 use Rattle.ada_tree.specs.declared.names.Name.{Name}
 use Rattle.ada_tree.specs.declared.operators.Attribute.{Attribute}
@@ -117,7 +117,8 @@ module _ {E : Type 0} (built : E → Built) where
   abbrev pub denoted_built : List (Argument E) → Option Denoted → Built
   denoted_built arguments None n = false
   denoted_built arguments (Some (denotes.Entity e)) n =
-      unwrap_or (option_map (λ kind. entity_built kind (is_built_if_there (first_argument arguments) n)) (kind_at n e)) false
+      unwrap_or (option_map (λ kind. entity_built kind (is_built_if_there (first_argument arguments) n))
+      (kind_at n e)) false
   denoted_built arguments (Some (denotes.Unit u)) n = false
   denoted_built arguments (Some (denotes.Item u item)) n = item_built item arguments n
 

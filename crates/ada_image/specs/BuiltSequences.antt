@@ -48,7 +48,8 @@ module _ {Q : Type 0} (sequence : Q → Built) where
 
   abbrev pub alternatives_built : List (CaseAlternative Q) → Built
   alternatives_built [] n = true
-  alternatives_built (a ∷ rest) n = choices_built (a.choices.first ∷ a.choices.others) n && (sequence a.statements n && alternatives_built rest n)
+  alternatives_built (a ∷ rest) n = choices_built (a.choices.first ∷ a.choices.others) n
+      && (sequence a.statements n && alternatives_built rest n)
 
   abbrev pub handlers_built : List (Handler Q) → Built
   handlers_built [] n = true
@@ -65,22 +66,29 @@ module _ {Q : Type 0} (sequence : Q → Built) where
 
   abbrev pub select_alternatives_built : List (SelectAlternative Q) → Built
   select_alternatives_built [] n = true
-  select_alternatives_built (a ∷ rest) n = value_if_there (guard_of a.guard) n && (alternative_built a.alternative n && select_alternatives_built rest n)
+  select_alternatives_built (a ∷ rest) n = value_if_there (guard_of a.guard) n
+      && (alternative_built a.alternative n && select_alternatives_built rest n)
 
   abbrev pub select_built : SelectForm Q → Built
-  select_built (select.SelectiveAccept s) n = select_alternatives_built (s.alternatives.first ∷ s.alternatives.others) n && sequence_if_built s.otherwise n
+  select_built (select.SelectiveAccept s) n =
+      select_alternatives_built (s.alternatives.first ∷ s.alternatives.others) n && sequence_if_built s.otherwise n
   select_built (select.TimedEntryCall t) n =
-      call_statement_built t.call n && (sequence_if_built t.statements n && (expression_built t.delay.value n && sequence_if_built t.delay_statements n))
-  select_built (select.ConditionalEntryCall c) n = call_statement_built c.call n && (sequence_if_built c.statements n && sequence c.otherwise n)
-  select_built (select.AsynchronousSelect a) n = trigger_built a.trigger n && (sequence_if_built a.statements n && sequence a.abortable n)
+      call_statement_built t.call n && (sequence_if_built t.statements n
+      && (expression_built t.delay.value n && sequence_if_built t.delay_statements n))
+  select_built (select.ConditionalEntryCall c) n = call_statement_built c.call n
+      && (sequence_if_built c.statements n && sequence c.otherwise n)
+  select_built (select.AsynchronousSelect a) n = trigger_built a.trigger n
+      && (sequence_if_built a.statements n && sequence a.abortable n)
 
   abbrev pub statement_built : Statement Q → Built
   statement_built (statement.Null place) n = true
   statement_built (statement.Assignment a) n = assignment_built a n
   statement_built (statement.Call c) n = call_statement_built c n
   statement_built (statement.Delay d) n = expression_built d.value n
-  statement_built (statement.If i) n = expression_built i.condition n && (sequence i.statements n && (elsifs_built i.elsifs n && sequence_if_built i.otherwise n))
-  statement_built (statement.Case c) n = expression_built c.selector n && alternatives_built (c.alternatives.first ∷ c.alternatives.others) n
+  statement_built (statement.If i) n = expression_built i.condition n
+      && (sequence i.statements n && (elsifs_built i.elsifs n && sequence_if_built i.otherwise n))
+  statement_built (statement.Case c) n = expression_built c.selector n
+      && alternatives_built (c.alternatives.first ∷ c.alternatives.others) n
   statement_built (statement.Loop l) n = iteration_built l.iteration n && sequence l.statements n
   statement_built (statement.Exit e) n = value_if_there e.condition n
   statement_built (statement.Block b) n = sequence b.sequence n
@@ -120,7 +128,8 @@ module _ {Q : Type 0} (sequence : Q → Built) where
   declarations_built (d ∷ ds) n = declaration_built d n && declarations_built ds n
 
   abbrev pub parts_built : SequenceParts Q → Built
-  parts_built s n = declarations_built s.declarations n && (statements_built (s.statements.first ∷ s.statements.others) n && handlers_built s.handlers n)
+  parts_built s n = declarations_built s.declarations n
+      && (statements_built (s.statements.first ∷ s.statements.others) n && handlers_built s.handlers n)
 
 abbrev pub same_sequence_built : Built → Built
 same_sequence_built built = built

@@ -1,5 +1,5 @@
--- Simple statements that an image has: calls of what can be called with an actual for each formal, and values and variables
--- that are built.
+-- Simple statements that an image has: calls of what can be called with an actual for each formal, and values and
+-- variables that are built.
 use Rattle.std.specs.Prelude.{Bool, true, false, cond, ◌&&◌, List, [], ◌∷◌, Option, Some, None, option_map, unwrap_or}
 use Rattle.ada_tree.specs.declared.expressions.Expression.{Expression}
 use Rattle.ada_tree.specs.declared.expressions.Expression.TheViews.{out-Expression}
@@ -136,24 +136,30 @@ procedure_built operations.RemoveTask arguments es n = value_there (second_of es
 procedure_built operations.Replenish arguments es n = value_there (second_of es) n
 procedure_built operations.Add arguments es n = value_there (second_of es) n
 procedure_built operations.SetBudget arguments es n = true
-procedure_built operations.SetPriority arguments es n = value_there (first_given es) n && value_if_there (second_of es) n
-procedure_built operations.SetDeadline arguments es n = value_there (first_given es) n && value_if_there (second_of es) n
+procedure_built operations.SetPriority arguments es n = value_there (first_given es) n
+    && value_if_there (second_of es) n
+procedure_built operations.SetDeadline arguments es n = value_there (first_given es) n
+    && value_if_there (second_of es) n
 procedure_built operations.SetQuantum arguments es n = value_there (first_given es) n && value_there (second_of es) n
-procedure_built operations.DelayUntilAndSetDeadline arguments es n = value_there (first_given es) n && value_there (second_of es) n
+procedure_built operations.DelayUntilAndSetDeadline arguments es n = value_there (first_given es) n
+    && value_there (second_of es) n
 procedure_built _ arguments es n = false
 
 abbrev pub entity_call_built : List (Argument Expression) → EntityKind → Built
-entity_call_built arguments (entity.Subprogram number is_function specified formals unit) n = arguments_built formals arguments n
+entity_call_built arguments (entity.Subprogram number is_function specified formals unit) n =
+    arguments_built formals arguments n
 entity_call_built arguments (entity.Entry number unit formals) n = arguments_built formals arguments n
 entity_call_built arguments entity.Main n = true
 entity_call_built arguments _ n = false
 
 abbrev pub item_call_built : Predefined → List (Argument Expression) → Built
-item_call_built (items.Operation o) arguments n = procedure_built o arguments (actuals_for (names_of_formals o) arguments) n
+item_call_built (items.Operation o) arguments n =
+    procedure_built o arguments (actuals_for (names_of_formals o) arguments) n
 item_call_built _ arguments n = false
 
 abbrev pub denoted_call_built : List (Argument Expression) → Option Denoted → Built
-denoted_call_built arguments (Some (denotes.Entity e)) n = unwrap_or (option_map (λ kind. entity_call_built arguments kind n) (kind_at n e)) false
+denoted_call_built arguments (Some (denotes.Entity e)) n =
+    unwrap_or (option_map (λ kind. entity_call_built arguments kind n) (kind_at n e)) false
 denoted_call_built arguments (Some (denotes.Item u item)) n = item_call_built item arguments n
 denoted_call_built arguments _ n = false
 
@@ -179,7 +185,8 @@ choice_value_built (Some v) = is_given v
 
 abbrev pub choice_built : Choice → Built
 choice_built (choice.Value v) n = choice_value_built (static_value n v)
-choice_built (choice.Range low high) n = choice_value_built (static_value n low) && choice_value_built (static_value n high)
+choice_built (choice.Range low high) n = choice_value_built (static_value n low)
+    && choice_value_built (static_value n high)
 choice_built (choice.Others place) n = true
 
 abbrev pub choices_built : List Choice → Built

@@ -8,8 +8,10 @@ use Rattle.ada_image.specs.BuiltExpressions.{Built}
 use Rattle.ada_image.specs.BuiltSequences.{sequence_if_built, declarations_built, sequence_built}
 
 abbrev pub package_built : Package → Built
-package_built (packages.Declaration x) n = declarations_built sequence_built (x.declarations ++ unwrap_or x.private []) n
-package_built (packages.Body x) n = declarations_built sequence_built x.declarations n && sequence_if_built sequence_built x.sequence n
+package_built (packages.Declaration x) n =
+    declarations_built sequence_built (x.declarations ++ unwrap_or x.private []) n
+package_built (packages.Body x) n = declarations_built sequence_built x.declarations n
+    && sequence_if_built sequence_built x.sequence n
 
 abbrev pub packages_built : List LibraryPackage → Built
 packages_built [] n = true

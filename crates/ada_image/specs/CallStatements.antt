@@ -19,7 +19,8 @@ use Rattle.ada_image.specs.ImageOfExpressions.{signs_in}
 use Rattle.ada_image.specs.ImageOfCalls.{call_put, entry_call_put, not_built}
 use Rattle.ada_image.specs.ImageOfProcedures.{procedure_put}
 
-unfoldable pub entity_call_put : Within → Name → List (Argument Expression) → EntityKind → ℕ → Option StatementNo → Making (Option StatementNo)
+unfoldable pub entity_call_put : Within → Name → List (Argument Expression) → EntityKind → ℕ → Option StatementNo
+    → Making (Option StatementNo)
 entity_call_put within name arguments entity.Package signs next = not_built next
 entity_call_put within name arguments entity.Main signs next = action_put action.CallMain signs next
 entity_call_put within name arguments (entity.Mark s) signs next = not_built next
@@ -31,27 +32,34 @@ entity_call_put within name arguments (entity.Component s owner declaration) sig
 entity_call_put within name arguments (entity.Exception declaration) signs next = not_built next
 entity_call_put within name arguments (entity.Subprogram number is_function specified formals unit) signs next =
     call_put within name arguments number unit formals destination.Nowhere signs next
-entity_call_put within name arguments (entity.Entry number unit formals) signs next = entry_call_put within name arguments number unit formals signs next
+entity_call_put within name arguments (entity.Entry number unit formals) signs next =
+    entry_call_put within name arguments number unit formals signs next
 entity_call_put within name arguments entity.Label signs next = not_built next
 
-unfoldable pub item_call_put : Within → Predefined → List (Argument Expression) → ℕ → Option StatementNo → Making (Option StatementNo)
+unfoldable pub item_call_put : Within → Predefined → List (Argument Expression) → ℕ → Option StatementNo
+    → Making (Option StatementNo)
 item_call_put within (items.Mark s) arguments signs next = not_built next
 item_call_put within (items.Constant of_type value) arguments signs next = not_built next
 item_call_put within (items.Truth b) arguments signs next = not_built next
 item_call_put within (items.Exception e) arguments signs next = not_built next
-item_call_put within (items.Operation operation) arguments signs next = procedure_put within operation arguments signs next
+item_call_put within (items.Operation operation) arguments signs next =
+    procedure_put within operation arguments signs next
 
-unfoldable pub denoted_call_put : Within → Name → List (Argument Expression) → Option Denoted → ℕ → Option StatementNo → Making (Option StatementNo)
+unfoldable pub denoted_call_put : Within → Name → List (Argument Expression) → Option Denoted → ℕ
+    → Option StatementNo → Making (Option StatementNo)
 denoted_call_put within name arguments None signs next = not_built next
 denoted_call_put within name arguments (Some (denotes.Entity e)) signs next =
-    unwrap_or (option_map (λ kind. entity_call_put within name arguments kind signs next) (kind_at within.names e)) (not_built next)
+    unwrap_or (option_map (λ kind. entity_call_put within name arguments kind signs next) (kind_at within.names e))
+    (not_built next)
 denoted_call_put within name arguments (Some (denotes.Unit u)) signs next = not_built next
-denoted_call_put within name arguments (Some (denotes.Item u item)) signs next = item_call_put within item arguments signs next
+denoted_call_put within name arguments (Some (denotes.Item u item)) signs next =
+    item_call_put within item arguments signs next
 
 unfoldable pub signs_in_actuals : Within → List (Argument Expression) → ℕ
 signs_in_actuals within [] = 0
 signs_in_actuals within (a ∷ rest) = signs_in within a.value + signs_in_actuals within rest
 
-unfoldable pub call_statement_put : Within → Name → List (Argument Expression) → Option StatementNo → Making (Option StatementNo)
+unfoldable pub call_statement_put : Within → Name → List (Argument Expression) → Option StatementNo
+    → Making (Option StatementNo)
 call_statement_put within name arguments next =
     denoted_call_put within name arguments (denoted_by within.names name) (signs_in_actuals within arguments) next

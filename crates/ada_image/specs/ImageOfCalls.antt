@@ -1,4 +1,5 @@
--- Calls (6.4, 9.5, 9.5.3, A.10.7): whom a name calls, the actuals in the order of the formals, and predefined procedures.
+-- Calls (6.4, 9.5, 9.5.3, A.10.7): whom a name calls, the actuals in the order of the formals, and predefined
+-- procedures.
 use Rattle.std.specs.Prelude.{ℕ, cond, List, [], ◌∷◌, ◌++◌, Option, Some, None, option_map, map}
 use Rattle.ada_tree.specs.declared.names.Name.{Name}
 use Rattle.ada_tree.specs.declared.expressions.Expression.{Expression}
@@ -135,12 +136,14 @@ owner_of_entry within name (entry_unit.Task u) = owner_before (named_before with
 owner_of_entry within name (entry_unit.Protected u) = owner_before (object_before within name)
 
 -- a call of a declared subprogram, with where its result goes
-unfoldable pub call_put : Within → Name → List (Argument Expression) → SubprogramNo → Option ProtectedUnitNo → List Formal → Destination → ℕ → Option StatementNo → Making (Option StatementNo)
+unfoldable pub call_put : Within → Name → List (Argument Expression) → SubprogramNo → Option ProtectedUnitNo
+    → List Formal → Destination → ℕ → Option StatementNo → Making (Option StatementNo)
 call_put within name arguments number unit formals d signs next = do
   actuals ← arguments_made within formals arguments
   action_put (action.Call (callee_of within name number unit) actuals d) signs next
 
-unfoldable pub entry_call_put : Within → Name → List (Argument Expression) → EntryNo → EntryUnit → List Formal → ℕ → Option StatementNo → Making (Option StatementNo)
+unfoldable pub entry_call_put : Within → Name → List (Argument Expression) → EntryNo → EntryUnit → List Formal → ℕ
+    → Option StatementNo → Making (Option StatementNo)
 entry_call_put within name arguments number unit formals signs next = do
   actuals ← arguments_made within formals arguments
   action_put (action.EntryCall number (owner_of_entry within name unit) actuals) signs next
@@ -169,7 +172,8 @@ call_of_kind name arguments (entity.Subprogram number is_function specified form
 call_of_kind name arguments (entity.Entry number unit formals) = None
 call_of_kind name arguments entity.Label = None
 
-unfoldable pub call_of_name : Within → Name → Option AttributeDesignator → List (Argument Expression) → Option FunctionCall
+unfoldable pub call_of_name : Within → Name → Option AttributeDesignator → List (Argument Expression)
+    → Option FunctionCall
 call_of_name within name None arguments = and_then (kind_named within name) (call_of_kind name arguments)
 call_of_name within name (Some a) arguments = None
 
@@ -189,7 +193,8 @@ call_of_form within (form.Named name a arguments) = call_of_name within name a a
 unfoldable pub function_call : Within → Expression → Option FunctionCall
 function_call within e = call_of_form within (out-Expression e).form
 
-unfoldable pub function_call_put : Within → FunctionCall → Destination → ℕ → Option StatementNo → Making (Option StatementNo)
+unfoldable pub function_call_put : Within → FunctionCall → Destination → ℕ → Option StatementNo
+    → Making (Option StatementNo)
 function_call_put within c d signs next = call_put within c.name c.arguments c.number c.unit c.formals d signs next
 
 -- ---- Put_Line (A.10.7): a text, an Image, or several joined

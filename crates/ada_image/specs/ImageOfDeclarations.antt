@@ -72,21 +72,26 @@ initialize_if false d next = pure next
 unfoldable pub function_call_if : Within → Option Expression → Option FunctionCall
 function_call_if within e = and_then e (function_call within)
 
-unfoldable pub object_declaration_put : Within → DeclNo → Option Subtype → Option FunctionCall → ℕ → Option StatementNo → Making (Option StatementNo)
-object_declaration_put within d s (Some c) signs next = function_call_put within c (destination.Declaration d) signs next
+unfoldable pub object_declaration_put : Within → DeclNo → Option Subtype → Option FunctionCall → ℕ
+    → Option StatementNo → Making (Option StatementNo)
+object_declaration_put within d s (Some c) signs next =
+    function_call_put within c (destination.Declaration d) signs next
 object_declaration_put within d s None signs next = action_put (action.Declare d) (signs_of_object within signs s) next
 
-unfoldable pub object_elaborated : Within → DeclNo → Option Subtype → Option Expression → Option StatementNo → Making (Option StatementNo)
+unfoldable pub object_elaborated : Within → DeclNo → Option Subtype → Option Expression → Option StatementNo
+    → Making (Option StatementNo)
 object_elaborated within d s initial next = do
   behind ← initialize_if (subtype_is is_controlled_type s) d next
   object_declaration_put within d s (function_call_if within initial) (signs_if within initial) behind
 
-unfoldable pub object_put : Within → ℕ → Option Expression → Identifier → Option StatementNo → Making (Option StatementNo)
+unfoldable pub object_put : Within → ℕ → Option Expression → Identifier → Option StatementNo
+    → Making (Option StatementNo)
 object_put within part initial i next = cond (subtype_is is_task_type (subtype_declared_as within i))
     (action_put (action.CreateTask (number_declared within i) part) 0 next)
     (object_elaborated within (number_declared within i) (subtype_declared_as within i) initial next)
 
-unfoldable pub objects_put : Within → ℕ → Option Expression → List Identifier → Option StatementNo → Making (Option StatementNo)
+unfoldable pub objects_put : Within → ℕ → Option Expression → List Identifier → Option StatementNo
+    → Making (Option StatementNo)
 objects_put within part initial [] next = pure next
 objects_put within part initial (i ∷ rest) next = do
   later ← objects_put within part initial rest next
@@ -159,11 +164,13 @@ subprogram_declared_as within i = and_then (kind_declared within i) subprogram_o
 module _ {Q : Type 0} (sequence : Q → SequenceMaking) where
   unfoldable pub body_put : Within → Place → Option SubprogramNo → Bool → Q → Making (Unit {0})
   body_put within place function is_task_body q = do
-    first ← sequence q (sequence_place.AsBody is_task_body) (in_body_of (scope_at within.names place) function within) None
+    first ← sequence q (sequence_place.AsBody is_task_body)
+        (in_body_of (scope_at within.names place) function within) None
     first_put (scope_at within.names place) first
 
   unfoldable pub operation_body_put : Within → OperationBody Q → Making (Unit {0})
-  operation_body_put within (body_of.Subprogram s body) = body_put within s.place (subprogram_declared_as within s.name) false body.sequence
+  operation_body_put within (body_of.Subprogram s body) =
+      body_put within s.place (subprogram_declared_as within s.name) false body.sequence
   operation_body_put within (body_of.Entry head body) = body_put within head.place None false body.sequence
 
   unfoldable pub operation_bodies_put : Within → List (OperationBody Q) → Making (Unit {0})
@@ -178,11 +185,14 @@ module _ {Q : Type 0} (sequence : Q → SequenceMaking) where
   inner_body_put within (declaration.Subtype s) = pure tt
   inner_body_put within (declaration.Exception names) = pure tt
   inner_body_put within (declaration.Subprogram s) = pure tt
-  inner_body_put within (declaration.SubprogramBody s body) = body_put within s.place (subprogram_declared_as within s.name) false body.sequence
+  inner_body_put within (declaration.SubprogramBody s body) =
+      body_put within s.place (subprogram_declared_as within s.name) false body.sequence
   inner_body_put within (declaration.Task t) = pure tt
-  inner_body_put within (declaration.TaskBody place name body) = body_put (in_unit (entity_denoted within.names name.place) within) place None true body.sequence
+  inner_body_put within (declaration.TaskBody place name body) =
+      body_put (in_unit (entity_denoted within.names name.place) within) place None true body.sequence
   inner_body_put within (declaration.Protected p) = pure tt
-  inner_body_put within (declaration.ProtectedBody p) = operation_bodies_put (in_unit (entity_denoted within.names p.name.place) within) p.operations
+  inner_body_put within (declaration.ProtectedBody p) =
+      operation_bodies_put (in_unit (entity_denoted within.names p.name.place) within) p.operations
   inner_body_put within (declaration.Use place name) = pure tt
 
   -- the bodies among declarations, in the order of the text
@@ -199,14 +209,16 @@ module _ {Q : Type 0} (sequence : Q → SequenceMaking) where
     first ← statements_put sequence within (s.statements.first ∷ s.statements.others) next
     activation_put part first
 
-  unfoldable pub with_handlers_put : Within → Option ℕ → SequenceParts Q → Option StatementNo → Making (Option StatementNo)
+  unfoldable pub with_handlers_put : Within → Option ℕ → SequenceParts Q → Option StatementNo
+      → Making (Option StatementNo)
   with_handlers_put within part s next = do
     h ← reserved
     first ← unhandled_put (in_construct h within) part s None
     handlers ← handlers_put sequence within s.handlers next
     put_at h (action.Handled handlers (the_action first)) 0 next
 
-  unfoldable pub handled_put : Within → Option ℕ → SequenceParts Q → List (Handler Q) → Option StatementNo → Making (Option StatementNo)
+  unfoldable pub handled_put : Within → Option ℕ → SequenceParts Q → List (Handler Q) → Option StatementNo
+      → Making (Option StatementNo)
   handled_put within part s [] next = unhandled_put within part s next
   handled_put within part s (h ∷ hs) next = with_handlers_put within part s next
 
@@ -218,7 +230,8 @@ module _ {Q : Type 0} (sequence : Q → SequenceMaking) where
     declarations_put within 0 s.declarations ended
 
   unfoldable pub parts_put : SequenceParts Q → SequenceMaking
-  parts_put s sequence_place.StatementsAlone within next = statements_put sequence within (s.statements.first ∷ s.statements.others) next
+  parts_put s sequence_place.StatementsAlone within next =
+      statements_put sequence within (s.statements.first ∷ s.statements.others) next
   parts_put s (sequence_place.BehindDeclarations part) within next = handled_put within part s s.handlers next
   parts_put s (sequence_place.AsBody is_task_body) within next = whole_put within is_task_body s
 

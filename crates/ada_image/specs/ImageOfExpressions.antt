@@ -95,7 +95,8 @@ abbrev pub highest_operator : HighestOperator → UnaryOperator
 highest_operator highest.Absolute = unary.Abs
 highest_operator highest.Not = unary.Not
 
--- ---- what an expression gives the image: its value where it is a numeric literal, its name where it is one in brackets or
+-- ---- what an expression gives the image: its value where it is a numeric literal, its name where it is one in
+-- brackets or
 -- without, the number of its operator signs and calls of predefined functions (own), and how it is made
 
 pub record ExpressionImage : Type 0 where
@@ -136,14 +137,17 @@ is_around within e = list_any (eqb e) within.units
 unfoldable pub object_outside : Within → ℕ → Option DeclNo
 object_outside within e = cond (is_around within e) None (and_then (kind_at within.names e) object_number)
 
--- the object before the last part of a name; the unit in whose body the name stands is none, as in an expanded name (4.1.3)
+-- the object before the last part of a name; the unit in whose body the name stands is none, as in an expanded name
+-- (4.1.3)
 unfoldable pub object_before : Within → Name → Option DeclNo
-object_before within name = and_then (prefix_part name) (λ i. and_then (entity_denoted within.names i.place) (object_outside within))
+object_before within name =
+    and_then (prefix_part name) (λ i. and_then (entity_denoted within.names i.place) (object_outside within))
 
 -- the same, where the unit counts too
 unfoldable pub named_before : Within → Name → Option DeclNo
 named_before within name =
-    and_then (prefix_part name) (λ i. and_then (entity_denoted within.names i.place) (λ e. and_then (kind_at within.names e) object_number))
+    and_then (prefix_part name) (λ i. and_then (entity_denoted within.names i.place)
+    (λ e. and_then (kind_at within.names e) object_number))
 
 abbrev pub no_declaration_no : DeclNo
 no_declaration_no = record { 0 = 0 }
@@ -158,11 +162,13 @@ object_of_kind within name entity.Main = object.Declared no_declaration_no
 object_of_kind within name (entity.Mark s) = object.Declared no_declaration_no
 object_of_kind within name (entity.Literal enumeration position) = object.Declared no_declaration_no
 object_of_kind within name (entity.Object s constant value declaration) = object.Declared declaration
-object_of_kind within name (entity.Parameter s mode declaration) = object.Declared (unwrap_or declaration no_declaration_no)
+object_of_kind within name (entity.Parameter s mode declaration) =
+    object.Declared (unwrap_or declaration no_declaration_no)
 object_of_kind within name (entity.LoopParameter declaration) = object.Declared declaration
 object_of_kind within name (entity.Component s o declaration) = component_name o (object_before within name) declaration
 object_of_kind within name (entity.Exception declaration) = object.Declared no_declaration_no
-object_of_kind within name (entity.Subprogram number is_function specified formals unit) = object.Declared no_declaration_no
+object_of_kind within name (entity.Subprogram number is_function specified formals unit) =
+    object.Declared no_declaration_no
 object_of_kind within name (entity.Entry number unit formals) = object.Declared no_declaration_no
 object_of_kind within name entity.Label = object.Declared no_declaration_no
 
@@ -170,7 +176,8 @@ unfoldable pub kind_named : Within → Name → Option EntityKind
 kind_named within name = and_then (denoted_by within.names name) (λ d. and_then (entity_of d) (kind_at within.names))
 
 unfoldable pub object_named : Within → Name → ObjectName
-object_named within name = unwrap_or (option_map (object_of_kind within name) (kind_named within name)) (object.Declared no_declaration_no)
+object_named within name =
+    unwrap_or (option_map (object_of_kind within name) (kind_named within name)) (object.Declared no_declaration_no)
 
 -- the object of an actual that stands for itself
 unfoldable pub thing_named : Within → Name → DeclNo
@@ -235,8 +242,10 @@ count_made None = no_value
 count_made (Some kind) = count_of kind
 
 unfoldable pub attribute_made : Within → Name → Attribute → Making ExprNo
-attribute_made within name attribute.First = known (unwrap_or (attribute_value within.names name attribute.First) (value.Whole (pos 0)))
-attribute_made within name attribute.Last = known (unwrap_or (attribute_value within.names name attribute.Last) (value.Whole (pos 0)))
+attribute_made within name attribute.First =
+    known (unwrap_or (attribute_value within.names name attribute.First) (value.Whole (pos 0)))
+attribute_made within name attribute.Last =
+    known (unwrap_or (attribute_value within.names name attribute.Last) (value.Whole (pos 0)))
 attribute_made within name attribute.Image = no_value
 attribute_made within name attribute.Count = count_made (kind_named within name)
 attribute_made within name attribute.Identity = value_put (valuation.Thing (thing_named within name))
@@ -244,7 +253,8 @@ attribute_made within name attribute.Access = no_value
 
 -- an object by its name, or a value
 unfoldable pub object_made : Within → Name → Option Subtype → DeclNo → Option (Making ExprNo) → Making ExprNo
-object_made within name s d index = cond (subtype_is is_thing s) (value_put (valuation.Thing d)) (variable_put within name index)
+object_made within name s d index =
+    cond (subtype_is is_thing s) (value_put (valuation.Thing d)) (variable_put within name index)
 
 unfoldable pub entity_made : Within → Name → Option (Making ExprNo) → EntityKind → Making ExprNo
 entity_made within name index entity.Package = no_value
@@ -252,7 +262,8 @@ entity_made within name index entity.Main = no_value
 entity_made within name index (entity.Mark s) = no_value
 entity_made within name index (entity.Literal enumeration position) = known (value.Literal position)
 entity_made within name index (entity.Object s constant value declaration) = object_made within name s declaration index
-entity_made within name index (entity.Parameter s mode declaration) = object_made within name s (unwrap_or declaration no_declaration_no) index
+entity_made within name index (entity.Parameter s mode declaration) =
+    object_made within name s (unwrap_or declaration no_declaration_no) index
 entity_made within name index (entity.LoopParameter declaration) = variable_put within name index
 entity_made within name index (entity.Component s owner declaration) = variable_put within name index
 entity_made within name index (entity.Exception declaration) = no_value
@@ -268,11 +279,13 @@ is_for number name at (Some formal) = bytes_eq formal.text name
 module _ {E : Type 0} where
   unfoldable pub argument_from : ℕ → List ℕ → ℕ → List (Argument E) → Option E
   argument_from number name at [] = None
-  argument_from number name at (a ∷ rest) = cond (is_for number name at a.formal) (Some a.value) (argument_from number name (suc at) rest)
+  argument_from number name at (a ∷ rest) =
+      cond (is_for number name at a.formal) (Some a.value) (argument_from number name (suc at) rest)
 
   unfoldable pub arguments_from : ℕ → List (List ℕ) → List (Argument E) → List (Option E)
   arguments_from number [] arguments = []
-  arguments_from number (name ∷ names) arguments = argument_from number name 0 arguments ∷ arguments_from (suc number) names arguments
+  arguments_from number (name ∷ names) arguments = argument_from number name 0 arguments
+      ∷ arguments_from (suc number) names arguments
 
   -- the actuals of formals with these names, in the order of the formals
   unfoldable pub actuals_for : List (List ℕ) → List (Argument E) → List (Option E)
@@ -381,7 +394,8 @@ module _ {E : Type 0} (expression : E → ExpressionImage) where
   item_made (items.Constant of_type v) arguments within = known v
   item_made (items.Truth b) arguments within = known (value.Truth b)
   item_made (items.Exception raised) arguments within = no_value
-  item_made (items.Operation operation) arguments within = function_made operation (images_for (actuals_for (names_of_formals operation) arguments)) within
+  item_made (items.Operation operation) arguments within =
+      function_made operation (images_for (actuals_for (names_of_formals operation) arguments)) within
 
   -- an element's index is its one argument (4.1.1)
   abbrev pub index_in : List (Argument E) → Within → Option (Making ExprNo)
@@ -502,7 +516,12 @@ module _ {E : Type 0} (expression : E → ExpressionImage) where
   }
   form_image (form.Text place text) = record { literal = None; name = None; signs = λ n. 0; made = λ within. no_value }
   form_image (form.Null place) = record { literal = None; name = None; signs = λ n. 0; made = λ within. no_value }
-  form_image (form.Bracketed place inner) = record { literal = None; name = (expression inner).name; signs = (expression inner).signs; made = (expression inner).made }
+  form_image (form.Bracketed place inner) = record {
+    literal = None;
+    name = (expression inner).name;
+    signs = (expression inner).signs;
+    made = (expression inner).made;
+  }
   form_image (form.Named name a arguments) = record {
     literal = None;
     name = Some name;

@@ -54,11 +54,13 @@ variable_of within (Some e) = variable_in within e
 -- the single object of the unit in whose body the name stands
 unfoldable pub innermost_object : Within → List ℕ → Option DeclNo
 innermost_object within [] = None
-innermost_object within (e ∷ es) = option_or (and_then (kind_at within.names e) object_number) (innermost_object within es)
+innermost_object within (e ∷ es) =
+    option_or (and_then (kind_at within.names e) object_number) (innermost_object within es)
 
 unfoldable pub object_of_handler : Within → Name → Option DeclNo
 object_of_handler within name =
-    option_or (and_then (prefix_part name) (λ i. and_then (entity_denoted within.names i.place) (λ e. and_then (kind_at within.names e) object_number)))
+    option_or (and_then (prefix_part name) (λ i. and_then (entity_denoted within.names i.place)
+    (λ e. and_then (kind_at within.names e) object_number)))
     (innermost_object within within.units)
 
 unfoldable pub handler_with : Within → Name → EntityKind → Option HandlerName
@@ -92,11 +94,13 @@ abbrev pub is_called : List ℕ → Argument Expression → Bool
 is_called name a = formal_is name a.formal
 
 unfoldable pub moment_of : List (Argument Expression) → Option Expression
-moment_of arguments = option_or (argument_from 1 (codes "at_time") 0 arguments) (argument_from 1 (codes "in_time") 0 arguments)
+moment_of arguments =
+    option_or (argument_from 1 (codes "at_time") 0 arguments) (argument_from 1 (codes "in_time") 0 arguments)
 
 unfoldable pub is_in_time : Within → List (Argument Expression) → Bool
 is_in_time within arguments = cond (list_any (is_called (codes "in_time")) arguments) true
-    (cond (list_any (is_called (codes "at_time")) arguments) false (unwrap_or (option_map (is_span within.names) (moment_of arguments)) false))
+    (cond (list_any (is_called (codes "at_time")) arguments) false
+    (unwrap_or (option_map (is_span within.names) (moment_of arguments)) false))
 
 abbrev pub setting_with : Bool → ExprNo → Setting
 setting_with true e = setting.In e
@@ -107,41 +111,48 @@ setting_made within arguments = do
   e ← value_or_none within (moment_of arguments)
   pure (setting_with (is_in_time within arguments) e)
 
-unfoldable pub set_event_put : Within → List (Argument Expression) → List (Option Expression) → ℕ → Option StatementNo → Making (Option StatementNo)
+unfoldable pub set_event_put : Within → List (Argument Expression) → List (Option Expression) → ℕ
+    → Option StatementNo → Making (Option StatementNo)
 set_event_put within arguments es signs next = do
   s ← setting_made within arguments
   action_put (action.SetEvent (thing_of within (first_given es)) s (handler_of within (third_of es))) signs next
 
-unfoldable pub set_timer_put : Within → List (Argument Expression) → List (Option Expression) → ℕ → Option StatementNo → Making (Option StatementNo)
+unfoldable pub set_timer_put : Within → List (Argument Expression) → List (Option Expression) → ℕ
+    → Option StatementNo → Making (Option StatementNo)
 set_timer_put within arguments es signs next = do
   s ← setting_made within arguments
   action_put (action.SetTimer (thing_of within (first_given es)) s (handler_of within (third_of es))) signs next
 
 -- ---- actions of a thing and a variable, of a thing and a value, of values
 
-unfoldable pub cancel_put : (DeclNo → VariableName → StatementForm) → Within → List (Option Expression) → ℕ → Option StatementNo → Making (Option StatementNo)
+unfoldable pub cancel_put : (DeclNo → VariableName → StatementForm) → Within → List (Option Expression) → ℕ
+    → Option StatementNo → Making (Option StatementNo)
 cancel_put f within es signs next = do
   v ← variable_of within (second_of es)
   action_put (f (thing_of within (first_given es)) v) signs next
 
-unfoldable pub budget_put : (DeclNo → ExprNo → StatementForm) → Within → List (Option Expression) → ℕ → Option StatementNo → Making (Option StatementNo)
+unfoldable pub budget_put : (DeclNo → ExprNo → StatementForm) → Within → List (Option Expression) → ℕ
+    → Option StatementNo → Making (Option StatementNo)
 budget_put f within es signs next = do
   e ← value_or_none within (second_of es)
   action_put (f (thing_of within (first_given es)) e) signs next
 
-unfoldable pub task_put : (ExprNo → Option ExprNo → StatementForm) → Within → List (Option Expression) → ℕ → Option StatementNo → Making (Option StatementNo)
+unfoldable pub task_put : (ExprNo → Option ExprNo → StatementForm) → Within → List (Option Expression) → ℕ
+    → Option StatementNo → Making (Option StatementNo)
 task_put f within es signs next = do
   e ← value_or_none within (first_given es)
   t ← optional_value within (second_of es)
   action_put (f e t) signs next
 
-unfoldable pub values_put : (ExprNo → ExprNo → StatementForm) → Within → List (Option Expression) → ℕ → Option StatementNo → Making (Option StatementNo)
+unfoldable pub values_put : (ExprNo → ExprNo → StatementForm) → Within → List (Option Expression) → ℕ
+    → Option StatementNo → Making (Option StatementNo)
 values_put f within es signs next = do
   a ← value_or_none within (first_given es)
   b ← value_or_none within (second_of es)
   action_put (f a b) signs next
 
-unfoldable pub procedure_with : Within → Operation → List (Argument Expression) → List (Option Expression) → ℕ → Option StatementNo → Making (Option StatementNo)
+unfoldable pub procedure_with : Within → Operation → List (Argument Expression) → List (Option Expression) → ℕ
+    → Option StatementNo → Making (Option StatementNo)
 procedure_with within operations.PutLine arguments es signs next = put_line_put within es signs next
 procedure_with within operations.Clock arguments es signs next = not_built next
 procedure_with within operations.Microseconds arguments es signs next = not_built next
@@ -151,11 +162,13 @@ procedure_with within operations.Minutes arguments es signs next = not_built nex
 procedure_with within operations.ToDuration arguments es signs next = not_built next
 procedure_with within operations.ToTimeSpan arguments es signs next = not_built next
 procedure_with within operations.SetEvent arguments es signs next = set_event_put within arguments es signs next
-procedure_with within operations.CancelEvent arguments es signs next = cancel_put action.CancelEvent within es signs next
+procedure_with within operations.CancelEvent arguments es signs next =
+    cancel_put action.CancelEvent within es signs next
 procedure_with within operations.TimeOfEvent arguments es signs next = not_built next
 procedure_with within operations.ExecutionClock arguments es signs next = not_built next
 procedure_with within operations.SetTimer arguments es signs next = set_timer_put within arguments es signs next
-procedure_with within operations.CancelTimer arguments es signs next = cancel_put action.CancelTimer within es signs next
+procedure_with within operations.CancelTimer arguments es signs next =
+    cancel_put action.CancelTimer within es signs next
 procedure_with within operations.TimeRemaining arguments es signs next = not_built next
 procedure_with within operations.AddTask arguments es signs next = budget_put action.AddTask within es signs next
 procedure_with within operations.RemoveTask arguments es signs next = budget_put action.RemoveTask within es signs next
@@ -165,15 +178,19 @@ procedure_with within operations.BudgetHasExpired arguments es signs next = not_
 procedure_with within operations.BudgetRemaining arguments es signs next = not_built next
 procedure_with within operations.SetBudget arguments es signs next =
     action_put (action.SetBudget (thing_of within (first_given es)) (handler_of within (second_of es))) signs next
-procedure_with within operations.CancelBudget arguments es signs next = cancel_put action.CancelBudget within es signs next
+procedure_with within operations.CancelBudget arguments es signs next =
+    cancel_put action.CancelBudget within es signs next
 procedure_with within operations.SetPriority arguments es signs next = task_put action.SetPriority within es signs next
 procedure_with within operations.GetPriority arguments es signs next = not_built next
 procedure_with within operations.CurrentTask arguments es signs next = not_built next
 procedure_with within operations.SetQuantum arguments es signs next = values_put action.SetQuantum within es signs next
 procedure_with within operations.SetDeadline arguments es signs next = task_put action.SetDeadline within es signs next
 procedure_with within operations.GetDeadline arguments es signs next = not_built next
-procedure_with within operations.DelayUntilAndSetDeadline arguments es signs next = values_put action.DelayUntilAndSetDeadline within es signs next
+procedure_with within operations.DelayUntilAndSetDeadline arguments es signs next =
+    values_put action.DelayUntilAndSetDeadline within es signs next
 procedure_with within operations.PortValue arguments es signs next = not_built next
 
-unfoldable pub procedure_put : Within → Operation → List (Argument Expression) → ℕ → Option StatementNo → Making (Option StatementNo)
-procedure_put within operation arguments signs next = procedure_with within operation arguments (actuals_for (names_of_formals operation) arguments) signs next
+unfoldable pub procedure_put : Within → Operation → List (Argument Expression) → ℕ → Option StatementNo
+    → Making (Option StatementNo)
+procedure_put within operation arguments signs next =
+    procedure_with within operation arguments (actuals_for (names_of_formals operation) arguments) signs next

@@ -1,5 +1,5 @@
--- Statements to actions (clauses 5, 6.5, 9.5.2, 9.6 to 9.8, 11.3): each leads to what comes next, and what stands inside a
--- compound statement leads to what comes behind it.
+-- Statements to actions (clauses 5, 6.5, 9.5.2, 9.6 to 9.8, 11.3): each leads to what comes next, and what stands
+-- inside a compound statement leads to what comes behind it.
 use Rattle.std.specs.Prelude.{ℕ, suc, ◌+◌, Bool, true, false, cond, List, [], ◌∷◌, Option, Some, None, option_map, unwrap_or, eqb, map, pos}
 use Rattle.std.specs.List.{find}
 use Rattle.ann_base.specs.declared.places.Place.{Place}
@@ -94,7 +94,8 @@ use Rattle.ada_image.specs.CallStatements.{call_statement_put, signs_in_actuals}
 
 unfoldable pub position_of_scope : ℕ → Place → List NumberedScope → ℕ
 position_of_scope number place [] = 0
-position_of_scope number place (s ∷ ss) = cond (same_place s.place place) number (position_of_scope (suc number) place ss)
+position_of_scope number place (s ∷ ss) =
+    cond (same_place s.place place) number (position_of_scope (suc number) place ss)
 
 unfoldable pub scope_at : Names → Place → ℕ
 scope_at n place = position_of_scope 0 place n.scopes
@@ -106,13 +107,16 @@ array_name within name = unwrap_or (option_map (object_named within) name) (obje
 
 unfoldable pub array_assigned : Within → Assignment → ℕ → Option StatementNo → Making (Option StatementNo)
 array_assigned within a signs next =
-    action_put (action.AssignArray (object_named within a.target) (array_name within (expression_image a.value).name)) signs next
+    action_put (action.AssignArray (object_named within a.target)
+    (array_name within (expression_image a.value).name)) signs next
 
 unfoldable pub controlled_assigned : Within → Assignment → Option StatementNo → Making (Option StatementNo)
 controlled_assigned within a next =
-    action_put (action.AssignControlled (thing_named within a.target) (thing_in within (expression_image a.value).name)) 0 next
+    action_put (action.AssignControlled (thing_named within a.target)
+    (thing_in within (expression_image a.value).name)) 0 next
 
-unfoldable pub value_assigned : Within → Assignment → Option FunctionCall → ℕ → Option StatementNo → Making (Option StatementNo)
+unfoldable pub value_assigned : Within → Assignment → Option FunctionCall → ℕ → Option StatementNo
+    → Making (Option StatementNo)
 value_assigned within a None signs next = do
   target ← target_made within a.target a.index
   value ← expression_made a.value within
@@ -121,9 +125,11 @@ value_assigned within a (Some c) signs next = do
   target ← target_made within a.target a.index
   function_call_put within c (destination.Variable target) signs next
 
-unfoldable pub assigned_whole : Within → Assignment → Option Subtype → ℕ → Option StatementNo → Making (Option StatementNo)
+unfoldable pub assigned_whole : Within → Assignment → Option Subtype → ℕ → Option StatementNo
+    → Making (Option StatementNo)
 assigned_whole within a s signs next = cond (subtype_is is_kept s) (controlled_assigned within a next)
-    (cond (subtype_is is_array_type s) (array_assigned within a signs next) (value_assigned within a (function_call within a.value) signs next))
+    (cond (subtype_is is_array_type s) (array_assigned within a signs next)
+    (value_assigned within a (function_call within a.value) signs next))
 
 unfoldable pub assigned : Within → Assignment → Option Expression → ℕ → Option StatementNo → Making (Option StatementNo)
 assigned within a None signs next = assigned_whole within a (subtype_of_name within.names a.target) signs next
@@ -146,7 +152,8 @@ delay_put within d next = do
 abbrev pub no_function : SubprogramNo
 no_function = record { 0 = 0 }
 
-unfoldable pub value_returned : Within → SubprogramNo → Expression → Option FunctionCall → Option StatementNo → Making (Option StatementNo)
+unfoldable pub value_returned : Within → SubprogramNo → Expression → Option FunctionCall → Option StatementNo
+    → Making (Option StatementNo)
 value_returned within f e None next = do
   value ← expression_made e within
   action_put (action.ReturnValue f value) (signs_in within e) next
@@ -154,7 +161,8 @@ value_returned within f e (Some c) next = function_call_put within c (destinatio
 
 unfoldable pub return_put : Within → Option Expression → Option StatementNo → Making (Option StatementNo)
 return_put within None next = action_put action.Return 0 next
-return_put within (Some e) next = value_returned within (unwrap_or within.function no_function) e (function_call within e) next
+return_put within (Some e) next =
+    value_returned within (unwrap_or within.function no_function) e (function_call within e) next
 
 -- exceptions (11.1)
 abbrev pub raised_kind : EntityKind → Raised
@@ -184,7 +192,8 @@ exception_denoted n (denotes.Unit u) = raised.Program
 exception_denoted n (denotes.Item u item) = raised_item item
 
 unfoldable pub exception_named : Within → Name → Raised
-exception_named within name = unwrap_or (option_map (exception_denoted within.names) (denoted_by within.names name)) raised.Program
+exception_named within name =
+    unwrap_or (option_map (exception_denoted within.names) (denoted_by within.names name)) raised.Program
 
 unfoldable pub raise_put : Within → Option Name → Option StatementNo → Making (Option StatementNo)
 raise_put within None next = action_put (action.RaiseAgain (scope_no (unwrap_or within.handling 0))) 0 next
@@ -227,7 +236,8 @@ choices_made within cs = choice_made within cs.first ∷ map (choice_made within
 
 unfoldable pub handled_made : Within → HandledExceptions → List ExceptionChoice
 handled_made within (exceptions.Named names) =
-    exception_choice.Named (exception_named within names.first) ∷ map (λ name. exception_choice.Named (exception_named within name)) names.others
+    exception_choice.Named (exception_named within names.first)
+    ∷ map (λ name. exception_choice.Named (exception_named within name)) names.others
 handled_made within (exceptions.Others place) = exception_choice.Others ∷ []
 
 abbrev pub loop_parameter_number : EntityKind → Option DeclNo
@@ -240,10 +250,13 @@ abbrev pub no_entry : EntryNo
 no_entry = record { 0 = 0 }
 
 unfoldable pub entry_at : Within → Place → EntryNo
-entry_at within place = unwrap_or (and_then (entity_denoted within.names place) (λ e. and_then (kind_at within.names e) entry_number)) no_entry
+entry_at within place =
+    unwrap_or (and_then (entity_denoted within.names place) (λ e. and_then (kind_at within.names e) entry_number))
+    no_entry
 
 unfoldable pub abort_put : Within → OneOrMore Name → Option StatementNo → Making (Option StatementNo)
-abort_put within tasks next = action_put (action.Abort (thing_named within tasks.first ∷ map (thing_named within) tasks.others)) 0 next
+abort_put within tasks next =
+    action_put (action.Abort (thing_named within tasks.first ∷ map (thing_named within) tasks.others)) 0 next
 
 abbrev pub unit_of_kind : EntityKind → Option EntryUnit
 unit_of_kind (entity.Entry number unit formals) = Some unit
@@ -257,7 +270,8 @@ unit_of_entry within name = unwrap_or (and_then (kind_named within name) unit_of
 
 unfoldable pub requeue_put : Within → Name → Bool → Option StatementNo → Making (Option StatementNo)
 requeue_put within name with_abort next =
-    action_put (action.Requeue (entry_at within (last_part name).place) (owner_of_entry within name (unit_of_entry within name)) with_abort) 0 next
+    action_put (action.Requeue (entry_at within (last_part name).place)
+    (owner_of_entry within name (unit_of_entry within name)) with_abort) 0 next
 
 abbrev pub guard_of : Option Guard → Option Expression
 guard_of guard = option_map (λ g. g.condition) guard
@@ -272,7 +286,9 @@ label_of within l = and_then l.label (λ x. entity_denoted within.names x.name.p
 
 -- the declaration of a loop parameter
 unfoldable pub parameter_of : Within → Identifier → DeclNo
-parameter_of within i = unwrap_or (and_then (entity_denoted within.names i.place) (λ e. and_then (kind_at within.names e) loop_parameter_number)) no_declaration_no
+parameter_of within i =
+    unwrap_or (and_then (entity_denoted within.names i.place)
+    (λ e. and_then (kind_at within.names e) loop_parameter_number)) no_declaration_no
 
 unfoldable pub signs_in_alternative : {Q : Type 0} → Within → Alternative Q → ℕ
 signs_in_alternative within (alternative.Accept a statements) = 0
@@ -299,13 +315,15 @@ module _ {Q : Type 0} (sequence : Q → SequenceMaking) where
 
   -- ---- if and case (5.3, 5.4)
 
-  unfoldable pub branch_put : Within → Expression → Q → Option StatementNo → Option StatementNo → Making (Option StatementNo)
+  unfoldable pub branch_put : Within → Expression → Q → Option StatementNo → Option StatementNo
+      → Making (Option StatementNo)
   branch_put within c q otherwise next = do
     first ← inside q within next
     e ← expression_made c within
     action_put (action.If e (the_action first) otherwise) (signs_in within c) next
 
-  unfoldable pub elsifs_put : Within → List (Elsif Q) → Option StatementNo → Option StatementNo → Making (Option StatementNo)
+  unfoldable pub elsifs_put : Within → List (Elsif Q) → Option StatementNo → Option StatementNo
+      → Making (Option StatementNo)
   elsifs_put within [] otherwise next = pure otherwise
   elsifs_put within (e ∷ es) otherwise next = do
     later ← elsifs_put within es otherwise next
@@ -348,7 +366,8 @@ module _ {Q : Type 0} (sequence : Q → SequenceMaking) where
     e ← expression_made c within
     put_at s (action.While e (the_action body) within.construct) (signs_in within c) next
 
-  unfoldable pub for_put : Within → Loop Q → DeclNo → Bool → Expression → Expression → Option StatementNo → Making (Option StatementNo)
+  unfoldable pub for_put : Within → Loop Q → DeclNo → Bool → Expression → Expression → Option StatementNo
+      → Making (Option StatementNo)
   for_put within l d reverse low high next = do
     s ← reserved
     first ← reserved
@@ -363,7 +382,8 @@ module _ {Q : Type 0} (sequence : Q → SequenceMaking) where
   unfoldable pub iteration_put : Within → Loop Q → Iteration → Option StatementNo → Making (Option StatementNo)
   iteration_put within l iteration.Forever next = forever_put within l next
   iteration_put within l (iteration.While place c) next = while_put within l c next
-  iteration_put within l (iteration.For place i reverse low high) next = for_put within l (parameter_of within i) reverse low high next
+  iteration_put within l (iteration.For place i reverse low high) next =
+      for_put within l (parameter_of within i) reverse low high next
 
   unfoldable pub loop_put : Within → Loop Q → Option StatementNo → Making (Option StatementNo)
   loop_put within l next = iteration_put within l l.iteration next
@@ -373,7 +393,8 @@ module _ {Q : Type 0} (sequence : Q → SequenceMaking) where
   unfoldable pub block_put : Within → Block Q → Option StatementNo → Making (Option StatementNo)
   block_put within b next = do
     s ← reserved
-    first ← sequence b.sequence (sequence_place.AsBody false) (in_construct s (in_scope (scope_at within.names b.place) within)) None
+    first ← sequence b.sequence (sequence_place.AsBody false)
+        (in_construct s (in_scope (scope_at within.names b.place) within)) None
     first_put (scope_at within.names b.place) first
     put_at s (action.Block (scope_no (scope_at within.names b.place))) 0 next
 
@@ -390,7 +411,8 @@ module _ {Q : Type 0} (sequence : Q → SequenceMaking) where
 
   unfoldable pub accept_body_put : Within → StatementNo → ℕ → Option (AcceptBody Q) → Making (Option StatementNo)
   accept_body_put within s scope None = pure None
-  accept_body_put within s scope (Some b) = sequence b.sequence (sequence_place.BehindDeclarations None) (in_construct s (in_scope scope within)) None
+  accept_body_put within s scope (Some b) =
+      sequence b.sequence (sequence_place.BehindDeclarations None) (in_construct s (in_scope scope within)) None
 
   unfoldable pub accept_put : Within → Accept Q → Option StatementNo → Making (Option StatementNo)
   accept_put within a next = do
@@ -418,7 +440,8 @@ module _ {Q : Type 0} (sequence : Q → SequenceMaking) where
     kind ← alternative_put within a.alternative next
     pure (record { guard = guard; kind = kind })
 
-  unfoldable pub select_alternatives_put : Within → List (SelectAlternative Q) → Option StatementNo → Making (List GuardedAlternative)
+  unfoldable pub select_alternatives_put : Within → List (SelectAlternative Q) → Option StatementNo
+      → Making (List GuardedAlternative)
   select_alternatives_put within [] next = pure []
   select_alternatives_put within (a ∷ rest) next = do
     one ← select_alternative_put within a next
@@ -433,7 +456,8 @@ module _ {Q : Type 0} (sequence : Q → SequenceMaking) where
   selective_accept_put within s next = do
     alternatives ← select_alternatives_put within (s.alternatives.first ∷ s.alternatives.others) next
     otherwise ← else_put within s.otherwise next
-    action_put (action.SelectiveAccept alternatives otherwise) (signs_in_alternatives within (s.alternatives.first ∷ s.alternatives.others)) next
+    action_put (action.SelectiveAccept alternatives otherwise) (signs_in_alternatives within (s.alternatives.first
+        ∷ s.alternatives.others)) next
 
   unfoldable pub call_before : Within → Call → Option Q → Option StatementNo → Making (Option StatementNo)
   call_before within c statements next = do
@@ -449,13 +473,16 @@ module _ {Q : Type 0} (sequence : Q → SequenceMaking) where
   timed_call_put within t next = do
     call ← call_before within t.call t.statements next
     delay ← delay_before within t.delay t.delay_statements next
-    action_put (action.TimedCall (the_action call) (the_action delay)) (signs_in_actuals within t.call.arguments + signs_in within t.delay.value) next
+    action_put (action.TimedCall (the_action call) (the_action delay)) (signs_in_actuals within t.call.arguments
+        + signs_in within t.delay.value) next
 
-  unfoldable pub conditional_call_put : Within → ConditionalEntryCall Q → Option StatementNo → Making (Option StatementNo)
+  unfoldable pub conditional_call_put : Within → ConditionalEntryCall Q → Option StatementNo
+      → Making (Option StatementNo)
   conditional_call_put within c next = do
     call ← call_before within c.call c.statements next
     otherwise ← inside c.otherwise within next
-    action_put (action.ConditionalCall (the_action call) (the_action otherwise)) (signs_in_actuals within c.call.arguments) next
+    action_put (action.ConditionalCall (the_action call) (the_action otherwise))
+        (signs_in_actuals within c.call.arguments) next
 
   unfoldable pub trigger_put : Within → Trigger → Option Q → Option StatementNo → Making (Option StatementNo)
   trigger_put within (trigger.Call c) statements next = call_before within c statements next
@@ -467,7 +494,8 @@ module _ {Q : Type 0} (sequence : Q → SequenceMaking) where
     s ← reserved
     trigger ← trigger_put within a.trigger a.statements next
     abortable ← inside a.abortable (in_construct s within) None
-    put_at s (action.AsynchronousSelect (the_action trigger) (the_action abortable)) (signs_in_trigger within a.trigger) next
+    put_at s (action.AsynchronousSelect (the_action trigger) (the_action abortable))
+        (signs_in_trigger within a.trigger) next
 
   unfoldable pub select_put : Within → SelectForm Q → Option StatementNo → Making (Option StatementNo)
   select_put within (select.SelectiveAccept s) next = selective_accept_put within s next

@@ -80,28 +80,34 @@ is_declaration (packages.Body p) = false
 unfoldable pub part_from : ℕ → List LibraryPackage → List ℕ → ℕ
 part_from number [] name = 0
 part_from number (l ∷ ls) name = cond (is_declaration l.package)
-    (cond (bytes_eq (name_of_package l.package).text name) number (part_from (suc number) ls name)) (part_from number ls name)
+    (cond (bytes_eq (name_of_package l.package).text name) number (part_from (suc number) ls name))
+    (part_from number ls name)
 
 unfoldable pub part_of : List LibraryPackage → List ℕ → ℕ
 part_of ls name = part_from 1 ls name
 
 -- ---- elaboration (10.2): what comes next is that of the later units
 
-unfoldable pub package_declaration_put : List LibraryPackage → Within → PackageDeclaration → Option StatementNo → Making (Option StatementNo)
+unfoldable pub package_declaration_put : List LibraryPackage → Within → PackageDeclaration → Option StatementNo
+    → Making (Option StatementNo)
 package_declaration_put ls within p next = do
   inner_bodies_put sequence_put within (p.declarations ++ unwrap_or p.private [])
-  first ← activation_put (then_some (not (has_body ls p.name.text) && make_tasks within (p.declarations ++ unwrap_or p.private [])) (part_of ls p.name.text)) next
+  first ← activation_put (then_some (not (has_body ls p.name.text)
+      && make_tasks within (p.declarations ++ unwrap_or p.private [])) (part_of ls p.name.text)) next
   declarations_put within (part_of ls p.name.text) (p.declarations ++ unwrap_or p.private []) first
 
 unfoldable pub package_part : List LibraryPackage → Within → PackageBody → Option ℕ
 package_part ls within p =
-    then_some (make_tasks within p.declarations || make_tasks within (declared_by_package ls p.name.text)) (part_of ls p.name.text)
+    then_some (make_tasks within p.declarations
+    || make_tasks within (declared_by_package ls p.name.text)) (part_of ls p.name.text)
 
-unfoldable pub package_statements_put : Within → Option ℕ → Option Sequence → Option StatementNo → Making (Option StatementNo)
+unfoldable pub package_statements_put : Within → Option ℕ → Option Sequence → Option StatementNo
+    → Making (Option StatementNo)
 package_statements_put within part None next = activation_put part next
 package_statements_put within part (Some s) next = sequence_put s (sequence_place.BehindDeclarations part) within next
 
-unfoldable pub package_body_put : List LibraryPackage → Within → PackageBody → Option StatementNo → Making (Option StatementNo)
+unfoldable pub package_body_put : List LibraryPackage → Within → PackageBody → Option StatementNo
+    → Making (Option StatementNo)
 package_body_put ls within p next = do
   inner_bodies_put sequence_put within p.declarations
   first ← package_statements_put within (package_part ls within p) p.sequence next
@@ -112,7 +118,8 @@ package_put ls within (packages.Declaration p) next = package_declaration_put ls
 package_put ls within (packages.Body p) next = package_body_put ls within p next
 
 -- the packages of a list, from the last to the first; all of the source are given
-unfoldable pub packages_put : List LibraryPackage → Within → List LibraryPackage → Option StatementNo → Making (Option StatementNo)
+unfoldable pub packages_put : List LibraryPackage → Within → List LibraryPackage → Option StatementNo
+    → Making (Option StatementNo)
 packages_put all within [] next = pure next
 packages_put all within (l ∷ ls) next = do
   later ← packages_put all within ls next
@@ -126,7 +133,9 @@ scalar_initial within e = do
   pure (initial.Scalar v)
 
 unfoldable pub scalar_or_array : Within → Option Subtype → Expression → Making Initial
-scalar_or_array within s e = cond (subtype_is is_array_type s) (pure (initial.Array (array_name within (expression_image e).name))) (scalar_initial within e)
+scalar_or_array within s e =
+    cond (subtype_is is_array_type s) (pure (initial.Array (array_name within (expression_image e).name)))
+    (scalar_initial within e)
 
 unfoldable pub initial_of_call : Within → Option Subtype → Expression → Bool → Making Initial
 initial_of_call within s e true = pure initial.Default
@@ -201,7 +210,8 @@ declaration_made within before d = do
   i ← initial_made within d.subtype d.initial
   pure (numbered_object within.names before d i)
 
-unfoldable pub declarations_made : Within → List NumberedDeclaration → List NumberedDeclaration → Making (List NumberedObject)
+unfoldable pub declarations_made : Within → List NumberedDeclaration → List NumberedDeclaration
+    → Making (List NumberedObject)
 declarations_made within before [] = pure []
 declarations_made within before (d ∷ ds) = do
   one ← declaration_made within before d
@@ -211,7 +221,15 @@ declarations_made within before (d ∷ ds) = do
 -- ---- the image
 
 abbrev pub outermost : Names → Within
-outermost n = record { names = n; scope = 0; loops = []; construct = None; handling = None; function = None; units = [] }
+outermost n = record {
+  names = n;
+  scope = 0;
+  loops = [];
+  construct = None;
+  handling = None;
+  function = None;
+  units = [];
+}
 
 -- all actions: the call of the main procedure, that procedure, and the packages from the last to the first
 unfoldable pub actions_made : Tree → Within → Making (Unit {0})
@@ -221,7 +239,8 @@ actions_made unit within = do
   first ← packages_put unit.packages within unit.packages call
   first_put 0 first
 
--- what has numbers of its own and expressions is made last: the units' deadlines first, then the barriers, then the initial values
+-- what has numbers of its own and expressions is made last: the units' deadlines first, then the barriers, then the
+-- initial values
 unfoldable pub all_made : Tree → Within → Making MadeLists
 all_made unit within = do
   actions_made unit within

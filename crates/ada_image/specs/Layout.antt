@@ -234,7 +234,8 @@ run_of place count v = cond (is_plain_zero v) [] (record { place = place; count 
 unfoldable pub runs_of_components : Names → ℕ → List NumberedDeclaration → List CellRun
 runs_of_components n place [] = []
 runs_of_components n place (c ∷ cs) =
-    run_of place (width_of_subtype n c.subtype) (first_value n c.subtype) ++ runs_of_components n (place + width_of_subtype n c.subtype) cs
+    run_of place (width_of_subtype n c.subtype) (first_value n c.subtype)
+    ++ runs_of_components n (place + width_of_subtype n c.subtype) cs
 
 unfoldable pub runs_of_type : Names → ℕ → Option Subtype → AdaType → List CellRun
 runs_of_type n place s types.Integer = run_of place (width_of_object n s) (first_value n s)
@@ -251,9 +252,11 @@ runs_of_type n place s types.Timer = []
 runs_of_type n place s types.GroupBudget = []
 runs_of_type n place s types.LimitedControlled = []
 runs_of_type n place s types.Controlled = []
-runs_of_type n place s (types.Derived c) = runs_of_components n (place + CONTROLLED_CELLS) (components_of_owner n (owner.Controlled c))
+runs_of_type n place s (types.Derived c) =
+    runs_of_components n (place + CONTROLLED_CELLS) (components_of_owner n (owner.Controlled c))
 runs_of_type n place s (types.Task u) = []
-runs_of_type n place s (types.Protected u) = runs_of_components n (place + PROTECTED_CELLS) (components_of_owner n (owner.Protected u))
+runs_of_type n place s (types.Protected u) =
+    runs_of_components n (place + PROTECTED_CELLS) (components_of_owner n (owner.Protected u))
 
 unfoldable pub runs_of_subtype : Names → ℕ → Option Subtype → List CellRun
 runs_of_subtype n place None = []
@@ -314,7 +317,8 @@ scopes_made n firsts number (s ∷ ss) = scope_made n firsts number s ∷ scopes
 -- ---- subprograms and enumerations
 
 unfoldable pub formal_made : Names → Formal → FormalCell
-formal_made n f = cond (subtype_is is_thing f.subtype) (record { constraint = constraint.Free; initial = value.Whole (pos 0) })
+formal_made n f =
+    cond (subtype_is is_thing f.subtype) (record { constraint = constraint.Free; initial = value.Whole (pos 0) })
     (record { constraint = range_of_cells n f.subtype; initial = first_value n f.subtype })
 
 abbrev pub unit_no : ℕ → ProtectedUnitNo

@@ -37,7 +37,8 @@ first_given (x ∷ xs) = x
 -- ---- expressions
 
 unfoldable pub value_put : Valuation → Making ExprNo
-value_put e lists = (record lists { expressions = lists.expressions ++ e ∷ [] }, record { 0 = length lists.expressions })
+value_put e lists =
+    (record lists { expressions = lists.expressions ++ e ∷ [] }, record { 0 = length lists.expressions })
 
 -- ---- statements
 
@@ -46,13 +47,21 @@ action form signs next = record { form = form; signs = signs; next = next }
 
 -- an action that comes next: the answer is what leads to it
 unfoldable pub action_put : StatementForm → ℕ → Option StatementNo → Making (Option StatementNo)
-action_put form signs next lists = (record lists { statements = lists.statements ++ action form signs next ∷ [] }, Some (record { 0 = length lists.statements }))
+action_put form signs next lists = (
+  record lists {
+    statements = lists.statements ++ action form signs next
+        ∷ [];
+  },
+  Some (record { 0 = length lists.statements }),
+)
 
 unfoldable pub reserved : Making StatementNo
-reserved lists = (record lists { statements = lists.statements ++ no_statement ∷ [] }, record { 0 = length lists.statements })
+reserved lists =
+    (record lists { statements = lists.statements ++ no_statement ∷ [] }, record { 0 = length lists.statements })
 
 unfoldable pub put_at : StatementNo → StatementForm → ℕ → Option StatementNo → Making (Option StatementNo)
-put_at s form signs next lists = (record lists { statements = slice_set lists.statements s.0 (action form signs next) }, Some s)
+put_at s form signs next lists =
+    (record lists { statements = slice_set lists.statements s.0 (action form signs next) }, Some s)
 
 unfoldable pub first_put : ℕ → Option StatementNo → Making (Unit {0})
 first_put scope first lists = (record lists { firsts = record { scope = scope; action = first } ∷ lists.firsts }, tt)
@@ -67,7 +76,15 @@ the_action (Some s) = s
 -- in the body of a subprogram, a task or an entry
 abbrev pub in_body_of : ℕ → Option SubprogramNo → Within → Within
 in_body_of scope function within =
-    record { names = within.names; scope = scope; loops = []; construct = None; handling = None; function = function; units = within.units }
+    record {
+      names = within.names;
+      scope = scope;
+      loops = [];
+      construct = None;
+      handling = None;
+      function = function;
+      units = within.units;
+    }
 
 abbrev pub in_unit : Option ℕ → Within → Within
 in_unit unit within = record within { units = cons_option unit within.units }

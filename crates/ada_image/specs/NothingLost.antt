@@ -1,6 +1,6 @@
--- Nothing is lost: the actions of each scope, read by `first` and `next`, are the declarations and statements of its text in
--- order, each of its kind and with its parts; those of the environment are the packages, and then the call of the main
--- procedure. This is said of the image alone, however it was made.
+-- Nothing is lost: the actions of each scope, read by `first` and `next`, are the declarations and statements of its
+-- text in order, each of its kind and with its parts; those of the environment are the packages, and then the call of
+-- the main procedure. This is said of the image alone, however it was made.
 use Rattle.std.specs.Prelude.{ℕ, zero, suc, length, Bool, true, false, cond, not, ◌&&◌, List, [], ◌∷◌, ◌++◌, Option, Some, None, unwrap_or, eqb}
 use Rattle.std.specs.Option.{option_flatten}
 use Rattle.std.specs.Bool.{then_some}
@@ -104,11 +104,13 @@ module _ (p : Image) where
   object_read within part initial i from = cond (subtype_is is_task_type (subtype_declared_as within i))
       (one_action (is_create (number_declared within i) part) from)
       (and_behind (one_action (declares within (number_declared within i) (function_call_if within initial)) from)
-      (action_if (subtype_is is_controlled_type (subtype_declared_as within i)) (is_initialize (number_declared within i))))
+      (action_if (subtype_is is_controlled_type (subtype_declared_as within i))
+      (is_initialize (number_declared within i))))
 
   abbrev pub objects_read : Within → ℕ → Option Expression → List Identifier → Option StatementNo → Rest
   objects_read within part initial [] from = Some from
-  objects_read within part initial (i ∷ rest) from = and_behind (object_read within part initial i from) (objects_read within part initial rest)
+  objects_read within part initial (i ∷ rest) from =
+      and_behind (object_read within part initial i from) (objects_read within part initial rest)
 
   abbrev pub single_read : Within → ℕ → Bool → Identifier → Option StatementNo → Rest
   single_read within part true i from = Some from
@@ -130,7 +132,8 @@ module _ (p : Image) where
 
     abbrev pub declarations_read : Within → ℕ → List (Declaration Q) → Option StatementNo → Rest
     declarations_read within part [] from = Some from
-    declarations_read within part (d ∷ ds) from = and_behind (declaration_read within part d from) (declarations_read within part ds)
+    declarations_read within part (d ∷ ds) from =
+        and_behind (declaration_read within part d from) (declarations_read within part ds)
 
   abbrev pub activation_read : Option ℕ → Option StatementNo → Rest
   activation_read None from = Some from
@@ -141,10 +144,12 @@ module _ (p : Image) where
   module _ {Q : Type 0} (sequence : Q → SequencePlace → Within → Reading) where
     abbrev pub body_reads : Within → Place → Option SubprogramNo → Bool → Q → Bool
     body_reads within place function is_task_body q =
-        sequence q (sequence_place.AsBody is_task_body) (in_body_of (scope_at within.names place) function within) (first_of_scope p (scope_at within.names place)) None
+        sequence q (sequence_place.AsBody is_task_body) (in_body_of (scope_at within.names place) function within)
+        (first_of_scope p (scope_at within.names place)) None
 
     abbrev pub operation_reads : Within → OperationBody Q → Bool
-    operation_reads within (body_of.Subprogram s body) = body_reads within s.place (subprogram_declared_as within s.name) false body.sequence
+    operation_reads within (body_of.Subprogram s body) =
+        body_reads within s.place (subprogram_declared_as within s.name) false body.sequence
     operation_reads within (body_of.Entry head body) = body_reads within head.place None false body.sequence
 
     abbrev pub operations_read : Within → List (OperationBody Q) → Bool
@@ -158,12 +163,14 @@ module _ (p : Image) where
     inner_body_reads within (declaration.Subtype s) = true
     inner_body_reads within (declaration.Exception names) = true
     inner_body_reads within (declaration.Subprogram s) = true
-    inner_body_reads within (declaration.SubprogramBody s body) = body_reads within s.place (subprogram_declared_as within s.name) false body.sequence
+    inner_body_reads within (declaration.SubprogramBody s body) =
+        body_reads within s.place (subprogram_declared_as within s.name) false body.sequence
     inner_body_reads within (declaration.Task t) = true
     inner_body_reads within (declaration.TaskBody place name body) =
         body_reads (in_unit (entity_denoted within.names name.place) within) place None true body.sequence
     inner_body_reads within (declaration.Protected x) = true
-    inner_body_reads within (declaration.ProtectedBody x) = operations_read (in_unit (entity_denoted within.names x.name.place) within) x.operations
+    inner_body_reads within (declaration.ProtectedBody x) =
+        operations_read (in_unit (entity_denoted within.names x.name.place) within) x.operations
     inner_body_reads within (declaration.Use place name) = true
 
     abbrev pub inner_bodies_read : Within → List (Declaration Q) → Bool
@@ -172,11 +179,14 @@ module _ (p : Image) where
 
     abbrev pub unhandled_reads : Within → Option ℕ → SequenceParts Q → Reading
     unhandled_reads within part s from to =
-        reads_on (λ first. statements_stand p sequence within (s.statements.first ∷ s.statements.others) first to) (activation_read part from)
+        reads_on (λ first. statements_stand p sequence within (s.statements.first
+        ∷ s.statements.others) first to) (activation_read part from)
 
-    abbrev pub handled_form_reads : Within → Option ℕ → SequenceParts Q → StatementNo → Option StatementNo → StatementForm → Bool
+    abbrev pub handled_form_reads : Within → Option ℕ → SequenceParts Q → StatementNo → Option StatementNo
+        → StatementForm → Bool
     handled_form_reads within part s h to (action.Handled handlers first) =
-        same_next (next_of p h) to && (unhandled_reads (in_construct h within) part s (Some first) None && handlers_stand p sequence within s.handlers to handlers)
+        same_next (next_of p h) to && (unhandled_reads (in_construct h within) part s (Some first) None
+        && handlers_stand p sequence within s.handlers to handlers)
     handled_form_reads within part s h to _ = false
 
     abbrev pub with_handlers_reads : Within → Option ℕ → SequenceParts Q → Reading
@@ -194,8 +204,10 @@ module _ (p : Image) where
         (and_behind (declarations_read within 0 s.declarations from) (action_if is_task_body is_end_of_activation))
 
     abbrev pub parts_read : SequenceParts Q → SequencePlace → Within → Reading
-    parts_read s sequence_place.StatementsAlone within from to = statements_stand p sequence within (s.statements.first ∷ s.statements.others) from to
-    parts_read s (sequence_place.BehindDeclarations part) within from to = handled_reads within part s s.handlers from to
+    parts_read s sequence_place.StatementsAlone within from to =
+        statements_stand p sequence within (s.statements.first ∷ s.statements.others) from to
+    parts_read s (sequence_place.BehindDeclarations part) within from to =
+        handled_reads within part s s.handlers from to
     parts_read s (sequence_place.AsBody is_task_body) within from to = whole_reads within is_task_body s from to
 
 abbrev pub SequenceReading : Type 0
@@ -212,10 +224,12 @@ sequence_reads p = fold-Sequence SequenceReading (sequence_reading_layer p)
 
 -- ---- library units (7.1, 7.2, 10.2)
 
-abbrev pub package_declaration_read : Image → List LibraryPackage → Within → PackageDeclaration → Option StatementNo → Rest
+abbrev pub package_declaration_read : Image → List LibraryPackage → Within → PackageDeclaration
+    → Option StatementNo → Rest
 package_declaration_read p ls within x from =
     and_behind (declarations_read p within (part_of ls x.name.text) (x.declarations ++ unwrap_or x.private []) from)
-    (activation_read p (then_some (not (has_body ls x.name.text) && make_tasks within (x.declarations ++ unwrap_or x.private [])) (part_of ls x.name.text)))
+    (activation_read p (then_some (not (has_body ls x.name.text)
+    && make_tasks within (x.declarations ++ unwrap_or x.private [])) (part_of ls x.name.text)))
 
 -- ---- where a sequence leads: behind its last statement, or behind the action that opens its handlers
 
@@ -225,9 +239,11 @@ skipped p (suc n) None = None
 skipped p (suc n) (Some s) = skipped p n (next_of p s)
 
 abbrev pub behind_unhandled : Image → Option ℕ → SequenceParts Sequence → Option StatementNo → Option StatementNo
-behind_unhandled p part s from = skipped p (suc (length s.statements.others)) (option_flatten (activation_read p part from))
+behind_unhandled p part s from =
+    skipped p (suc (length s.statements.others)) (option_flatten (activation_read p part from))
 
-abbrev pub behind_parts : Image → Option ℕ → SequenceParts Sequence → List (Handler Sequence) → Option StatementNo → Option StatementNo
+abbrev pub behind_parts : Image → Option ℕ → SequenceParts Sequence → List (Handler Sequence) → Option StatementNo
+    → Option StatementNo
 behind_parts p part s [] from = behind_unhandled p part s from
 behind_parts p part s (h ∷ hs) from = skipped p 1 from
 
@@ -245,21 +261,24 @@ package_statements_read p within part (Some s) from =
 
 abbrev pub package_body_read : Image → List LibraryPackage → Within → PackageBody → Option StatementNo → Rest
 package_body_read p ls within x from =
-    and_behind (declarations_read p within (part_of ls x.name.text) x.declarations from) (package_statements_read p within (package_part ls within x) x.sequence)
+    and_behind (declarations_read p within (part_of ls x.name.text) x.declarations from)
+    (package_statements_read p within (package_part ls within x) x.sequence)
 
 abbrev pub package_read : Image → List LibraryPackage → Within → Package → Option StatementNo → Rest
 package_read p ls within (packages.Declaration x) from = package_declaration_read p ls within x from
 package_read p ls within (packages.Body x) from = package_body_read p ls within x from
 
 abbrev pub bodies_in_package : Image → Within → Package → Bool
-bodies_in_package p within (packages.Declaration x) = inner_bodies_read p (sequence_reads p) within (x.declarations ++ unwrap_or x.private [])
+bodies_in_package p within (packages.Declaration x) =
+    inner_bodies_read p (sequence_reads p) within (x.declarations ++ unwrap_or x.private [])
 bodies_in_package p within (packages.Body x) = inner_bodies_read p (sequence_reads p) within x.declarations
 
 -- the packages, and behind them the call of the main procedure, which is the last action
 abbrev pub elaboration_reads : Image → List LibraryPackage → Within → List LibraryPackage → Option StatementNo → Bool
 elaboration_reads p all within [] from = ends_at None (one_action p is_call_of_main from)
 elaboration_reads p all within (l ∷ ls) from =
-    bodies_in_package p within l.package && reads_on (elaboration_reads p all within ls) (package_read p all within l.package from)
+    bodies_in_package p within l.package
+    && reads_on (elaboration_reads p all within ls) (package_read p all within l.package from)
 
 -- the image of a source has its text, read from the scopes
 abbrev pub image_reads : Image → Tree → Bool

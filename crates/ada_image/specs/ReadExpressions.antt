@@ -118,7 +118,8 @@ module _ (p : Image) where
   is_unary operator operand _ = false
 
   abbrev pub is_binary : BinaryOperator → (ExprNo → Bool) → (ExprNo → Bool) → Valuation → Bool
-  is_binary operator left right (valuation.Binary o a b) = eqb (binary_number o) (binary_number operator) && (left a && right b)
+  is_binary operator left right (valuation.Binary o a b) = eqb (binary_number o) (binary_number operator)
+      && (left a && right b)
   is_binary operator left right _ = false
 
   -- an index stands there exactly where the text has one
@@ -140,12 +141,16 @@ module _ (p : Image) where
   is_thing_at d _ = false
 
   abbrev pub object_stands : Within → Name → Option Subtype → Option DeclNo → Option (ExprNo → Bool) → Valuation → Bool
-  object_stands within name s d index v = cond (subtype_is is_thing s) (unwrap_or (option_map (λ x. is_thing_at x v) d) false) (is_variable_at within name index v)
+  object_stands within name s d index v =
+      cond (subtype_is is_thing s) (unwrap_or (option_map (λ x. is_thing_at x v) d) false)
+      (is_variable_at within name index v)
 
   abbrev pub entity_stands : Within → Name → Option (ExprNo → Bool) → EntityKind → Valuation → Bool
   entity_stands within name index (entity.Literal enumeration position) v = is_known (value.Literal position) v
-  entity_stands within name index (entity.Object s constant x declaration) v = object_stands within name s (Some declaration) index v
-  entity_stands within name index (entity.Parameter s mode declaration) v = object_stands within name s declaration index v
+  entity_stands within name index (entity.Object s constant x declaration) v =
+      object_stands within name s (Some declaration) index v
+  entity_stands within name index (entity.Parameter s mode declaration) v =
+      object_stands within name s declaration index v
   entity_stands within name index (entity.LoopParameter declaration) v = is_variable_at within name index v
   entity_stands within name index (entity.Component s owner declaration) v = is_variable_at within name index v
   entity_stands within name index _ v = false
@@ -183,10 +188,14 @@ module _ (p : Image) where
 
   abbrev pub function_stands : Operation → Option ExpressionReading → Within → Valuation → Bool
   function_stands operations.Clock e within valuation.Clock = true
-  function_stands operations.Microseconds e within (valuation.Span ticks count) = same_number ticks (pos 1) && actual_stands e within count
-  function_stands operations.Milliseconds e within (valuation.Span ticks count) = same_number ticks (pos 1000) && actual_stands e within count
-  function_stands operations.Seconds e within (valuation.Span ticks count) = same_number ticks (pos 1000000) && actual_stands e within count
-  function_stands operations.Minutes e within (valuation.Span ticks count) = same_number ticks (pos 60000000) && actual_stands e within count
+  function_stands operations.Microseconds e within (valuation.Span ticks count) = same_number ticks (pos 1)
+      && actual_stands e within count
+  function_stands operations.Milliseconds e within (valuation.Span ticks count) = same_number ticks (pos 1000)
+      && actual_stands e within count
+  function_stands operations.Seconds e within (valuation.Span ticks count) = same_number ticks (pos 1000000)
+      && actual_stands e within count
+  function_stands operations.Minutes e within (valuation.Span ticks count) = same_number ticks (pos 60000000)
+      && actual_stands e within count
   function_stands operations.ToDuration e within (valuation.SameTicks x) = actual_stands e within x
   function_stands operations.ToTimeSpan e within (valuation.SameTicks x) = actual_stands e within x
   function_stands operations.CurrentTask e within valuation.CurrentTask = true
@@ -195,8 +204,10 @@ module _ (p : Image) where
   function_stands operations.GetDeadline e within (valuation.Deadline task) = optional_stands e within task
   function_stands operations.TimeOfEvent e within (valuation.TimeOfEvent d) = same_decl d (actual_thing within e)
   function_stands operations.TimeRemaining e within (valuation.TimeRemaining d) = same_decl d (actual_thing within e)
-  function_stands operations.BudgetHasExpired e within (valuation.BudgetHasExpired d) = same_decl d (actual_thing within e)
-  function_stands operations.BudgetRemaining e within (valuation.BudgetRemaining d) = same_decl d (actual_thing within e)
+  function_stands operations.BudgetHasExpired e within (valuation.BudgetHasExpired d) =
+      same_decl d (actual_thing within e)
+  function_stands operations.BudgetRemaining e within (valuation.BudgetRemaining d) =
+      same_decl d (actual_thing within e)
   function_stands operations.PortValue e within (valuation.PortValue x) = actual_stands e within x
   function_stands _ e within _ = false
 
@@ -215,7 +226,8 @@ module _ (p : Image) where
     item_stands (items.Constant of_type x) arguments within v = is_known x v
     item_stands (items.Truth b) arguments within v = is_known (value.Truth b) v
     item_stands (items.Exception raised) arguments within v = false
-    item_stands (items.Operation o) arguments within v = function_stands o (first_of_actuals (actuals_for (names_of_formals o) arguments)) within v
+    item_stands (items.Operation o) arguments within v =
+        function_stands o (first_of_actuals (actuals_for (names_of_formals o) arguments)) within v
 
     abbrev pub index_of : List (Argument E) → Within → Option (ExprNo → Bool)
     index_of arguments within = option_map (λ e. (expression e).stands within) (first_argument arguments)
@@ -223,7 +235,8 @@ module _ (p : Image) where
     abbrev pub denoted_stands : Name → List (Argument E) → Within → Option Denoted → Valuation → Bool
     denoted_stands name arguments within None v = false
     denoted_stands name arguments within (Some (denotes.Entity e)) v =
-        unwrap_or (option_map (λ kind. entity_stands within name (index_of arguments within) kind v) (kind_at within.names e)) false
+        unwrap_or (option_map (λ kind. entity_stands within name (index_of arguments within) kind v)
+        (kind_at within.names e)) false
     denoted_stands name arguments within (Some (denotes.Unit u)) v = false
     denoted_stands name arguments within (Some (denotes.Item u item)) v = item_stands item arguments within v
 
@@ -234,17 +247,20 @@ module _ (p : Image) where
     abbrev pub operands_stand : BinaryOperator → Standing → List (Operand E) → Standing
     operands_stand operator left [] within e = left within e
     operands_stand operator left (o ∷ os) within e =
-        operands_stand operator (λ w x. is_binary operator (left w) ((expression o.relation).stands w) (at_number x)) os within e
+        operands_stand operator (λ w x. is_binary operator (left w) ((expression o.relation).stands w)
+        (at_number x)) os within e
 
     abbrev pub addends_stand : Standing → List (Addend E) → Standing
     addends_stand left [] within e = left within e
     addends_stand left (a ∷ rest) within e =
-        addends_stand (λ w x. is_binary (adding_operator a.operator) (left w) ((expression a.term).stands w) (at_number x)) rest within e
+        addends_stand (λ w x. is_binary (adding_operator a.operator) (left w) ((expression a.term).stands w)
+        (at_number x)) rest within e
 
     abbrev pub factors_stand : Standing → List (Multiplied E) → Standing
     factors_stand left [] within e = left within e
     factors_stand left (m ∷ rest) within e =
-        factors_stand (λ w x. is_binary (multiplying_operator m.operator) (left w) ((expression m.factor).stands w) (at_number x)) rest within e
+        factors_stand (λ w x. is_binary (multiplying_operator m.operator) (left w) ((expression m.factor).stands w)
+        (at_number x)) rest within e
 
     abbrev pub signed_stands : Sign → Option Value → Standing → Standing
     signed_stands sign.Plus literal operand within e = is_unary unary.Plus (operand within) (at_number e)
@@ -259,19 +275,32 @@ module _ (p : Image) where
 
     abbrev pub form_reading : ExpressionForm E → ExpressionReading
     form_reading (form.Logical operator first others) =
-        reading_with (operands_stand (logical_operator operator) (expression first).stands (others.first ∷ others.others))
+        reading_with (operands_stand (logical_operator operator) (expression first).stands (others.first
+        ∷ others.others))
     form_reading (form.Relational left place operator right) =
-        reading_with (λ w e. is_binary (relational_operator operator) ((expression left).stands w) ((expression right).stands w) (at_number e))
-    form_reading (form.Adding first others) = reading_with (addends_stand (expression first).stands (others.first ∷ others.others))
-    form_reading (form.Signed place s operand) = reading_with (signed_stands s (expression operand).literal (expression operand).stands)
-    form_reading (form.Multiplying first others) = reading_with (factors_stand (expression first).stands (others.first ∷ others.others))
+        reading_with (λ w e. is_binary (relational_operator operator) ((expression left).stands w)
+        ((expression right).stands w) (at_number e))
+    form_reading (form.Adding first others) =
+        reading_with (addends_stand (expression first).stands (others.first ∷ others.others))
+    form_reading (form.Signed place s operand) =
+        reading_with (signed_stands s (expression operand).literal (expression operand).stands)
+    form_reading (form.Multiplying first others) =
+        reading_with (factors_stand (expression first).stands (others.first ∷ others.others))
     form_reading (form.Highest place operator operand) =
         reading_with (λ w e. is_unary (highest_operator operator) ((expression operand).stands w) (at_number e))
     form_reading (form.Number place literal) =
-        record { literal = Some (literal_value literal); name = None; stands = λ w e. is_known (literal_value literal) (at_number e) }
+        record {
+          literal = Some (literal_value literal);
+          name = None;
+          stands = λ w e. is_known (literal_value literal) (at_number e);
+        }
     form_reading (form.Text place text) = reading_with nowhere
     form_reading (form.Null place) = reading_with nowhere
-    form_reading (form.Bracketed place inner) = record { literal = None; name = (expression inner).name; stands = (expression inner).stands }
+    form_reading (form.Bracketed place inner) = record {
+      literal = None;
+      name = (expression inner).name;
+      stands = (expression inner).stands;
+    }
     form_reading (form.Named name a arguments) =
         record { literal = None; name = Some name; stands = λ w e. named_stands name a arguments w (at_number e) }
 

@@ -1,5 +1,5 @@
--- Reading an image back: whether the actions that follow one another from a place on are statements of the text, in its order,
--- each of its kind and with its parts (clauses 5, 6, 9, 11).
+-- Reading an image back: whether the actions that follow one another from a place on are statements of the text, in its
+-- order, each of its kind and with its parts (clauses 5, 6, 9, 11).
 use Rattle.std.specs.Prelude.{ℕ, ◌+◌, Bool, true, false, cond, not, ◌&&◌, List, [], ◌∷◌, Option, Some, None, option_map, unwrap_or, eqb, is_none, map}
 use Rattle.std.specs.Str.{bytes_eq}
 use Rattle.ann_base.specs.declared.exceptions.Raised.{Raised}
@@ -182,7 +182,8 @@ later_turn s = record { 0 = s.0 + 2 }
 
 abbrev pub loop_parameter_at : Within → Identifier → DeclNo
 loop_parameter_at within i =
-    unwrap_or (and_then (entity_denoted within.names i.place) (λ e. and_then (kind_at within.names e) loop_parameter_number)) no_declaration_no
+    unwrap_or (and_then (entity_denoted within.names i.place)
+    (λ e. and_then (kind_at within.names e) loop_parameter_number)) no_declaration_no
 
 -- ---- parts of statements
 
@@ -212,7 +213,8 @@ module _ (p : Image) where
   target_stands within name index v = is_variable p within name (option_map (value_stands within) index) v
 
   abbrev pub variable_stands_in_form : Within → ExpressionForm Expression → VariableName → Bool
-  variable_stands_in_form within (form.Named name a arguments) v = target_stands within name (first_argument arguments) v
+  variable_stands_in_form within (form.Named name a arguments) v =
+      target_stands within name (first_argument arguments) v
   variable_stands_in_form within _ v = false
 
   abbrev pub variable_stands : Within → Expression → VariableName → Bool
@@ -236,7 +238,8 @@ module _ (p : Image) where
 
   abbrev pub actual_stands_for : Within → Formal → Option Expression → Actual → Bool
   actual_stands_for within f None a = false
-  actual_stands_for within f (Some e) a = cond (subtype_is is_thing f.subtype) (thing_stands within e a) (mode_stands within f.mode e a)
+  actual_stands_for within f (Some e) a =
+      cond (subtype_is is_thing f.subtype) (thing_stands within e a) (mode_stands within f.mode e a)
 
   abbrev pub actuals_stand : Within → List Formal → List (Option Expression) → List Actual → Bool
   actuals_stand within [] es [] = true
@@ -244,13 +247,15 @@ module _ (p : Image) where
   actuals_stand within _ _ _ = false
 
   abbrev pub arguments_stand : Within → List Formal → List (Argument Expression) → List Actual → Bool
-  arguments_stand within formals arguments actuals = actuals_stand within formals (actuals_for (names_of formals) arguments) actuals
+  arguments_stand within formals arguments actuals =
+      actuals_stand within formals (actuals_for (names_of formals) arguments) actuals
 
   -- ---- calls
 
   abbrev pub call_stands : Within → FunctionCall → (Destination → Bool) → StatementForm → Bool
   call_stands within c is_destination (action.Call called actuals d) =
-      same_callee called (callee_of within c.name c.number c.unit) && (arguments_stand within c.formals c.arguments actuals && is_destination d)
+      same_callee called (callee_of within c.name c.number c.unit)
+      && (arguments_stand within c.formals c.arguments actuals && is_destination d)
   call_stands within c is_destination _ = false
 
   abbrev pub goes_nowhere : Destination → Bool
@@ -274,11 +279,14 @@ module _ (p : Image) where
   abbrev pub piece_stands_in_form : Within → ExpressionForm Expression → Piece → Bool
   piece_stands_in_form within (form.Text place text) (piece.Text t) = bytes_eq t text
   piece_stands_in_form within (form.Named name a arguments) (piece.Whole e) =
-      value_stands_if within (first_argument arguments) e && is_whole_piece (image_piece e (subtype_of_name within.names name))
+      value_stands_if within (first_argument arguments) e
+      && is_whole_piece (image_piece e (subtype_of_name within.names name))
   piece_stands_in_form within (form.Named name a arguments) (piece.Truth e) =
-      value_stands_if within (first_argument arguments) e && is_truth_piece (image_piece e (subtype_of_name within.names name))
+      value_stands_if within (first_argument arguments) e
+      && is_truth_piece (image_piece e (subtype_of_name within.names name))
   piece_stands_in_form within (form.Named name a arguments) (piece.Literal e number) =
-      value_stands_if within (first_argument arguments) e && is_literal_piece number.0 (image_piece e (subtype_of_name within.names name))
+      value_stands_if within (first_argument arguments) e
+      && is_literal_piece number.0 (image_piece e (subtype_of_name within.names name))
   piece_stands_in_form within _ _ = false
 
   abbrev pub piece_stands : Within → Expression → Piece → Bool
@@ -296,8 +304,10 @@ module _ (p : Image) where
   -- ---- predefined procedures
 
   abbrev pub setting_stands : Within → List (Argument Expression) → Setting → Bool
-  setting_stands within arguments (setting.At e) = not (is_in_time within arguments) && value_stands_if within (moment_of arguments) e
-  setting_stands within arguments (setting.In e) = is_in_time within arguments && value_stands_if within (moment_of arguments) e
+  setting_stands within arguments (setting.At e) = not (is_in_time within arguments)
+      && value_stands_if within (moment_of arguments) e
+  setting_stands within arguments (setting.In e) = is_in_time within arguments
+      && value_stands_if within (moment_of arguments) e
 
   abbrev pub thing_is : Within → Option Expression → DeclNo → Bool
   thing_is within e d = same_decl d (thing_of within e)
@@ -305,41 +315,64 @@ module _ (p : Image) where
   abbrev pub handler_is : Within → Option Expression → Option HandlerName → Bool
   handler_is within e h = same_option same_handler h (handler_of within e)
 
-  abbrev pub procedure_stands : Within → Operation → List (Argument Expression) → List (Option Expression) → StatementForm → Bool
-  procedure_stands within operations.PutLine arguments es (action.PutLine pieces) = text_stands within (first_given es) pieces
+  abbrev pub procedure_stands : Within → Operation → List (Argument Expression) → List (Option Expression)
+      → StatementForm → Bool
+  procedure_stands within operations.PutLine arguments es (action.PutLine pieces) =
+      text_stands within (first_given es) pieces
   procedure_stands within operations.SetEvent arguments es (action.SetEvent d s h) =
       thing_is within (first_given es) d && (setting_stands within arguments s && handler_is within (third_of es) h)
   procedure_stands within operations.SetTimer arguments es (action.SetTimer d s h) =
       thing_is within (first_given es) d && (setting_stands within arguments s && handler_is within (third_of es) h)
-  procedure_stands within operations.CancelEvent arguments es (action.CancelEvent d v) = thing_is within (first_given es) d && variable_stands_if within (second_of es) v
-  procedure_stands within operations.CancelTimer arguments es (action.CancelTimer d v) = thing_is within (first_given es) d && variable_stands_if within (second_of es) v
-  procedure_stands within operations.CancelBudget arguments es (action.CancelBudget d v) = thing_is within (first_given es) d && variable_stands_if within (second_of es) v
-  procedure_stands within operations.AddTask arguments es (action.AddTask d e) = thing_is within (first_given es) d && value_stands_if within (second_of es) e
-  procedure_stands within operations.RemoveTask arguments es (action.RemoveTask d e) = thing_is within (first_given es) d && value_stands_if within (second_of es) e
-  procedure_stands within operations.Replenish arguments es (action.Replenish d e) = thing_is within (first_given es) d && value_stands_if within (second_of es) e
-  procedure_stands within operations.Add arguments es (action.AddToBudget d e) = thing_is within (first_given es) d && value_stands_if within (second_of es) e
-  procedure_stands within operations.SetBudget arguments es (action.SetBudget d h) = thing_is within (first_given es) d && handler_is within (second_of es) h
-  procedure_stands within operations.SetPriority arguments es (action.SetPriority e t) = value_stands_if within (first_given es) e && condition_stands within (second_of es) t
-  procedure_stands within operations.SetDeadline arguments es (action.SetDeadline e t) = value_stands_if within (first_given es) e && condition_stands within (second_of es) t
-  procedure_stands within operations.SetQuantum arguments es (action.SetQuantum a b) = value_stands_if within (first_given es) a && value_stands_if within (second_of es) b
+  procedure_stands within operations.CancelEvent arguments es (action.CancelEvent d v) =
+      thing_is within (first_given es) d && variable_stands_if within (second_of es) v
+  procedure_stands within operations.CancelTimer arguments es (action.CancelTimer d v) =
+      thing_is within (first_given es) d && variable_stands_if within (second_of es) v
+  procedure_stands within operations.CancelBudget arguments es (action.CancelBudget d v) =
+      thing_is within (first_given es) d && variable_stands_if within (second_of es) v
+  procedure_stands within operations.AddTask arguments es (action.AddTask d e) = thing_is within (first_given es) d
+      && value_stands_if within (second_of es) e
+  procedure_stands within operations.RemoveTask arguments es (action.RemoveTask d e) =
+      thing_is within (first_given es) d && value_stands_if within (second_of es) e
+  procedure_stands within operations.Replenish arguments es (action.Replenish d e) =
+      thing_is within (first_given es) d && value_stands_if within (second_of es) e
+  procedure_stands within operations.Add arguments es (action.AddToBudget d e) = thing_is within (first_given es) d
+      && value_stands_if within (second_of es) e
+  procedure_stands within operations.SetBudget arguments es (action.SetBudget d h) =
+      thing_is within (first_given es) d && handler_is within (second_of es) h
+  procedure_stands within operations.SetPriority arguments es (action.SetPriority e t) =
+      value_stands_if within (first_given es) e && condition_stands within (second_of es) t
+  procedure_stands within operations.SetDeadline arguments es (action.SetDeadline e t) =
+      value_stands_if within (first_given es) e && condition_stands within (second_of es) t
+  procedure_stands within operations.SetQuantum arguments es (action.SetQuantum a b) =
+      value_stands_if within (first_given es) a && value_stands_if within (second_of es) b
   procedure_stands within operations.DelayUntilAndSetDeadline arguments es (action.DelayUntilAndSetDeadline a b) =
       value_stands_if within (first_given es) a && value_stands_if within (second_of es) b
   procedure_stands within _ arguments es _ = false
 
-  abbrev pub entry_call_stands : Within → Name → List (Argument Expression) → EntryNo → List Formal → StatementForm → Bool
+  abbrev pub entry_call_stands : Within → Name → List (Argument Expression) → EntryNo → List Formal → StatementForm
+      → Bool
   entry_call_stands within name arguments number formals (action.EntryCall e o actuals) =
-      eqb e.0 number.0 && (same_entry_owner o (owner_of_entry within name (unit_of_entry within name)) && arguments_stand within formals arguments actuals)
+      eqb e.0 number.0 && (same_entry_owner o (owner_of_entry within name (unit_of_entry within name))
+      && arguments_stand within formals arguments actuals)
   entry_call_stands within name arguments number formals _ = false
 
   abbrev pub entity_call_stands : Within → Name → List (Argument Expression) → EntityKind → StatementForm → Bool
   entity_call_stands within name arguments (entity.Subprogram number is_function specified formals unit) f =
-      call_stands within (record { name = name; arguments = arguments; number = number; unit = unit; formals = formals }) goes_nowhere f
-  entity_call_stands within name arguments (entity.Entry number unit formals) f = entry_call_stands within name arguments number formals f
+      call_stands within (record {
+        name = name;
+        arguments = arguments;
+        number = number;
+        unit = unit;
+        formals = formals;
+      }) goes_nowhere f
+  entity_call_stands within name arguments (entity.Entry number unit formals) f =
+      entry_call_stands within name arguments number formals f
   entity_call_stands within name arguments entity.Main f = is_call_of_main f
   entity_call_stands within name arguments _ f = false
 
   abbrev pub item_call_stands : Within → Predefined → List (Argument Expression) → StatementForm → Bool
-  item_call_stands within (items.Operation o) arguments f = procedure_stands within o arguments (actuals_for (names_of_formals o) arguments) f
+  item_call_stands within (items.Operation o) arguments f =
+      procedure_stands within o arguments (actuals_for (names_of_formals o) arguments) f
   item_call_stands within _ arguments f = false
 
   abbrev pub call_of_name_stands : Within → Name → List (Argument Expression) → Option Denoted → StatementForm → Bool
@@ -354,23 +387,27 @@ module _ (p : Image) where
   -- ---- simple statements
 
   abbrev pub assigns_value : Within → Assignment → Option FunctionCall → StatementForm → Bool
-  assigns_value within a None (action.Assign target value) = target_stands within a.target a.index target && value_stands within a.value value
+  assigns_value within a None (action.Assign target value) = target_stands within a.target a.index target
+      && value_stands within a.value value
   assigns_value within a None _ = false
   assigns_value within a (Some c) f = call_stands within c (goes_into within a.target a.index) f
 
   abbrev pub assigns_array : Within → Assignment → StatementForm → Bool
   assigns_array within a (action.AssignArray target source) =
-      same_object target (object_named within a.target) && same_object source (array_name within (expression_image a.value).name)
+      same_object target (object_named within a.target)
+      && same_object source (array_name within (expression_image a.value).name)
   assigns_array within a _ = false
 
   abbrev pub assigns_controlled : Within → Assignment → StatementForm → Bool
   assigns_controlled within a (action.AssignControlled target source) =
-      same_decl target (thing_named within a.target) && same_decl source (thing_in within (expression_image a.value).name)
+      same_decl target (thing_named within a.target)
+      && same_decl source (thing_in within (expression_image a.value).name)
   assigns_controlled within a _ = false
 
   abbrev pub assigns_whole : Within → Assignment → Option Subtype → StatementForm → Bool
   assigns_whole within a s f = cond (subtype_is is_kept s) (assigns_controlled within a f)
-      (cond (subtype_is is_array_type s) (assigns_array within a f) (assigns_value within a (function_call within a.value) f))
+      (cond (subtype_is is_array_type s) (assigns_array within a f)
+      (assigns_value within a (function_call within a.value) f))
 
   abbrev pub assignment_stands : Within → Assignment → Option Expression → StatementForm → Bool
   assignment_stands within a None f = assigns_whole within a (subtype_of_name within.names a.target) f
@@ -389,7 +426,8 @@ module _ (p : Image) where
   abbrev pub return_stands : Within → Option Expression → StatementForm → Bool
   return_stands within None action.Return = true
   return_stands within None _ = false
-  return_stands within (Some e) f = returns_value (unwrap_or within.function no_function) within e (function_call within e) f
+  return_stands within (Some e) f =
+      returns_value (unwrap_or within.function no_function) within e (function_call within e) f
 
   abbrev pub raise_stands : Within → Option Name → StatementForm → Bool
   raise_stands within None (action.RaiseAgain scope) = eqb scope.0 (unwrap_or within.handling 0)
@@ -397,16 +435,19 @@ module _ (p : Image) where
   raise_stands within exception _ = false
 
   abbrev pub exit_stands : Within → Exit → StatementForm → Bool
-  exit_stands within e (action.Exit c l) = condition_stands within e.condition c && same_statement l (loop_statement (loop_left within e.loop_name))
+  exit_stands within e (action.Exit c l) = condition_stands within e.condition c
+      && same_statement l (loop_statement (loop_left within e.loop_name))
   exit_stands within e _ = false
 
   abbrev pub abort_stands : Within → OneOrMore Name → StatementForm → Bool
-  abort_stands within tasks (action.Abort ds) = all_same same_decl ds (thing_named within tasks.first ∷ map (thing_named within) tasks.others)
+  abort_stands within tasks (action.Abort ds) =
+      all_same same_decl ds (thing_named within tasks.first ∷ map (thing_named within) tasks.others)
   abort_stands within tasks _ = false
 
   abbrev pub requeue_stands : Within → Name → Bool → StatementForm → Bool
   requeue_stands within name with_abort (action.Requeue e o w) =
-      eqb e.0 (entry_at within (last_part name).place).0 && (same_entry_owner o (owner_of_entry within name (unit_of_entry within name)) && same_bool w with_abort)
+      eqb e.0 (entry_at within (last_part name).place).0
+      && (same_entry_owner o (owner_of_entry within name (unit_of_entry within name)) && same_bool w with_abort)
   requeue_stands within name with_abort _ = false
 
   abbrev pub trigger_stands : Within → Trigger → StatementForm → Bool
@@ -427,31 +468,38 @@ module _ (p : Image) where
     inside_stands_if within None from to = same_next from to
     inside_stands_if within (Some q) from to = inside_stands within q from to
 
-    abbrev pub branch_stands : Within → Expression → Q → (Option StatementNo → Bool) → Option StatementNo → StatementForm → Bool
-    branch_stands within c q otherwise to (action.If e first others) = value_stands within c e && (inside_stands within q (Some first) to && otherwise others)
+    abbrev pub branch_stands : Within → Expression → Q → (Option StatementNo → Bool) → Option StatementNo
+        → StatementForm → Bool
+    branch_stands within c q otherwise to (action.If e first others) = value_stands within c e
+        && (inside_stands within q (Some first) to && otherwise others)
     branch_stands within c q otherwise to _ = false
 
     -- an elsif is an action of its own, which leads behind the whole statement too
-    abbrev pub elsif_stands : Within → Elsif Q → (Option StatementNo → Bool) → Option StatementNo → Option StatementNo → Bool
+    abbrev pub elsif_stands : Within → Elsif Q → (Option StatementNo → Bool) → Option StatementNo
+        → Option StatementNo → Bool
     elsif_stands within e otherwise to None = false
-    elsif_stands within e otherwise to (Some s) = same_next (next_of p s) to && branch_stands within e.condition e.statements otherwise to (form_of p s)
+    elsif_stands within e otherwise to (Some s) = same_next (next_of p s) to
+        && branch_stands within e.condition e.statements otherwise to (form_of p s)
 
     abbrev pub elsifs_stand : Within → List (Elsif Q) → Option Q → Option StatementNo → Option StatementNo → Bool
     elsifs_stand within [] otherwise to from = inside_stands_if within otherwise from to
     elsifs_stand within (e ∷ es) otherwise to from = elsif_stands within e (elsifs_stand within es otherwise to) to from
 
     abbrev pub if_stands : Within → If Q → Option StatementNo → StatementForm → Bool
-    if_stands within i to f = branch_stands within i.condition i.statements (elsifs_stand within i.elsifs i.otherwise to) to f
+    if_stands within i to f =
+        branch_stands within i.condition i.statements (elsifs_stand within i.elsifs i.otherwise to) to f
 
     abbrev pub alternatives_stand : Within → List (CaseAlternative Q) → Option StatementNo → List CaseActions → Bool
     alternatives_stand within [] to [] = true
     alternatives_stand within (a ∷ rest) to (x ∷ xs) =
-        all_same same_choice x.choices (choices_made within a.choices) && (inside_stands within a.statements (Some x.first) to && alternatives_stand within rest to xs)
+        all_same same_choice x.choices (choices_made within a.choices)
+        && (inside_stands within a.statements (Some x.first) to && alternatives_stand within rest to xs)
     alternatives_stand within _ to _ = false
 
     abbrev pub case_stands : Within → Case Q → Option StatementNo → StatementForm → Bool
     case_stands within c to (action.Case e alternatives) =
-        value_stands within c.selector e && alternatives_stand within (c.alternatives.first ∷ c.alternatives.others) to alternatives
+        value_stands within c.selector e && alternatives_stand within (c.alternatives.first
+        ∷ c.alternatives.others) to alternatives
     case_stands within c to _ = false
 
     -- ---- loops: the body leads back
@@ -463,27 +511,34 @@ module _ (p : Image) where
     is_within within s = same_next s within.construct
 
     abbrev pub forever_stands : Within → Loop Q → StatementNo → StatementForm → Bool
-    forever_stands within l s (action.Loop body w) = is_within within w && inside_stands (loop_within within l s) l.statements (Some body) (Some s)
+    forever_stands within l s (action.Loop body w) = is_within within w
+        && inside_stands (loop_within within l s) l.statements (Some body) (Some s)
     forever_stands within l s _ = false
 
     abbrev pub while_stands : Within → Loop Q → Expression → StatementNo → StatementForm → Bool
     while_stands within l c s (action.While e body w) =
-        value_stands within c e && (is_within within w && inside_stands (loop_within within l s) l.statements (Some body) (Some s))
+        value_stands within c e && (is_within within w
+        && inside_stands (loop_within within l s) l.statements (Some body) (Some s))
     while_stands within l c s _ = false
 
     abbrev pub is_turn : DeclNo → Bool → Option StatementNo → StatementNo → StatementNo → Bool
     is_turn d reverse to turn body = same_next (next_of p turn) to && is_turn_form d reverse body (form_of p turn)
 
     abbrev pub body_stands : Within → Loop Q → DeclNo → Bool → StatementNo → Option StatementNo → StatementNo → Bool
-    body_stands within l d reverse s to body = inside_stands (loop_within within l s) l.statements (Some body) (Some (later_turn s)) && is_turn d reverse to (later_turn s) body
+    body_stands within l d reverse s to body =
+        inside_stands (loop_within within l s) l.statements (Some body) (Some (later_turn s))
+        && is_turn d reverse to (later_turn s) body
 
     -- the first turn leads into the body, and the body to the later turn, which leads into the body too
-    abbrev pub turns_stand : Within → Loop Q → DeclNo → Bool → StatementNo → Option StatementNo → StatementNo → StatementForm → Bool
+    abbrev pub turns_stand : Within → Loop Q → DeclNo → Bool → StatementNo → Option StatementNo → StatementNo
+        → StatementForm → Bool
     turns_stand within l d reverse s to first (action.FirstTurn e r body) =
-        same_decl d e && (same_bool r reverse && (same_next (next_of p first) to && body_stands within l d reverse s to body))
+        same_decl d e && (same_bool r reverse
+        && (same_next (next_of p first) to && body_stands within l d reverse s to body))
     turns_stand within l d reverse s to first _ = false
 
-    abbrev pub for_stands : Within → Loop Q → DeclNo → Bool → Expression → Expression → StatementNo → Option StatementNo → StatementForm → Bool
+    abbrev pub for_stands : Within → Loop Q → DeclNo → Bool → Expression → Expression → StatementNo
+        → Option StatementNo → StatementForm → Bool
     for_stands within l d reverse low high s to (action.For e r a b turn w) =
         same_decl d e && (same_bool r reverse && (value_stands within low a && (value_stands within high b
         && (is_within within w && turns_stand within l d reverse s to turn (form_of p turn)))))
@@ -492,29 +547,35 @@ module _ (p : Image) where
     abbrev pub loop_stands : Within → Loop Q → Iteration → StatementNo → Option StatementNo → StatementForm → Bool
     loop_stands within l iteration.Forever s to f = forever_stands within l s f
     loop_stands within l (iteration.While place c) s to f = while_stands within l c s f
-    loop_stands within l (iteration.For place i reverse low high) s to f = for_stands within l (loop_parameter_at within i) reverse low high s to f
+    loop_stands within l (iteration.For place i reverse low high) s to f =
+        for_stands within l (loop_parameter_at within i) reverse low high s to f
 
     -- ---- blocks, accepts and handlers
 
     abbrev pub block_stands : Within → Block Q → StatementNo → StatementForm → Bool
     block_stands within b s (action.Block scope) =
         eqb scope.0 (scope_at within.names b.place)
-        && sequence b.sequence (sequence_place.AsBody false) (in_construct s (in_scope scope.0 within)) (first_of_scope scope.0) None
+        && sequence b.sequence (sequence_place.AsBody false) (in_construct s (in_scope scope.0 within))
+        (first_of_scope scope.0) None
     block_stands within b s _ = false
 
     abbrev pub accept_body_stands : Within → StatementNo → ℕ → Option (AcceptBody Q) → Bool
     accept_body_stands within s scope None = is_none (first_of_scope scope)
-    accept_body_stands within s scope (Some b) = sequence b.sequence (sequence_place.BehindDeclarations None) (in_construct s (in_scope scope within)) (first_of_scope scope) None
+    accept_body_stands within s scope (Some b) =
+        sequence b.sequence (sequence_place.BehindDeclarations None) (in_construct s (in_scope scope within))
+        (first_of_scope scope) None
 
     abbrev pub accept_stands : Within → Accept Q → StatementNo → StatementForm → Bool
     accept_stands within a s (action.Accept e scope) =
-        eqb e.0 (entry_at within a.entry.place).0 && (eqb scope.0 (scope_at within.names a.place) && accept_body_stands within s scope.0 a.body)
+        eqb e.0 (entry_at within a.entry.place).0
+        && (eqb scope.0 (scope_at within.names a.place) && accept_body_stands within s scope.0 a.body)
     accept_stands within a s _ = false
 
     abbrev pub handlers_stand : Within → List (Handler Q) → Option StatementNo → List ExceptionHandler → Bool
     handlers_stand within [] to [] = true
     handlers_stand within (h ∷ hs) to (x ∷ xs) =
-        all_same same_handled x.choices (handled_made within h.exceptions) && (inside_stands (in_handler within) h.statements (Some x.first) to && handlers_stand within hs to xs)
+        all_same same_handled x.choices (handled_made within h.exceptions)
+        && (inside_stands (in_handler within) h.statements (Some x.first) to && handlers_stand within hs to xs)
     handlers_stand within _ to _ = false
 
     -- ---- selects
@@ -527,10 +588,12 @@ module _ (p : Image) where
     alternative_stands within (alternative.Terminate place) to select_kind.Terminate = true
     alternative_stands within _ to _ = false
 
-    abbrev pub select_alternatives_stand : Within → List (SelectAlternative Q) → Option StatementNo → List GuardedAlternative → Bool
+    abbrev pub select_alternatives_stand : Within → List (SelectAlternative Q) → Option StatementNo
+        → List GuardedAlternative → Bool
     select_alternatives_stand within [] to [] = true
     select_alternatives_stand within (a ∷ rest) to (x ∷ xs) =
-        condition_stands within (guard_of a.guard) x.guard && (alternative_stands within a.alternative to x.kind && select_alternatives_stand within rest to xs)
+        condition_stands within (guard_of a.guard) x.guard
+        && (alternative_stands within a.alternative to x.kind && select_alternatives_stand within rest to xs)
     select_alternatives_stand within _ to _ = false
 
     abbrev pub else_stands : Within → Option Q → Reading
@@ -538,20 +601,26 @@ module _ (p : Image) where
     else_stands within (Some q) from to = inside_stands within q from to
 
     abbrev pub call_before_stands : Within → Call → Option Q → StatementNo → Option StatementNo → Bool
-    call_before_stands within c statements s to = call_statement_stands within c (form_of p s) && inside_stands_if within statements (next_of p s) to
+    call_before_stands within c statements s to = call_statement_stands within c (form_of p s)
+        && inside_stands_if within statements (next_of p s) to
 
     abbrev pub delay_before_stands : Within → Delay → Option Q → StatementNo → Option StatementNo → Bool
-    delay_before_stands within d statements s to = delay_stands within d (form_of p s) && inside_stands_if within statements (next_of p s) to
+    delay_before_stands within d statements s to = delay_stands within d (form_of p s)
+        && inside_stands_if within statements (next_of p s) to
 
     abbrev pub select_stands : Within → SelectForm Q → StatementNo → Option StatementNo → StatementForm → Bool
     select_stands within (select.SelectiveAccept x) s to (action.SelectiveAccept alternatives otherwise) =
-        select_alternatives_stand within (x.alternatives.first ∷ x.alternatives.others) to alternatives && else_stands within x.otherwise otherwise to
+        select_alternatives_stand within (x.alternatives.first ∷ x.alternatives.others) to alternatives
+        && else_stands within x.otherwise otherwise to
     select_stands within (select.TimedEntryCall t) s to (action.TimedCall call delay) =
-        call_before_stands within t.call t.statements call to && delay_before_stands within t.delay t.delay_statements delay to
+        call_before_stands within t.call t.statements call to
+        && delay_before_stands within t.delay t.delay_statements delay to
     select_stands within (select.ConditionalEntryCall c) s to (action.ConditionalCall call otherwise) =
         call_before_stands within c.call c.statements call to && inside_stands within c.otherwise (Some otherwise) to
     select_stands within (select.AsynchronousSelect a) s to (action.AsynchronousSelect t abortable) =
-        trigger_stands within a.trigger (form_of p t) && (inside_stands_if within a.statements (next_of p t) to && inside_stands (in_construct s within) a.abortable (Some abortable) None)
+        trigger_stands within a.trigger (form_of p t)
+        && (inside_stands_if within a.statements (next_of p t) to
+        && inside_stands (in_construct s within) a.abortable (Some abortable) None)
     select_stands within _ s to _ = false
 
     -- ---- all statements: s is the number of the action, to what comes behind it
@@ -574,8 +643,10 @@ module _ (p : Image) where
     form_stands within (statement.Requeue place entry with_abort) s to f = requeue_stands within entry with_abort f
     form_stands within (statement.Select x) s to f = select_stands within x.form s to f
 
-    -- a list of statements stands where each stands behind the one before it, and the last leads to where the list leads
+    -- a list of statements stands where each stands behind the one before it, and the last leads to where the list
+    -- leads
     abbrev pub statements_stand : Within → List (Statement Q) → Reading
     statements_stand within [] from to = same_next from to
     statements_stand within (x ∷ xs) None to = false
-    statements_stand within (x ∷ xs) (Some s) to = form_stands within x s (next_of p s) (form_of p s) && statements_stand within xs (next_of p s) to
+    statements_stand within (x ∷ xs) (Some s) to = form_stands within x s (next_of p s) (form_of p s)
+        && statements_stand within xs (next_of p s) to

@@ -1,5 +1,5 @@
--- The type of an expression (clause 4), from its parts alone: no name is overloaded. Set_Handler asks for it, since a span and
--- a moment mean different things there (D.14.1, D.15).
+-- The type of an expression (clause 4), from its parts alone: no name is overloaded. Set_Handler asks for it, since a
+-- span and a moment mean different things there (D.14.1, D.15).
 use Rattle.std.specs.Prelude.{Bool, true, false, cond, List, [], ◌∷◌, Option, Some, None, option_map, unwrap_or, slice_get, not}
 use Rattle.ada_tree.specs.declared.names.Name.{Name}
 use Rattle.ada_tree.specs.declared.operators.AddingOperator.{AddingOperator}
@@ -59,7 +59,8 @@ type_of_kind n has_index (entity.Parameter s mode declaration) = indexed n has_i
 type_of_kind n has_index (entity.LoopParameter declaration) = Some types.Integer
 type_of_kind n has_index (entity.Component s owner declaration) = indexed n has_index s
 type_of_kind n has_index (entity.Exception declaration) = None
-type_of_kind n has_index (entity.Subprogram number is_function specified formals unit) = type_of_result (slice_get n.subprograms number.0)
+type_of_kind n has_index (entity.Subprogram number is_function specified formals unit) =
+    type_of_result (slice_get n.subprograms number.0)
 type_of_kind n has_index (entity.Entry number unit formals) = None
 type_of_kind n has_index entity.Label = None
 
@@ -154,7 +155,8 @@ module _ {E : Type 0} (expression : E → Names → Option AdaType) where
   type_of_form (form.Signed place s operand) n = expression operand n
   type_of_form (form.Multiplying first others) n = type_of_factors (expression first n) (others.first ∷ others.others) n
   type_of_form (form.Highest place operator operand) n = type_behind_operator operator (expression operand n)
-  type_of_form (form.Number place literal) n = cond (is_empty (decimals_of literal)) (Some types.Integer) (Some types.Duration)
+  type_of_form (form.Number place literal) n =
+      cond (is_empty (decimals_of literal)) (Some types.Integer) (Some types.Duration)
   type_of_form (form.Text place text) n = None
   type_of_form (form.Null place) n = None
   type_of_form (form.Bracketed place inner) n = expression inner n

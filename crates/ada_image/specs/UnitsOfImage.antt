@@ -56,7 +56,8 @@ static_aspect n name aspects = and_then (aspect_value name aspects) (λ e. and_t
 
 -- Priority or Interrupt_Priority
 unfoldable pub priority_of : Names → List Aspect → Option ℕ
-priority_of n aspects = option_or (static_aspect n (codes "priority") aspects) (static_aspect n (codes "interrupt_priority") aspects)
+priority_of n aspects =
+    option_or (static_aspect n (codes "priority") aspects) (static_aspect n (codes "interrupt_priority") aspects)
 
 -- ---- entries, in the order of the text
 
@@ -72,7 +73,8 @@ entry_no e = record { 0 = e }
 unfoldable pub entries_from : ℕ → EntryUnit → List NumberedEntry → List EntryNo
 entries_from number unit [] = []
 entries_from number unit (e ∷ es) =
-    cond (same_entry_unit e.unit unit) (entry_no number ∷ entries_from (suc number) unit es) (entries_from (suc number) unit es)
+    cond (same_entry_unit e.unit unit) (entry_no number
+    ∷ entries_from (suc number) unit es) (entries_from (suc number) unit es)
 
 unfoldable pub entries_of : Names → EntryUnit → List EntryNo
 entries_of n unit = entries_from 0 unit n.entries
@@ -130,7 +132,8 @@ decl_no d = record { 0 = d }
 unfoldable pub components_from : ℕ → ComponentOwner → List NumberedDeclaration → List DeclNo
 components_from number o [] = []
 components_from number o (d ∷ ds) =
-    cond (is_component_of o d.sort) (decl_no number ∷ components_from (suc number) o ds) (components_from (suc number) o ds)
+    cond (is_component_of o d.sort) (decl_no number
+    ∷ components_from (suc number) o ds) (components_from (suc number) o ds)
 
 unfoldable pub component_numbers : Names → ComponentOwner → List DeclNo
 component_numbers n o = components_from 0 o n.declarations
@@ -149,11 +152,13 @@ attached_interrupt n u s = cond (is_owned_by u s.unit) (static_aspect n (codes "
 
 unfoldable pub inserted_if : Option ℕ → ℕ → List Attachment → List Attachment
 inserted_if None number attached = attached
-inserted_if (Some interrupt) number attached = inserted (record { interrupt = interrupt; handler = subprogram_no number }) attached
+inserted_if (Some interrupt) number attached =
+    inserted (record { interrupt = interrupt; handler = subprogram_no number }) attached
 
 unfoldable pub attachments_from : Names → ℕ → ℕ → List NumberedSubprogram → List Attachment
 attachments_from n u number [] = []
-attachments_from n u number (s ∷ ss) = inserted_if (attached_interrupt n u s) number (attachments_from n u (suc number) ss)
+attachments_from n u number (s ∷ ss) =
+    inserted_if (attached_interrupt n u s) number (attachments_from n u (suc number) ss)
 
 unfoldable pub attachments_of : Names → ℕ → List Attachment
 attachments_of n u = attachments_from n u 0 n.subprograms
@@ -175,7 +180,8 @@ unfoldable pub protected_units_made : Names → ℕ → List NumberedProtected �
 protected_units_made n number [] = []
 protected_units_made n number (p ∷ ps) = protected_unit_made n number p ∷ protected_units_made n (suc number) ps
 
--- ---- controlled types: a procedure of this name in the same part overrides, with one `in out` parameter of the type (7.6)
+-- ---- controlled types: a procedure of this name in the same part overrides, with one `in out` parameter of the type
+-- (7.6)
 
 abbrev pub is_derived : ℕ → AdaType → Bool
 is_derived c (types.Derived d) = eqb d.0 c
@@ -196,12 +202,14 @@ has_one_of_type c (f ∷ g ∷ more) = false
 
 unfoldable pub overrides : ℕ → NumberedControlled → List ℕ → NumberedSubprogram → Bool
 overrides number t name s =
-    bytes_eq s.name name && (is_none s.result && (is_none s.unit && (eqb s.part t.part && has_one_of_type number s.formals)))
+    bytes_eq s.name name && (is_none s.result
+    && (is_none s.unit && (eqb s.part t.part && has_one_of_type number s.formals)))
 
 unfoldable pub overriding_from : ℕ → NumberedControlled → List ℕ → ℕ → List NumberedSubprogram → Option SubprogramNo
 overriding_from c t name number [] = None
 overriding_from c t name number (s ∷ ss) =
-    option_or (overriding_from c t name (suc number) ss) (cond (overrides c t name s) (Some (subprogram_no number)) None)
+    option_or (overriding_from c t name (suc number) ss)
+    (cond (overrides c t name s) (Some (subprogram_no number)) None)
 
 unfoldable pub overriding : Names → ℕ → NumberedControlled → List ℕ → Option SubprogramNo
 overriding n c t name = overriding_from c t name 0 n.subprograms

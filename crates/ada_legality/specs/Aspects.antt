@@ -1,5 +1,5 @@
--- What is found in aspects (13.1.1): Priority and Interrupt_Priority (D.1, D.3), CPU (D.16), Relative_Deadline (D.2.6) and
--- Attach_Handler (C.3.1).
+-- What is found in aspects (13.1.1): Priority and Interrupt_Priority (D.1, D.3), CPU (D.16), Relative_Deadline (D.2.6)
+-- and Attach_Handler (C.3.1).
 use Rattle.ada_image.specs.UnitsOfImage.{level_of}
 use Rattle.ada_legality.specs.Findings.{Found, broken_if, broken_unless}
 use Rattle.ada_legality.specs.ReadExpressions.{read_expression}

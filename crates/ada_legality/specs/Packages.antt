@@ -1,5 +1,5 @@
--- Packages (7.2, 10.1.4): a body follows its declaration, and only one does; a declaration that needs a body has one. A source
--- has its packages beside one another and the main procedure last, since the grammar has no other source (10.2).
+-- Packages (7.2, 10.1.4): a body follows its declaration, and only one does; a declaration that needs a body has one. A
+-- source has its packages beside one another and the main procedure last, since the grammar has no other source (10.2).
 use Rattle.ada_legality.specs.Findings.{Found, broken_if, broken_unless}
 use Rattle.ada_legality.specs.Values.{is_entity}
 use Rattle.ada_regions.specs.Completions.{holds_of}

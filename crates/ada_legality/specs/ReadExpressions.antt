@@ -49,7 +49,8 @@ use Rattle.ada_legality.specs.declared.reading.Typed.TheVariants as typing
 
 -- ---- names, given their arguments
 
--- a component is one of a variable too, where an object stands before it; a declared object; a component of a protected unit
+-- a component is one of a variable too, where an object stands before it; a declared object; a component of a protected
+-- unit
 
 abbrev pub is_declared_object : EntityKind → Bool
 is_declared_object (entity.Object s constant value declaration) = true

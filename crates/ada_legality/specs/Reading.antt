@@ -1,4 +1,5 @@
--- What is asked of an expression that is read, in its place (clause 4), and Image, barriers, signs and chains of operators.
+-- What is asked of an expression that is read, in its place (clause 4), and Image, barriers, signs and chains of
+-- operators.
 use Rattle.ada_image.specs.ImageOfExpressions.{highest_operator, logical_operator, multiplying_operator, relational_operator}
 use Rattle.ada_image.specs.UnitsOfImage.{is_in_out}
 use Rattle.ada_legality.specs.Attributes.{innermost_unit}

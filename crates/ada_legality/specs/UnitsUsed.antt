@@ -1,6 +1,6 @@
--- Library units (10.1.2, 10.1.6): a unit is used only under a with clause for it, or for one that stands in it; a package in
--- itself, and Standard, always. Of the way through the names of a source, where the table has the with clauses that hold. There
--- the limit on expanded names is asked too.
+-- Library units (10.1.2, 10.1.6): a unit is used only under a with clause for it, or for one that stands in it; a
+-- package in itself, and Standard, always. Of the way through the names of a source, where the table has the with
+-- clauses that hold. There the limit on expanded names is asked too.
 use Rattle.ada_legality.specs.Findings.{Found, broken_if, broken_unless}
 use Rattle.ada_legality.specs.Places.{place_of}
 use Rattle.ada_regions.specs.Names.{denoted_at, expanded}

@@ -19,7 +19,8 @@ unfoldable pub gap_state : Bool → List ℕ → Option Bool
 gap_state inside [] = Some inside
 gap_state true (b ∷ rest) = gap_state (not (b == 10)) rest
 gap_state false (b ∷ []) = if is_separator b then Some false else None
-gap_state false (b ∷ c ∷ rest) = if is_separator b then gap_state false (c ∷ rest) else (if (b == 45) && (c == 45) then gap_state true rest else None)
+gap_state false (b ∷ c ∷ rest) = if is_separator b then gap_state false (c ∷ rest)
+    else (if (b == 45) && (c == 45) then gap_state true rest else None)
 
 -- each byte goes on the run that the bytes before it began
 unfoldable pub is_run : Run → List ℕ → Bool
@@ -37,7 +38,8 @@ is_fraction (b ∷ rest) = (b == 46) && begins_with is_ascii_digit rest && is_ru
 
 -- digits with single underscores between them, and perhaps a fraction
 abbrev pub IsNumber : List ℕ → Type 0
-IsNumber bytes = (n : ℕ) × (begins_with is_ascii_digit bytes ≡ true) × (is_run Whole (take n bytes) ≡ true) × (is_fraction (drop n bytes) ≡ true)
+IsNumber bytes = (n : ℕ) × (begins_with is_ascii_digit bytes ≡ true) × (is_run Whole (take n bytes) ≡ true)
+    × (is_fraction (drop n bytes) ≡ true)
 
 -- two marks with bytes of one line between them, in which a mark is doubled
 abbrev pub IsText : List ℕ → Type 0
@@ -52,7 +54,8 @@ IsToken kinds.Number bytes = IsNumber bytes
 IsToken kinds.Text bytes = IsText bytes
 IsToken kinds.Delimiter bytes = IsDelimiter bytes
 
--- the limits of the profile: MAX_WORD bytes of a word, a whole part below 2 to the power of 128, bytes that a text may hold
+-- the limits of the profile: MAX_WORD bytes of a word, a whole part below 2 to the power of 128, bytes that a text may
+-- hold
 abbrev pub IsWithin : Kind → List ℕ → Type 0
 IsWithin kinds.Word bytes = length bytes ≤ MAX_WORD
 IsWithin kinds.Number bytes = whole_of bytes < 2 ^ 128
@@ -82,7 +85,8 @@ pub record StandsThere (spot : Spot) (bytes : List ℕ) (token : Token) (gap tex
 
 abbrev pub LexedFrom : List Token → Spot → List ℕ → Type 0
 LexedFrom [] spot bytes = (inside : Bool) × (gap_state false bytes ≡ Some inside)
-LexedFrom (token ∷ tokens) spot bytes = (gap : List ℕ) × (text : List ℕ) × (rest : List ℕ) × StandsThere spot bytes token gap text rest × LexedFrom tokens (behind_all (gap ++ text) spot) rest
+LexedFrom (token ∷ tokens) spot bytes = (gap : List ℕ) × (text : List ℕ) × (rest : List ℕ)
+    × StandsThere spot bytes token gap text rest × LexedFrom tokens (behind_all (gap ++ text) spot) rest
 
 -- The tokens are those of the source, each at its place.
 abbrev pub Lexed : List ℕ → List Token → Type 0

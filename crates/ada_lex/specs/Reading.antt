@@ -115,7 +115,8 @@ with_front front read = read >>= λ tokens. Ok (front ++ tokens)
 unfoldable pub tokens_from : List ℕ → ℕ → Spot → Result (List Token) LexFault
 tokens_from [] skip spot = Ok []
 tokens_from (b ∷ rest) (suc skip) spot = tokens_from rest skip (behind spot b)
-tokens_from (b ∷ rest) zero spot = piece_at spot (b ∷ rest) >>= λ piece. with_front piece.0 (tokens_from rest (piece.1 - 1) (behind spot b))
+tokens_from (b ∷ rest) zero spot = piece_at spot (b ∷ rest)
+    >>= λ piece. with_front piece.0 (tokens_from rest (piece.1 - 1) (behind spot b))
 
 -- The tokens of a source, or its first fault. Its length is asked first.
 unfoldable pub tokens_of : List ℕ → Result (List Token) LexFault

@@ -64,7 +64,9 @@ headed i n = cond (is_some (completed_in n (region_here n) i.text)) n (hidden i 
 
 -- the region of a body is that of its entity from here on, and has its name in expanded names
 unfoldable pub owned : Option ℕ → List ℕ → Names → Names
-owned e name n = record n { frames = record (innermost_frame n.frames) { owner = e; name = Some name } ∷ rest_of n.frames }
+owned e name n = record n {
+  frames = record (innermost_frame n.frames) { owner = e; name = Some name } ∷ rest_of n.frames;
+}
 
 abbrev pub with_body : ℕ → Names → Names
 with_body e n = record n { bodies = e ∷ n.bodies }
@@ -74,14 +76,17 @@ with_body_of scope formals x = record x { scope = scope; formals = formals }
 
 abbrev pub body_numbered : SubprogramSpecification → Names → SubprogramNo → Names
 body_numbered s n number =
-    record n { subprograms = edit_at number.0 (with_body_of (scope_in n.frames) (formals_of n s.parameters)) n.subprograms }
+    record n {
+      subprograms = edit_at number.0 (with_body_of (scope_in n.frames) (formals_of n s.parameters)) n.subprograms;
+    }
 
 unfoldable pub numbered_if : SubprogramSpecification → Names → Option SubprogramNo → Names
 numbered_if s n None = n
 numbered_if s n (Some number) = body_numbered s n number
 
 unfoldable pub body_of_declared : ℕ → Identifier → SubprogramSpecification → Names → Names
-body_of_declared e i s n = noted i.place (denotes.Entity e) (with_body e (numbered_if s n (and_then (kind_at n e) specified_number)))
+body_of_declared e i s n =
+    noted i.place (denotes.Entity e) (with_body e (numbered_if s n (and_then (kind_at n e) specified_number)))
 
 unfoldable pub completed_or_declared : Enclosure → Option ℕ → Identifier → SubprogramSpecification → Names → Names
 completed_or_declared outer (Some e) i s n = body_of_declared e i s n
@@ -133,11 +138,23 @@ seen_again n region = seen_among n (item_at region n.bindings)
 
 abbrev pub body_frame : ℕ → Option ℕ → Identifier → Option ℕ → Frame
 body_frame region e i scope =
-    record { region = region; owner = e; scope = scope; is_accept = false; name = Some i.text; exports = false; components = None; part = 0 }
+    record {
+      region = region;
+      owner = e;
+      scope = scope;
+      is_accept = false;
+      name = Some i.text;
+      exports = false;
+      components = None;
+      part = 0;
+    }
 
 unfoldable pub body_apart : Option ℕ → Identifier → Option ℕ → List Binding → Names → Names
 body_apart e i scope seen n =
-    opened (body_frame n.regions e i scope) (record n { regions = suc n.regions; bindings = put n.regions seen n.bindings })
+    opened (body_frame n.regions e i scope) (record n {
+      regions = suc n.regions;
+      bindings = put n.regions seen n.bindings;
+    })
 
 abbrev pub components_in : AdaType → Option ComponentOwner
 components_in (types.Protected u) = Some (owner.Protected u)
@@ -164,14 +181,16 @@ task_scoped (Some t) (Some scope) n = task_numbered t scope n
 unfoldable pub body_of_unit : ℕ → ℕ → Identifier → Option ℕ → Names → Names
 body_of_unit e region i scope n =
     let t = and_then (kind_at n e) type_of_kind in
-    with_body e (task_scoped t scope (opened (record (body_frame region (Some e) i scope) { components = components_of t }) n))
+    with_body e (task_scoped t scope (opened
+    (record (body_frame region (Some e) i scope) { components = components_of t }) n))
 
 abbrev pub has_body : Names → ℕ → Bool
 has_body n e = list_any (eqb e) n.bodies
 
 unfoldable pub first_body : ℕ → Option ℕ → Identifier → Option ℕ → Names → Names
 first_body e None i scope n = body_apart None i scope [] n
-first_body e (Some region) i scope n = cond (has_body n e) (body_apart (Some e) i scope (seen_again n region) n) (body_of_unit e region i scope n)
+first_body e (Some region) i scope n =
+    cond (has_body n e) (body_apart (Some e) i scope (seen_again n region) n) (body_of_unit e region i scope n)
 
 unfoldable pub later_body : ℕ → Option ℕ → Identifier → Option ℕ → Names → Names
 later_body e None i scope n = body_apart None i scope [] n
@@ -179,12 +198,15 @@ later_body e (Some region) i scope n = body_apart (Some e) i scope (seen_again n
 
 -- a body whose name its own region declares
 unfoldable pub body_here : UnitKind → ℕ → Identifier → Option ℕ → Names → Names
-body_here test e i scope n = cond (is_unit test n e) (first_body e (region_of_entity n e) i scope (noted i.place (denotes.Entity e) n)) (body_apart None i scope [] n)
+body_here test e i scope n =
+    cond (is_unit test n e) (first_body e (region_of_entity n e) i scope (noted i.place (denotes.Entity e) n))
+    (body_apart None i scope [] n)
 
 -- a body whose name denotes something further out, or nothing
 unfoldable pub body_elsewhere : UnitKind → Option ℕ → Identifier → Option ℕ → Names → Names
 body_elsewhere test None i scope n = body_apart None i scope [] n
-body_elsewhere test (Some e) i scope n = cond (is_unit test n e) (later_body e (region_of_entity n e) i scope n) (body_apart None i scope [] n)
+body_elsewhere test (Some e) i scope n =
+    cond (is_unit test n e) (later_body e (region_of_entity n e) i scope n) (body_apart None i scope [] n)
 
 unfoldable pub body_sought : UnitKind → Identifier → Option ℕ → Names → Names
 body_sought test i scope n = body_elsewhere test (entity_denoted n i.place) i scope n

@@ -53,11 +53,14 @@ use Rattle.ada_regions.specs.Visibility.{in_standard, bound}
 -- ---- bindings
 
 abbrev pub with_binding : Enclosure → List ℕ → Option ℕ → Names → Names
-with_binding f name e n = record n { bindings = bound_in f.region (record { name = name; entity = e; exported = f.exports }) n.bindings }
+with_binding f name e n = record n {
+  bindings = bound_in f.region (record { name = name; entity = e; exported = f.exports }) n.bindings;
+}
 
 -- a name is hidden where its region has none of it (8.3)
 unfoldable pub hidden : Identifier → Names → Names
-hidden i n = cond (is_some (binding_in n.bindings (region_here n) i.text)) n (with_binding (enclosure_here n) i.text None n)
+hidden i n =
+    cond (is_some (binding_in n.bindings (region_here n) i.text)) n (with_binding (enclosure_here n) i.text None n)
 
 -- whether a region has a declaration of this name already
 abbrev pub is_taken : Names → ℕ → List ℕ → Bool
@@ -68,13 +71,16 @@ told_if_taken taken i n = cond taken (told (fault.Twice i.place) n) n
 
 -- an entity that is new gets the next number
 abbrev pub with_entity : Place → EntityKind → Option ℕ → Names → Names
-with_entity place kind region n = record n { entities = n.entities ++ record { place = place; kind = kind; region = region } ∷ [] }
+with_entity place kind region n = record n {
+  entities = n.entities ++ record { place = place; kind = kind; region = region } ∷ [];
+}
 
 -- a name is declared in this region
 unfoldable pub entered : Enclosure → Bool → Identifier → EntityKind → Option ℕ → Names → Names
 entered f taken i kind region n =
     let e = length n.entities in
-    noted i.place (denotes.Entity e) (with_binding f i.text (Some e) (with_entity i.place kind region (told_if_taken taken i n)))
+    noted i.place (denotes.Entity e) (with_binding f i.text (Some e)
+    (with_entity i.place kind region (told_if_taken taken i n)))
 
 unfoldable pub entered_here : Identifier → EntityKind → Option ℕ → Names → Names
 entered_here i kind region n = entered (enclosure_here n) (is_taken n (region_here n) i.text) i kind region n
@@ -82,7 +88,16 @@ entered_here i kind region n = entered (enclosure_here n) (is_taken n (region_he
 -- ---- the region of Standard, in which library units stand (10.1)
 
 abbrev pub library_frame : Frame
-library_frame = record { region = 0; owner = None; scope = Some 0; is_accept = false; name = None; exports = false; components = None; part = 0 }
+library_frame = record {
+  region = 0;
+  owner = None;
+  scope = Some 0;
+  is_accept = false;
+  name = None;
+  exports = false;
+  components = None;
+  part = 0;
+}
 
 unfoldable pub unit_is_taken : Names → List ℕ → Bool
 unit_is_taken n name = is_taken n library_frame.region name || is_some (in_standard n.last_priority name)
@@ -95,9 +110,18 @@ entered_as_unit i kind region n = entered (enclosure_of library_frame) (unit_is_
 abbrev pub next_declaration : Names → DeclNo
 next_declaration n = record { 0 = length n.declarations }
 
-abbrev pub numbered_declaration : Names → Identifier → Sort → ℕ → Option Subtype → Option Expression → NumberedDeclaration
+abbrev pub numbered_declaration : Names → Identifier → Sort → ℕ → Option Subtype → Option Expression
+    → NumberedDeclaration
 numbered_declaration n i sort scope s initial =
-    record { name = i.text; expanded = expanded n.frames i.text; sort = sort; scope = scope; subtype = s; initial = initial; task = None }
+    record {
+      name = i.text;
+      expanded = expanded n.frames i.text;
+      sort = sort;
+      scope = scope;
+      subtype = s;
+      initial = initial;
+      task = None;
+    }
 
 abbrev pub with_declaration : NumberedDeclaration → Names → Names
 with_declaration d n = record n { declarations = n.declarations ++ d ∷ [] }
@@ -131,7 +155,8 @@ unfoldable pub object_declared : Identifier → ObjectDeclaration → Names → 
 object_declared i o n =
     let s = indicated_subtype n o.subtype in
     entered_here i (entity.Object s o.constant (constant_value n o) (next_declaration n)) None
-    (with_declaration (record (numbered_declaration n i sort.Object (scope_in n.frames) s o.initial) { task = task_indicated n o.subtype.constraint }) n)
+    (with_declaration (record (numbered_declaration n i sort.Object (scope_in n.frames) s o.initial)
+    { task = task_indicated n o.subtype.constraint }) n)
 
 abbrev pub no_owner : ComponentOwner
 no_owner = owner.Controlled (record { 0 = 0 })
@@ -149,15 +174,19 @@ component_declared i c n =
 unfoldable pub parameter_declared : Bool → Identifier → Parameter → Names → Names
 parameter_declared true i p n =
     let s = indicated_subtype n p.subtype in
-    entered_here i (entity.Parameter s (mode_of p.is_in p.is_out) (Some (next_declaration n))) None (numbered i sort.Parameter (scope_in n.frames) s None n)
-parameter_declared false i p n = entered_here i (entity.Parameter (indicated_subtype n p.subtype) (mode_of p.is_in p.is_out) None) None n
+    entered_here i (entity.Parameter s (mode_of p.is_in p.is_out) (Some (next_declaration n))) None
+    (numbered i sort.Parameter (scope_in n.frames) s None n)
+parameter_declared false i p n =
+    entered_here i (entity.Parameter (indicated_subtype n p.subtype) (mode_of p.is_in p.is_out) None) None n
 
 unfoldable pub loop_parameter_declared : Identifier → Names → Names
 loop_parameter_declared i n =
-    entered_here i (entity.LoopParameter (next_declaration n)) None (numbered i sort.LoopParameter (scope_of_loops n.frames) None None n)
+    entered_here i (entity.LoopParameter (next_declaration n)) None
+    (numbered i sort.LoopParameter (scope_of_loops n.frames) None None n)
 
 unfoldable pub exception_declared : Identifier → Names → Names
-exception_declared i n = entered_here i (entity.Exception (next_declaration n)) None (numbered i sort.Exception 0 None None n)
+exception_declared i n =
+    entered_here i (entity.Exception (next_declaration n)) None (numbered i sort.Exception 0 None None n)
 
 -- ---- types
 
@@ -168,7 +197,10 @@ abbrev pub newest_enumeration : Names → EnumerationNo
 newest_enumeration n = record { 0 = length n.enumerations - 1 }
 
 abbrev pub enumeration_subtype : EnumerationNo → OneOrMore Identifier → Subtype
-enumeration_subtype e literals = record { of_type = types.Enumeration e; range = constraint.Literal 0 (length literals.others) }
+enumeration_subtype e literals = record {
+  of_type = types.Enumeration e;
+  range = constraint.Literal 0 (length literals.others);
+}
 
 abbrev pub text_of : Identifier → List ℕ
 text_of i = i.text
@@ -207,11 +239,16 @@ is_limited_parent (Some s) = is_limited_root s.of_type
 
 unfoldable pub numbered_controlled : Names → Name → NumberedControlled
 numbered_controlled n parent =
-    record { region = n.regions; part = (innermost_frame n.frames).part; is_limited = is_limited_parent (and_then (denoted_by n parent) (mark_denoted n)) }
+    record {
+      region = n.regions;
+      part = (innermost_frame n.frames).part;
+      is_limited = is_limited_parent (and_then (denoted_by n parent) (mark_denoted n));
+    }
 
 unfoldable pub derived_declared : Identifier → Name → Names → Names
 derived_declared i parent n =
-    entered_here i (entity.Mark (Some (free_subtype (types.Derived (record { 0 = length n.controlled_types }))))) (Some n.regions)
+    entered_here i (entity.Mark (Some (free_subtype (types.Derived (record { 0 = length n.controlled_types })))))
+    (Some n.regions)
     (with_region (record n { controlled_types = n.controlled_types ++ numbered_controlled n parent ∷ [] }))
 
 unfoldable pub subtype_declared : Identifier → SubtypeIndication → Names → Names
@@ -245,7 +282,8 @@ numbered_subprogram n f scope i s = record {
 unfoldable pub subprogram_declared : Enclosure → Bool → ℕ → Identifier → SubprogramSpecification → Names → Names
 subprogram_declared f specified scope i s n =
     entered f (is_taken n f.region i.text) i
-    (entity.Subprogram (record { 0 = length n.subprograms }) (is_some s.result) specified (formals_of n s.parameters) (protected_unit_of f.components)) None
+    (entity.Subprogram (record { 0 = length n.subprograms }) (is_some s.result) specified
+    (formals_of n s.parameters) (protected_unit_of f.components)) None
     (record n { subprograms = n.subprograms ++ numbered_subprogram n f scope i s ∷ [] })
 
 abbrev pub entry_unit_in : AdaType → EntryUnit
@@ -296,7 +334,8 @@ numbered_protected n aspects = record { region = n.regions; aspects = aspects }
 
 unfoldable pub task_declared : Bool → List Aspect → Identifier → Names → Names
 task_declared is_type aspects i n =
-    unit_entered is_type i (free_subtype (types.Task (record { 0 = length n.task_units }))) (record n { task_units = n.task_units ++ numbered_task n aspects ∷ [] })
+    unit_entered is_type i (free_subtype (types.Task (record { 0 = length n.task_units })))
+    (record n { task_units = n.task_units ++ numbered_task n aspects ∷ [] })
 
 unfoldable pub protected_declared : Bool → List Aspect → Identifier → Names → Names
 protected_declared is_type aspects i n =

@@ -102,7 +102,16 @@ bound_in region b bindings = bound_among (item_at region bindings) region b bind
 -- ---- frames
 
 abbrev pub no_frame : Frame
-no_frame = record { region = 0; owner = None; scope = None; is_accept = false; name = None; exports = false; components = None; part = 0 }
+no_frame = record {
+  region = 0;
+  owner = None;
+  scope = None;
+  is_accept = false;
+  name = None;
+  exports = false;
+  components = None;
+  part = 0;
+}
 
 abbrev pub innermost_frame : List Frame → Frame
 innermost_frame [] = no_frame

@@ -31,19 +31,23 @@ use Rattle.ada_regions.specs.NamesInStatements.{names_in_indication, names_in_pa
 
 abbrev pub names_in_object : ObjectDeclaration → Occurrences
 names_in_object o =
-    hides_all o.names ++ (names_in_indication o.subtype ++ (if_there names_in_expression o.initial ++ declares_all (an_object o) o.names))
+    hides_all o.names ++ (names_in_indication o.subtype
+    ++ (if_there names_in_expression o.initial ++ declares_all (an_object o) o.names))
 
 abbrev pub names_in_component : Component → Occurrences
 names_in_component c =
-    hides_all c.names ++ (names_in_indication c.subtype ++ (if_there names_in_expression c.initial ++ declares_all (a_component c) c.names))
+    hides_all c.names ++ (names_in_indication c.subtype
+    ++ (if_there names_in_expression c.initial ++ declares_all (a_component c) c.names))
 
 abbrev pub names_in_definition : Identifier → TypeDefinition → Occurrences
 names_in_definition name (definition.Enumeration literals) =
     declares name (an_enumeration literals) ∷ declares_all a_literal literals
 names_in_definition name (definition.Array low high component) =
-    hides name ∷ (names_in_expression low ++ (names_in_expression high ++ (names_in_indication component ++ one (declares name (an_array low high component)))))
+    hides name ∷ (names_in_expression low ++ (names_in_expression high
+    ++ (names_in_indication component ++ one (declares name (an_array low high component)))))
 names_in_definition name (definition.Derived parent components) =
-    hides name ∷ mentions parent ∷ declares name (a_derived_type parent) ∷ within_region (a_record name) (if_there (in_all names_in_component) components)
+    hides name ∷ mentions parent ∷ declares name (a_derived_type parent)
+    ∷ within_region (a_record name) (if_there (in_all names_in_component) components)
 
 abbrev pub names_in_type : TypeDeclaration → Occurrences
 names_in_type t = names_in_definition t.name t.definition
@@ -65,11 +69,13 @@ names_in_profile with_cells s =
     names_in_parameters with_cells s.parameters ++ (if_there names_in_indication s.result ++ names_in_aspects s.aspects)
 
 abbrev pub names_in_specification : SubprogramSpecification → Occurrences
-names_in_specification s = hides s.name ∷ (within_region a_profile (names_in_profile false s) ++ one (declares s.name (a_subprogram s)))
+names_in_specification s = hides s.name ∷ (within_region a_profile (names_in_profile false s)
+    ++ one (declares s.name (a_subprogram s)))
 
 abbrev pub names_in_entry : EntryDeclaration → Occurrences
 names_in_entry e =
-    hides e.name ∷ (within_region a_profile (names_in_parameters false e.parameters) ++ one (declares e.name (an_entry e.parameters)))
+    hides e.name ∷ (within_region a_profile (names_in_parameters false e.parameters)
+    ++ one (declares e.name (an_entry e.parameters)))
 
 -- ---- task and protected declarations (9.1, 9.4)
 
@@ -79,7 +85,8 @@ names_in_task_definition d = flat_map names_in_entry d.entries
 abbrev pub names_in_task : TaskDeclaration → Occurrences
 names_in_task t =
     hides t.name ∷ (names_in_aspects t.aspects
-    ++ (declares t.name (a_task t.is_type t.aspects) ∷ within_region (a_unit t.name) (if_there names_in_task_definition t.definition)))
+    ++ (declares t.name (a_task t.is_type t.aspects)
+    ∷ within_region (a_unit t.name) (if_there names_in_task_definition t.definition)))
 
 abbrev pub names_in_operation : ProtectedOperation → Occurrences
 names_in_operation (operation.Subprogram specification) = names_in_specification specification
@@ -91,7 +98,9 @@ names_in_private components = private_from_here ∷ flat_map names_in_component 
 abbrev pub names_in_protected : ProtectedDeclaration → Occurrences
 names_in_protected p =
     hides p.name ∷ (names_in_aspects p.aspects
-    ++ (declares p.name (a_protected p.is_type p.aspects) ∷ within_region (a_unit p.name) (flat_map names_in_operation p.operations ++ if_there names_in_private p.components)))
+    ++ (declares p.name (a_protected p.is_type p.aspects)
+    ∷ within_region (a_unit p.name) (flat_map names_in_operation p.operations
+    ++ if_there names_in_private p.components)))
 
 -- ---- bodies, given the names in the sequences in them
 
@@ -101,12 +110,14 @@ module _ {Q : Type 0} (sequence : Q → SequenceNames) where
 
   abbrev pub names_in_subprogram_body : SubprogramSpecification → Body Q → Occurrences
   names_in_subprogram_body s body =
-      heads s.name ∷ within_region (subprogram_body s.place (is_some s.result)) (names_in_profile true s ++ (completes s.name s ∷ names_in_body body))
+      heads s.name ∷ within_region (subprogram_body s.place (is_some s.result)) (names_in_profile true s
+      ++ (completes s.name s ∷ names_in_body body))
 
   abbrev pub names_in_entry_body : EntryHead → Body Q → Occurrences
   names_in_entry_body h body =
       mentions_entry h.name
-      ∷ within_region (entry_body h.name h.place h.barrier) (names_in_parameters true h.parameters ++ (names_in_expression h.barrier ++ (is_called h.name ∷ names_in_body body)))
+      ∷ within_region (entry_body h.name h.place h.barrier) (names_in_parameters true h.parameters
+      ++ (names_in_expression h.barrier ++ (is_called h.name ∷ names_in_body body)))
 
   abbrev pub names_in_operation_body : OperationBody Q → Occurrences
   names_in_operation_body (body_of.Subprogram specification body) = names_in_subprogram_body specification body
@@ -123,7 +134,8 @@ module _ {Q : Type 0} (sequence : Q → SequenceNames) where
   names_in_declaration (declaration.Subprogram s) = names_in_specification s
   names_in_declaration (declaration.SubprogramBody s body) = names_in_subprogram_body s body
   names_in_declaration (declaration.Task t) = names_in_task t
-  names_in_declaration (declaration.TaskBody place name body) = within_region (task_body name place) (names_in_body body)
+  names_in_declaration (declaration.TaskBody place name body) =
+      within_region (task_body name place) (names_in_body body)
   names_in_declaration (declaration.Protected p) = names_in_protected p
   names_in_declaration (declaration.ProtectedBody p) = names_in_protected_body p
   names_in_declaration (declaration.Use place name) = one (use_package name)

@@ -50,7 +50,8 @@ names_in_indication m = mentions m.name ∷ if_there names_in_constraint m.const
 
 -- parameters with cells or without
 abbrev pub names_in_parameter : Bool → Parameter → Occurrences
-names_in_parameter with_cells p = hides_all p.names ++ (names_in_indication p.subtype ++ declares_all (a_parameter with_cells p) p.names)
+names_in_parameter with_cells p = hides_all p.names
+    ++ (names_in_indication p.subtype ++ declares_all (a_parameter with_cells p) p.names)
 
 abbrev pub names_in_parameters : Bool → List Parameter → Occurrences
 names_in_parameters with_cells parameters = flat_map (names_in_parameter with_cells) parameters
@@ -76,7 +77,8 @@ abbrev pub names_in_iteration : Iteration → Occurrences
 names_in_iteration iteration.Forever = []
 names_in_iteration (iteration.While place condition) = names_in_expression condition
 names_in_iteration (iteration.For place parameter reverse low high) =
-    hides parameter ∷ (names_in_expression low ++ (names_in_expression high ++ one (declares parameter a_loop_parameter)))
+    hides parameter ∷ (names_in_expression low
+    ++ (names_in_expression high ++ one (declares parameter a_loop_parameter)))
 
 abbrev pub names_in_exit : Exit → Occurrences
 names_in_exit e = if_there (λ name. one (mentions_simply name)) e.loop_name ++ if_there names_in_expression e.condition
@@ -112,7 +114,8 @@ module _ {Q : Type 0} (sequence : Q → SequenceNames) where
 
   abbrev pub names_in_if : If Q → Occurrences
   names_in_if i =
-      names_in_expression i.condition ++ (names_in_statements i.statements ++ (flat_map names_in_elsif i.elsifs ++ if_there names_in_statements i.otherwise))
+      names_in_expression i.condition ++ (names_in_statements i.statements
+      ++ (flat_map names_in_elsif i.elsifs ++ if_there names_in_statements i.otherwise))
 
   abbrev pub names_in_case_alternative : CaseAlternative Q → Occurrences
   names_in_case_alternative a = in_all names_in_choice a.choices ++ names_in_statements a.statements
@@ -121,7 +124,8 @@ module _ {Q : Type 0} (sequence : Q → SequenceNames) where
   names_in_case c = names_in_expression c.selector ++ in_all names_in_case_alternative c.alternatives
 
   abbrev pub names_in_loop : Loop Q → Occurrences
-  names_in_loop l = within_region (a_loop (label_name l.label)) (names_in_iteration l.iteration ++ names_in_statements l.statements)
+  names_in_loop l =
+      within_region (a_loop (label_name l.label)) (names_in_iteration l.iteration ++ names_in_statements l.statements)
 
   abbrev pub names_in_block : Block Q → Occurrences
   names_in_block b = within_region (a_block (label_name b.label) b.place) (in_body (sequence b.sequence))
@@ -134,22 +138,29 @@ module _ {Q : Type 0} (sequence : Q → SequenceNames) where
 
   abbrev pub names_in_accept : Accept Q → Occurrences
   names_in_accept a =
-      mentions_simply a.entry ∷ within_region (an_accept a.entry a.place) (names_in_parameters true a.parameters ++ if_there names_in_accept_body a.body)
+      mentions_simply a.entry ∷ within_region (an_accept a.entry a.place) (names_in_parameters true a.parameters
+      ++ if_there names_in_accept_body a.body)
 
   abbrev pub names_in_alternative : Alternative Q → Occurrences
-  names_in_alternative (alternative.Accept accept statements) = names_in_accept accept ++ if_there names_in_statements statements
-  names_in_alternative (alternative.Delay delay statements) = names_in_delay delay ++ if_there names_in_statements statements
+  names_in_alternative (alternative.Accept accept statements) = names_in_accept accept
+      ++ if_there names_in_statements statements
+  names_in_alternative (alternative.Delay delay statements) = names_in_delay delay
+      ++ if_there names_in_statements statements
   names_in_alternative (alternative.Terminate place) = []
 
   abbrev pub names_in_select_alternative : SelectAlternative Q → Occurrences
   names_in_select_alternative a = if_there names_in_guard a.guard ++ names_in_alternative a.alternative
 
   abbrev pub names_in_select : SelectForm Q → Occurrences
-  names_in_select (select.SelectiveAccept s) = in_all names_in_select_alternative s.alternatives ++ if_there names_in_statements s.otherwise
+  names_in_select (select.SelectiveAccept s) = in_all names_in_select_alternative s.alternatives
+      ++ if_there names_in_statements s.otherwise
   names_in_select (select.TimedEntryCall t) =
-      names_in_call t.call ++ (if_there names_in_statements t.statements ++ (names_in_delay t.delay ++ if_there names_in_statements t.delay_statements))
-  names_in_select (select.ConditionalEntryCall c) = names_in_call c.call ++ (if_there names_in_statements c.statements ++ names_in_statements c.otherwise)
-  names_in_select (select.AsynchronousSelect s) = names_in_trigger s.trigger ++ (if_there names_in_statements s.statements ++ names_in_statements s.abortable)
+      names_in_call t.call ++ (if_there names_in_statements t.statements
+      ++ (names_in_delay t.delay ++ if_there names_in_statements t.delay_statements))
+  names_in_select (select.ConditionalEntryCall c) = names_in_call c.call
+      ++ (if_there names_in_statements c.statements ++ names_in_statements c.otherwise)
+  names_in_select (select.AsynchronousSelect s) = names_in_trigger s.trigger
+      ++ (if_there names_in_statements s.statements ++ names_in_statements s.abortable)
 
   abbrev pub names_in_statement : Statement Q → Occurrences
   names_in_statement (statement.Null place) = []
@@ -189,7 +200,8 @@ module _ {Q : Type 0} (sequence : Q → SequenceNames) where
   labels_in_accept a = if_there labels_in_accept_body a.body
 
   abbrev pub labels_in_alternative : Alternative Q → Occurrences
-  labels_in_alternative (alternative.Accept accept statements) = labels_in_accept accept ++ if_there labels_in statements
+  labels_in_alternative (alternative.Accept accept statements) = labels_in_accept accept
+      ++ if_there labels_in statements
   labels_in_alternative (alternative.Delay delay statements) = if_there labels_in statements
   labels_in_alternative (alternative.Terminate place) = []
 
@@ -197,7 +209,8 @@ module _ {Q : Type 0} (sequence : Q → SequenceNames) where
   labels_in_select_alternative a = labels_in_alternative a.alternative
 
   abbrev pub labels_in_select : SelectForm Q → Occurrences
-  labels_in_select (select.SelectiveAccept s) = in_all labels_in_select_alternative s.alternatives ++ if_there labels_in s.otherwise
+  labels_in_select (select.SelectiveAccept s) = in_all labels_in_select_alternative s.alternatives
+      ++ if_there labels_in s.otherwise
   labels_in_select (select.TimedEntryCall t) = if_there labels_in t.statements ++ if_there labels_in t.delay_statements
   labels_in_select (select.ConditionalEntryCall c) = if_there labels_in c.statements ++ labels_in c.otherwise
   labels_in_select (select.AsynchronousSelect s) = if_there labels_in s.statements ++ labels_in s.abortable

@@ -59,7 +59,8 @@ names_in_private_part declarations = private_from_here ∷ names_in_part declara
 abbrev pub names_in_package_declaration : List ContextClause → PackageDeclaration → Occurrences
 names_in_package_declaration context p =
     within_region the_context (names_in_context context
-    ++ (declares_unit p.name the_package ∷ within_region (package_region p.name) (names_in_part p.declarations ++ if_there names_in_private_part p.private)))
+    ++ (declares_unit p.name the_package ∷ within_region (package_region p.name) (names_in_part p.declarations
+    ++ if_there names_in_private_part p.private)))
 
 abbrev pub names_in_package_statements : Sequence → Occurrences
 names_in_package_statements s = in_body (names_in_sequence s)
@@ -68,7 +69,8 @@ names_in_package_statements s = in_body (names_in_sequence s)
 abbrev pub names_in_package_body : List ContextClause → PackageBody → Occurrences
 names_in_package_body context p =
     within_region (the_context_of p.name) (within_region further_context (names_in_context context
-    ++ within_region (package_body p.name) (names_in_part p.declarations ++ if_there names_in_package_statements p.sequence)))
+    ++ within_region (package_body p.name) (names_in_part p.declarations
+    ++ if_there names_in_package_statements p.sequence)))
 
 abbrev pub names_in_package : List ContextClause → Package → Occurrences
 names_in_package context (packages.Declaration p) = names_in_package_declaration context p
@@ -80,7 +82,8 @@ names_in_library_package l = names_in_package l.context l.package
 abbrev pub names_in_main : List ContextClause → MainProcedure → Occurrences
 names_in_main context m =
     within_region the_context (names_in_context context
-    ++ (names_in_aspects m.aspects ++ (declares_unit m.name the_main_procedure ∷ within_region (main_body m.name m.place) (in_body (names_in_sequence m.body.sequence)))))
+    ++ (names_in_aspects m.aspects ++ (declares_unit m.name the_main_procedure
+    ∷ within_region (main_body m.name m.place) (in_body (names_in_sequence m.body.sequence)))))
 
 -- ---- a source: nothing is said of the names in pragmas
 

@@ -45,13 +45,15 @@ same_unit a b = eqb (unit_number a) (unit_number b)
 -- the units that stand in no other
 abbrev pub root_units : List (List ℕ × PredefinedUnit)
 root_units =
-    (codes "standard", units.Standard) ∷ (codes "ada", units.Ada) ∷ (codes "system", units.System) ∷ (codes "script_ports", units.ScriptPorts) ∷ []
+    (codes "standard", units.Standard) ∷ (codes "ada", units.Ada) ∷ (codes "system", units.System)
+    ∷ (codes "script_ports", units.ScriptPorts) ∷ []
 
 -- the children of a unit (10.1.1)
 abbrev pub child_units : PredefinedUnit → List (List ℕ × PredefinedUnit)
 child_units units.Standard = []
 child_units units.Ada =
-    (codes "text_io", units.TextIo) ∷ (codes "real_time", units.RealTime) ∷ (codes "execution_time", units.ExecutionTime)
+    (codes "text_io", units.TextIo) ∷ (codes "real_time", units.RealTime)
+    ∷ (codes "execution_time", units.ExecutionTime)
     ∷ (codes "dynamic_priorities", units.DynamicPriorities) ∷ (codes "task_identification", units.TaskIdentification)
     ∷ (codes "dispatching", units.Dispatching) ∷ (codes "finalization", units.Finalization) ∷ []
 child_units units.System = []
@@ -121,8 +123,10 @@ default_priority last = cond (eqb last LAST_WIDE_PRIORITY) DEFAULT_WIDE_PRIORITY
 
 unfoldable pub declared_in_standard : List (List ℕ × Predefined)
 declared_in_standard =
-    (codes "integer", items.Mark whole_integer) ∷ (codes "natural", integers (pos 0) INTEGER_LAST) ∷ (codes "positive", integers (pos 1) INTEGER_LAST)
-    ∷ (codes "boolean", items.Mark whole_boolean) ∷ (codes "false", items.Truth false) ∷ (codes "true", items.Truth true)
+    (codes "integer", items.Mark whole_integer) ∷ (codes "natural", integers (pos 0) INTEGER_LAST)
+    ∷ (codes "positive", integers (pos 1) INTEGER_LAST)
+    ∷ (codes "boolean", items.Mark whole_boolean) ∷ (codes "false", items.Truth false)
+    ∷ (codes "true", items.Truth true)
     ∷ (codes "duration", items.Mark whole_duration) ∷ (codes "constraint_error", items.Exception raised.Constraint)
     ∷ (codes "program_error", items.Exception raised.Program) ∷ (codes "storage_error", items.Exception raised.Storage)
     ∷ (codes "tasking_error", items.Exception raised.Tasking) ∷ []
@@ -138,37 +142,50 @@ declared_in_text_io = (codes "put_line", items.Operation operations.PutLine) ∷
 
 unfoldable pub declared_in_real_time : List (List ℕ × Predefined)
 declared_in_real_time =
-    (codes "time", free types.Time) ∷ (codes "time_span", free types.TimeSpan) ∷ (codes "time_first", items.Constant types.Time (value.Ticks (pos 0)))
+    (codes "time", free types.Time) ∷ (codes "time_span", free types.TimeSpan)
+    ∷ (codes "time_first", items.Constant types.Time (value.Ticks (pos 0)))
     ∷ (codes "time_last", items.Constant types.Time (value.Ticks TIME_LAST))
-    ∷ (codes "time_span_zero", items.Constant types.TimeSpan (value.Ticks (pos 0))) ∷ (codes "clock", items.Operation operations.Clock)
-    ∷ (codes "microseconds", items.Operation operations.Microseconds) ∷ (codes "milliseconds", items.Operation operations.Milliseconds)
+    ∷ (codes "time_span_zero", items.Constant types.TimeSpan (value.Ticks (pos 0)))
+    ∷ (codes "clock", items.Operation operations.Clock)
+    ∷ (codes "microseconds", items.Operation operations.Microseconds)
+    ∷ (codes "milliseconds", items.Operation operations.Milliseconds)
     ∷ (codes "seconds", items.Operation operations.Seconds) ∷ (codes "minutes", items.Operation operations.Minutes)
-    ∷ (codes "to_duration", items.Operation operations.ToDuration) ∷ (codes "to_time_span", items.Operation operations.ToTimeSpan) ∷ []
+    ∷ (codes "to_duration", items.Operation operations.ToDuration)
+    ∷ (codes "to_time_span", items.Operation operations.ToTimeSpan) ∷ []
 
 unfoldable pub declared_in_timing_events : List (List ℕ × Predefined)
 declared_in_timing_events =
     (codes "timing_event", free types.TimingEvent) ∷ (codes "set_handler", items.Operation operations.SetEvent)
-    ∷ (codes "cancel_handler", items.Operation operations.CancelEvent) ∷ (codes "time_of_event", items.Operation operations.TimeOfEvent) ∷ []
+    ∷ (codes "cancel_handler", items.Operation operations.CancelEvent)
+    ∷ (codes "time_of_event", items.Operation operations.TimeOfEvent) ∷ []
 
 unfoldable pub declared_in_execution_time : List (List ℕ × Predefined)
-declared_in_execution_time = (codes "cpu_time", free types.CpuTime) ∷ (codes "clock", items.Operation operations.ExecutionClock) ∷ []
+declared_in_execution_time = (codes "cpu_time", free types.CpuTime)
+    ∷ (codes "clock", items.Operation operations.ExecutionClock) ∷ []
 
 unfoldable pub declared_in_timers : List (List ℕ × Predefined)
 declared_in_timers =
-    (codes "timer", free types.Timer) ∷ (codes "set_handler", items.Operation operations.SetTimer) ∷ (codes "cancel_handler", items.Operation operations.CancelTimer)
-    ∷ (codes "time_remaining", items.Operation operations.TimeRemaining) ∷ (codes "timer_resource_error", items.Exception raised.TimerResource) ∷ []
+    (codes "timer", free types.Timer) ∷ (codes "set_handler", items.Operation operations.SetTimer)
+    ∷ (codes "cancel_handler", items.Operation operations.CancelTimer)
+    ∷ (codes "time_remaining", items.Operation operations.TimeRemaining)
+    ∷ (codes "timer_resource_error", items.Exception raised.TimerResource) ∷ []
 
 unfoldable pub declared_in_group_budgets : List (List ℕ × Predefined)
 declared_in_group_budgets =
     (codes "group_budget", free types.GroupBudget) ∷ (codes "add_task", items.Operation operations.AddTask)
-    ∷ (codes "remove_task", items.Operation operations.RemoveTask) ∷ (codes "replenish", items.Operation operations.Replenish)
-    ∷ (codes "add", items.Operation operations.Add) ∷ (codes "budget_has_expired", items.Operation operations.BudgetHasExpired)
-    ∷ (codes "budget_remaining", items.Operation operations.BudgetRemaining) ∷ (codes "set_handler", items.Operation operations.SetBudget)
-    ∷ (codes "cancel_handler", items.Operation operations.CancelBudget) ∷ (codes "group_budget_error", items.Exception raised.GroupBudget) ∷ []
+    ∷ (codes "remove_task", items.Operation operations.RemoveTask)
+    ∷ (codes "replenish", items.Operation operations.Replenish)
+    ∷ (codes "add", items.Operation operations.Add)
+    ∷ (codes "budget_has_expired", items.Operation operations.BudgetHasExpired)
+    ∷ (codes "budget_remaining", items.Operation operations.BudgetRemaining)
+    ∷ (codes "set_handler", items.Operation operations.SetBudget)
+    ∷ (codes "cancel_handler", items.Operation operations.CancelBudget)
+    ∷ (codes "group_budget_error", items.Exception raised.GroupBudget) ∷ []
 
 unfoldable pub declared_in_dynamic_priorities : List (List ℕ × Predefined)
 declared_in_dynamic_priorities =
-    (codes "set_priority", items.Operation operations.SetPriority) ∷ (codes "get_priority", items.Operation operations.GetPriority) ∷ []
+    (codes "set_priority", items.Operation operations.SetPriority)
+    ∷ (codes "get_priority", items.Operation operations.GetPriority) ∷ []
 
 unfoldable pub declared_in_task_identification : List (List ℕ × Predefined)
 declared_in_task_identification =
@@ -183,11 +200,13 @@ declared_in_round_robin = (codes "set_quantum", items.Operation operations.SetQu
 
 unfoldable pub declared_in_edf : List (List ℕ × Predefined)
 declared_in_edf =
-    (codes "set_deadline", items.Operation operations.SetDeadline) ∷ (codes "get_deadline", items.Operation operations.GetDeadline)
+    (codes "set_deadline", items.Operation operations.SetDeadline)
+    ∷ (codes "get_deadline", items.Operation operations.GetDeadline)
     ∷ (codes "delay_until_and_set_deadline", items.Operation operations.DelayUntilAndSetDeadline) ∷ []
 
 unfoldable pub declared_in_finalization : List (List ℕ × Predefined)
-declared_in_finalization = (codes "limited_controlled", free types.LimitedControlled) ∷ (codes "controlled", free types.Controlled) ∷ []
+declared_in_finalization = (codes "limited_controlled", free types.LimitedControlled)
+    ∷ (codes "controlled", free types.Controlled) ∷ []
 
 unfoldable pub declared_in_script_ports : List (List ℕ × Predefined)
 declared_in_script_ports = (codes "value", items.Operation operations.PortValue) ∷ []

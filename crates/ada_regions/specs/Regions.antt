@@ -38,18 +38,34 @@ opened_new f n = opened (record f { region = n.regions }) (record n { regions = 
 -- a scope is new; the innermost open one stands around it
 abbrev pub with_scope : Place → Bool → Bool → Names → Names
 with_scope place is_function is_accept n = record n {
-  scopes = n.scopes ++ record { place = place; outer = Some (scope_in n.frames); is_function = is_function; is_accept = is_accept } ∷ [];
+  scopes =
+      n.scopes ++ record {
+        place = place;
+        outer = Some (scope_in n.frames);
+        is_function = is_function;
+        is_accept = is_accept;
+      } ∷ [];
 }
 
 abbrev pub next_scope : Names → Option ℕ
 next_scope n = Some (length n.scopes)
 
 abbrev pub frame_with_scope : Option ℕ → Option ℕ → Option (List ℕ) → Frame
-frame_with_scope scope e name = record { region = 0; owner = e; scope = scope; is_accept = false; name = name; exports = false; components = None; part = 0 }
+frame_with_scope scope e name = record {
+  region = 0;
+  owner = e;
+  scope = scope;
+  is_accept = false;
+  name = name;
+  exports = false;
+  components = None;
+  part = 0;
+}
 
 -- a construct with a region and a scope of its own
 unfoldable pub scope_begun : Place → Bool → Option ℕ → Option (List ℕ) → Names → Names
-scope_begun place is_function e name n = opened_new (frame_with_scope (next_scope n) e name) (with_scope place is_function false n)
+scope_begun place is_function e name n =
+    opened_new (frame_with_scope (next_scope n) e name) (with_scope place is_function false n)
 
 -- ---- library units (10.1): a package's body has the region and the context of its declaration
 
@@ -71,10 +87,21 @@ context_again None n = opened_new no_frame (record n { withs = [] })
 context_again (Some c) n = opened (record no_frame { region = c.region }) (record n { withs = c.withs })
 
 abbrev pub frame_of_package : ℕ → Identifier → Bool → ℕ → Frame
-frame_of_package e i exports region = record { region = region; owner = Some e; scope = None; is_accept = false; name = Some i.text; exports = exports; components = None; part = 0 }
+frame_of_package e i exports region = record {
+  region = region;
+  owner = Some e;
+  scope = None;
+  is_accept = false;
+  name = Some i.text;
+  exports = exports;
+  components = None;
+  part = 0;
+}
 
 abbrev pub with_context : ℕ → Names → Names
-with_context e n = record n { contexts = record { of_package = e; region = region_here n; withs = n.withs } ∷ n.contexts }
+with_context e n = record n {
+  contexts = record { of_package = e; region = region_here n; withs = n.withs } ∷ n.contexts;
+}
 
 abbrev pub package_opened : ℕ → Identifier → Bool → Option ℕ → Names → Names
 package_opened e i exports None n = body_apart None i None [] n
@@ -92,11 +119,29 @@ package_body_begun (Some e) i n = package_opened e i false (region_of_entity n e
 
 abbrev pub unit_frame : ℕ → Identifier → Option AdaType → ℕ → Frame
 unit_frame e i t region =
-    record { region = region; owner = Some e; scope = None; is_accept = false; name = Some i.text; exports = true; components = components_of t; part = 0 }
+    record {
+      region = region;
+      owner = Some e;
+      scope = None;
+      is_accept = false;
+      name = Some i.text;
+      exports = true;
+      components = components_of t;
+      part = 0;
+    }
 
 abbrev pub record_frame : Identifier → Option AdaType → ℕ → Frame
 record_frame i t region =
-    record { region = region; owner = None; scope = None; is_accept = false; name = Some i.text; exports = true; components = components_of t; part = 0 }
+    record {
+      region = region;
+      owner = None;
+      scope = None;
+      is_accept = false;
+      name = Some i.text;
+      exports = true;
+      components = components_of t;
+      part = 0;
+    }
 
 abbrev pub type_at : Names → Option ℕ → Option AdaType
 type_at n e = and_then e (λ x. and_then (kind_at n x) type_of_kind)
@@ -121,7 +166,16 @@ record_begun e i n = opened_if (option_map (record_frame i (type_at n e)) (regio
 -- ---- accepts, blocks, loops
 
 abbrev pub accept_frame : Option ℕ → Option ℕ → Frame
-accept_frame scope e = record { region = 0; owner = e; scope = scope; is_accept = true; name = None; exports = false; components = None; part = 0 }
+accept_frame scope e = record {
+  region = 0;
+  owner = e;
+  scope = scope;
+  is_accept = true;
+  name = None;
+  exports = false;
+  components = None;
+  part = 0;
+}
 
 abbrev pub label_entity : Names → Option Identifier → Option ℕ
 label_entity n label = and_then label (λ l. entity_denoted n l.place)
@@ -130,7 +184,16 @@ abbrev pub label_text : Option Identifier → Option (List ℕ)
 label_text label = option_map (λ l. l.text) label
 
 abbrev pub loop_frame : Option ℕ → Frame
-loop_frame e = record { region = 0; owner = e; scope = None; is_accept = false; name = None; exports = false; components = None; part = 0 }
+loop_frame e = record {
+  region = 0;
+  owner = e;
+  scope = None;
+  is_accept = false;
+  name = None;
+  exports = false;
+  components = None;
+  part = 0;
+}
 
 abbrev pub is_entry : EntityKind → Bool
 is_entry (entity.Entry number unit formals) = true
@@ -152,7 +215,9 @@ entry_body_numbered barrier n (Some number) =
     record n { entries = edit_at number.0 (with_entry_body barrier (length n.scopes)) n.entries }
 
 unfoldable pub entry_body_begun : Option ℕ → Place → Expression → Names → Names
-entry_body_begun e place barrier n = scope_begun place false e None (entry_body_numbered barrier n (and_then e (λ x. and_then (kind_at n x) entry_number)))
+entry_body_begun e place barrier n =
+    scope_begun place false e None (entry_body_numbered barrier n
+    (and_then e (λ x. and_then (kind_at n x) entry_number)))
 
 -- ---- all regions
 
@@ -169,7 +234,8 @@ begun (a_unit i) n = unit_begun (entity_denoted n i.place) i n
 begun (task_body i place) n = body_begun unit.Task i (next_scope n) (with_scope place false false n)
 begun (protected_body i) n = body_begun unit.Protected i None n
 begun (entry_body i place barrier) n = entry_body_begun (entry_owner n (entity_denoted n i.place)) place barrier n
-begun (an_accept i place) n = opened_new (accept_frame (next_scope n) (entity_denoted n i.place)) (with_scope place false true n)
+begun (an_accept i place) n =
+    opened_new (accept_frame (next_scope n) (entity_denoted n i.place)) (with_scope place false true n)
 begun (a_block label place) n = scope_begun place false (label_entity n label) (label_text label) n
 begun (a_loop label) n = opened_new (loop_frame (label_entity n label)) n
 begun (a_record i) n = record_begun (entity_denoted n i.place) i n
@@ -218,7 +284,8 @@ is_used_package n (denotes.Item u item) = false
 
 abbrev pub used_if : Option Denoted → Names → Names
 used_if None n = n
-used_if (Some d) n = cond (is_used_package n d) (record n { uses = n.uses ++ record { region = region_here n; used = d } ∷ [] }) n
+used_if (Some d) n =
+    cond (is_used_package n d) (record n { uses = n.uses ++ record { region = region_here n; used = d } ∷ [] }) n
 
 unfoldable pub used : Name → Names → Names
 used name n = let m = name_resolved name n in used_if (denoted_by m name) m

@@ -1,5 +1,5 @@
--- What an expanded name or a selected component denotes (4.1.3): behind a package what it exports; behind a construct that
--- stands around the name what is declared in it; behind an object what its type's declaration exports.
+-- What an expanded name or a selected component denotes (4.1.3): behind a package what it exports; behind a construct
+-- that stands around the name what is declared in it; behind an object what its type's declaration exports.
 use Rattle.std.specs.Prelude.{ℕ, Bool, false, List, [], ◌∷◌, Option, Some, None, option_map, slice_get, eqb}
 use Rattle.std.specs.List.{find}
 use Rattle.ada_tree.specs.declared.names.Identifier.{Identifier}
@@ -83,7 +83,8 @@ selected_from_entity n name e (Some f) = declared_inside n name f
 
 unfoldable pub selected : Names → List ℕ → Denoted → Option Denoted
 selected n name (denotes.Entity e) = selected_from_entity n name e (find (frame_owned_by e) n.frames)
-selected n name (denotes.Unit u) = option_or (item_of n.last_priority u name) (option_map denotes.Unit (child_unit u name))
+selected n name (denotes.Unit u) =
+    option_or (item_of n.last_priority u name) (option_map denotes.Unit (child_unit u name))
 selected n name (denotes.Item u item) = None
 
 abbrev pub selection_answered : Identifier → Option Denoted → Names → Names
@@ -94,7 +95,8 @@ selection_answered i None n = told (fault.Unknown i.place) n
 abbrev pub parts_resolved : Option Denoted → List Identifier → Names → Names
 parts_resolved prefix [] n = n
 parts_resolved None (i ∷ rest) n = n
-parts_resolved (Some d) (i ∷ rest) n = parts_resolved (selected n i.text d) rest (selection_answered i (selected n i.text d) n)
+parts_resolved (Some d) (i ∷ rest) n =
+    parts_resolved (selected n i.text d) rest (selection_answered i (selected n i.text d) n)
 
 abbrev pub behind_first : Identifier → List Identifier → Names → Names
 behind_first first others n = parts_resolved (denoted_at n first.place) others n

@@ -36,11 +36,13 @@ occurrence_shown (told.WithUnit name) = with_unit name.now
 occurrence_shown (told.UsePackage name) = use_package name.now
 occurrence_shown (told.DeclareObject name object) = declares name.now (an_object object.now)
 occurrence_shown (told.DeclareComponent name component) = declares name.now (a_component component.now)
-occurrence_shown (told.DeclareParameter name with_cells parameter) = declares name.now (a_parameter with_cells parameter.now)
+occurrence_shown (told.DeclareParameter name with_cells parameter) =
+    declares name.now (a_parameter with_cells parameter.now)
 occurrence_shown (told.DeclareLoopParameter name) = declares name.now a_loop_parameter
 occurrence_shown (told.DeclareEnumeration name literals) = declares name.now (an_enumeration literals.now)
 occurrence_shown (told.DeclareLiteral name) = declares name.now a_literal
-occurrence_shown (told.DeclareArray name low high component) = declares name.now (an_array low.now high.now component.now)
+occurrence_shown (told.DeclareArray name low high component) =
+    declares name.now (an_array low.now high.now component.now)
 occurrence_shown (told.DeclareDerivedType name parent) = declares name.now (a_derived_type parent.now)
 occurrence_shown (told.DeclareSubtype name subtype) = declares name.now (a_subtype subtype.now)
 occurrence_shown (told.DeclareException name) = declares name.now an_exception

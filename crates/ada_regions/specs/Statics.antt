@@ -1,5 +1,5 @@
--- Static expressions (4.9): literals, minus a literal, constants of these, enumeration literals, First and Last. A number
--- with a point is one of ticks, any other one a whole number.
+-- Static expressions (4.9): literals, minus a literal, constants of these, enumeration literals, First and Last. A
+-- number with a point is one of ticks, any other one a whole number.
 use Rattle.std.specs.Prelude.{ℕ, ◌+◌, ◌-◌, ◌*◌, pos, neg_ℤ, leb, cond, List, Option, Some, None, unwrap_or}
 use Rattle.ada_regions.specs.declared.predefined.TheConstants.{LAST_DURATION, LAST_INTEGER}
 use Rattle.ada_lex.specs.Meaning.{whole_of, decimals_of}
@@ -41,14 +41,16 @@ digit_at digits place = unwrap_or (slice_get digits place) 48 - 48
 
 abbrev pub six_digits : List ℕ → ℕ
 six_digits d =
-    ((((digit_at d 0 * 10 + digit_at d 1) * 10 + digit_at d 2) * 10 + digit_at d 3) * 10 + digit_at d 4) * 10 + digit_at d 5
+    ((((digit_at d 0 * 10 + digit_at d 1) * 10 + digit_at d 2) * 10 + digit_at d 3) * 10 + digit_at d 4) * 10
+    + digit_at d 5
 
 -- six decimals, in ticks of a microsecond
 unfoldable pub micros_of : List ℕ → ℕ
 micros_of literal = whole_of literal * 1000000 + six_digits (decimals_of literal)
 
 unfoldable pub literal_value : List ℕ → Value
-literal_value literal = cond (is_empty (decimals_of literal)) (value.Whole (pos (whole_of literal))) (value.Ticks (pos (micros_of literal)))
+literal_value literal =
+    cond (is_empty (decimals_of literal)) (value.Whole (pos (whole_of literal))) (value.Ticks (pos (micros_of literal)))
 
 abbrev pub negated : Value → Value
 negated (value.Whole n) = value.Whole (neg_ℤ n)
@@ -72,11 +74,13 @@ abbrev pub negative_in_duration : ℕ → Option Value
 negative_in_duration n = cond (leb n (LAST_DURATION + 1)) (Some (value.Ticks (neg_ℤ (pos n)))) None
 
 unfoldable pub static_literal : List ℕ → Option Value
-static_literal literal = cond (is_empty (decimals_of literal)) (in_integer (whole_of literal)) (in_duration (micros_of literal))
+static_literal literal =
+    cond (is_empty (decimals_of literal)) (in_integer (whole_of literal)) (in_duration (micros_of literal))
 
 unfoldable pub static_negative : List ℕ → Option Value
 static_negative literal =
-    cond (is_empty (decimals_of literal)) (negative_in_integer (whole_of literal)) (negative_in_duration (micros_of literal))
+    cond (is_empty (decimals_of literal)) (negative_in_integer (whole_of literal))
+    (negative_in_duration (micros_of literal))
 
 -- the literal of a form that is one
 abbrev pub literal_of : {E : Type 0} → ExpressionForm E → Option (List ℕ)

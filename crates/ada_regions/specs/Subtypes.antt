@@ -80,15 +80,21 @@ mark_denoted n (denotes.Item u item) = subtype_of_item item
 unfoldable pub constrained : Names → Option Indicated → Subtype → Subtype
 constrained n None s = s
 constrained n (Some (indicated.Access name)) s = s
-constrained n (Some (indicated.Range low high)) s = record s { range = range_between (static_value n low) (static_value n high) s.range }
+constrained n (Some (indicated.Range low high)) s = record s {
+  range = range_between (static_value n low) (static_value n high) s.range;
+}
 
 -- the subtype that an indication denotes, where its name is that of a type
 unfoldable pub indicated_subtype : Names → SubtypeIndication → Option Subtype
-indicated_subtype n m = and_then (denoted_by n m.name) (λ d. and_then (mark_denoted n d) (λ s. Some (constrained n m.constraint s)))
+indicated_subtype n m =
+    and_then (denoted_by n m.name) (λ d. and_then (mark_denoted n d) (λ s. Some (constrained n m.constraint s)))
 
 unfoldable pub array_type : Names → Expression → Expression → SubtypeIndication → ArrayType
 array_type n low high component =
-    record { index = range_between (static_value n low) (static_value n high) constraint.Free; component = indicated_subtype n component }
+    record {
+      index = range_between (static_value n low) (static_value n high) constraint.Free;
+      component = indicated_subtype n component;
+    }
 
 -- ---- formals
 

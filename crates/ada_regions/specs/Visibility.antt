@@ -25,7 +25,8 @@ use Rattle.ada_regions.specs.Names.{Bindings, binding_in, binds, region_of_entit
 -- the binding of a name in the innermost region that has one
 abbrev pub innermost_binding : Bindings → List ℕ → List Frame → Option Binding
 innermost_binding bindings name [] = None
-innermost_binding bindings name (f ∷ fs) = option_or (binding_in bindings f.region name) (innermost_binding bindings name fs)
+innermost_binding bindings name (f ∷ fs) =
+    option_or (binding_in bindings f.region name) (innermost_binding bindings name fs)
 
 -- what a predefined unit has under a name
 unfoldable pub item_of : ℕ → PredefinedUnit → List ℕ → Option Denoted
@@ -41,7 +42,9 @@ bound b = option_map denotes.Entity b.entity
 
 -- where a name has a declaration in the regions around it, or hides those outside: what it denotes, if it is visible
 unfoldable pub directly : Names → List ℕ → Option (Option Denoted)
-directly n name = option_or (option_map bound (innermost_binding n.bindings name n.frames)) (option_map Some (in_standard n.last_priority name))
+directly n name =
+    option_or (option_map bound (innermost_binding n.bindings name n.frames))
+    (option_map Some (in_standard n.last_priority name))
 
 -- ---- use clauses (8.4)
 
@@ -51,7 +54,8 @@ is_unit_or_parent unit None = false
 is_unit_or_parent unit (Some w) = same_unit unit w
 
 unfoldable pub stands_under : PredefinedUnit → PredefinedUnit → Bool
-stands_under unit w = same_unit unit w || (is_unit_or_parent unit (parent_unit w) || is_unit_or_parent unit (and_then (parent_unit w) parent_unit))
+stands_under unit w = same_unit unit w || (is_unit_or_parent unit (parent_unit w)
+    || is_unit_or_parent unit (and_then (parent_unit w) parent_unit))
 
 abbrev pub is_withed_by : PredefinedUnit → Denoted → Bool
 is_withed_by unit (denotes.Entity e) = false
@@ -71,7 +75,8 @@ exported_from n name region = and_then (and_then (item_at region n.bindings) (fi
 -- what a use clause for a package makes visible
 unfoldable pub visible_in : Names → List ℕ → Denoted → Option Denoted
 visible_in n name (denotes.Entity e) = and_then (region_of_entity n e) (exported_from n name)
-visible_in n name (denotes.Unit u) = option_or (item_of n.last_priority u name) (and_then (child_unit u name) (some_if_withed n.withs))
+visible_in n name (denotes.Unit u) =
+    option_or (item_of n.last_priority u name) (and_then (child_unit u name) (some_if_withed n.withs))
 visible_in n name (denotes.Item u item) = None
 
 unfoldable pub same_denoted : Denoted → Denoted → Bool
@@ -99,7 +104,8 @@ joined_if (Some d) others = joined d others
 abbrev pub used_in : Names → List ℕ → ℕ → List UseClause → Sought → Sought
 used_in n name region [] others = others
 used_in n name region (u ∷ us) others =
-    cond (eqb u.region region) (joined_if (visible_in n name u.used) (used_in n name region us others)) (used_in n name region us others)
+    cond (eqb u.region region) (joined_if (visible_in n name u.used) (used_in n name region us others))
+    (used_in n name region us others)
 
 -- what clauses of the open regions make visible
 abbrev pub used_around : Names → List ℕ → List Frame → Sought

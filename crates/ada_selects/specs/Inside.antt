@@ -10,8 +10,11 @@ use Rattle.ada_grammar.specs.Reading.{Parser}
 use Rattle.ada_grammar.specs.Reads.{Reads}
 
 -- Given what reading gives where so many levels are left.
-pub record ReadsInside {Q : Type 0} (sequence : ℕ → SequenceRole → Parser Q) (left : ℕ) (pre : Global → MutBor (List Lexeme) → ℕ → SequenceRole → Type 0)
-    (post : Global → MutBor (List Lexeme) → ℕ → SequenceRole → Result Q (OrMemory Stuck) → MutBor (List Lexeme) → Type 0) : Type 0 where
+pub record ReadsInside {Q : Type 0} (sequence : ℕ → SequenceRole → Parser Q) (left : ℕ) (pre : Global
+    → MutBor (List Lexeme) → ℕ → SequenceRole → Type 0)
+    (post : Global → MutBor (List Lexeme) → ℕ → SequenceRole → Result Q (OrMemory Stuck) → MutBor (List Lexeme)
+    → Type 0) : Type 0 where
   pub callable : (alloc : Global) (old : MutBor (List Lexeme)) (m : ℕ) (r : SequenceRole) → m < left → pre alloc old m r
-  pub reads : (alloc : Global) (old new : MutBor (List Lexeme)) (m : ℕ) (r : SequenceRole) (answer : Result Q (OrMemory Stuck)) → m < left → post alloc old m r answer new
+  pub reads : (alloc : Global) (old new : MutBor (List Lexeme)) (m : ℕ) (r : SequenceRole)
+      (answer : Result Q (OrMemory Stuck)) → m < left → post alloc old m r answer new
       → Reads answer new.now (sequence m r old.now)

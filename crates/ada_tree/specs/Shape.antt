@@ -37,7 +37,8 @@ module _ {Q : Type 0} (sequence : Q → SequenceFit) where
   handled_fits s left = all_statements_fit s left && list_all (handler_fits sequence left) s.handlers
 
   abbrev pub sequence_fits_by : SequenceParts Q → SequenceFit
-  sequence_fits_by s role.Statements left = is_empty s.declarations && (is_empty s.handlers && all_statements_fit s left)
+  sequence_fits_by s role.Statements left = is_empty s.declarations
+      && (is_empty s.handlers && all_statements_fit s left)
   sequence_fits_by s role.Handled left = is_empty s.declarations && handled_fits s left
   sequence_fits_by s role.Body left = list_all (declaration_fits sequence left) s.declarations && handled_fits s left
 
@@ -62,14 +63,16 @@ abbrev pub declarations_fit : ℕ → List (Declaration Sequence) → Bool
 declarations_fit left declarations = list_all (declaration_fits sequence_fits left) declarations
 
 abbrev pub package_declaration_fits : ℕ → PackageDeclaration → Bool
-package_declaration_fits left p = declarations_fit left p.declarations && optional_fits (declarations_fit left) p.private
+package_declaration_fits left p = declarations_fit left p.declarations
+    && optional_fits (declarations_fit left) p.private
 
 abbrev pub package_statements_fit : ℕ → Sequence → Bool
 package_statements_fit left s = sequence_fits s role.Handled left
 
 -- the body of a package is a level from `is` on
 abbrev pub package_parts_fit : PackageBody → ℕ → Bool
-package_parts_fit p left = declarations_fit left p.declarations && optional_fits (package_statements_fit left) p.sequence
+package_parts_fit p left = declarations_fit left p.declarations
+    && optional_fits (package_statements_fit left) p.sequence
 
 abbrev pub package_fits : ℕ → Package → Bool
 package_fits left (packages.Declaration p) = package_declaration_fits left p
@@ -82,7 +85,8 @@ abbrev pub main_fits : ℕ → MainProcedure → Bool
 main_fits left m = aspects_fit left m.aspects && body_fits sequence_fits left m.body
 
 abbrev pub unit_fits : ℕ → Tree → Bool
-unit_fits left u = list_all (pragma_fits left) u.pragmas && (list_all (library_package_fits left) u.packages && main_fits left u.main)
+unit_fits left u = list_all (pragma_fits left) u.pragmas
+    && (list_all (library_package_fits left) u.packages && main_fits left u.main)
 
 unfoldable pub is_shaped : Tree → Bool
 is_shaped unit = unit_fits MAX_NESTING unit

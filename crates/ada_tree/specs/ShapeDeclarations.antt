@@ -44,7 +44,8 @@ bounds_fit low high left = value_fits left low && value_fits left high
 -- literals and bounds stand in brackets
 abbrev pub definition_fits : ℕ → TypeDefinition → Bool
 definition_fits left (definition.Enumeration literals) = within left nothing_in_it
-definition_fits left (definition.Array low high component) = within left (bounds_fit low high) && indication_fits left component
+definition_fits left (definition.Array low high component) = within left (bounds_fit low high)
+    && indication_fits left component
 definition_fits left (definition.Derived parent components) = optional_fits (components_fit left) components
 
 -- ---- specifications
@@ -56,7 +57,8 @@ abbrev pub aspects_fit : ℕ → List Aspect → Bool
 aspects_fit left aspects = list_all (aspect_fits left) aspects
 
 abbrev pub specification_fits : ℕ → SubprogramSpecification → Bool
-specification_fits left s = parameters_fit left s.parameters && (optional_fits (indication_fits left) s.result && aspects_fit left s.aspects)
+specification_fits left s = parameters_fit left s.parameters
+    && (optional_fits (indication_fits left) s.result && aspects_fit left s.aspects)
 
 abbrev pub entry_fits : ℕ → EntryDeclaration → Bool
 entry_fits left e = parameters_fit left e.parameters
@@ -75,7 +77,8 @@ abbrev pub private_fits : ℕ → List Component → Bool
 private_fits left components = list_all (component_fits left) components
 
 abbrev pub protected_fits : ℕ → ProtectedDeclaration → Bool
-protected_fits left p = aspects_fit left p.aspects && (list_all (operation_fits left) p.operations && optional_fits (private_fits left) p.components)
+protected_fits left p = aspects_fit left p.aspects
+    && (list_all (operation_fits left) p.operations && optional_fits (private_fits left) p.components)
 
 abbrev pub entry_head_fits : ℕ → EntryHead → Bool
 entry_head_fits left h = parameters_fit left h.parameters && value_fits left h.barrier
@@ -87,7 +90,8 @@ module _ {Q : Type 0} (sequence : Q → SequenceRole → ℕ → Bool) where
   body_fits left b = within left (sequence b.sequence role.Body)
 
   abbrev pub operation_body_fits : ℕ → OperationBody Q → Bool
-  operation_body_fits left (body_of.Subprogram specification body) = specification_fits left specification && body_fits left body
+  operation_body_fits left (body_of.Subprogram specification body) = specification_fits left specification
+      && body_fits left body
   operation_body_fits left (body_of.Entry head body) = entry_head_fits left head && body_fits left body
 
   abbrev pub operations_fit : List (OperationBody Q) → ℕ → Bool
@@ -102,7 +106,8 @@ module _ {Q : Type 0} (sequence : Q → SequenceRole → ℕ → Bool) where
   declaration_fits left (declaration.Subtype s) = indication_fits left s.subtype
   declaration_fits left (declaration.Exception names) = true
   declaration_fits left (declaration.Subprogram specification) = specification_fits left specification
-  declaration_fits left (declaration.SubprogramBody specification body) = specification_fits left specification && body_fits left body
+  declaration_fits left (declaration.SubprogramBody specification body) = specification_fits left specification
+      && body_fits left body
   declaration_fits left (declaration.Task t) = task_fits left t
   declaration_fits left (declaration.TaskBody place name body) = body_fits left body
   declaration_fits left (declaration.Protected p) = protected_fits left p

@@ -78,11 +78,15 @@ module _ {E : Type 0} (expression : E → Fit) where
   arguments_fit left arguments = enclosed_fit left argument_fits arguments
 
   abbrev pub parts_fit : ExpressionForm E → ℕ → Bool
-  parts_fit (form.Logical operator first others) left = expression first precedence.Relational left && all_fit (operand_fits left) others
-  parts_fit (form.Relational first place operator second) left = expression first precedence.Adding left && expression second precedence.Adding left
-  parts_fit (form.Adding first others) left = expression first precedence.Signed left && all_fit (addend_fits left) others
+  parts_fit (form.Logical operator first others) left = expression first precedence.Relational left
+      && all_fit (operand_fits left) others
+  parts_fit (form.Relational first place operator second) left = expression first precedence.Adding left
+      && expression second precedence.Adding left
+  parts_fit (form.Adding first others) left = expression first precedence.Signed left
+      && all_fit (addend_fits left) others
   parts_fit (form.Signed place sign operand) left = expression operand precedence.Multiplying left
-  parts_fit (form.Multiplying first others) left = expression first precedence.Highest left && all_fit (multiplied_fits left) others
+  parts_fit (form.Multiplying first others) left = expression first precedence.Highest left
+      && all_fit (multiplied_fits left) others
   parts_fit (form.Highest place operator operand) left = expression operand precedence.Primary left
   parts_fit (form.Number place literal) left = true
   parts_fit (form.Text place text) left = true

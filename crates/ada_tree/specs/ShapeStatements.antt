@@ -112,7 +112,9 @@ module _ {Q : Type 0} (sequence : Q → SequenceRole → ℕ → Bool) where
   elsif_fits left e = value_fits left e.condition && statements_fit left e.statements
 
   abbrev pub if_fits : ℕ → If Q → Bool
-  if_fits left i = value_fits left i.condition && (statements_fit left i.statements && (list_all (elsif_fits left) i.elsifs && optional_fits (statements_fit left) i.otherwise))
+  if_fits left i = value_fits left i.condition
+      && (statements_fit left i.statements && (list_all (elsif_fits left) i.elsifs
+      && optional_fits (statements_fit left) i.otherwise))
 
   abbrev pub case_alternative_fits : ℕ → CaseAlternative Q → Bool
   case_alternative_fits left a = all_fit (choice_fits left) a.choices && statements_fit left a.statements
@@ -145,19 +147,25 @@ module _ {Q : Type 0} (sequence : Q → SequenceRole → ℕ → Bool) where
   -- ---- select statements
 
   abbrev pub alternative_fits : ℕ → Alternative Q → Bool
-  alternative_fits left (alternative.Accept accept statements) = within left (accept_opens accept) && optional_fits (statements_fit left) statements
-  alternative_fits left (alternative.Delay delay statements) = within left (delay_opens delay) && optional_fits (statements_fit left) statements
+  alternative_fits left (alternative.Accept accept statements) = within left (accept_opens accept)
+      && optional_fits (statements_fit left) statements
+  alternative_fits left (alternative.Delay delay statements) = within left (delay_opens delay)
+      && optional_fits (statements_fit left) statements
   alternative_fits left (alternative.Terminate place) = true
 
   abbrev pub select_alternative_fits : ℕ → SelectAlternative Q → Bool
   select_alternative_fits left a = optional_fits (guard_fits left) a.guard && alternative_fits left a.alternative
 
   abbrev pub select_form_fits : ℕ → SelectForm Q → Bool
-  select_form_fits left (select.SelectiveAccept s) = all_fit (select_alternative_fits left) s.alternatives && optional_fits (statements_fit left) s.otherwise
+  select_form_fits left (select.SelectiveAccept s) = all_fit (select_alternative_fits left) s.alternatives
+      && optional_fits (statements_fit left) s.otherwise
   select_form_fits left (select.TimedEntryCall t) =
-      within left (call_opens t.call) && (optional_fits (statements_fit left) t.statements && (within left (delay_opens t.delay) && optional_fits (statements_fit left) t.delay_statements))
-  select_form_fits left (select.ConditionalEntryCall c) = within left (call_opens c.call) && (optional_fits (statements_fit left) c.statements && statements_fit left c.otherwise)
-  select_form_fits left (select.AsynchronousSelect s) = trigger_fits left s.trigger && (optional_fits (statements_fit left) s.statements && statements_fit left s.abortable)
+      within left (call_opens t.call) && (optional_fits (statements_fit left) t.statements
+      && (within left (delay_opens t.delay) && optional_fits (statements_fit left) t.delay_statements))
+  select_form_fits left (select.ConditionalEntryCall c) = within left (call_opens c.call)
+      && (optional_fits (statements_fit left) c.statements && statements_fit left c.otherwise)
+  select_form_fits left (select.AsynchronousSelect s) = trigger_fits left s.trigger
+      && (optional_fits (statements_fit left) s.statements && statements_fit left s.abortable)
 
   -- ---- all statements
 

@@ -28,7 +28,8 @@ module _ {Q : Type 0} (sequence : Q → SequenceRole → List Written) where
   -- ["exception" handler {handler}]
   abbrev pub handlers_written : List (Handler Q) → List Written
   handlers_written [] = []
-  handlers_written (h ∷ hs) = word (codes "exception") ∷ (handler_written sequence h ++ flat_map (handler_written sequence) hs)
+  handlers_written (h ∷ hs) = word (codes "exception")
+      ∷ (handler_written sequence h ++ flat_map (handler_written sequence) hs)
 
   -- statement {statement} handlers
   abbrev pub handled_written : SequenceParts Q → List Written
@@ -37,7 +38,8 @@ module _ {Q : Type 0} (sequence : Q → SequenceRole → List Written) where
   abbrev pub parts_written : SequenceParts Q → SequenceRole → List Written
   parts_written s role.Statements = all_written (statement_written sequence) s.statements
   parts_written s role.Handled = handled_written s
-  parts_written s role.Body = flat_map (declaration_written sequence) s.declarations ++ word (codes "begin") ∷ handled_written s
+  parts_written s role.Body = flat_map (declaration_written sequence) s.declarations ++ word (codes "begin")
+      ∷ handled_written s
 
 abbrev pub as_it_stands : (SequenceRole → List Written) → SequenceRole → List Written
 as_it_stands written = written
@@ -53,7 +55,9 @@ sequence_written = fold-Sequence (SequenceRole → List Written) sequence_layer
 -- "pragma" NAME "(" argument {"," argument} ")" ";" (2.8)
 abbrev pub pragma_written : Pragma → List Written
 pragma_written p =
-    word_at p.place (codes "pragma") ∷ identifier_written p.name ∷ delimiter (codes "(") ∷ (separated (delimiter (codes ",")) (argument_written expression_written) p.arguments ++ delimiter (codes ")") ∷ semicolon)
+    word_at p.place (codes "pragma") ∷ identifier_written p.name ∷ delimiter (codes "(")
+    ∷ (separated (delimiter (codes ",")) (argument_written expression_written) p.arguments
+    ++ delimiter (codes ")") ∷ semicolon)
 
 abbrev pub clause_text : Bool → List ℕ
 clause_text true = codes "use"
@@ -61,7 +65,8 @@ clause_text false = codes "with"
 
 -- ("with" | "use") name {"," name} ";" (10.1.2, 8.4)
 abbrev pub clause_written : ContextClause → List Written
-clause_written c = word_at c.place (clause_text c.is_use) ∷ (separated (delimiter (codes ",")) name_written c.names ++ semicolon)
+clause_written c = word_at c.place (clause_text c.is_use)
+    ∷ (separated (delimiter (codes ",")) name_written c.names ++ semicolon)
 
 abbrev pub declarations_written : List (Declaration Sequence) → List Written
 declarations_written = flat_map (declaration_written sequence_written)
@@ -72,8 +77,10 @@ private_part_written declarations = word (codes "private") ∷ declarations_writ
 -- "package" NAME "is" {declaration} ["private" {declaration}] "end" [NAME] ";" (7.1)
 abbrev pub package_declaration_written : PackageDeclaration → List Written
 package_declaration_written p =
-    word_at p.place (codes "package") ∷ identifier_written p.name ∷ word (codes "is") ∷ (declarations_written p.declarations
-    ++ (optional private_part_written p.private ++ word (codes "end") ∷ (end_name_written p.named_at_end p.name ++ semicolon)))
+    word_at p.place (codes "package") ∷ identifier_written p.name ∷ word (codes "is")
+    ∷ (declarations_written p.declarations
+    ++ (optional private_part_written p.private ++ word (codes "end")
+    ∷ (end_name_written p.named_at_end p.name ++ semicolon)))
 
 abbrev pub package_statements_written : Sequence → List Written
 package_statements_written s = word (codes "begin") ∷ sequence_written s role.Handled
@@ -81,8 +88,10 @@ package_statements_written s = word (codes "begin") ∷ sequence_written s role.
 -- "package" "body" NAME "is" {declaration} ["begin" handled sequence] "end" [NAME] ";" (7.2)
 abbrev pub package_body_written : PackageBody → List Written
 package_body_written p =
-    word_at p.place (codes "package") ∷ word (codes "body") ∷ identifier_written p.name ∷ word (codes "is") ∷ (declarations_written p.declarations
-    ++ (optional package_statements_written p.sequence ++ word (codes "end") ∷ (end_name_written p.named_at_end p.name ++ semicolon)))
+    word_at p.place (codes "package") ∷ word (codes "body") ∷ identifier_written p.name ∷ word (codes "is")
+    ∷ (declarations_written p.declarations
+    ++ (optional package_statements_written p.sequence ++ word (codes "end")
+    ∷ (end_name_written p.named_at_end p.name ++ semicolon)))
 
 abbrev pub package_written : Package → List Written
 package_written (packages.Declaration p) = package_declaration_written p
@@ -94,11 +103,13 @@ library_package_written l = flat_map clause_written l.context ++ package_written
 
 -- "procedure" NAME [aspects] "is" body "end" [NAME] ";" (6.3)
 abbrev pub main_written : MainProcedure → List Written
-main_written m = word_at m.place (codes "procedure") ∷ identifier_written m.name ∷ (aspects_written m.aspects ++ body_written sequence_written m.name m.body)
+main_written m = word_at m.place (codes "procedure") ∷ identifier_written m.name
+    ∷ (aspects_written m.aspects ++ body_written sequence_written m.name m.body)
 
 -- {pragma} {package} {context clause} main (10.1)
 abbrev pub unit_written : Tree → List Written
-unit_written u = flat_map pragma_written u.pragmas ++ (flat_map library_package_written u.packages ++ (flat_map clause_written u.context ++ main_written u.main))
+unit_written u = flat_map pragma_written u.pragmas
+    ++ (flat_map library_package_written u.packages ++ (flat_map clause_written u.context ++ main_written u.main))
 
 -- ---- the tokens that a tree spells
 

@@ -97,11 +97,13 @@ module _ {E : Type 0} (expression : E → List Written) where
 
   -- ["(" argument {"," argument} ")"]
   abbrev pub arguments_written : List (Argument E) → List Written
-  arguments_written = enclosed (delimiter (codes "(")) (delimiter (codes ",")) (delimiter (codes ")") ∷ []) argument_written
+  arguments_written =
+      enclosed (delimiter (codes "(")) (delimiter (codes ",")) (delimiter (codes ")") ∷ []) argument_written
 
   abbrev pub form_written : ExpressionForm E → List Written
   form_written (form.Logical operator first others) = expression first ++ all_written (operand_written operator) others
-  form_written (form.Relational left place operator right) = expression left ++ delimiter_at place (relational_text operator) ∷ expression right
+  form_written (form.Relational left place operator right) = expression left
+      ++ delimiter_at place (relational_text operator) ∷ expression right
   form_written (form.Adding first others) = expression first ++ all_written addend_written others
   form_written (form.Signed place sign operand) = delimiter_at place (sign_text sign) ∷ expression operand
   form_written (form.Multiplying first others) = expression first ++ all_written multiplied_written others
@@ -109,8 +111,10 @@ module _ {E : Type 0} (expression : E → List Written) where
   form_written (form.Number place literal) = number_at place literal ∷ []
   form_written (form.Text place text) = text_at place text ∷ []
   form_written (form.Null place) = word_at place (codes "null") ∷ []
-  form_written (form.Bracketed place inner) = delimiter_at place (codes "(") ∷ (expression inner ++ delimiter (codes ")") ∷ [])
-  form_written (form.Named name attribute arguments) = name_written name ++ (optional designator_written attribute ++ arguments_written arguments)
+  form_written (form.Bracketed place inner) = delimiter_at place (codes "(")
+      ∷ (expression inner ++ delimiter (codes ")") ∷ [])
+  form_written (form.Named name attribute arguments) = name_written name
+      ++ (optional designator_written attribute ++ arguments_written arguments)
 
 -- ---- expressions
 

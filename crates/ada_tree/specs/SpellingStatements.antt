@@ -46,8 +46,10 @@ use Rattle.ada_tree.specs.SpellingExpressions.{expression_written, arguments_wri
 -- ---- subtype indications and parameters (3.2.2, 6.1)
 
 abbrev pub constraint_written : Constraint → List Written
-constraint_written (constraint.Access name) = delimiter (codes "(") ∷ (name_written name ++ delimiter (codes "'") ∷ word (codes "access") ∷ delimiter (codes ")") ∷ [])
-constraint_written (constraint.Range low high) = word (codes "range") ∷ (expression_written low ++ delimiter (codes "..") ∷ expression_written high)
+constraint_written (constraint.Access name) = delimiter (codes "(")
+    ∷ (name_written name ++ delimiter (codes "'") ∷ word (codes "access") ∷ delimiter (codes ")") ∷ [])
+constraint_written (constraint.Range low high) = word (codes "range")
+    ∷ (expression_written low ++ delimiter (codes "..") ∷ expression_written high)
 
 -- name ["(" name "'" "Access" ")" | "range" expression ".." expression]
 abbrev pub indication_written : SubtypeIndication → List Written
@@ -56,11 +58,14 @@ indication_written m = name_written m.name ++ optional constraint_written m.cons
 -- NAME {"," NAME} ":" ["in"] ["out"] subtype
 abbrev pub parameter_written : Parameter → List Written
 parameter_written p =
-    identifiers_written p.names ++ delimiter (codes ":") ∷ (flag p.is_in (word (codes "in") ∷ []) ++ (flag p.is_out (word (codes "out") ∷ []) ++ indication_written p.subtype))
+    identifiers_written p.names ++ delimiter (codes ":")
+    ∷ (flag p.is_in (word (codes "in") ∷ [])
+    ++ (flag p.is_out (word (codes "out") ∷ []) ++ indication_written p.subtype))
 
 -- ["(" parameter {";" parameter} ")"]
 abbrev pub parameters_written : List Parameter → List Written
-parameters_written = enclosed (delimiter (codes "(")) (delimiter (codes ";")) (delimiter (codes ")") ∷ []) parameter_written
+parameters_written =
+    enclosed (delimiter (codes "(")) (delimiter (codes ";")) (delimiter (codes ")") ∷ []) parameter_written
 
 -- ---- statements without others in them
 
@@ -72,7 +77,8 @@ index_written index = delimiter (codes "(") ∷ (expression_written index ++ del
 
 -- name ["(" expression ")"] ":=" expression ";" (5.2)
 abbrev pub assignment_written : Assignment → List Written
-assignment_written a = name_written a.target ++ (optional index_written a.index ++ delimiter (codes ":=") ∷ (expression_written a.value ++ semicolon))
+assignment_written a = name_written a.target
+    ++ (optional index_written a.index ++ delimiter (codes ":=") ∷ (expression_written a.value ++ semicolon))
 
 -- name ["(" argument {"," argument} ")"] ";" (6.4, 9.5.3)
 abbrev pub call_written : Call → List Written
@@ -80,7 +86,8 @@ call_written c = name_written c.name ++ (arguments_written expression_written c.
 
 -- "delay" ["until"] expression ";" (9.6)
 abbrev pub delay_written : Delay → List Written
-delay_written d = word_at d.place (codes "delay") ∷ (flag d.until (word (codes "until") ∷ []) ++ (expression_written d.value ++ semicolon))
+delay_written d = word_at d.place (codes "delay")
+    ∷ (flag d.until (word (codes "until") ∷ []) ++ (expression_written d.value ++ semicolon))
 
 abbrev pub choice_written : Choice → List Written
 choice_written (choice.Value value) = expression_written value
@@ -98,7 +105,8 @@ abbrev pub iteration_written : Iteration → List Written
 iteration_written iteration.Forever = []
 iteration_written (iteration.While place condition) = word_at place (codes "while") ∷ expression_written condition
 iteration_written (iteration.For place parameter reverse low high) =
-    word_at place (codes "for") ∷ identifier_written parameter ∷ word (codes "in") ∷ (flag reverse (word (codes "reverse") ∷ [])
+    word_at place (codes "for") ∷ identifier_written parameter ∷ word (codes "in")
+    ∷ (flag reverse (word (codes "reverse") ∷ [])
     ++ (expression_written low ++ delimiter (codes "..") ∷ expression_written high))
 
 abbrev pub when_written : Expression → List Written
@@ -106,7 +114,8 @@ when_written condition = word (codes "when") ∷ expression_written condition
 
 -- "exit" [NAME] ["when" expression] ";" (5.7)
 abbrev pub exit_written : Exit → List Written
-exit_written e = word_at e.place (codes "exit") ∷ (optional one_identifier e.loop_name ++ (optional when_written e.condition ++ semicolon))
+exit_written e = word_at e.place (codes "exit")
+    ∷ (optional one_identifier e.loop_name ++ (optional when_written e.condition ++ semicolon))
 
 abbrev pub exceptions_written : HandledExceptions → List Written
 exceptions_written (exceptions.Named names) = separated (delimiter (codes "|")) name_written names
@@ -130,7 +139,8 @@ module _ {Q : Type 0} (sequence : Q → SequenceRole → List Written) where
 
   -- "elsif" expression "then" statements (5.3)
   abbrev pub elsif_written : Elsif Q → List Written
-  elsif_written e = word_at e.place (codes "elsif") ∷ (expression_written e.condition ++ word (codes "then") ∷ statements_written e.statements)
+  elsif_written e = word_at e.place (codes "elsif")
+      ∷ (expression_written e.condition ++ word (codes "then") ∷ statements_written e.statements)
 
   -- "else" statements
   abbrev pub else_written : Q → List Written
@@ -139,24 +149,28 @@ module _ {Q : Type 0} (sequence : Q → SequenceRole → List Written) where
   -- "if" expression "then" statements {elsif} ["else" statements] "end" "if" ";" (5.3)
   abbrev pub if_written : If Q → List Written
   if_written i =
-      word_at i.place (codes "if") ∷ (expression_written i.condition ++ word (codes "then") ∷ (statements_written i.statements ++ (flat_map elsif_written i.elsifs
+      word_at i.place (codes "if") ∷ (expression_written i.condition ++ word (codes "then")
+      ∷ (statements_written i.statements ++ (flat_map elsif_written i.elsifs
       ++ (optional else_written i.otherwise ++ word (codes "end") ∷ word (codes "if") ∷ semicolon))))
 
   -- "when" choice {"|" choice} "=>" statements (5.4)
   abbrev pub case_alternative_written : CaseAlternative Q → List Written
   case_alternative_written a =
-      word_at a.place (codes "when") ∷ (separated (delimiter (codes "|")) choice_written a.choices ++ delimiter (codes "=>") ∷ statements_written a.statements)
+      word_at a.place (codes "when") ∷ (separated (delimiter (codes "|")) choice_written a.choices
+      ++ delimiter (codes "=>") ∷ statements_written a.statements)
 
   -- "case" expression "is" alternative {alternative} "end" "case" ";" (5.4)
   abbrev pub case_written : Case Q → List Written
   case_written c =
-      word_at c.place (codes "case") ∷ (expression_written c.selector ++ word (codes "is") ∷ (all_written case_alternative_written c.alternatives
+      word_at c.place (codes "case") ∷ (expression_written c.selector ++ word (codes "is")
+      ∷ (all_written case_alternative_written c.alternatives
       ++ word (codes "end") ∷ word (codes "case") ∷ semicolon))
 
   -- [NAME ":"] [iteration] "loop" statements "end" "loop" [NAME] ";" (5.5)
   abbrev pub loop_written : Loop Q → List Written
   loop_written l =
-      optional label_written l.label ++ (iteration_written l.iteration ++ word_at l.place (codes "loop") ∷ (statements_written l.statements
+      optional label_written l.label ++ (iteration_written l.iteration ++ word_at l.place (codes "loop")
+      ∷ (statements_written l.statements
       ++ word (codes "end") ∷ word (codes "loop") ∷ (optional label_end_written l.label ++ semicolon)))
 
   -- "declare" body, or "begin" handled sequence
@@ -167,25 +181,31 @@ module _ {Q : Type 0} (sequence : Q → SequenceRole → List Written) where
   -- [NAME ":"] ["declare" {declaration}] "begin" handled sequence "end" [NAME] ";" (5.6)
   abbrev pub block_written : Block Q → List Written
   block_written b =
-      optional label_written b.label ++ (block_opened b.declare b.place b.sequence ++ word (codes "end") ∷ (optional label_end_written b.label ++ semicolon))
+      optional label_written b.label ++ (block_opened b.declare b.place b.sequence ++ word (codes "end")
+      ∷ (optional label_end_written b.label ++ semicolon))
 
   -- "when" (name {"|" name} | "others") "=>" statements (11.2)
   abbrev pub handler_written : Handler Q → List Written
-  handler_written h = word_at h.place (codes "when") ∷ (exceptions_written h.exceptions ++ delimiter (codes "=>") ∷ statements_written h.statements)
+  handler_written h = word_at h.place (codes "when")
+      ∷ (exceptions_written h.exceptions ++ delimiter (codes "=>") ∷ statements_written h.statements)
 
   abbrev pub accept_body_written : Identifier → AcceptBody Q → List Written
-  accept_body_written name b = word (codes "do") ∷ (sequence b.sequence role.Handled ++ word (codes "end") ∷ end_name_written b.named_at_end name)
+  accept_body_written name b = word (codes "do")
+      ∷ (sequence b.sequence role.Handled ++ word (codes "end") ∷ end_name_written b.named_at_end name)
 
   -- "accept" NAME [parameters] ["do" handled sequence "end" [NAME]] ";" (9.5.2)
   abbrev pub accept_written : Accept Q → List Written
   accept_written a =
-      word_at a.place (codes "accept") ∷ identifier_written a.entry ∷ (parameters_written a.parameters ++ (optional (accept_body_written a.entry) a.body ++ semicolon))
+      word_at a.place (codes "accept") ∷ identifier_written a.entry
+      ∷ (parameters_written a.parameters ++ (optional (accept_body_written a.entry) a.body ++ semicolon))
 
   -- ---- select statements (9.7)
 
   abbrev pub alternative_written : Alternative Q → List Written
-  alternative_written (alternative.Accept accept statements) = accept_written accept ++ optional statements_written statements
-  alternative_written (alternative.Delay delay statements) = delay_written delay ++ optional statements_written statements
+  alternative_written (alternative.Accept accept statements) = accept_written accept
+      ++ optional statements_written statements
+  alternative_written (alternative.Delay delay statements) = delay_written delay
+      ++ optional statements_written statements
   alternative_written (alternative.Terminate place) = word_at place (codes "terminate") ∷ semicolon
 
   -- ["when" expression "=>"] alternative
@@ -193,16 +213,21 @@ module _ {Q : Type 0} (sequence : Q → SequenceRole → List Written) where
   select_alternative_written a = optional guard_written a.guard ++ alternative_written a.alternative
 
   abbrev pub select_form_written : SelectForm Q → List Written
-  select_form_written (select.SelectiveAccept s) = separated (word (codes "or")) select_alternative_written s.alternatives ++ optional else_written s.otherwise
+  select_form_written (select.SelectiveAccept s) =
+      separated (word (codes "or")) select_alternative_written s.alternatives ++ optional else_written s.otherwise
   select_form_written (select.TimedEntryCall t) =
-      call_written t.call ++ (optional statements_written t.statements ++ word (codes "or") ∷ (delay_written t.delay ++ optional statements_written t.delay_statements))
-  select_form_written (select.ConditionalEntryCall c) = call_written c.call ++ (optional statements_written c.statements ++ else_written c.otherwise)
+      call_written t.call ++ (optional statements_written t.statements ++ word (codes "or")
+      ∷ (delay_written t.delay ++ optional statements_written t.delay_statements))
+  select_form_written (select.ConditionalEntryCall c) = call_written c.call
+      ++ (optional statements_written c.statements ++ else_written c.otherwise)
   select_form_written (select.AsynchronousSelect s) =
-      trigger_written s.trigger ++ (optional statements_written s.statements ++ word (codes "then") ∷ word (codes "abort") ∷ statements_written s.abortable)
+      trigger_written s.trigger ++ (optional statements_written s.statements ++ word (codes "then")
+      ∷ word (codes "abort") ∷ statements_written s.abortable)
 
   -- "select" form "end" "select" ";"
   abbrev pub select_written : SelectStatement Q → List Written
-  select_written s = word_at s.place (codes "select") ∷ (select_form_written s.form ++ word (codes "end") ∷ word (codes "select") ∷ semicolon)
+  select_written s = word_at s.place (codes "select")
+      ∷ (select_form_written s.form ++ word (codes "end") ∷ word (codes "select") ∷ semicolon)
 
   -- ---- all statements (5.1)
 
@@ -216,9 +241,13 @@ module _ {Q : Type 0} (sequence : Q → SequenceRole → List Written) where
   statement_written (statement.Loop l) = loop_written l
   statement_written (statement.Exit e) = exit_written e
   statement_written (statement.Block b) = block_written b
-  statement_written (statement.Return place value) = word_at place (codes "return") ∷ (optional expression_written value ++ semicolon)
-  statement_written (statement.Raise place exception) = word_at place (codes "raise") ∷ (optional name_written exception ++ semicolon)
-  statement_written (statement.Abort place tasks) = word_at place (codes "abort") ∷ (separated (delimiter (codes ",")) name_written tasks ++ semicolon)
+  statement_written (statement.Return place value) = word_at place (codes "return")
+      ∷ (optional expression_written value ++ semicolon)
+  statement_written (statement.Raise place exception) = word_at place (codes "raise")
+      ∷ (optional name_written exception ++ semicolon)
+  statement_written (statement.Abort place tasks) = word_at place (codes "abort")
+      ∷ (separated (delimiter (codes ",")) name_written tasks ++ semicolon)
   statement_written (statement.Accept a) = accept_written a
-  statement_written (statement.Requeue place entry with_abort) = word_at place (codes "requeue") ∷ (name_written entry ++ (with_abort_written with_abort ++ semicolon))
+  statement_written (statement.Requeue place entry with_abort) = word_at place (codes "requeue")
+      ∷ (name_written entry ++ (with_abort_written with_abort ++ semicolon))
   statement_written (statement.Select s) = select_written s

@@ -24,12 +24,17 @@ pub record Lexeme : Type 0 where
   pub place : Place
 
 abbrev pub lexeme_of : List ℕ → Token → Lexeme
-lexeme_of source token = record { kind = token.kind; text = meaning_of token.kind (spelling_of source token); place = token.place }
+lexeme_of source token = record {
+  kind = token.kind;
+  text = meaning_of token.kind (spelling_of source token);
+  place = token.place;
+}
 
 abbrev pub lexemes_of : List ℕ → List Token → List Lexeme
 lexemes_of source tokens = map (lexeme_of source) tokens
 
--- ---- single tokens: a reserved word or one that an attribute is, with its place or without; a delimiter; an identifier
+-- ---- single tokens: a reserved word or one that an attribute is, with its place or without; a delimiter; an
+-- identifier
 
 abbrev pub word : List ℕ → Written
 word text = record { kind = kinds.Word; text = text; identifier = false; place = None }
@@ -74,7 +79,8 @@ abbrev pub flag : Bool → List Written → List Written
 flag true ws = ws
 flag false ws = []
 
--- an opening word or delimiter, items with commas or semicolons between them, and what closes; nothing where there are none
+-- an opening word or delimiter, items with commas or semicolons between them, and what closes; nothing where there are
+-- none
 abbrev pub enclosed : {X : Type 0} → Written → Written → List Written → (X → List Written) → List X → List Written
 enclosed opening separator closing w [] = []
 enclosed opening separator closing w (x ∷ xs) = opening ∷ (w x ++ (flat_map (behind separator w) xs ++ closing))

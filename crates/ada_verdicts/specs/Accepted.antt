@@ -22,8 +22,8 @@ use Rattle.ada_verdicts.specs.declared.refusals.Code.TheVariants as code
 use Rattle.ada_verdicts.specs.declared.refusals.Refusal.{Refusal}
 use Rattle.ada_verdicts.specs.Refusals.{refused_at, first_place, of_tokens, of_grammar, of_names, of_rules, of_forms}
 
--- The bytes are accepted as an image: their tokens spell a shaped tree, each of its names has one declaration, it breaks
--- no rule, each of its forms is one that an image has, and the image is that of the tree.
+-- The bytes are accepted as an image: their tokens spell a shaped tree, each of its names has one declaration, it
+-- breaks no rule, each of its forms is one that an image has, and the image is that of the tree.
 pub record Accepted (source : List ℕ) (image : Image) : Type 0 where
   pub tokens : List Token
   pub lexed : Lexed source tokens

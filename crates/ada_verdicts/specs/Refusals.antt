@@ -52,7 +52,8 @@ first_place = record { line = 1; column = 1 }
 
 -- the place after bytes: a line feed alone ends a line
 abbrev pub place_after : Place → ℕ → Place
-place_after place byte = if byte == 10 then record { line = place.line + 1; column = 1 } else record { line = place.line; column = place.column + 1 }
+place_after place byte = if byte == 10 then record { line = place.line + 1; column = 1 }
+    else record { line = place.line; column = place.column + 1 }
 
 abbrev pub after_bytes : Place → List ℕ → Place
 after_bytes place [] = place

@@ -33,10 +33,12 @@ abbrev pub HasReadFile : Option (List ℕ) → ℕ → ℕ → List ℕ → ℕ 
 HasReadFile None offset asked got count = Unit {0}
 HasReadFile (Some bytes) offset asked got count = HasReadFrom bytes offset asked got count
 
-abbrev pub HasRead : Option (List ℕ → Option (List ℕ)) → Option (List ℕ × ℕ) → Option (List ℕ × ℕ) → ℕ → List ℕ → ℕ → Type 0
+abbrev pub HasRead : Option (List ℕ → Option (List ℕ)) → Option (List ℕ × ℕ) → Option (List ℕ × ℕ) → ℕ → List ℕ → ℕ
+    → Type 0
 HasRead None old new asked got count = Unit {0}
 HasRead (Some files) None new asked got count = Unit {0}
-HasRead (Some files) (Some at) new asked got count = HasReadFile (files at.0) at.1 asked got count × (new ≡ Some (at.0, at.1 + count))
+HasRead (Some files) (Some at) new asked got count = HasReadFile (files at.0) at.1 asked got count
+    × (new ≡ Some (at.0, at.1 + count))
 
 -- what a sink holds behind a write
 abbrev pub extended : Option (List ℕ) → List ℕ → Option (List ℕ)

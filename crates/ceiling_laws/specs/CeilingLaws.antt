@@ -35,8 +35,8 @@ use Rattle.machine_laws.specs.Reached.{Comes}
 
 -- ---- who is let in
 
--- Somebody is not above the ceiling of an object that is there: neither its active priority, nor, in a source with an EDF
--- range, its base priority (D.3; own).
+-- Somebody is not above the ceiling of an object that is there: neither its active priority, nor, in a source with an
+-- EDF range, its base priority (D.3; own).
 pub record IsBelow (p : Image) (w : World) (name : Who) (o : ObjectNo) : Type 0 where
   pub object : Object
   pub found : object_of w o ≡ Some object
@@ -45,17 +45,21 @@ pub record IsBelow (p : Image) (w : World) (name : Who) (o : ObjectNo) : Type 0 
 
 -- of any world: who is let into an object is not above its ceiling
 abbrev pub LetsInBelow : Type 0
-LetsInBelow = (p : Image) (w : World) (name : Who) (o : ObjectNo) (mode : Mode) → entering p w name o mode ≡ entering_is.Inside → IsBelow p w name o
+LetsInBelow = (p : Image) (w : World) (name : Who) (o : ObjectNo) (mode : Mode)
+    → entering p w name o mode ≡ entering_is.Inside → IsBelow p w name o
 
 -- who is above it raises Program_Error in the place of the step, and nothing else comes of it
 abbrev pub RaisesAbove : Type 0
-RaisesAbove = (p : Image) (w : World) (name : Who) (o : ObjectNo) (mode : Mode) (step : Step) (object : Object) (said : List Said)
-    → object_of w o ≡ Some object → is_above_ceiling p w name object.ceiling ≡ true → where_let_inside p name o mode step w said ≡ raises Own name exception.Program w said
+RaisesAbove =
+    (p : Image) (w : World) (name : Who) (o : ObjectNo) (mode : Mode) (step : Step) (object : Object) (said : List Said)
+    → object_of w o ≡ Some object → is_above_ceiling p w name object.ceiling ≡ true
+    → where_let_inside p name o mode step w said ≡ raises Own name exception.Program w said
 
 -- the agent above it serves its release without an action
 abbrev pub ServesAbove : Type 0
 ServesAbove = (p : Image) (w : World) (r : Release) (object : Object) (said : List Said)
-    → object_of w r.handler.object ≡ Some object → is_above_ceiling p w who.Agent object.ceiling ≡ true → call_handler p r w said ≡ end_release r.number w said
+    → object_of w r.handler.object ≡ Some object → is_above_ceiling p w who.Agent object.ceiling ≡ true
+    → call_handler p r w said ≡ end_release r.number w said
 
 -- ---- what lines show of it
 
@@ -78,13 +82,15 @@ edf_is_below_interrupts p = list_all (is_below_interrupts p.policies.last_priori
 
 -- so no level of interrupts is dispatched by deadlines
 abbrev pub InterruptsHaveNoDeadline : Type 0
-InterruptsHaveNoDeadline = (p : Image) (level : ℕ) → IsTrue (edf_is_below_interrupts p) → interrupt_priority p ≤ level → is_edf_level p level ≡ false
+InterruptsHaveNoDeadline = (p : Image) (level : ℕ) → IsTrue (edf_is_below_interrupts p)
+    → interrupt_priority p ≤ level → is_edf_level p level ≡ false
 
--- Where lines show what the world has, and the agent has the priority of interrupts, the `enter` line of who is let in keeps
--- the law of ceilings, which knows lines alone.
+-- Where lines show what the world has, and the agent has the priority of interrupts, the `enter` line of who is let in
+-- keeps the law of ceilings, which knows lines alone.
 abbrev pub EntersKeepCeilings : Type 0
 EntersKeepCeilings = (p : Image) (w : World) (name : Who) (o : ObjectNo) (mode : Mode) (sight : Levels)
-    → IsTrue (edf_is_below_interrupts p) → w.agent.base ≡ interrupt_priority p → Shows p w name o sight → entering p w name o mode ≡ entering_is.Inside
+    → IsTrue (edf_is_below_interrupts p) → w.agent.base ≡ interrupt_priority p → Shows p w name o sight
+    → entering p w name o mode ≡ entering_is.Inside
     → IsTrue (is_below_ceiling sight (line.Enter name o mode))
 
 -- ---- from the choice to the effect
@@ -102,4 +108,5 @@ TocksKeepLevels = (p : Image) (w : World) → SameLevels p w (tock p w).0
 
 -- before each instant of a run, whose action may end there stands first in the ready queues
 abbrev pub WhoActsIsFirst : Type 0
-WhoActsIsFirst = (p : Image) (script : List (ℤ × Item)) (bound : ℕ) (w : World) (name : Who) → Comes p script bound w → w.ran ≡ Some name → choose w ≡ Some name
+WhoActsIsFirst = (p : Image) (script : List (ℤ × Item)) (bound : ℕ) (w : World) (name : Who)
+    → Comes p script bound w → w.ran ≡ Some name → choose w ≡ Some name

@@ -1,5 +1,5 @@
--- What of a task decides at which level it is placed, and what of an object decides who is let in; and changes that touch none
--- of these, and let no task wait for a moment that waited for none.
+-- What of a task decides at which level it is placed, and what of an object decides who is let in; and changes that
+-- touch none of these, and let no task wait for a moment that waited for none.
 use Rattle.ann_base.specs.declared.identities.ObjectNo.{ObjectNo}
 use Rattle.ann_base.specs.declared.identities.TaskNo.{TaskNo}
 use Rattle.profile_machine.specs.Appointments.{is_delay_of}
@@ -22,7 +22,14 @@ pub record Core : Type 0 where
   pub deferred_base : Option ℕ
 
 abbrev pub core : Task → Core
-core t = record { who = t.who; state = t.state; base = t.base; inherited = t.inherited; kept_level = t.kept_level; deferred_base = t.deferred_base }
+core t = record {
+  who = t.who;
+  state = t.state;
+  base = t.base;
+  inherited = t.inherited;
+  kept_level = t.kept_level;
+  deferred_base = t.deferred_base;
+}
 
 abbrev pub ceiling_in : Object → ObjectNo × ℕ
 ceiling_in x = (x.number, x.ceiling)

@@ -1,5 +1,5 @@
--- A program whose one handler runs on the agent, and in which one priority is dispatched by deadlines: where that is the
--- priority of interrupts, its run breaks the law of ceilings.
+-- A program whose one handler runs on the agent, and in which one priority is dispatched by deadlines: where that is
+-- the priority of interrupts, its run breaks the law of ceilings.
 use Rattle.std.specs.Prelude.{ℕ, ℤ, pos, Bool, List, [], ◌∷◌, Some, None, true, false, codes}
 use Rattle.std.specs.List.{list_any}
 use Rattle.trace_text.specs.declared.events.Event.{Event}
@@ -20,7 +20,8 @@ use Rattle.trace_text.specs.Laws.{follows_ceilings}
 abbrev pub handler_by_deadline_at : ℕ → Image
 handler_by_deadline_at level =
     record {
-      declarations = declaration (codes "h") (codes "h") (kind.Protected (protected_unit 0)) (scope 0) 0 16 Free None ∷ [];
+      declarations =
+          declaration (codes "h") (codes "h") (kind.Protected (protected_unit 0)) (scope 0) 0 16 Free None ∷ [];
       expressions = [];
       statements =
           statement (form.CallMain) 0 None

@@ -29,17 +29,19 @@ level_in (Some entry) = Some entry.level
 abbrev pub level_shown : Who → Levels → Option ℕ
 level_shown name sight = level_in (entry_of name sight.entries)
 
--- The lines of an effect, in their order, show everybody where that line leaves it that comes last by its part, and of those of
--- one part the one that was said last; where no line speaks of its place, as before.
+-- The lines of an effect, in their order, show everybody where that line leaves it that comes last by its part, and of
+-- those of one part the one that was said last; where no line speaks of its place, as before.
 abbrev pub EffectsPlaceByTheLast : Type 0
 EffectsPlaceByTheLast = (p : Image) (w : World) (said : List Said) (sight : Levels) (name : Who)
-    → level_shown name (levels_told sight (settled p (done w said)).1) ≡ place_by (last_put name said) (level_shown name sight)
+    → level_shown name (levels_told sight (settled p (done w said)).1)
+    ≡ place_by (last_put name said) (level_shown name sight)
 
 -- ---- single steps
 
 -- a step has said that somebody stands at the active priority that it has behind the step
 abbrev pub PlacesAtActive : Image → Part → Who → List Said → Done → Type 0
-PlacesAtActive p part name said (done w more) = last_put name more ≡ with_put (last_put name said) part (Some (Some (active_of p w name)))
+PlacesAtActive p part name said (done w more) = last_put name more
+    ≡ with_put (last_put name said) part (Some (Some (active_of p w name)))
 
 -- it has said that somebody stands nowhere
 abbrev pub TakesOut : Part → Who → List Said → Done → Type 0
@@ -47,17 +49,21 @@ TakesOut part name said (done w more) = last_put name more ≡ with_put (last_pu
 
 -- Who becomes ready, and who goes to the head or the tail, is placed at its active priority behind that (D.2.1).
 abbrev pub ReadyPlaces : Type 0
-ReadyPlaces = (p : Image) (part : Part) (name : Who) (w : World) (said : List Said) → PlacesAtActive p part name said (ready p part name w said)
+ReadyPlaces = (p : Image) (part : Part) (name : Who) (w : World) (said : List Said)
+    → PlacesAtActive p part name said (ready p part name w said)
 
 abbrev pub TailPlaces : Type 0
-TailPlaces = (p : Image) (part : Part) (name : Who) (w : World) (said : List Said) → PlacesAtActive p part name said (to_tail p part name w said)
+TailPlaces = (p : Image) (part : Part) (name : Who) (w : World) (said : List Said)
+    → PlacesAtActive p part name said (to_tail p part name w said)
 
 abbrev pub HeadPlaces : Type 0
-HeadPlaces = (p : Image) (part : Part) (name : Who) (w : World) (said : List Said) → PlacesAtActive p part name said (to_head p part name w said)
+HeadPlaces = (p : Image) (part : Part) (name : Who) (w : World) (said : List Said)
+    → PlacesAtActive p part name said (to_head p part name w said)
 
 -- who blocks is taken out
 abbrev pub BlockTakesOut : Type 0
-BlockTakesOut = (part : Part) (name : Who) (waiting : Waiting) (w : World) (said : List Said) → TakesOut part name said (block part name waiting w said)
+BlockTakesOut = (part : Part) (name : Who) (waiting : Waiting) (w : World) (said : List Said)
+    → TakesOut part name said (block part name waiting w said)
 
 -- ---- instants and runs
 
@@ -69,40 +75,55 @@ IsAtMost (Some level) limit = level ≤ limit
 abbrev pub AreAtMostActive : Image → Levels → World → Type 0
 AreAtMostActive p sight w = (name : Who) → IsAtMost (level_shown name sight) (active_of p w name)
 
--- What comes about in an instant beside the effect of who acts leaves it so: in any world, whatever its lines have shown.
+-- What comes about in an instant beside the effect of who acts leaves it so: in any world, whatever its lines have
+-- shown.
 abbrev pub OthersKeepPlaces : Type 0
 OthersKeepPlaces = (p : Image) (w : World) (sight : Levels) → AreAtMostActive p sight w
-    → let behind = (script_items p ▶ events_due p ▶ moments_due p ▶ timers_due p ▶ budgets_due p ▶ quantum_spent p) w in AreAtMostActive p (levels_told sight behind.1) behind.0
+    → let behind =
+    (script_items p ▶ events_due p ▶ moments_due p ▶ timers_due p ▶ budgets_due p ▶ quantum_spent p) w in
+    AreAtMostActive p (levels_told sight behind.1) behind.0
 
 -- and so does a tock
 abbrev pub TocksKeepPlaces : Type 0
-TocksKeepPlaces = (p : Image) (w : World) (sight : Levels) → AreAtMostActive p sight w → AreAtMostActive p (levels_told sight (tock p w).1) (tock p w).0
+TocksKeepPlaces = (p : Image) (w : World) (sight : Levels) → AreAtMostActive p sight w
+    → AreAtMostActive p (levels_told sight (tock p w).1) (tock p w).0
 
 -- nobody who waits stands in the queue that lines show
 abbrev pub AreWaitersOut : Levels → World → Type 0
-AreWaitersOut sight w = (name : Who) (waiting : Waiting) → waiting_of w name ≡ Some waiting → level_shown name sight ≡ None
+AreWaitersOut sight w = (name : Who) (waiting : Waiting) → waiting_of w name ≡ Some waiting
+    → level_shown name sight ≡ None
 
 -- What comes about beside the effect of who acts, and a tock, leave that so too.
 abbrev pub OthersKeepWaitersOut : Type 0
 OthersKeepWaitersOut = (p : Image) (w : World) (sight : Levels) → AreWaitersOut sight w
-    → let behind = (script_items p ▶ events_due p ▶ moments_due p ▶ timers_due p ▶ budgets_due p ▶ quantum_spent p) w in AreWaitersOut (levels_told sight behind.1) behind.0
+    → let behind =
+    (script_items p ▶ events_due p ▶ moments_due p ▶ timers_due p ▶ budgets_due p ▶ quantum_spent p) w in
+    AreWaitersOut (levels_told sight behind.1) behind.0
 
 abbrev pub TocksKeepWaitersOut : Type 0
-TocksKeepWaitersOut = (p : Image) (w : World) (sight : Levels) → AreWaitersOut sight w → AreWaitersOut (levels_told sight (tock p w).1) (tock p w).0
+TocksKeepWaitersOut = (p : Image) (w : World) (sight : Levels) → AreWaitersOut sight w
+    → AreWaitersOut (levels_told sight (tock p w).1) (tock p w).0
 
--- So it is in every run: before each instant everybody who is shown stands at or below its active priority (D.1, D.2.1).
+-- So it is in every run: before each instant everybody who is shown stands at or below its active priority (D.1,
+-- D.2.1).
 abbrev pub RunsPlaceAtMostActive : Type 0
-RunsPlaceAtMostActive = (p : Image) (script : List (ℤ × Item)) (bound : ℕ) (lines : List Event) (w : World) → Tells p script bound lines w → AreAtMostActive p (levels_told no_levels lines) w
+RunsPlaceAtMostActive = (p : Image) (script : List (ℤ × Item)) (bound : ℕ) (lines : List Event) (w : World)
+    → Tells p script bound lines w → AreAtMostActive p (levels_told no_levels lines) w
 
 -- who is there and is not ready does not stand in the queue that lines show
 abbrev pub AreOthersOut : Levels → World → Type 0
-AreOthersOut sight w = (name : Who) (x : Task) → task_at w name ≡ Some x → is_runnable x ≡ false → level_shown name sight ≡ None
+AreOthersOut sight w = (name : Who) (x : Task) → task_at w name ≡ Some x → is_runnable x ≡ false
+    → level_shown name sight ≡ None
 
 -- And nobody stands there who waits or has only been made; whose action has ended is ready (D.2.1).
 abbrev pub RunsShowWhoIsReady : Type 0
-RunsShowWhoIsReady = (p : Image) (script : List (ℤ × Item)) (bound : ℕ) (lines : List Event) (w : World) → Tells p script bound lines w
-    → AreOthersOut (levels_told no_levels lines) w × ((name : Who) → w.ran ≡ Some name → is_over (task_of w name).ticks_left ≡ true → is_runnable (task_of w name) ≡ true)
+RunsShowWhoIsReady = (p : Image) (script : List (ℤ × Item)) (bound : ℕ) (lines : List Event) (w : World)
+    → Tells p script bound lines w
+    → AreOthersOut (levels_told no_levels lines) w
+    × ((name : Who) → w.ran ≡ Some name → is_over (task_of w name).ticks_left ≡ true
+    → is_runnable (task_of w name) ≡ true)
 
 -- Every run keeps the law of ceilings, of a source whose interrupts have no deadlines (D.3).
 abbrev pub RunsKeepCeilings : Type 0
-RunsKeepCeilings = (p : Image) → IsTrue (edf_is_below_interrupts p) → (script : List (ℤ × Item)) (bound : ℕ) → CeilingOk (run_of p script bound)
+RunsKeepCeilings = (p : Image) → IsTrue (edf_is_below_interrupts p) → (script : List (ℤ × Item)) (bound : ℕ)
+    → CeilingOk (run_of p script bound)

@@ -1,6 +1,6 @@
--- What words ask for: `run SOURCE` and `run SOURCE SCRIPT`, each also with `--ticks N` at the end, `accept SOURCE`, `load N`,
--- `rta TABLE`, `demand TABLE`, `laws TRACE` and `report TRACE`. A name is not empty and does not begin with a hyphen. N is from 1 to 1,000,000,000, of a
--- load from 1 to 200, in plain decimal without leading zeros.
+-- What words ask for: `run SOURCE` and `run SOURCE SCRIPT`, each also with `--ticks N` at the end, `accept SOURCE`,
+-- `load N`, `rta TABLE`, `demand TABLE`, `laws TRACE` and `report TRACE`. A name is not empty and does not begin with a
+-- hyphen. N is from 1 to 1,000,000,000, of a load from 1 to 200, in plain decimal without leading zeros.
 use Rattle.std.specs.Prelude.{ℕ, ◌+◌, ◌-◌, ◌*◌, ◌==◌, nat_le, ◌&&◌, if◌then◌else◌, List, [], ◌∷◌, Option, Some, None, codes}
 use Rattle.std.specs.Option.{option_map}
 use Rattle.std.specs.Char.{is_ascii_digit}
@@ -22,7 +22,8 @@ name_of (byte ∷ bytes) = if byte == 45 then None else Some (byte ∷ bytes)
 abbrev pub ticks_from : ℕ → List ℕ → Option ℕ
 ticks_from so_far [] = Some so_far
 ticks_from so_far (digit ∷ digits) =
-    if is_ascii_digit digit && nat_le (so_far * 10 + (digit - 48)) MOST_TICKS then ticks_from (so_far * 10 + (digit - 48)) digits else None
+    if is_ascii_digit digit && nat_le (so_far * 10 + (digit - 48)) MOST_TICKS
+    then ticks_from (so_far * 10 + (digit - 48)) digits else None
 
 abbrev pub ticks_of : List ℕ → Option ℕ
 ticks_of [] = None

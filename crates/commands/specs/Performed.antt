@@ -54,9 +54,11 @@ ArePrintableFor items work.Accept image = Unit {0}
 -- where the work was done, the text is written whole, and a run has printable lines; where not, a prefix of the text
 abbrev pub ServesImage : List (ℤ × Item) → Work → Image → SinkChange → Outcome → Type 0
 ServesImage items asked image out (Ended stop) =
-    Gained out (text_for items asked image) × (outcome_for items asked image ≡ Ended stop) × ArePrintableFor items asked image
+    Gained out (text_for items asked image) × (outcome_for items asked image ≡ Ended stop)
+    × ArePrintableFor items asked image
 ServesImage items asked image out Accepted =
-    Gained out (text_for items asked image) × (outcome_for items asked image ≡ Accepted) × ArePrintableFor items asked image
+    Gained out (text_for items asked image) × (outcome_for items asked image ≡ Accepted)
+    × ArePrintableFor items asked image
 ServesImage items asked image out (Tested failed) = ⊥
 ServesImage items asked image out (Traced broken) = ⊥
 ServesImage items asked image out WordsRefused = ⊥
@@ -71,7 +73,8 @@ ServesImage items asked image out NoMemory = GainedPrefix out (text_for items as
 -- ---- of the bytes of a source
 
 -- they are accepted as one image alone, and the text that is asked for is written whole; a run has printable lines
-pub record IsDone (items : List (ℤ × Item)) (asked : Work) (bytes : List ℕ) (out : SinkChange) (outcome : Outcome) : Type 0 where
+pub record IsDone (items : List (ℤ
+    × Item)) (asked : Work) (bytes : List ℕ) (out : SinkChange) (outcome : Outcome) : Type 0 where
   pub image : Image
   pub accepted : IsAccepted bytes image
   pub only : (other : Image) → IsAccepted bytes other → other ≡ image
@@ -91,7 +94,8 @@ pub record IsRefused (bytes : List ℕ) (refusal : Refusal) : Type 0 where
 
 -- a prefix of the text that is asked for is written, of the image of the accepted bytes
 abbrev pub IsCutShort : List (ℤ × Item) → Work → List ℕ → SinkChange → Type 0
-IsCutShort items asked bytes out = (image : Image) × IsAccepted bytes image × GainedPrefix out (text_for items asked image)
+IsCutShort items asked bytes out = (image : Image) × IsAccepted bytes image
+    × GainedPrefix out (text_for items asked image)
 
 abbrev pub ServesBytes : Work → List ℕ → SinkChange → Outcome → Type 0
 ServesBytes asked bytes out (Ended stop) = IsDone [] asked bytes out (Ended stop)
@@ -139,8 +143,10 @@ ReadsFile shelf script (Err missing.NoMemory) = Unit {0}
 -- ---- of an image and a named script
 
 abbrev pub ServesScript : List ℕ → ℕ → Image → ShelfChange → SinkChange → Outcome → Type 0
-ServesScript script ticks image shelf out (Ended stop) = OfItems shelf script (λ items. ServesImage items (work.Run ticks) image out (Ended stop))
-ServesScript script ticks image shelf out Accepted = OfItems shelf script (λ items. ServesImage items (work.Run ticks) image out Accepted)
+ServesScript script ticks image shelf out (Ended stop) =
+    OfItems shelf script (λ items. ServesImage items (work.Run ticks) image out (Ended stop))
+ServesScript script ticks image shelf out Accepted =
+    OfItems shelf script (λ items. ServesImage items (work.Run ticks) image out Accepted)
 ServesScript script ticks image shelf out (Tested failed) = ⊥
 ServesScript script ticks image shelf out (Traced broken) = ⊥
 ServesScript script ticks image shelf out WordsRefused = ⊥
@@ -149,8 +155,10 @@ ServesScript script ticks image shelf out (ScriptRefused fault) = IsNoScript she
 ServesScript script ticks image shelf out (TableRefused fault) = ⊥
 ServesScript script ticks image shelf out (TraceRefused line) = ⊥
 ServesScript script ticks image shelf out ReadFault = LacksFile shelf script × IsKept out
-ServesScript script ticks image shelf out WriteFault = SinkFailed out × OfItems shelf script (λ items. GainedPrefix out (text_for items (work.Run ticks) image))
-ServesScript script ticks image shelf out NoMemory = IsKept out ⊎ OfItems shelf script (λ items. GainedPrefix out (text_for items (work.Run ticks) image))
+ServesScript script ticks image shelf out WriteFault = SinkFailed out
+    × OfItems shelf script (λ items. GainedPrefix out (text_for items (work.Run ticks) image))
+ServesScript script ticks image shelf out NoMemory = IsKept out
+    ⊎ OfItems shelf script (λ items. GainedPrefix out (text_for items (work.Run ticks) image))
 
 -- ---- of the bytes of a source and a named script
 
@@ -159,25 +167,31 @@ abbrev pub IsAcceptable : List ℕ → Type 0
 IsAcceptable bytes = (image : Image) × IsAccepted bytes image
 
 abbrev pub ServesUnder : List ℕ → ℕ → List ℕ → ShelfChange → SinkChange → Outcome → Type 0
-ServesUnder script ticks bytes shelf out (Ended stop) = OfItems shelf script (λ items. IsDone items (work.Run ticks) bytes out (Ended stop))
-ServesUnder script ticks bytes shelf out Accepted = OfItems shelf script (λ items. IsDone items (work.Run ticks) bytes out Accepted)
+ServesUnder script ticks bytes shelf out (Ended stop) =
+    OfItems shelf script (λ items. IsDone items (work.Run ticks) bytes out (Ended stop))
+ServesUnder script ticks bytes shelf out Accepted =
+    OfItems shelf script (λ items. IsDone items (work.Run ticks) bytes out Accepted)
 ServesUnder script ticks bytes shelf out (Tested failed) = ⊥
 ServesUnder script ticks bytes shelf out (Traced broken) = ⊥
 ServesUnder script ticks bytes shelf out WordsRefused = ⊥
 ServesUnder script ticks bytes shelf out (SourceRefused refusal) = IsRefused bytes refusal × IsKept out
-ServesUnder script ticks bytes shelf out (ScriptRefused fault) = IsAcceptable bytes × IsNoScript shelf script fault × IsKept out
+ServesUnder script ticks bytes shelf out (ScriptRefused fault) = IsAcceptable bytes × IsNoScript shelf script fault
+    × IsKept out
 ServesUnder script ticks bytes shelf out (TableRefused fault) = ⊥
 ServesUnder script ticks bytes shelf out (TraceRefused line) = ⊥
 ServesUnder script ticks bytes shelf out ReadFault = IsAcceptable bytes × LacksFile shelf script × IsKept out
-ServesUnder script ticks bytes shelf out WriteFault = SinkFailed out × OfItems shelf script (λ items. IsCutShort items (work.Run ticks) bytes out)
-ServesUnder script ticks bytes shelf out NoMemory = IsKept out ⊎ OfItems shelf script (λ items. IsCutShort items (work.Run ticks) bytes out)
+ServesUnder script ticks bytes shelf out WriteFault = SinkFailed out
+    × OfItems shelf script (λ items. IsCutShort items (work.Run ticks) bytes out)
+ServesUnder script ticks bytes shelf out NoMemory = IsKept out
+    ⊎ OfItems shelf script (λ items. IsCutShort items (work.Run ticks) bytes out)
 
 -- ---- of the duties of a table
 
 abbrev pub TestsDuties : TableTest → List Duty → SinkChange → Outcome → Type 0
 TestsDuties test duties out (Ended stop) = ⊥
 TestsDuties test duties out Accepted = ⊥
-TestsDuties test duties out (Tested failed) = Gained out (test_text test duties) × (is_failed test duties ≡ failed) × HoldsBeyond test duties
+TestsDuties test duties out (Tested failed) = Gained out (test_text test duties) × (is_failed test duties ≡ failed)
+    × HoldsBeyond test duties
 TestsDuties test duties out (Traced broken) = ⊥
 TestsDuties test duties out WordsRefused = ⊥
 TestsDuties test duties out (SourceRefused refusal) = ⊥
@@ -204,7 +218,8 @@ IsNoTable fault bytes = table_of bytes ≡ Err fault
 
 -- a prefix of what the test prints is written
 abbrev pub IsTestCutShort : TableTest → List ℕ → SinkChange → Type 0
-IsTestCutShort test bytes out = (duties : List Duty) × (table_of bytes ≡ Ok duties) × GainedPrefix out (test_text test duties)
+IsTestCutShort test bytes out = (duties : List Duty) × (table_of bytes ≡ Ok duties)
+    × GainedPrefix out (test_text test duties)
 
 abbrev pub TestsBytes : TableTest → List ℕ → SinkChange → Outcome → Type 0
 TestsBytes test bytes out (Ended stop) = ⊥
@@ -233,7 +248,8 @@ TellsTrace told out (ScriptRefused fault) = ⊥
 TellsTrace told out (TableRefused fault) = ⊥
 TellsTrace told out (TraceRefused line) = (told ≡ Err line) × IsKept out
 TellsTrace told out ReadFault = ⊥
-TellsTrace told out WriteFault = SinkFailed out × ((text : List ℕ) × (broken : Bool) × (told ≡ Ok (text, broken)) × GainedPrefix out text)
+TellsTrace told out WriteFault = SinkFailed out
+    × ((text : List ℕ) × (broken : Bool) × (told ≡ Ok (text, broken)) × GainedPrefix out text)
 TellsTrace told out NoMemory = (text : List ℕ) × (broken : Bool) × (told ≡ Ok (text, broken)) × GainedPrefix out text
 
 -- ---- of the bytes of a trace
@@ -248,7 +264,8 @@ IsNoTrace line work bytes = trace_answer work bytes ≡ Err line
 
 -- a prefix of what is asked is written
 abbrev pub IsTraceCutShort : TraceWork → List ℕ → SinkChange → Type 0
-IsTraceCutShort work bytes out = (text : List ℕ) × (broken : Bool) × (trace_answer work bytes ≡ Ok (text, broken)) × GainedPrefix out text
+IsTraceCutShort work bytes out = (text : List ℕ) × (broken : Bool) × (trace_answer work bytes ≡ Ok (text, broken))
+    × GainedPrefix out text
 
 -- ---- of the words
 
@@ -262,7 +279,8 @@ OfAsked (Some asked) fact = fact asked
 abbrev pub OfSource : Option Asked → ShelfChange → (Work → List ℕ → Type 0) → Type 0
 OfSource None shelf fact = ⊥
 OfSource (Some (SourceAsked source work)) shelf fact = WhereTold (told shelf.files source) (fact work)
-OfSource (Some (ScriptAsked source script ticks)) shelf fact = WhereTold (told shelf.files source) (fact (work.Run ticks))
+OfSource (Some (ScriptAsked source script ticks)) shelf fact =
+    WhereTold (told shelf.files source) (fact (work.Run ticks))
 OfSource (Some (LoadAsked tasks)) shelf fact = fact (work.Summary DEFAULT_TICKS) (load_text tasks)
 OfSource (Some (TableAsked table test)) shelf fact = ⊥
 OfSource (Some (TraceAsked trace work)) shelf fact = ⊥
@@ -309,15 +327,19 @@ OfTrace (Some (TraceAsked trace work)) shelf fact = WhereTold (told shelf.files 
 
 -- a prefix of the text that is asked for is written, of the file that is there, or of both that are
 abbrev pub IsFileCutShort : Asked → ShelfChange → SinkChange → Type 0
-IsFileCutShort (SourceAsked source work) shelf out = WhereTold (told shelf.files source) (λ bytes. IsCutShort [] work bytes out)
+IsFileCutShort (SourceAsked source work) shelf out =
+    WhereTold (told shelf.files source) (λ bytes. IsCutShort [] work bytes out)
 IsFileCutShort (ScriptAsked source script ticks) shelf out =
-    WhereTold (told shelf.files source) (λ bytes. OfItems shelf script (λ items. IsCutShort items (work.Run ticks) bytes out))
+    WhereTold (told shelf.files source) (λ bytes. OfItems shelf script
+    (λ items. IsCutShort items (work.Run ticks) bytes out))
 IsFileCutShort (LoadAsked tasks) shelf out = IsCutShort [] (work.Summary DEFAULT_TICKS) (load_text tasks) out
-IsFileCutShort (TableAsked table test) shelf out = WhereTold (told shelf.files table) (λ bytes. IsTestCutShort test bytes out)
-IsFileCutShort (TraceAsked trace work) shelf out = WhereTold (told shelf.files trace) (λ bytes. IsTraceCutShort work bytes out)
+IsFileCutShort (TableAsked table test) shelf out =
+    WhereTold (told shelf.files table) (λ bytes. IsTestCutShort test bytes out)
+IsFileCutShort (TraceAsked trace work) shelf out =
+    WhereTold (told shelf.files trace) (λ bytes. IsTraceCutShort work bytes out)
 
--- A file of a request is lacking: the shelf failed, or tells its files and lacks the named one. A script is read where the
--- source is accepted.
+-- A file of a request is lacking: the shelf failed, or tells its files and lacks the named one. A script is read where
+-- the source is accepted.
 abbrev pub LacksNamed : Asked → ShelfChange → Type 0
 LacksNamed (SourceAsked source work) shelf = LacksFile shelf source
 LacksNamed (ScriptAsked source script ticks) shelf =
@@ -335,10 +357,12 @@ Performs asked shelf out Accepted = OfRun asked shelf (λ items work bytes. IsDo
 Performs asked shelf out (Tested failed) = OfTable asked shelf (λ test bytes. IsTested test bytes out failed)
 Performs asked shelf out (Traced broken) = OfTrace asked shelf (λ work bytes. IsTraced work bytes out broken)
 Performs asked shelf out WordsRefused = (asked ≡ None) × IsKept out
-Performs asked shelf out (SourceRefused refusal) = OfSource asked shelf (λ work bytes. IsRefused bytes refusal) × IsKept out
+Performs asked shelf out (SourceRefused refusal) = OfSource asked shelf (λ work bytes. IsRefused bytes refusal)
+    × IsKept out
 Performs asked shelf out (ScriptRefused fault) = OfNoScript asked shelf fault × IsKept out
 Performs asked shelf out (TableRefused fault) = OfTable asked shelf (λ test bytes. IsNoTable fault bytes) × IsKept out
-Performs asked shelf out (TraceRefused line) = OfTrace asked shelf (λ work bytes. IsNoTrace line work bytes) × IsKept out
+Performs asked shelf out (TraceRefused line) = OfTrace asked shelf (λ work bytes. IsNoTrace line work bytes)
+    × IsKept out
 Performs asked shelf out ReadFault = IsUnread asked shelf × IsKept out
 Performs asked shelf out WriteFault = SinkFailed out × OfAsked asked (λ a. IsFileCutShort a shelf out)
 Performs asked shelf out NoMemory = OfAsked asked (λ a. IsKept out ⊎ IsFileCutShort a shelf out)

@@ -47,7 +47,8 @@ IsUndisturbed status = (status ≢ 7) × (status ≢ 8) × (status ≢ 9)
 abbrev pub Headline : Option Asked → ShelfChange → SinkChange → SinkChange → ℕ → Type 0
 Headline asked shelf out notes status =
     (source bytes : List ℕ) (ticks : ℕ) (image : Image) →
-    asked ≡ Some (SourceAsked source (work.Run ticks)) → told shelf.files source ≡ Holds bytes → IsAccepted bytes image →
+    asked ≡ Some (SourceAsked source (work.Run ticks)) → told shelf.files source ≡ Holds bytes
+    → IsAccepted bytes image →
     IsUndisturbed status →
     Gained out (text_of_run image ticks) × (status ≡ stop_status (stop_of image ticks)) × IsKept notes
 
@@ -55,7 +56,8 @@ Headline asked shelf out notes status =
 abbrev pub HeadlineUnder : Option Asked → ShelfChange → SinkChange → SinkChange → ℕ → Type 0
 HeadlineUnder asked shelf out notes status =
     (source bytes script text : List ℕ) (ticks : ℕ) (image : Image) (items : List (ℤ × Item)) →
-    asked ≡ Some (ScriptAsked source script ticks) → told shelf.files source ≡ Holds bytes → told shelf.files script ≡ Holds text →
+    asked ≡ Some (ScriptAsked source script ticks) → told shelf.files source ≡ Holds bytes
+    → told shelf.files script ≡ Holds text →
     IsAccepted bytes image → script_of text ≡ Ok items → IsUndisturbed status →
     Gained out (text_under items image ticks) × (status ≡ stop_status (stop_under items image ticks)) × IsKept notes
 
@@ -64,7 +66,8 @@ abbrev pub LoadTold : Option Asked → SinkChange → SinkChange → ℕ → Typ
 LoadTold asked out notes status =
     (tasks : ℕ) (image : Image) →
     asked ≡ Some (LoadAsked tasks) → IsAccepted (load_text tasks) image → IsUndisturbed status →
-    Gained out (summary_under [] image DEFAULT_TICKS) × (status ≡ stop_status (stop_of image DEFAULT_TICKS)) × IsKept notes
+    Gained out (summary_under [] image DEFAULT_TICKS) × (status ≡ stop_status (stop_of image DEFAULT_TICKS))
+    × IsKept notes
 
 -- The same where they ask whether a source is accepted: `accepted` and a line feed are written, and the status is 0.
 abbrev pub AcceptanceTold : Option Asked → ShelfChange → SinkChange → SinkChange → ℕ → Type 0
@@ -74,10 +77,11 @@ AcceptanceTold asked shelf out notes status =
     IsUndisturbed status →
     Gained out (codes "accepted\n") × (status ≡ 0) × IsKept notes
 
--- The same where they ask for a test of a table: its lines are written and the status is 0 where every duty passes, else
--- 12; or the table is refused with status 13 and the note on its first line that is refused.
+-- The same where they ask for a test of a table: its lines are written and the status is 0 where every duty passes,
+-- else 12; or the table is refused with status 13 and the note on its first line that is refused.
 abbrev pub IsAnswer : TableTest → Result (List Duty) TableFault → SinkChange → SinkChange → ℕ → Type 0
-IsAnswer test (Ok duties) out notes status = Gained out (test_text test duties) × (status ≡ test_status test duties) × IsKept notes
+IsAnswer test (Ok duties) out notes status = Gained out (test_text test duties)
+    × (status ≡ test_status test duties) × IsKept notes
 IsAnswer test (Err fault) out notes status = IsKept out × (status ≡ 13) × Gained notes (table_note fault)
 
 abbrev pub TableTold : Option Asked → ShelfChange → SinkChange → SinkChange → ℕ → Type 0
@@ -94,8 +98,8 @@ BeyondTold asked shelf status =
     asked ≡ Some (TableAsked table test.Demand) → told shelf.files table ≡ Holds bytes → table_of bytes ≡ Ok duties →
     status ≡ 0 → busy_of duties ≡ Some busy → NeverOver duties
 
--- The same where they ask something of a trace: its answer is written with status 0, or 10 where a law is broken; or the
--- trace is refused with status 11 and the note on its first line that is refused.
+-- The same where they ask something of a trace: its answer is written with status 0, or 10 where a law is broken; or
+-- the trace is refused with status 11 and the note on its first line that is refused.
 abbrev pub IsTraceAnswer : Result (List ℕ × Bool) ℕ → SinkChange → SinkChange → ℕ → Type 0
 IsTraceAnswer (Ok answer) out notes status = Gained out answer.0 × (status ≡ traced_status answer.1) × IsKept notes
 IsTraceAnswer (Err line) out notes status = IsKept out × (status ≡ 11) × Gained notes (trace_note line)
@@ -106,9 +110,9 @@ TraceTold asked shelf out notes status =
     asked ≡ Some (TraceAsked trace work) → told shelf.files trace ≡ Holds bytes → IsUndisturbed status →
     IsTraceAnswer (trace_answer work bytes) out notes status
 
--- Where they ask for the laws, one verdict is true of the trace, and it is told: the trace is a formed list of lines that
--- keeps the laws; or one that does so up to a line that breaks this law; or up to a line that is none, or with which the
--- list is not formed, or that ends beyond the most bytes.
+-- Where they ask for the laws, one verdict is true of the trace, and it is told: the trace is a formed list of lines
+-- that keeps the laws; or one that does so up to a line that breaks this law; or up to a line that is none, or with
+-- which the list is not formed, or that ends beyond the most bytes.
 pub record IsVerdictTold (bytes : List ℕ) (out notes : SinkChange) (status : ℕ) : Type 0 where
   pub verdict : Verdict
   pub says : Says (texts_in bytes) verdict
@@ -124,7 +128,8 @@ LawsTold asked shelf out notes status =
 -- Where they ask for the report: that of the lines of the trace is written, where they are formed and within the most
 -- bytes; and where there are none such, the status is 11.
 pub record IsReportTold (bytes : List ℕ) (out notes : SinkChange) (status : ℕ) : Type 0 where
-  pub formed : (lines : List TraceLine) → IsFormedTrace (texts_in bytes) lines → Gained out (report_text lines) × (status ≡ 0) × IsKept notes
+  pub formed : (lines : List TraceLine) → IsFormedTrace (texts_in bytes) lines
+      → Gained out (report_text lines) × (status ≡ 0) × IsKept notes
   pub refused : ((lines : List TraceLine) → IsFormedTrace (texts_in bytes) lines → ⊥) → status ≡ 11
 
 abbrev pub ReportTold : Option Asked → ShelfChange → SinkChange → SinkChange → ℕ → Type 0
@@ -136,21 +141,24 @@ ReportTold asked shelf out notes status =
 -- the lines of the test that is asked for are written, and it ends with this status
 abbrev pub IsPrinted : TableTest → List ℕ → SinkChange → ℕ → Type 0
 IsPrinted test bytes out status =
-    (duties : List Duty) × (table_of bytes ≡ Ok duties) × Gained out (test_text test duties) × (status ≡ test_status test duties)
+    (duties : List Duty) × (table_of bytes ≡ Ok duties) × Gained out (test_text test duties)
+    × (status ≡ test_status test duties)
 
--- A status of 0 to 3 comes where the file is there and what was asked for was written whole: of a source whose bytes are
--- accepted with the status of the run's stop, and 0 where no run was asked for; of a run under a script that is there and
--- is one the same; of a table with that of the test; of a
--- trace with 0, where no law that was asked for is broken.
+-- A status of 0 to 3 comes where the file is there and what was asked for was written whole: of a source whose bytes
+-- are accepted with the status of the run's stop, and 0 where no run was asked for; of a run under a script that is
+-- there and is one the same; of a table with that of the test; of a trace with 0, where no law that was asked for is
+-- broken.
 abbrev pub DoneTold : Option Asked → ShelfChange → SinkChange → ℕ → Type 0
 DoneTold None shelf out status = ⊥
 DoneTold (Some (SourceAsked source work)) shelf out status =
-    WhereTold (told shelf.files source) (λ bytes. (outcome : Outcome) × IsDone [] work bytes out outcome × (status ≡ status_of outcome))
+    WhereTold (told shelf.files source) (λ bytes. (outcome : Outcome) × IsDone [] work bytes out outcome
+    × (status ≡ status_of outcome))
 DoneTold (Some (ScriptAsked source script ticks)) shelf out status =
     WhereTold (told shelf.files source) (λ bytes. OfItems shelf script (λ items.
     (outcome : Outcome) × IsDone items (work.Run ticks) bytes out outcome × (status ≡ status_of outcome)))
 DoneTold (Some (LoadAsked tasks)) shelf out status =
-    (outcome : Outcome) × IsDone [] (work.Summary DEFAULT_TICKS) (load_text tasks) out outcome × (status ≡ status_of outcome)
+    (outcome : Outcome) × IsDone [] (work.Summary DEFAULT_TICKS) (load_text tasks) out outcome
+    × (status ≡ status_of outcome)
 DoneTold (Some (TableAsked table test)) shelf out status =
     (status ≡ 0) × WhereTold (told shelf.files table) (λ bytes. IsPrinted test bytes out status)
 DoneTold (Some (TraceAsked trace work)) shelf out status =
@@ -158,7 +166,8 @@ DoneTold (Some (TraceAsked trace work)) shelf out status =
 
 -- Lines were written that keep a law, and they are those of the run of the accepted bytes. Different lists of printable
 -- lines have different texts, so where the law is that they are printable the text says which lines they are.
-pub record WrittenKeeps (law : List TraceLine → Type 0) (items : List (ℤ × Item)) (ticks : ℕ) (bytes : List ℕ) (out : SinkChange) : Type 0 where
+pub record WrittenKeeps (law : List TraceLine
+    → Type 0) (items : List (ℤ × Item)) (ticks : ℕ) (bytes : List ℕ) (out : SinkChange) : Type 0 where
   pub image : Image
   pub lines : List TraceLine
   pub accepted : IsAccepted bytes image
@@ -170,11 +179,13 @@ pub record WrittenKeeps (law : List TraceLine → Type 0) (items : List (ℤ × 
 -- written keep a law.
 abbrev pub LawTold : (List TraceLine → Type 0) → Option Asked → ShelfChange → SinkChange → Type 0
 LawTold law None shelf out = Unit {0}
-LawTold law (Some (SourceAsked source (work.Run ticks))) shelf out = WhereTold (told shelf.files source) (λ bytes. WrittenKeeps law [] ticks bytes out)
+LawTold law (Some (SourceAsked source (work.Run ticks))) shelf out =
+    WhereTold (told shelf.files source) (λ bytes. WrittenKeeps law [] ticks bytes out)
 LawTold law (Some (SourceAsked source (work.Summary ticks))) shelf out = Unit {0}
 LawTold law (Some (SourceAsked source work.Accept)) shelf out = Unit {0}
 LawTold law (Some (ScriptAsked source script ticks)) shelf out =
-    WhereTold (told shelf.files source) (λ bytes. OfItems shelf script (λ items. WrittenKeeps law items ticks bytes out))
+    WhereTold (told shelf.files source) (λ bytes. OfItems shelf script
+    (λ items. WrittenKeeps law items ticks bytes out))
 LawTold law (Some (LoadAsked tasks)) shelf out = Unit {0}
 LawTold law (Some (TableAsked table test)) shelf out = Unit {0}
 LawTold law (Some (TraceAsked trace work)) shelf out = Unit {0}
@@ -187,37 +198,43 @@ IsStatus status = status ≤ 13
 -- A source that is not accepted has status 4.
 abbrev pub NotAccepted : Option Asked → ShelfChange → ℕ → Type 0
 NotAccepted asked shelf status =
-    (source bytes : List ℕ) (work : Work) → asked ≡ Some (SourceAsked source work) → told shelf.files source ≡ Holds bytes →
+    (source bytes : List ℕ) (work : Work) → asked ≡ Some (SourceAsked source work)
+    → told shelf.files source ≡ Holds bytes →
     ((image : Image) → IsAccepted bytes image → ⊥) → IsUndisturbed status → status ≡ 4
 
 -- The same of a source that is to be run under a script, whatever that is.
 abbrev pub NotAcceptedUnder : Option Asked → ShelfChange → ℕ → Type 0
 NotAcceptedUnder asked shelf status =
-    (source bytes script : List ℕ) (ticks : ℕ) → asked ≡ Some (ScriptAsked source script ticks) → told shelf.files source ≡ Holds bytes →
+    (source bytes script : List ℕ) (ticks : ℕ) → asked ≡ Some (ScriptAsked source script ticks)
+    → told shelf.files source ≡ Holds bytes →
     ((image : Image) → IsAccepted bytes image → ⊥) → IsUndisturbed status → status ≡ 4
 
 -- The same of the source of a load.
 abbrev pub LoadNotAccepted : Option Asked → ℕ → Type 0
 LoadNotAccepted asked status =
-    (tasks : ℕ) → asked ≡ Some (LoadAsked tasks) → ((image : Image) → IsAccepted (load_text tasks) image → ⊥) → IsUndisturbed status → status ≡ 4
+    (tasks : ℕ) → asked ≡ Some (LoadAsked tasks) → ((image : Image) → IsAccepted (load_text tasks) image → ⊥)
+    → IsUndisturbed status → status ≡ 4
 
 -- Status 4 comes only where a source is asked for, it is there, and its bytes are not accepted, and the note tells the
 -- first reason.
 abbrev pub RefusalTold : Option Asked → ShelfChange → SinkChange → Type 0
 RefusalTold asked shelf notes =
-    OfSource asked shelf (λ work bytes. (refusal : Refusal) × IsRefused bytes refusal × Gained notes (refusal_text refusal))
+    OfSource asked shelf (λ work bytes. (refusal : Refusal) × IsRefused bytes refusal
+    × Gained notes (refusal_text refusal))
 
 -- A script that is refused has status 5 where its source is accepted.
 abbrev pub NoScript : Option Asked → ShelfChange → ℕ → Type 0
 NoScript asked shelf status =
     (source bytes script text : List ℕ) (ticks : ℕ) (image : Image) (fault : ScriptFault) →
-    asked ≡ Some (ScriptAsked source script ticks) → told shelf.files source ≡ Holds bytes → told shelf.files script ≡ Holds text →
+    asked ≡ Some (ScriptAsked source script ticks) → told shelf.files source ≡ Holds bytes
+    → told shelf.files script ≡ Holds text →
     IsAccepted bytes image → script_of text ≡ Err fault → IsUndisturbed status → status ≡ 5
 
--- Status 5 comes only where a run under a script is asked for, its source is there and is accepted, its script is there and
--- is refused, and the note tells the first line.
+-- Status 5 comes only where a run under a script is asked for, its source is there and is accepted, its script is there
+-- and is refused, and the note tells the first line.
 abbrev pub ScriptRefusalTold : Option Asked → ShelfChange → SinkChange → Type 0
-ScriptRefusalTold asked shelf notes = (fault : ScriptFault) × OfNoScript asked shelf fault × Gained notes (script_note fault)
+ScriptRefusalTold asked shelf notes = (fault : ScriptFault) × OfNoScript asked shelf fault
+    × Gained notes (script_note fault)
 
 -- Status 12 comes only where a test is asked for, its table is there and the test fails, and its lines are written.
 abbrev pub FailureTold : Option Asked → ShelfChange → SinkChange → ℕ → Type 0
@@ -232,7 +249,8 @@ TableRefusalTold asked shelf notes =
 abbrev pub BreachTold : Option Asked → ShelfChange → SinkChange → Type 0
 BreachTold asked shelf out = OfTrace asked shelf (λ work bytes. IsTraced work bytes out true)
 
--- Status 11 comes only where something is asked of a trace, it is there and is refused, and the note tells the first line.
+-- Status 11 comes only where something is asked of a trace, it is there and is refused, and the note tells the first
+-- line.
 abbrev pub TraceRefusalTold : Option Asked → ShelfChange → SinkChange → Type 0
 TraceRefusalTold asked shelf notes =
     OfTrace asked shelf (λ work bytes. (line : ℕ) × IsNoTrace line work bytes × Gained notes (trace_note line))
@@ -256,9 +274,10 @@ IsCause asked shelf out NoMemory = Unit {0}
 -- that the words, the shelf, the file or the memory gave cause for.
 abbrev pub NoteTried : Option Asked → ShelfChange → SinkChange → SinkChange → Type 0
 NoteTried asked shelf out notes =
-    (outcome : Outcome) × (note : List ℕ) × IsCause asked shelf out outcome × (note_of outcome ≡ Some note) × GainedPrefix notes note
+    (outcome : Outcome) × (note : List ℕ) × IsCause asked shelf out outcome × (note_of outcome ≡ Some note)
+    × GainedPrefix notes note
 
--- After a fault of writing and want of memory out gained nothing, or a prefix of the text that the words ask for, of the
--- file that is there and accepted, under a script that is there and is one, or that is a table or a trace.
+-- After a fault of writing and want of memory out gained nothing, or a prefix of the text that the words ask for, of
+-- the file that is there and accepted, under a script that is there and is one, or that is a table or a trace.
 abbrev pub PrefixTold : Option Asked → ShelfChange → SinkChange → Type 0
 PrefixTold asked shelf out = IsKept out ⊎ OfAsked asked (λ a. IsFileCutShort a shelf out)

@@ -26,4 +26,5 @@ NeverOver duties = (window : ℕ) → 1 ≤ window → ¬ (IsOver duties window)
 -- where the demand test prints a busy period, no window of any length is overrun
 abbrev pub HoldsBeyond : TableTest → List Duty → Type 0
 HoldsBeyond test.ResponseTimes duties = Unit {0}
-HoldsBeyond test.Demand duties = (busy : ℕ) → first_over_of duties ≡ None → busy_of duties ≡ Some busy → NeverOver duties
+HoldsBeyond test.Demand duties = (busy : ℕ) → first_over_of duties ≡ None → busy_of duties ≡ Some busy
+    → NeverOver duties

@@ -20,10 +20,12 @@ law_word law.Exclusive = codes "exclusive"
 law_word law.Handlers = codes "handlers"
 law_word law.Left = codes "left"
 
--- The text that is written, and whether a law is broken; or the line that is refused: `lawful LINES`, `broken LINE LAW`.
+-- The text that is written, and whether a law is broken; or the line that is refused: `lawful LINES`, `broken LINE
+-- LAW`.
 abbrev pub verdict_answer : Verdict → Result (List ℕ × Bool) ℕ
 verdict_answer (verdict.Lawful count) = Ok (codes "lawful " ++ (decimal count ++ 10 ∷ []), false)
-verdict_answer (verdict.Broken line law) = Ok (codes "broken " ++ (decimal line ++ 32 ∷ (law_word law ++ 10 ∷ [])), true)
+verdict_answer (verdict.Broken line law) =
+    Ok (codes "broken " ++ (decimal line ++ 32 ∷ (law_word law ++ 10 ∷ [])), true)
 verdict_answer (verdict.Refused line) = Err line
 
 -- the same of the lines of a trace, or of its first line that is refused

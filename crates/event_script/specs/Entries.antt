@@ -71,10 +71,12 @@ port_line tick (Some words) = port_at (value_in words.1) (once_at (tick_in tick)
 -- an interrupt that comes again and again: PERIOD and COUNT, the word `interrupt` and its number
 abbrev pub every_item : ℕ → ℕ → ℕ → Result ℕ ScriptFaultKind → Result Entry ScriptFaultKind
 every_item tick period count (Err kind) = Err kind
-every_item tick period count (Ok number) = Ok (record { tick = tick; period = period; count = count; item = item.Interrupt number })
+every_item tick period count (Ok number) =
+    Ok (record { tick = tick; period = period; count = count; item = item.Interrupt number })
 
 abbrev pub every_number : ℕ → ℕ → ℕ → Result ℕ ScriptFaultKind → Result Entry ScriptFaultKind
-every_number tick period count number = if ends_in_time tick period count then every_item tick period count number else Err BadNumber
+every_number tick period count number = if ends_in_time tick period count then every_item tick period count number
+    else Err BadNumber
 
 abbrev pub every_at : Option ℕ → Option ℕ → Option ℕ → Result ℕ ScriptFaultKind → Result Entry ScriptFaultKind
 every_at None period count number = Err BadNumber
@@ -83,7 +85,8 @@ every_at (Some tick) (Some period) None number = Err BadNumber
 every_at (Some tick) (Some period) (Some count) number = every_number tick period count number
 
 abbrev pub is_every : List ℕ → List ℕ → List ℕ → Bool
-is_every period count keyword = not (length period == 0) && not (length count == 0) && bytes_eq keyword (codes "interrupt")
+is_every period count keyword = not (length period == 0) && not (length count == 0)
+    && bytes_eq keyword (codes "interrupt")
 
 abbrev pub every_with : List ℕ → List ℕ → List ℕ → Option (List ℕ × List ℕ) → Result Entry ScriptFaultKind
 every_with tick period count None = Err BadLine
@@ -110,7 +113,8 @@ entry_by (Some keyword.Unmask) tick words = with_item item.Unmask (once tick (on
 abbrev pub entry_in : Bool → List (List ℕ) → Result Entry ScriptFaultKind
 entry_in is_second [] = Err BadLine
 entry_in is_second (tick ∷ []) = Err BadLine
-entry_in is_second (tick ∷ keyword ∷ words) = if length tick == 0 then Err BadLine else entry_by (keyword_of is_second keyword) tick words
+entry_in is_second (tick ∷ keyword ∷ words) = if length tick == 0 then Err BadLine
+    else entry_by (keyword_of is_second keyword) tick words
 
 -- what a line says in a script of the second version or of the first, or why it is refused
 abbrev pub entry_of : Bool → List ℕ → Result Entry ScriptFaultKind

@@ -14,16 +14,21 @@ use Rattle.grammar_laws.specs.Leads.{Leads}
 
 -- the tree that is read of tokens spells them, and is shaped
 abbrev pub ReadIsSpelt : Type 0
-ReadIsSpelt = (lexemes : List Lexeme) (unit : Tree) → unit_of lexemes ≡ Ok unit → SpellsTokens unit lexemes × (is_shaped unit ≡ true)
+ReadIsSpelt = (lexemes : List Lexeme) (unit : Tree) → unit_of lexemes ≡ Ok unit
+    → SpellsTokens unit lexemes × (is_shaped unit ≡ true)
 
 -- a shaped tree that spells tokens is the one that is read of them
 abbrev pub SpeltIsRead : Type 0
-SpeltIsRead = (unit : Tree) (lexemes : List Lexeme) → SpellsTokens unit lexemes → is_shaped unit ≡ true → unit_of lexemes ≡ Ok unit
+SpeltIsRead = (unit : Tree) (lexemes : List Lexeme) → SpellsTokens unit lexemes → is_shaped unit ≡ true
+    → unit_of lexemes ≡ Ok unit
 
 -- of the shaped trees one at most spells given tokens
 abbrev pub OneTreeSpells : Type 0
-OneTreeSpells = (a b : Tree) (lexemes : List Lexeme) → SpellsTokens a lexemes → SpellsTokens b lexemes → is_shaped a ≡ true → is_shaped b ≡ true → a ≡ b
+OneTreeSpells = (a b : Tree) (lexemes : List Lexeme) → SpellsTokens a lexemes → SpellsTokens b lexemes
+    → is_shaped a ≡ true → is_shaped b ≡ true → a ≡ b
 
 -- an expression that is read leads from the tokens to those that are left, and keeps precedence and nesting
 abbrev pub ExpressionIsSpelt : Type 0
-ExpressionIsSpelt = (left : ℕ) (ls : List Lexeme) (e : Expression) (r : List Lexeme) → expression_of left ls ≡ Ok (e, r) → Leads (expression_written e) ls r × (expression_fits e precedence.Logical left ≡ true)
+ExpressionIsSpelt = (left : ℕ) (ls : List Lexeme) (e : Expression) (r : List Lexeme)
+    → expression_of left ls ≡ Ok (e, r) → Leads (expression_written e) ls r
+    × (expression_fits e precedence.Logical left ≡ true)

@@ -27,4 +27,5 @@ actual_if within f (Some e) = do
 
 -- the actuals for the formals from this number on
 abbrev pub actuals_from : Within → ℕ → List Formal → List (Argument Expression) → Lists → Lists × List Actual
-actuals_from within i formals arguments lists = actuals_made within formals (arguments_from i (names_of formals) arguments) lists
+actuals_from within i formals arguments lists =
+    actuals_made within formals (arguments_from i (names_of formals) arguments) lists

@@ -1,5 +1,5 @@
--- How many actions a source has: one for each of its statements and declared objects, and those beside them that the language
--- asks for.
+-- How many actions a source has: one for each of its statements and declared objects, and those beside them that the
+-- language asks for.
 use Rattle.std.specs.Prelude.{ℕ, ◌+◌, Bool, true, false, cond, not, ◌&&◌, List, [], ◌∷◌, ◌++◌, Option, Some, None, unwrap_or}
 use Rattle.std.specs.Bool.{then_some}
 use Rattle.ada_tree.specs.declared.names.Identifier.{Identifier}
@@ -125,8 +125,10 @@ module _ {Q : Type 0} (sequence : Q → Actions) where
 
   -- the select itself, and each accept, delay and call in it
   abbrev pub select_actions : SelectForm Q → Names → ℕ
-  select_actions (select.SelectiveAccept s) n = 1 + actions_if s.otherwise n + alternatives_actions (s.alternatives.first ∷ s.alternatives.others) n
-  select_actions (select.TimedEntryCall t) n = 1 + (1 + actions_if t.delay_statements n) + (1 + actions_if t.statements n)
+  select_actions (select.SelectiveAccept s) n = 1 + actions_if s.otherwise n
+      + alternatives_actions (s.alternatives.first ∷ s.alternatives.others) n
+  select_actions (select.TimedEntryCall t) n = 1 + (1 + actions_if t.delay_statements n)
+      + (1 + actions_if t.statements n)
   select_actions (select.ConditionalEntryCall c) n = 1 + inside_actions c.otherwise n + (1 + actions_if c.statements n)
   select_actions (select.AsynchronousSelect a) n = 1 + (inside_actions a.abortable n + (1 + actions_if a.statements n))
 
@@ -135,7 +137,8 @@ module _ {Q : Type 0} (sequence : Q → Actions) where
   statement_actions (statement.Assignment a) n = 1
   statement_actions (statement.Call c) n = 1
   statement_actions (statement.Delay d) n = 1
-  statement_actions (statement.If i) n = 1 + inside_actions i.statements n + elsifs_actions i.elsifs n + actions_if i.otherwise n
+  statement_actions (statement.If i) n = 1 + inside_actions i.statements n + elsifs_actions i.elsifs n
+      + actions_if i.otherwise n
   statement_actions (statement.Case c) n = 1 + case_actions (c.alternatives.first ∷ c.alternatives.others) n
   statement_actions (statement.Loop l) n = turns_actions l.iteration + inside_actions l.statements n
   statement_actions (statement.Exit e) n = 1
@@ -155,8 +158,10 @@ module _ {Q : Type 0} (sequence : Q → Actions) where
 
   abbrev pub operations_actions : List (OperationBody Q) → Names → ℕ
   operations_actions [] n = 0
-  operations_actions (body_of.Subprogram s body ∷ os) n = operations_actions os n + sequence body.sequence (sequence_place.AsBody false) n
-  operations_actions (body_of.Entry head body ∷ os) n = operations_actions os n + sequence body.sequence (sequence_place.AsBody false) n
+  operations_actions (body_of.Subprogram s body ∷ os) n = operations_actions os n
+      + sequence body.sequence (sequence_place.AsBody false) n
+  operations_actions (body_of.Entry head body ∷ os) n = operations_actions os n
+      + sequence body.sequence (sequence_place.AsBody false) n
 
   abbrev pub body_actions : Declaration Q → Names → ℕ
   body_actions (declaration.Object o) n = 0
@@ -188,7 +193,9 @@ module _ {Q : Type 0} (sequence : Q → Actions) where
   parts_actions s sequence_place.StatementsAlone n = statements_actions (s.statements.first ∷ s.statements.others) n
   parts_actions s (sequence_place.BehindDeclarations part) n = handled_actions part s s.handlers n
   parts_actions s (sequence_place.AsBody is_task_body) n =
-      declarations_actions s.declarations n + one_if is_task_body + handled_actions (then_some (make_tasks (outermost n) s.declarations) 0) s s.handlers n + bodies_actions s.declarations n
+      declarations_actions s.declarations n + one_if is_task_body
+      + handled_actions (then_some (make_tasks (outermost n) s.declarations) 0) s s.handlers n
+      + bodies_actions s.declarations n
 
 abbrev pub same_actions : Actions → Actions
 same_actions actions = actions
@@ -208,9 +215,12 @@ package_statements_actions part (Some s) n = sequence_actions s (sequence_place.
 abbrev pub package_actions : List LibraryPackage → Package → Names → ℕ
 package_actions all (packages.Declaration x) n =
     let ds = x.declarations ++ unwrap_or x.private [] in
-    declarations_actions ds n + activation_actions (then_some (not (has_body all x.name.text) && make_tasks (outermost n) ds) (part_of all x.name.text)) + bodies_actions sequence_actions ds n
+    declarations_actions ds n + activation_actions (then_some (not (has_body all x.name.text)
+    && make_tasks (outermost n) ds) (part_of all x.name.text)) + bodies_actions sequence_actions ds n
 package_actions all (packages.Body x) n =
-    declarations_actions x.declarations n + package_statements_actions (package_part all (outermost n) x) x.sequence n + bodies_actions sequence_actions x.declarations n
+    declarations_actions x.declarations n
+    + package_statements_actions (package_part all (outermost n) x) x.sequence n
+    + bodies_actions sequence_actions x.declarations n
 
 abbrev pub packages_actions : List LibraryPackage → List LibraryPackage → Names → ℕ
 packages_actions all [] n = 0
@@ -218,4 +228,5 @@ packages_actions all (l ∷ ls) n = package_actions all l.package n + packages_a
 
 -- the packages, the main procedure, and the call of it
 abbrev pub actions_of : Tree → Names → ℕ
-actions_of unit n = packages_actions unit.packages unit.packages n + sequence_actions unit.main.body.sequence (sequence_place.AsBody false) n + 1
+actions_of unit n = packages_actions unit.packages unit.packages n
+    + sequence_actions unit.main.body.sequence (sequence_place.AsBody false) n + 1

@@ -1,5 +1,5 @@
--- Expressions of clear names: each name has a type, each constant and each end of a range a value, and each index a type of
--- values. Where the table of names lacks one of these, another rule is broken at the declaration.
+-- Expressions of clear names: each name has a type, each constant and each end of a range a value, and each index a
+-- type of values. Where the table of names lacks one of these, another rule is broken at the declaration.
 use Rattle.std.specs.List.{list_any}
 use Rattle.std.specs.Prelude.{ℕ, bytes_eq, is_some, Bool, true, false, not, ◌&&◌, List, [], ◌∷◌, Option, Some, None}
 use Rattle.ada_tree.specs.declared.names.Name.{Name}
@@ -63,7 +63,8 @@ denoted_clear k (Some d) = index_clear (ends_of_object k d)
 
 abbrev pub name_clear : Known → Name → Bool → Bool
 name_clear k name has_arguments =
-    has_type (typed_name k name has_arguments) && (constant_clear (denoted_by k.names name) && denoted_clear k (denoted_by k.names name))
+    has_type (typed_name k name has_arguments)
+    && (constant_clear (denoted_by k.names name) && denoted_clear k (denoted_by k.names name))
 
 abbrev pub ends_clear : Names → Name → Attribute → Bool
 ends_clear n name attribute.First = is_given_if (attribute_value n name attribute.First)
@@ -71,7 +72,8 @@ ends_clear n name attribute.Last = is_given_if (attribute_value n name attribute
 ends_clear n name _ = true
 
 abbrev pub attribute_clear : Known → Name → Attribute → Bool → Bool
-attribute_clear k name a has_arguments = has_type (typed_attribute_of k name a has_arguments) && ends_clear k.names name a
+attribute_clear k name a has_arguments = has_type (typed_attribute_of k name a has_arguments)
+    && ends_clear k.names name a
 
 -- ---- forms, given which of the expressions in them are clear
 
@@ -97,7 +99,8 @@ module _ {E : Type 0} (clear : E → Clear) where
 
   abbrev pub named_clear : Name → Option AttributeDesignator → List (Argument E) → Clear
   named_clear name None arguments k = name_clear k name (not (is_empty arguments)) && arguments_clear arguments k
-  named_clear name (Some a) arguments k = attribute_clear k name a.attribute (not (is_empty arguments)) && arguments_clear arguments k
+  named_clear name (Some a) arguments k = attribute_clear k name a.attribute (not (is_empty arguments))
+      && arguments_clear arguments k
 
   abbrev pub form_clear : ExpressionForm E → Clear
   form_clear (form.Logical operator first others) k = clear first k && operands_clear (others.first ∷ others.others) k

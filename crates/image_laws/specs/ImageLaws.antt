@@ -7,8 +7,8 @@ use Rattle.ada_image.specs.NothingLost.{nothing_is_lost}
 use Rattle.image_laws.specs.ActionsOfText.{actions_of}
 use Rattle.image_laws.specs.OwnScopes.{is_built}
 
--- The image of each source that is built has the declarations and statements of its text, read from its scopes, in order and
--- each with its parts.
+-- The image of each source that is built has the declarations and statements of its text, read from its scopes, in
+-- order and each with its parts.
 abbrev pub NothingIsLost : Type 0
 NothingIsLost = (unit : Tree) → IsTrue (is_built unit) → IsTrue (nothing_is_lost unit)
 

@@ -1,4 +1,5 @@
--- Sources that an image has whole: each of their forms is built, and each body, block and accept has a scope of its own.
+-- Sources that an image has whole: each of their forms is built, and each body, block and accept has a scope of its
+-- own.
 use Rattle.std.specs.Prelude.{ℕ, Bool, true, not, ◌&&◌, List, [], ◌∷◌, eqb, ltb, length}
 use Rattle.std.specs.List.{list_any, list_all}
 use Rattle.ada_tree.specs.declared.units.Unit.{Unit as Tree}

@@ -1,5 +1,5 @@
--- The scopes that a source begins: of its bodies, its blocks and its accepts, and that of the environment, each by the place of
--- its construct in the text. Their order does not matter.
+-- The scopes that a source begins: of its bodies, its blocks and its accepts, and that of the environment, each by the
+-- place of its construct in the text. Their order does not matter.
 use Rattle.std.specs.Prelude.{ℕ, Bool, true, false, List, [], ◌∷◌, ◌++◌, Option, Some, None, unwrap_or}
 use Rattle.ann_base.specs.declared.places.Place.{Place}
 use Rattle.ada_tree.specs.declared.statements.Statement.{Statement}
@@ -76,7 +76,8 @@ module _ {Q : Type 0} (sequence : Q → Scopes) where
   alternatives_scopes (a ∷ rest) n = alternatives_scopes rest n ++ alternative_scopes a.alternative n
 
   abbrev pub select_scopes : SelectForm Q → Names → List ℕ
-  select_scopes (select.SelectiveAccept s) n = scopes_if s.otherwise n ++ alternatives_scopes (s.alternatives.first ∷ s.alternatives.others) n
+  select_scopes (select.SelectiveAccept s) n = scopes_if s.otherwise n
+      ++ alternatives_scopes (s.alternatives.first ∷ s.alternatives.others) n
   select_scopes (select.TimedEntryCall t) n = scopes_if t.delay_statements n ++ scopes_if t.statements n
   select_scopes (select.ConditionalEntryCall c) n = inside_scopes c.otherwise n ++ scopes_if c.statements n
   select_scopes (select.AsynchronousSelect a) n = inside_scopes a.abortable n ++ scopes_if a.statements n
@@ -86,7 +87,8 @@ module _ {Q : Type 0} (sequence : Q → Scopes) where
   statement_scopes (statement.Assignment a) n = []
   statement_scopes (statement.Call c) n = []
   statement_scopes (statement.Delay d) n = []
-  statement_scopes (statement.If i) n = inside_scopes i.statements n ++ (elsif_scopes i.elsifs n ++ scopes_if i.otherwise n)
+  statement_scopes (statement.If i) n = inside_scopes i.statements n
+      ++ (elsif_scopes i.elsifs n ++ scopes_if i.otherwise n)
   statement_scopes (statement.Case c) n = case_scopes (c.alternatives.first ∷ c.alternatives.others) n
   statement_scopes (statement.Loop l) n = inside_scopes l.statements n
   statement_scopes (statement.Exit e) n = []
@@ -155,12 +157,15 @@ package_statements_scopes None n = []
 package_statements_scopes (Some s) n = sequence_scopes s (sequence_place.BehindDeclarations None) n
 
 abbrev pub package_scopes : Package → Names → List ℕ
-package_scopes (packages.Declaration x) n = declarations_scopes sequence_scopes (x.declarations ++ unwrap_or x.private []) n
-package_scopes (packages.Body x) n = package_statements_scopes x.sequence n ++ declarations_scopes sequence_scopes x.declarations n
+package_scopes (packages.Declaration x) n =
+    declarations_scopes sequence_scopes (x.declarations ++ unwrap_or x.private []) n
+package_scopes (packages.Body x) n = package_statements_scopes x.sequence n
+    ++ declarations_scopes sequence_scopes x.declarations n
 
 abbrev pub packages_scopes : List LibraryPackage → Names → List ℕ
 packages_scopes [] n = []
 packages_scopes (l ∷ ls) n = package_scopes l.package n ++ packages_scopes ls n
 
 abbrev pub scopes_begun : Tree → Names → List ℕ
-scopes_begun unit n = 0 ∷ (packages_scopes unit.packages n ++ body_scopes sequence_scopes unit.main.place false unit.main.body.sequence n)
+scopes_begun unit n = 0 ∷ (packages_scopes unit.packages n
+    ++ body_scopes sequence_scopes unit.main.place false unit.main.body.sequence n)

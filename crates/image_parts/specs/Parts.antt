@@ -11,7 +11,8 @@ use Rattle.ada_image.specs.Making.{Making, ◌>>=◌, ◌>>◌, action_put, firs
 use Rattle.ada_image.specs.ImageOfExpressions.{expression_made, signs_in}
 
 -- a condition, and the actions behind it
-abbrev pub if_action : Within → Expression → Option StatementNo → Option StatementNo → Option StatementNo → Making (Option StatementNo)
+abbrev pub if_action : Within → Expression → Option StatementNo → Option StatementNo → Option StatementNo
+    → Making (Option StatementNo)
 if_action within c first otherwise next = do
   e ← expression_made c within
   action_put (action.If e (the_action first) otherwise) (signs_in within c) next
@@ -23,13 +24,15 @@ case_action within c alternatives next = do
   action_put (action.Case selector alternatives) (signs_in within c) next
 
 -- a while loop
-abbrev pub while_action : Within → StatementNo → Expression → StatementNo → Option StatementNo → Making (Option StatementNo)
+abbrev pub while_action : Within → StatementNo → Expression → StatementNo → Option StatementNo
+    → Making (Option StatementNo)
 while_action within s c body next = do
   e ← expression_made c within
   put_at s (action.While e body within.construct) (signs_in within c) next
 
 -- a for loop, and its turns, which its statement and its body lead to
-abbrev pub for_action : Within → StatementNo → StatementNo → StatementNo → DeclNo → Bool → Expression → Expression → StatementNo → Option StatementNo → Making (Option StatementNo)
+abbrev pub for_action : Within → StatementNo → StatementNo → StatementNo → DeclNo → Bool → Expression → Expression
+    → StatementNo → Option StatementNo → Making (Option StatementNo)
 for_action within s first later d reverse low high body next = do
   put_at first (action.FirstTurn d reverse body) 0 next
   put_at later (action.LaterTurn d reverse body) 0 next
@@ -38,13 +41,15 @@ for_action within s first later d reverse low high body next = do
   put_at s (action.For d reverse a b first within.construct) (signs_in within low + signs_in within high) next
 
 -- a statement with a scope, which has its first action
-abbrev pub scope_action : ℕ → Option StatementNo → StatementNo → StatementForm → Option StatementNo → Making (Option StatementNo)
+abbrev pub scope_action : ℕ → Option StatementNo → StatementNo → StatementForm → Option StatementNo
+    → Making (Option StatementNo)
 scope_action scope first s form next = do
   first_put scope first
   put_at s form 0 next
 
 -- the turns of a for loop
-abbrev pub turns_put : StatementNo → StatementNo → DeclNo → Bool → StatementNo → Option StatementNo → Making (Option StatementNo)
+abbrev pub turns_put : StatementNo → StatementNo → DeclNo → Bool → StatementNo → Option StatementNo
+    → Making (Option StatementNo)
 turns_put first later d reverse body next = do
   put_at first (action.FirstTurn d reverse body) 0 next
   put_at later (action.LaterTurn d reverse body) 0 next

@@ -9,8 +9,8 @@ use Rattle.profile_machine.specs.declared.image.Image.{Image}
 use Rattle.profile_machine.specs.declared.run_data.Item.{Item}
 use Rattle.profile_machine.specs.Run.{run_of}
 
--- No write is open beside another action on its object. `held` stands only where another subject has the object open and one
--- of both writes (9.5.1). Of `exit` lines nothing is asked.
+-- No write is open beside another action on its object. `held` stands only where another subject has the object open
+-- and one of both writes (9.5.1). Of `exit` lines nothing is asked.
 abbrev pub enters_rightly : List Action → Event → Bool
 enters_rightly actions (line.Exit who object) = true
 enters_rightly actions event = is_exclusive actions event

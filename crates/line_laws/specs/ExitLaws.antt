@@ -30,7 +30,8 @@ is_at_call (Some waits_for.Release) = false
 
 -- the task that ran last, where it is at the end of an action, waits for no entry call
 abbrev pub IsRunnerFree : World → Type 0
-IsRunnerFree w = (n : TaskNo) → w.ran ≡ Some (who.Task n) → is_over (task_of w (who.Task n)).ticks_left ≡ true → is_at_call (waiting_of w (who.Task n)) ≡ false
+IsRunnerFree w = (n : TaskNo) → w.ran ≡ Some (who.Task n) → is_over (task_of w (who.Task n)).ticks_left ≡ true
+    → is_at_call (waiting_of w (who.Task n)) ≡ false
 
 -- at each instant of a run
 abbrev pub RunnersAreFree : Image → List (ℤ × Item) → ℕ → Type 0
@@ -43,7 +44,8 @@ exits_rightly actions event = true
 
 -- where nobody acts that waits for an entry call, a run keeps the whole law of exclusion
 abbrev pub FreeRunsKeepExclusion : Type 0
-FreeRunsKeepExclusion = (p : Image) (script : List (ℤ × Item)) (bound : ℕ) → RunnersAreFree p script bound → ExclusiveOk (run_of p script bound)
+FreeRunsKeepExclusion = (p : Image) (script : List (ℤ × Item)) (bound : ℕ) → RunnersAreFree p script bound
+    → ExclusiveOk (run_of p script bound)
 
 -- no task acts while it waits for an entry call, so every run keeps it
 abbrev pub RunsKeepExclusion : Type 0

@@ -6,15 +6,15 @@ use Rattle.profile_machine.specs.declared.image.Image.{Image}
 use Rattle.profile_machine.specs.declared.run_data.Item.{Item}
 use Rattle.profile_machine.specs.Run.{run_of}
 
--- `release`, `serve` and `served` lines each bear the numbers 1, 2, 3 and so on. No release is served before it was released
--- or while another is served.
+-- `release`, `serve` and `served` lines each bear the numbers 1, 2, 3 and so on. No release is served before it was
+-- released or while another is served.
 abbrev pub ServedInTurn : List TraceLine → Type 0
 ServedInTurn = AtEachLine see_releases no_releases (λ state event. IsTrue (is_in_order state event))
 
 abbrev pub RunsServeInTurn : Type 0
 RunsServeInTurn = (p : Image) (script : List (ℤ × Item)) (bound : ℕ) → ServedInTurn (run_of p script bound)
 
--- Beside this, at each tick the agent is in the queue exactly where some release is not yet served, and where it runs exactly
--- one is being served.
+-- Beside this, at each tick the agent is in the queue exactly where some release is not yet served, and where it runs
+-- exactly one is being served.
 abbrev pub RunsKeepHandlers : Type 0
 RunsKeepHandlers = (p : Image) (script : List (ℤ × Item)) (bound : ℕ) → HandlersOk (run_of p script bound)

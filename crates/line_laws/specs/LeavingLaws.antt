@@ -14,21 +14,26 @@ use Rattle.profile_machine.specs.Run.{run_of}
 -- the first of these that was not finalized
 abbrev pub is_newest : ℕ → List ℕ → List Event → Bool
 is_newest object [] past = false
-is_newest object (other ∷ objects) past = if is_final_before other past then is_newest object objects past else object == other
+is_newest object (other ∷ objects) past = if is_final_before other past then is_newest object objects past
+    else object == other
 
 -- in a region that is being left the object that was initialized last, of those that are not finalized
 abbrev pub is_next_in_turn : ℕ → List Event → ℕ → Bool
-is_next_in_turn object past region = is_leaving region past && not (is_left_before region past) && is_newest object (inits_of region past) past
+is_next_in_turn object past region = is_leaving region past && not (is_left_before region past)
+    && is_newest object (inits_of region past) past
 
 -- A region has at most one `leave` and behind it at most one `left`, where all its objects are finalized. An object is
--- initialized once, in one region. It is finalized once, while its region is being left, and those that were initialized there
--- later are finalized before it. One that is assigned to is initialized and not finalized.
+-- initialized once, in one region. It is finalized once, while its region is being left, and those that were
+-- initialized there later are finalized before it. One that is assigned to is initialized and not finalized.
 abbrev pub is_in_turn : List Event → Event → Bool
 is_in_turn past (line.Leave who region how) = not (is_leaving region.0 past)
-is_in_turn past (line.Left who region) = is_leaving region.0 past && not (is_left_before region.0 past) && list_all (λ o. is_final_before o past) (inits_of region.0 past)
-is_in_turn past (line.Init who object region name) = length (regions_of object past) == 0 && not (is_final_before object past)
+is_in_turn past (line.Left who region) = is_leaving region.0 past && not (is_left_before region.0 past)
+    && list_all (λ o. is_final_before o past) (inits_of region.0 past)
+is_in_turn past (line.Init who object region name) = length (regions_of object past) == 0
+    && not (is_final_before object past)
 is_in_turn past (line.Final who object) =
-    length (regions_of object past) == 1 && not (is_final_before object past) && list_all (is_next_in_turn object past) (regions_of object past)
+    length (regions_of object past) == 1 && not (is_final_before object past)
+    && list_all (is_next_in_turn object past) (regions_of object past)
 is_in_turn past (line.Replace who object) = length (regions_of object past) == 1 && not (is_final_before object past)
 is_in_turn past _ = true
 

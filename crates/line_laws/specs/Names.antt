@@ -1,4 +1,5 @@
--- What is asked of the names of a program, and what every line of its runs then is: printable, where it names something.
+-- What is asked of the names of a program, and what every line of its runs then is: printable, where it names
+-- something.
 use Rattle.std.specs.Prelude.{◌≢◌, ◌≤◌, ◌<◌, ◌^◌, ℕ, ℤ, Bool, false, not, ◌&&◌, leb, IsTrue, List, [], ◌∷◌, All, bytes_eq, codes, length}
 use Rattle.std.specs.List.{list_all}
 use Rattle.ann_base.specs.declared.names.TheConstants.{NAME_BYTES}
@@ -28,8 +29,8 @@ pub record IsShortException (name : List ℕ) : Type 0 where
   pub exception_is : IsExceptionName name
   pub short : length name ≤ NAME_BYTES
 
--- Each name of the program can stand in a line. Every declaration is asked for an expanded name that an exception may have:
--- only a library unit could be named as one of the other ends of a call.
+-- Each name of the program can stand in a line. Every declaration is asked for an expanded name that an exception may
+-- have: only a library unit could be named as one of the other ends of a call.
 pub record IsNamed (p : Image) : Type 0 where
   pub main : IsShortName p.main.name
   pub declarations : All (λ d. IsShortName d.name) p.declarations
@@ -104,7 +105,8 @@ EachEvent P [] = Unit {0}
 EachEvent P (x ∷ xs) = P x.1 × EachEvent P xs
 
 abbrev pub LinesArePrintable : Type 0
-LinesArePrintable = (p : Image) (script : List (ℤ × Item)) (bound : ℕ) → IsNamed p → EachEvent IsPrintableIfComplete (run_of p script bound)
+LinesArePrintable = (p : Image) (script : List (ℤ × Item)) (bound : ℕ) → IsNamed p
+    → EachEvent IsPrintableIfComplete (run_of p script bound)
 
 -- ---- whole runs
 
@@ -117,7 +119,8 @@ pub record IsCompleteRun (p : Image) (script : List (ℤ × Item)) (bound : ℕ)
 
 -- such runs have different texts where they have different lines
 abbrev pub RunsArePrintable : Type 0
-RunsArePrintable = (p : Image) (script : List (ℤ × Item)) (bound : ℕ) → IsCompleteRun p script bound → ArePrintable (run_of p script bound)
+RunsArePrintable = (p : Image) (script : List (ℤ × Item)) (bound : ℕ) → IsCompleteRun p script bound
+    → ArePrintable (run_of p script bound)
 
 -- ---- a test of what is asked
 
@@ -125,7 +128,8 @@ abbrev pub is_short_name : List ℕ → Bool
 is_short_name name = is_name_from false name && leb (length name) NAME_BYTES
 
 abbrev pub is_short_exception : List ℕ → Bool
-is_short_exception name = not (bytes_eq name (codes "ok")) && (not (bytes_eq name (codes "requeue")) && is_short_name name)
+is_short_exception name = not (bytes_eq name (codes "ok"))
+    && (not (bytes_eq name (codes "requeue")) && is_short_name name)
 
 abbrev pub is_named : Image → Bool
 is_named p =

@@ -98,7 +98,9 @@ OfPut P _ = Unit {0}
 
 -- of every program
 abbrev pub TextsAreOfPuts : Type 0
-TextsAreOfPuts = (p : Image) (script : List (ℤ × Item)) (bound : ℕ) → EachEvent (OfPut (IsPutOf p)) (run_of p script bound)
+TextsAreOfPuts = (p : Image) (script : List (ℤ × Item)) (bound : ℕ)
+    → EachEvent (OfPut (IsPutOf p)) (run_of p script bound)
 
 abbrev pub TextsAreShort : Type 0
-TextsAreShort = (p : Image) (script : List (ℤ × Item)) (bound : ℕ) → PutsAreShort p → EachEvent (OfPut (IsShortPutOf p)) (run_of p script bound)
+TextsAreShort = (p : Image) (script : List (ℤ × Item)) (bound : ℕ) → PutsAreShort p
+    → EachEvent (OfPut (IsShortPutOf p)) (run_of p script bound)

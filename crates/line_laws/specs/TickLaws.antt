@@ -1,5 +1,5 @@
--- What the lines of ticks tell, which say who runs and which release is taken up: laws on lists of lines, and beside each
--- a test that computes. Nothing here knows how the lines came about.
+-- What the lines of ticks tell, which say who runs and which release is taken up: laws on lists of lines, and beside
+-- each a test that computes. Nothing here knows how the lines came about.
 use Rattle.std.specs.Prelude.{ℕ, ℤ, suc, Bool, true, false, not, ◌&&◌, ◌||◌, ◌==◌, nat_le, IsTrue, List, [], Option, Some, None, is_some}
 use Rattle.trace_text.specs.declared.events.Who.{Who}
 use Rattle.trace_text.specs.declared.events.Who.TheVariants as subject
@@ -15,8 +15,8 @@ use Rattle.profile_machine.specs.WellFormed.{all_adjacent}
 use Rattle.profile_machine.specs.Run.{run_of}
 use Rattle.machine_laws.specs.LineKinds.{is_of_effect}
 
--- SWITCHES. A `run` line names another than who ran before it, an `idle` line stands where somebody ran, and a `serve` line
--- where the agent runs (D.2.1).
+-- SWITCHES. A `run` line names another than who ran before it, an `idle` line stands where somebody ran, and a `serve`
+-- line where the agent runs (D.2.1).
 abbrev pub is_switch : Option Who → Event → Bool
 is_switch runner (line.Run who) = not (somebody_eq runner (Some who))
 is_switch runner line.Idle = is_some runner
@@ -29,7 +29,8 @@ SwitchesOk = AtEachLine runner_after None (λ runner event. IsTrue (is_switch ru
 abbrev pub follows_switches : List TraceLine → Bool
 follows_switches = follows_lines runner_after is_switch None
 
--- RELEASES. The `release` lines bear 1, 2, 3 and so on, and so do the `serve` lines; none is taken up before it came (own).
+-- RELEASES. The `release` lines bear 1, 2, 3 and so on, and so do the `serve` lines; none is taken up before it came
+-- (own).
 pub record Counts : Type 0 where
   pub released : ℕ
   pub begun : ℕ
@@ -53,8 +54,8 @@ ReleasesOk = AtEachLine counts_after no_counts (λ counts event. IsTrue (is_next
 abbrev pub follows_releases : List TraceLine → Bool
 follows_releases = follows_lines counts_after is_next_release no_counts
 
--- ORDER. The lines of one tick are those of effects, and behind them at most one `run` or `idle`, and behind it at most one
--- `serve`; or those of effects and the `end` line.
+-- ORDER. The lines of one tick are those of effects, and behind them at most one `run` or `idle`, and behind it at most
+-- one `serve`; or those of effects and the `end` line.
 abbrev pub is_run : Event → Bool
 is_run (line.Run who) = true
 is_run _ = false
@@ -93,7 +94,8 @@ abbrev pub RunsReleaseInOrder : Type 0
 RunsReleaseInOrder = (p : Image) (script : List (ℤ × Item)) (bound : ℕ) → ReleasesOk (run_of p script bound)
 
 abbrev pub RunsAreInTickOrder : Type 0
-RunsAreInTickOrder = (p : Image) (script : List (ℤ × Item)) (bound : ℕ) → IsTrue (follows_tick_order (run_of p script bound))
+RunsAreInTickOrder = (p : Image) (script : List (ℤ × Item)) (bound : ℕ)
+    → IsTrue (follows_tick_order (run_of p script bound))
 
 abbrev pub RunsAreRightlyStuck : Type 0
 RunsAreRightlyStuck = (p : Image) (script : List (ℤ × Item)) (bound : ℕ) → StuckOk (run_of p script bound)

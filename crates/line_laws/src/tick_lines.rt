@@ -38,8 +38,10 @@ pub fn runs_are_rightly_stuck()
 /// Where the test of lines computes to true the law holds of them, and nowhere else.
 #[tactic(auto, using(crate::proofs::Ticks::TestLemmas::switches_told, crate::proofs::Ticks::TestLemmas::releases_told, crate::proofs::Ticks::TestLemmas::stuck_told))]
 pub fn tests_tell()
-    ensures switches { (lines : List TraceLine) → (IsTrue (follows_switches lines) ↔ SwitchesOk lines) }
-    ensures releases { (lines : List TraceLine) → (IsTrue (follows_releases lines) ↔ ReleasesOk lines) }
+    ensures switches { (lines : List TraceLine)
+        → (IsTrue (follows_switches lines) ↔ SwitchesOk lines) }
+    ensures releases { (lines : List TraceLine)
+        → (IsTrue (follows_releases lines) ↔ ReleasesOk lines) }
     ensures stuck { (lines : List TraceLine) → (IsTrue (follows_stuck lines) ↔ StuckOk lines) }
 {}
 

@@ -10,13 +10,15 @@ abbrev pub period_of : ℕ → ℕ
 period_of task = 1000 + 10 * task
 
 abbrev pub declaration_text : ℕ → List ℕ
-declaration_text task = codes "   task T" ++ (decimal task ++ (codes " with Priority => " ++ (decimal (priority_of task) ++ codes ";\n")))
+declaration_text task = codes "   task T"
+    ++ (decimal task ++ (codes " with Priority => " ++ (decimal (priority_of task) ++ codes ";\n")))
 
 -- a task waits ten times for the beginning of its next period
 abbrev pub body_text : ℕ → List ℕ
 body_text task =
     codes "   task body T" ++ (decimal task ++ (codes " is\n      Next : Time := Clock;\n   begin\n      for K in 1 .. 10 loop\n         Next := Next + Microseconds ("
-    ++ (decimal (period_of task) ++ (codes ");\n         delay until Next;\n      end loop;\n   end T" ++ (decimal task ++ codes ";\n")))))
+    ++ (decimal (period_of task) ++ (codes ");\n         delay until Next;\n      end loop;\n   end T"
+    ++ (decimal task ++ codes ";\n")))))
 
 -- of so many tasks, numbered from this one on
 abbrev pub declarations_from : ℕ → ℕ → List ℕ

@@ -17,7 +17,8 @@ count_in lines w = record { word = w; count = count_of w lines }
 
 -- with a line of a word more
 abbrev pub counted : Word → Count → Count
-counted w count = if bytes_eq (word_text w) (word_text count.word) then record count { count = count.count + 1 } else count
+counted w count = if bytes_eq (word_text w) (word_text count.word) then record count { count = count.count + 1 }
+    else count
 
 -- the line of a word and its count, where it occurred
 abbrev pub count_text : Count → List ℕ

@@ -64,8 +64,8 @@ impl Tally {
 
     /// The summary of the lines that are counted.
     pub fn text(&self, alloc: Global) -> Result<Vec<u8>, NoMemory>
-        ensures { IfOk result
-            (λ text. (lines : List TraceLine) → Tallies self.now lines → text.items ≡ summary_of lines) }
+        ensures { IfOk result (λ text. (lines : List TraceLine) → Tallies self.now lines
+            → text.items ≡ summary_of lines) }
     {
         let mut text = Vec::new(alloc);
         for count in self.counts.iter() {

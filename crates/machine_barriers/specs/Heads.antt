@@ -22,4 +22,5 @@ next_with queuing.Priority w (Some c) behind = Some (better_of w c behind)
 -- the same where the queue is that of an entry: it counts where the barrier is open
 abbrev pub next_or : Image → World → Who → Object → EntryNo → Option CallNo → Option CallNo
 next_or p w name o e behind =
-    cond (is_open_entry p w name o e) (next_with p.policies.queuing w (first_of (queue_at o.queues (place_of_entry p e))) behind) behind
+    cond (is_open_entry p w name o e) (next_with p.policies.queuing w
+    (first_of (queue_at o.queues (place_of_entry p e))) behind) behind

@@ -16,7 +16,13 @@ use Rattle.machine_calls.specs.declared.abortable.Ending.{Ending}
 -- the ending of a frame with this mark, where any outer construct is struck or none
 abbrev pub ending_by : World → Frame → Bool → Mark → Option Ending
 ending_by w f outer (Abortable m) =
-    Some (record { mark = m; by_itself = is_end (leaving_of f) || is_own_abort (leaving_of f) f.struck outer; leaving = leaving_of f; outcome = trigger_outcome w m.call })
+    Some (record {
+      mark = m;
+      by_itself = is_end (leaving_of f)
+          || is_own_abort (leaving_of f) f.struck outer;
+      leaving = leaving_of f;
+      outcome = trigger_outcome w m.call;
+    })
 ending_by w f outer _ = None
 
 abbrev pub ending_in : World → List Frame → Option Ending

@@ -24,14 +24,19 @@ last_drawn w = record { 0 = w.drawn.tasks - 1 }
 -- the object, where its scope is in use, holds the number of the task that was drawn last
 abbrev pub names_object : Image → DeclNo → Option ScopeId → Step
 names_object p d id =
-    for_some id (λ within. looks (λ w. changes (set_thing p (record { within = within; declared = d }) (value_of.Task (Some (last_drawn w))))))
+    for_some id (λ within. looks (λ w. changes (set_thing p (record {
+      within = within;
+      declared = d;
+    }) (value_of.Task (Some (last_drawn w))))))
 
 -- the creation of a task, once Relative_Deadline is evaluated
 unfoldable pub span_given : Image → Who → StatementNo → DeclNo → ℕ → Option ℤ → Step
 span_given p name s d declarative_part span =
-    sees p name (λ q. create_task p name s d (home q.world (declaration_of p d).scope q.within) (created_task q d (unit_of_declaration p d) declarative_part span q.world.drawn.tasks))
+    sees p name (λ q. create_task p name s d (home q.world (declaration_of p d).scope q.within)
+    (created_task q d (unit_of_declaration p d) declarative_part span q.world.drawn.tasks))
 
 -- the same, where it is still to be evaluated
 abbrev pub asks_span : Image → Who → StatementNo → DeclNo → ℕ → Step
 asks_span p name s d declarative_part =
-    sees p name (λ q. given Own name (optional_span q (task_unit_of p (unit_of_declaration p d)).relative_deadline) (span_given p name s d declarative_part))
+    sees p name (λ q. given Own name (optional_span q (task_unit_of p (unit_of_declaration p d)).relative_deadline)
+    (span_given p name s d declarative_part))

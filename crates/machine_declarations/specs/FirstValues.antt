@@ -21,7 +21,8 @@ use Rattle.machine_declarations.specs.declared.initial_values.Begun.{Begun}
 -- what an object's cells get by its declaration
 abbrev pub first_value : Seen → Variable → Initial → Valued FirstValue
 first_value q v initial.Default = Ok first.Default
-first_value q v (initial.Scalar e) = value q e >>= λ x. checked (declaration_of q.program v.declared).constraint x >>= λ y. Ok (first.Scalar y)
+first_value q v (initial.Scalar e) = value q e >>= λ x. checked (declaration_of q.program v.declared).constraint x
+    >>= λ y. Ok (first.Scalar y)
 first_value q v (initial.Array source) = object_cell q source >>= λ f. Ok (first.Copied f)
 
 -- they get it
@@ -39,7 +40,8 @@ first_of_component q own_cells l c =
 -- of each component, in order, behind those that are found by now
 abbrev pub first_values : Seen → ℕ → Located → List DeclNo → List Begun → Valued (List Begun)
 first_values q own_cells l [] found = Ok found
-first_values q own_cells l (c ∷ cs) found = first_of_component q own_cells l c >>= λ b. first_values q own_cells l cs (found ++ b ∷ [])
+first_values q own_cells l (c ∷ cs) found = first_of_component q own_cells l c
+    >>= λ b. first_values q own_cells l cs (found ++ b ∷ [])
 
 abbrev pub all_written : Image → List Begun → World → World
 all_written p [] w = w

@@ -19,5 +19,6 @@ made_here p name s l u = goes name (next_of p s) ▷ changes (with_object p l u)
 -- the declaration of a protected object that stands here
 abbrev pub declare_protected_at : Image → Who → StatementNo → Located → ProtectedUnitNo → Step
 declare_protected_at p name s l u =
-    sees p name (λ q. given Own name (components_initialized q PROTECTED_CELLS l (protected_unit_of p u).components q.world) (λ next.
+    sees p name (λ q. given Own name (components_initialized q PROTECTED_CELLS l (protected_unit_of p u).components
+    q.world) (λ next.
     changes (λ _. next) ▷ made_here p name s l u))

@@ -16,4 +16,5 @@ add_numbered c w = record w { calls = c ∷ w.calls; drawn = call_drawn w.drawn 
 
 -- a step that is handed a further one has been done up to it: the further one is done with this call
 abbrev pub LeadsWith : ((Call → Step) → Step) → Call → Effect → Effect → Type 0
-LeadsWith step made before after = (further : Call → Step) → step further before.world before.said ≡ further made after.world after.said
+LeadsWith step made before after = (further : Call → Step)
+    → step further before.world before.said ≡ further made after.world after.said

@@ -16,18 +16,22 @@ use Rattle.machine_handlers.specs.declared.settings.Set.{Set}
 use Rattle.machine_handlers.specs.declared.settings.Named.{Named}
 
 abbrev pub event_is_set : Image → Who → StatementNo → Set → Step
-event_is_set p name s x = goes name (next_of p s) ▷ changes (cancel_event_setting x.number) ▷ event_set_to p x.number x.handler x.value
+event_is_set p name s x = goes name (next_of p s) ▷ changes (cancel_event_setting x.number)
+    ▷ event_set_to p x.number x.handler x.value
 
 abbrev pub event_is_cancelled : Image → Who → StatementNo → Named → Step
 event_is_cancelled p name s x =
-    looks (λ w. goes name (next_of p s) ▷ changes (cancel_event_setting x.number) ▷ answer p name x.target (is_appointed (is_event x.number) w))
+    looks (λ w. goes name (next_of p s) ▷ changes (cancel_event_setting x.number)
+    ▷ answer p name x.target (is_appointed (is_event x.number) w))
 
 abbrev pub timer_is_set : Image → Who → StatementNo → ℕ → Set → Step
-timer_is_set p name s clock x = goes name (next_of p s) ▷ changes (clear_timer x.number) ▷ timer_set_to p x.number clock x.handler x.value
+timer_is_set p name s clock x = goes name (next_of p s) ▷ changes (clear_timer x.number)
+    ▷ timer_set_to p x.number clock x.handler x.value
 
 abbrev pub timer_is_cancelled : Image → Who → StatementNo → Named → Step
 timer_is_cancelled p name s x =
-    looks (λ w. goes name (next_of p s) ▷ changes (clear_timer x.number) ▷ answer p name x.target (is_set_timer w x.number))
+    looks (λ w. goes name (next_of p s) ▷ changes (clear_timer x.number)
+    ▷ answer p name x.target (is_set_timer w x.number))
 
 -- `change_member` of a task of which only the name counts
 abbrev pub member_changes : Image → Who → StatementNo → Who → Bool → Option ℕ → Step
@@ -39,4 +43,5 @@ budget_changes p name s b f = goes name (next_of p s) ▷ changes (edit_budget b
 
 abbrev pub budget_is_cancelled : Image → Who → StatementNo → Named → Step
 budget_is_cancelled p name s x =
-    looks (λ w. goes name (next_of p s) ▷ changes (edit_budget x.number (with_handler None)) ▷ answer p name x.target (is_some (budget_of w x.number).handler))
+    looks (λ w. goes name (next_of p s) ▷ changes (edit_budget x.number (with_handler None))
+    ▷ answer p name x.target (is_some (budget_of w x.number).handler))

@@ -51,7 +51,8 @@ thing_named q d target = number_of_thing q d >>= λ n. variable q target >>= λ 
 
 abbrev pub timer_named : Seen → DeclNo → VariableName → Valued Named
 timer_named q d target =
-    number_of_thing q d >>= λ k. clock_of_timer q k >>= λ clock. variable q target >>= λ v. Ok (record { number = k; target = v })
+    number_of_thing q d >>= λ k. clock_of_timer q k >>= λ clock. variable q target
+    >>= λ v. Ok (record { number = k; target = v })
 
 -- ---- members and budgets
 

@@ -1,4 +1,5 @@
--- Idle ticks: behind a tock with nobody ready and nothing due, the time becomes the first tick at which something is due.
+-- Idle ticks: behind a tock with nobody ready and nothing due, the time becomes the first tick at which something is
+-- due.
 use Rattle.std.specs.Prelude.{ℕ, ℤ, pos, negsuc, min, max, Bool, not, ◌&&◌, cond, List, [], ◌∷◌, is_none}
 use Rattle.profile_machine.specs.declared.run_data.Item.{Item}
 use Rattle.profile_machine.specs.declared.world.World.{World}

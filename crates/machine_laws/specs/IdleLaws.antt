@@ -24,4 +24,7 @@ FirstNotBefore n (x ∷ rest) = pos n ≤ℤ x.0
 -- what is left of a run from an idle world with something ahead is what is left of it from the same world at any later
 -- tick up to the first appointment, the next item of the script and the bound
 abbrev pub IdleStretches : Type 0
-IdleStretches = (p : Image) (bound : ℕ) (w : World) (n k fuel : ℕ) → n + k ≤ bound → (is_empty w.appointments && is_empty w.script) ≡ false → NoneBefore (n + k) w.appointments → FirstNotBefore (n + k) w.script → run_from (k + fuel) p bound (idle_at w n) ≡ run_from fuel p bound (idle_at w (n + k))
+IdleStretches = (p : Image) (bound : ℕ) (w : World) (n k fuel : ℕ) → n + k ≤ bound
+    → (is_empty w.appointments && is_empty w.script) ≡ false → NoneBefore (n + k) w.appointments
+    → FirstNotBefore (n + k) w.script → run_from (k + fuel) p bound (idle_at w n)
+    ≡ run_from fuel p bound (idle_at w (n + k))

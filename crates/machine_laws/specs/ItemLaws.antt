@@ -1,5 +1,5 @@
--- The items of the script: no instant leaves the first that is ahead where its moment has come, so the fuel with which an
--- instant takes them never runs out (own).
+-- The items of the script: no instant leaves the first that is ahead where its moment has come, so the fuel with which
+-- an instant takes them never runs out (own).
 use Rattle.std.specs.Prelude.{ℕ, ℤ, pos, int_lt, Bool, true, IsTrue, List, [], ◌∷◌}
 use Rattle.profile_machine.specs.declared.image.Image.{Image}
 use Rattle.profile_machine.specs.declared.run_data.Item.{Item}

@@ -1,4 +1,5 @@
--- Which lines come from where: instants say what comes about, tocks say who runs, and the last line of a run is its end.
+-- Which lines come from where: instants say what comes about, tocks say who runs, and the last line of a run is its
+-- end.
 use Rattle.std.specs.Prelude.{◌≡◌, Bool, true, false, List, [], ◌∷◌}
 use Rattle.trace_text.specs.declared.events.Event.{Event}
 use Rattle.trace_text.specs.declared.events.Event.TheVariants as line

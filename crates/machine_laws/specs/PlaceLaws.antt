@@ -1,5 +1,5 @@
--- The ready queues of a world are what the lines say: `ready` places, `block` and `done` take out, and nothing else moves
--- anybody.
+-- The ready queues of a world are what the lines say: `ready` places, `block` and `done` take out, and nothing else
+-- moves anybody.
 use Rattle.std.specs.Prelude.{◌≡◌, ℤ, Bool, not, List, [], IsTrue}
 use Rattle.profile_machine.specs.declared.image.Image.{Image}
 use Rattle.profile_machine.specs.declared.run_data.Item.{Item}
@@ -12,7 +12,8 @@ use Rattle.profile_machine.specs.WellFormed.{all_adjacent, all_differ}
 use Rattle.machine_laws.specs.Reached.{AllReached}
 
 abbrev pub OpeningsPlaceByLines : Type 0
-OpeningsPlaceByLines = (p : Image) (script : List (ℤ × Item)) → (opening p script).0.places ≡ places_after_all (opening p script).1 []
+OpeningsPlaceByLines = (p : Image) (script : List (ℤ × Item))
+    → (opening p script).0.places ≡ places_after_all (opening p script).1 []
 
 abbrev pub InstantsPlaceByLines : Type 0
 InstantsPlaceByLines = (p : Image) (w : World) → (instant p w).0.places ≡ places_after_all (instant p w).1 w.places

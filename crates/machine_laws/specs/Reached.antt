@@ -9,7 +9,8 @@ use Rattle.profile_machine.specs.Run.{opening, stop, tock}
 -- before an instant: the opening world, and behind the tock of each instant at which the run does not stop
 pub data Comes (p : Image) (script : List (ℤ × Item)) (bound : ℕ) : World → Type 0 where
   opened : Comes p script bound (opening p script).0
-  ticked : (w : World) → Comes p script bound w → stop p bound (instant p w).0 ≡ None → Comes p script bound (tock p (instant p w).0).0
+  ticked : (w : World) → Comes p script bound w → stop p bound (instant p w).0 ≡ None
+      → Comes p script bound (tock p (instant p w).0).0
 
 pub data Reached (p : Image) (script : List (ℤ × Item)) (bound : ℕ) : World → Type 0 where
   before : (w : World) → Comes p script bound w → Reached p script bound w

@@ -17,7 +17,8 @@ AllUpTo bound (x ∷ xs) = (x.0 ≤ bound) × AllUpTo bound xs
 
 -- no run goes on past its bound, neither a world of it nor a line
 abbrev pub WorldsStayWithin : Type 0
-WorldsStayWithin = (p : Image) (script : List (ℤ × Item)) (bound : ℕ) (w : World) → Reached p script bound w → w.time ≤ bound
+WorldsStayWithin = (p : Image) (script : List (ℤ × Item)) (bound : ℕ) (w : World) → Reached p script bound w
+    → w.time ≤ bound
 
 abbrev pub LinesStayWithin : Type 0
 LinesStayWithin = (p : Image) (script : List (ℤ × Item)) (bound : ℕ) → AllUpTo bound (run_of p script bound)

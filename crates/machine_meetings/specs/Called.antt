@@ -16,5 +16,23 @@ use Rattle.profile_machine.specs.EntryCalls.{values_in, results_in}
 abbrev pub named : EntryNo → EntryOwner → List Actual → EntryCallNamed
 named entry owner actuals = record { entry = entry; owner = owner; actuals = actuals }
 
-abbrev pub new_call_of : TaskNo → CallKind → StatementNo → EntryNo → Owner → ℕ → List (Value × Option Variable) → Option ℤ → Call
-new_call_of t kind s entry o priority parameters moment = record { number = record { 0 = 0 }; caller = t; kind = kind; statement = s; owner = o; entry = entry; priority = priority; begun = false; firm = false; sent_with_abort = false; attempted = false; moment = moment; values = values_in parameters; results = results_in parameters; sending = None; outcome = None }
+abbrev pub new_call_of : TaskNo → CallKind → StatementNo → EntryNo → Owner → ℕ → List (Value × Option Variable)
+    → Option ℤ → Call
+new_call_of t kind s entry o priority parameters moment = record {
+  number = record { 0 = 0 };
+  caller = t;
+  kind = kind;
+  statement = s;
+  owner = o;
+  entry = entry;
+  priority = priority;
+  begun = false;
+  firm = false;
+  sent_with_abort = false;
+  attempted = false;
+  moment = moment;
+  values = values_in parameters;
+  results = results_in parameters;
+  sending = None;
+  outcome = None;
+}

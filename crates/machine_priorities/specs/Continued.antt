@@ -36,7 +36,8 @@ target_given q task = optional_task q task >>= λ t. live_task q.world t
 -- Set_Priority of a task, once it is known which: the priority is evaluated
 abbrev pub level_given : Image → Who → StatementNo → ExprNo → TaskNo → Step
 level_given p name s e t =
-    sees p name (λ q. given Own name (level_in_range q e) (λ level. set_base_of p name s level (found_task (who.Task t) q.world.tasks)))
+    sees p name (λ q. given Own name (level_in_range q e)
+    (λ level. set_base_of p name s level (found_task (who.Task t) q.world.tasks)))
 
 abbrev pub quantum_set : ℕ → ℕ → World → World
 quantum_set level ticks w = record w { quanta = edit_at level (λ _. ticks) w.quanta }
@@ -55,7 +56,8 @@ quantum_given p name s quantum level =
 -- Set_Deadline of a task, once it is known which
 abbrev pub deadline_given : Image → Who → StatementNo → ExprNo → Who → Step
 deadline_given p name s e target =
-    sees p name (λ q. given Own name (moment q e) (λ d. goes name (next_of p s) ▷ set_or_defer_deadline p name target d))
+    sees p name (λ q. given Own name (moment q e) (λ d. goes name (next_of p s)
+    ▷ set_or_defer_deadline p name target d))
 
 -- Delay_Until_And_Set_Deadline, once the moment is evaluated
 abbrev pub offset_given : Image → Who → StatementNo → ℤ → ExprNo → Step

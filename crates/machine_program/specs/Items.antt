@@ -3,4 +3,13 @@ use Rattle.machine_program.specs.declared.items.Nothing.{Nothing}
 use Rattle.profile_machine.specs.Program.{no_declaration, no_statement, no_scope, no_subprogram, no_task_unit, no_protected_unit, no_entry, no_controlled}
 
 abbrev pub no_items : Nothing
-no_items = record { declaration = no_declaration; statement = no_statement; scope = no_scope; subprogram = no_subprogram; task_unit = no_task_unit; protected_unit = no_protected_unit; entry = no_entry; controlled = no_controlled }
+no_items = record {
+  declaration = no_declaration;
+  statement = no_statement;
+  scope = no_scope;
+  subprogram = no_subprogram;
+  task_unit = no_task_unit;
+  protected_unit = no_protected_unit;
+  entry = no_entry;
+  controlled = no_controlled;
+}

@@ -29,4 +29,5 @@ turn p name m sent again =
 
 -- a step that is handed a rest has been done up to it, or, where the rest is not done, to its end
 abbrev pub Leads : Bool → (Step → Step) → Effect → Effect → Type 0
-Leads again step before after = (rest : Step) → step rest before.world before.said ≡ when again rest after.world after.said
+Leads again step before after = (rest : Step)
+    → step rest before.world before.said ≡ when again rest after.world after.said

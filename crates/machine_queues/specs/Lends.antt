@@ -16,6 +16,7 @@ use Rattle.profile_machine.specs.Words.{set_where}
 abbrev pub lends_call : MutBor (List Call) → CallNo → Option (MutBor Call) → Fml
 lends_call s c r = LendsIf (list_row call_row) call_row s r (λ x. set_where (is_call c) x s.now) s.now
 
--- the objects end with the last value behind r in the place of the first with this number, and at `None` stay as they are
+-- the objects end with the last value behind r in the place of the first with this number, and at `None` stay as they
+-- are
 abbrev pub lends_object : MutBor (List Object) → ObjectNo → Option (MutBor Object) → Fml
 lends_object s number r = LendsIf (list_row object_row) object_row s r (λ x. set_where (is_object number) x s.now) s.now

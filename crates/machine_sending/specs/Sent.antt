@@ -18,4 +18,5 @@ line_of_call c = line.Call c.caller c.number c.owner c.entry c.priority
 
 -- the abortable part of a call that was sent on begins, and the caller becomes ready
 abbrev pub abortable_begins : Image → TaskNo → StatementNo → CallNo → Step
-abortable_begins p caller select c = changes (open_abortable p (who.Task caller) select (Some c)) ▷ ready p TheFinish (who.Task caller)
+abortable_begins p caller select c = changes (open_abortable p (who.Task caller) select (Some c))
+    ▷ ready p TheFinish (who.Task caller)

@@ -26,7 +26,8 @@ assigned p q target e = variable q target >>= λ v. value q e >>= λ x. store p 
 
 -- whether the first turn of a loop finds an empty range
 abbrev pub finds_empty : Seen → DeclNo → Bool → Valued Bool
-finds_empty q d reverse = loop_cell q d 0 >>= λ x. loop_cell q d 1 >>= λ y. is_past reverse (read q.world x) (read q.world y)
+finds_empty q d reverse = loop_cell q d 0 >>= λ x. loop_cell q d 1
+    >>= λ y. is_past reverse (read q.world x) (read q.world y)
 
 -- whether a loop's parameter has its last value
 abbrev pub is_at_last : Seen → DeclNo → Variable → Valued Bool
@@ -38,4 +39,5 @@ delayed p name s m = goes name (next_of p s) ▷ delay_to p name m
 
 -- the scope in use round a body of the unit, by what the caller sees
 abbrev pub outer_of_body : Seen → SubprogramNo → Option ScopeId
-outer_of_body q f = option_and_then (λ outer. home q.world outer q.within) (scope_of q.program (subprogram_of q.program f).scope).outer
+outer_of_body q f =
+    option_and_then (λ outer. home q.world outer q.within) (scope_of q.program (subprogram_of q.program f).scope).outer

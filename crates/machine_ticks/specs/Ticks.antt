@@ -16,6 +16,7 @@ abbrev pub tick_events : List TickLine → List Event
 tick_events lines = map tick_event lines
 
 -- the move leads from the world before to the world behind, and its lines stand behind those that were there
-pub record Ticks (move : Move) (before : World) (told : List TickLine) (after : World) (more : List TickLine) : Type 0 where
+pub record Ticks (move : Move) (before : World) (told : List TickLine) (after : World)
+    (more : List TickLine) : Type 0 where
   pub world : after ≡ (move before).0
   pub lines : tick_events more ≡ tick_events told ++ (move before).1

@@ -12,11 +12,12 @@ come next piece room (Some left) = Some (drop next piece ++ take room left)
 abbrev pub to_come : Lines → Option (List ℕ) → Option (List ℕ)
 to_come lines left = come lines.next lines.piece.items lines.room left
 
--- The first line was handed on, or the first of its bytes where it has more than `most`, and the rest is to come; there was
--- one where there was a byte.
+-- The first line was handed on, or the first of its bytes where it has more than `most`, and the rest is to come; there
+-- was one where there was a byte.
 abbrev pub HandsOn : ℕ → Option (List ℕ) → Option (List ℕ) → List ℕ → Bool → Type 0
 HandsOn most before after line some =
-    IfSome before (λ bytes. (line ≡ take most (first_line bytes)) × (after ≡ Some (drop (length line) bytes)) × (some ≡ is_some_byte bytes))
+    IfSome before (λ bytes. (line ≡ take most (first_line bytes)) × (after ≡ Some (drop (length line) bytes))
+    × (some ≡ is_some_byte bytes))
 
 -- Bytes were handed on, and the rest is to come.
 abbrev pub HasHandedOn : Option (List ℕ) → Option (List ℕ) → List ℕ → Type 0

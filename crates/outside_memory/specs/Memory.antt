@@ -14,7 +14,8 @@ told_at files (Some picked) = Some ((file_at files picked.file).0, picked.offset
 
 abbrev pub IsPicked : List (List ℕ × List ℕ) → Option Picked → Type 0
 IsPicked files None = Unit {0}
-IsPicked files (Some picked) = StandsAt files (file_at files picked.file).0 picked.file × (picked.offset ≤ length (file_at files picked.file).1)
+IsPicked files (Some picked) = StandsAt files (file_at files picked.file).0 picked.file
+    × (picked.offset ≤ length (file_at files picked.file).1)
 
 abbrev pub shelf_state : shelf.Inside → ShelfState
 shelf_state inside = record {
@@ -68,7 +69,8 @@ rest_at files None = []
 rest_at files (Some at) = rest_of (first_named files at.0) at.1
 
 abbrev pub read_answer : ShelfState → ℕ → Result ℕ Failed
-read_answer s asked = cond (next_fails s.fails s.calls) (Err (record {})) (Ok (moved s.most asked (length (rest_at s.files s.at))))
+read_answer s asked =
+    cond (next_fails s.fails s.calls) (Err (record {})) (Ok (moved s.most asked (length (rest_at s.files s.at))))
 
 abbrev pub moved_at : Option (List ℕ × ℕ) → ℕ → Option (List ℕ × ℕ)
 moved_at None count = None

@@ -7,4 +7,5 @@ use Rattle.ceiling_laws.specs.CeilingLaws.{edf_is_below_interrupts}
 
 -- in the image of such a source no range that is dispatched by deadlines reaches the priority of interrupts
 abbrev pub DeadlinesAreBelowInterrupts : Type 0
-DeadlinesAreBelowInterrupts = (unit : Tree) → first_fault_of unit ≡ None → IsTrue (edf_is_below_interrupts (program_of unit))
+DeadlinesAreBelowInterrupts = (unit : Tree) → first_fault_of unit ≡ None
+    → IsTrue (edf_is_below_interrupts (program_of unit))

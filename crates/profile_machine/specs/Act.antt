@@ -56,7 +56,9 @@ use Rattle.profile_machine.specs.Handlers.{call_handler, set_event, cancel_event
 unfoldable pub call_main : Image → Who → StatementNo → Step
 call_main p name s =
     with_room name (marks_of p p.main.scope) (scope_of p p.main.scope).size
-    (goes name (next_of p s) ▷ looks (λ w. changes (open_scope p name p.main.scope (plainly (innermost w name)) (opened_for.Subprogram [] bound_for.Nowhere))))
+    (goes name (next_of p s)
+    ▷ looks (λ w. changes (open_scope p name p.main.scope (plainly (innermost w name))
+    (opened_for.Subprogram [] bound_for.Nowhere))))
 
 -- ---- calls of subprograms and protected operations (6.4, 9.5.1)
 
@@ -99,7 +101,8 @@ keeping e (InAssign m) = InAssign m
 
 unfoldable pub handle_or_pass : Image → Who → Raised → Option StatementNo → Step
 handle_or_pass p name e None = pass_on p name (how.Exception e)
-handle_or_pass p name e (Some first) = changes (edit_top name (λ f. with_mark (keeping e f.mark) f)) ▷ goes name (Some first)
+handle_or_pass p name e (Some first) = changes (edit_top name (λ f. with_mark (keeping e f.mark) f))
+    ▷ goes name (Some first)
 
 unfoldable pub behind_handled : Image → Who → StatementNo → Leaving → Step
 behind_handled p name s (how.Exception e) = handle_or_pass p name e (handler_for e (handlers_in (form_of p s)))
@@ -160,7 +163,8 @@ act_statement p name s (form.If condition first otherwise) = if_statement p name
 act_statement p name s (form.Case selector alternatives) = case_statement p name selector alternatives
 act_statement p name s (form.Loop body within) = goes name (Some body)
 act_statement p name s (form.While condition body within) = while_turn p name s condition body
-act_statement p name s (form.For parameter reverse low high turn within) = for_bounds p name parameter reverse low high turn
+act_statement p name s (form.For parameter reverse low high turn within) =
+    for_bounds p name parameter reverse low high turn
 act_statement p name s (form.FirstTurn parameter reverse body) = first_turn p name s parameter reverse body
 act_statement p name s (form.LaterTurn parameter reverse body) = later_turn p name s parameter reverse body
 act_statement p name s (form.Exit condition of_loop) = exit_statement p name s of_loop condition

@@ -85,7 +85,8 @@ priority_of w c = priority_of_call (call_of w c)
 -- before the first call of a lower priority
 abbrev pub put_by_priority : World → CallNo → ℕ → List CallNo → List CallNo
 put_by_priority w c priority [] = c ∷ []
-put_by_priority w c priority (d ∷ ds) = cond (ltb (priority_of w d) priority) (c ∷ d ∷ ds) (d ∷ put_by_priority w c priority ds)
+put_by_priority w c priority (d ∷ ds) =
+    cond (ltb (priority_of w d) priority) (c ∷ d ∷ ds) (d ∷ put_by_priority w c priority ds)
 
 -- by Priority_Queuing calls stand by priority and then arrival, by FIFO_Queuing by arrival (D.4)
 abbrev pub put_call : Queuing → World → CallNo → ℕ → List CallNo → List CallNo
@@ -97,14 +98,17 @@ take_call c = without (same_call c)
 
 -- a call is queued, at a new place among the calls
 abbrev pub enqueued : Image → Call → World → World
-enqueued p c w = edit_queue c.owner (place_of_entry p c.entry) (put_call p.policies.queuing w c.number c.priority) (edit_call c.number (λ d. record d { begun = false }) w)
+enqueued p c w =
+    edit_queue c.owner (place_of_entry p c.entry) (put_call p.policies.queuing w c.number c.priority)
+    (edit_call c.number (λ d. record d { begun = false }) w)
 
 unfoldable pub enqueue : Image → CallNo → Step
 enqueue p c = with_call c (λ d. changes (enqueued p d))
 
 -- a call is in no queue and has no time-out any more
 abbrev pub unqueued : Image → Call → World → World
-unqueued p c w = drop_appointment (is_timeout_of c.number) (edit_queue c.owner (place_of_entry p c.entry) (take_call c.number) w)
+unqueued p c w =
+    drop_appointment (is_timeout_of c.number) (edit_queue c.owner (place_of_entry p c.entry) (take_call c.number) w)
 
 -- ---- the call that is served next (9.5.3, D.4)
 

@@ -24,5 +24,40 @@ use Rattle.profile_machine.specs.Instant.{effect, interrupt_comes, deliver_kept_
 use Rattle.profile_machine.specs.Run.{opens}
 
 unfoldable pub computing : ⊤
-unfolding says_ready to_tail to_head ready says_block block goes leaves raises open_handled open_at open_sequence open_if_ready exit_loop pass_on inherit_running lose_running says_call enqueue attempt_on leave_by_abort stop_waiting wake_and_leave unwind_blocked unwind_in unwind go_by_outcome resume trigger_at run_triggered behind_abortable end_abortable end_abortable_in end_top_abortable end_wait end_for_abortable end_for_caller end_for end_with end_call deliver gone gone_by_completion wake_activator end_group end_activation_by end_activation complete_with complete wake_master terminate leave_by_terminate becomes null assign assign_array if_statement go_to_alternative case_statement while_turn for_bounds first_turn advance later_turn exit_where exit_statement block_statement raise_again wait_until delay_to delay_until put_line begin_body call_subprogram return_result return_value return store_result end_subprogram find_held begin_action_on begin_operation call_operation_of call_operation begin_own_operation call_own_operation begin_call body_opens reprioritize reprioritize_own replace_in says_base set_base says_deadline set_deadline take_base take_deadline set_deferred defer_base set_or_defer_base set_base_of set_priority set_quantum defer_deadline set_or_defer_deadline set_deadline_of delay_with_deadline delay_and_set_deadline cancel_at_once wait_for_call wait_or_cancel not_accepted send_on cancel_sent begin_abortable sent_not_begun_by sent_not_begun serve_ends end_release wait_or_unwind wait_for_own resume_own behind_action release_object settle_sent begins_part serve_next serve_calls go_on_by_mode end_operation finish_raised finish_well finish_call end_entry_body end_in_protected_by end_in_protected keep_values end_body_of_entry begin_accept finish_without_room accept_with_room accept_call accept_or_wait accept accept_chosen wait_at_select select_delay select_wait select_otherwise select_by_call select_open selective_accept gone_sent meet_sent arrive_at arrive finish_accept finish_rendezvous behind_accept end_in_accept end_at_once call_gone call_meets call_queues call_not_met call_accepted_by call_callable call_task call_runs call_without_room call_runs_if_room call_passes call_refused call_closed call_by_barrier call_object call_owner call_named entry_call trigger_delay async_delay async_by_trigger asynchronous_select requeue open_operation register initialize_by initialize end_in_initialize open_finalize finalize_by finalize_now finalize behind_finalize end_in_finalize begin_assignment assign_registered assign_located assign_controlled leave_without_room finalize_target_by adjust_by end_in_assign says_object declare_protected declare_quietly declare_by declare says_created create_task create fall_from begin_task says_done fail_to_begin activate_one await_group activate_group activate end_own_activation end_made complete_if_task wait_for_dependents leave_region end_task behind_scope says_left end_of_scope go_on_leaving end_scope_mark_of end_scope_mark says_abort abort_one unwind_by unwind_one abort_all abort_statement block_at_terminate take_terminates unwind_all says_release wake_agent release begin_handler begin_handler_if_room enter_handler call_handler interrupt answer appoint_event event_set_to set_event cancel_event timer_set_beyond timer_set_to set_timer cancel_timer change_member add_member remove_member fill_budget replenish add_to_budget set_budget cancel_budget call_main call handle_or_pass behind_handled end_handled end_top wait_for_trigger end_abortable_by end_in_abortable act_statement end_mark act_frame act_without act_top act effect interrupt_comes deliver_kept_interrupt script_item items_due take_delay end_delay time_out come_due all_due expire expire_timer run_out spend_quantum opens
+unfolding says_ready to_tail to_head ready says_block block goes leaves raises open_handled open_at open_sequence
+    open_if_ready exit_loop pass_on inherit_running lose_running says_call enqueue attempt_on leave_by_abort
+    stop_waiting wake_and_leave unwind_blocked unwind_in unwind go_by_outcome resume trigger_at run_triggered
+    behind_abortable end_abortable end_abortable_in end_top_abortable end_wait end_for_abortable end_for_caller
+    end_for end_with end_call deliver gone gone_by_completion wake_activator end_group end_activation_by
+    end_activation complete_with complete wake_master terminate leave_by_terminate becomes null assign assign_array
+    if_statement go_to_alternative case_statement while_turn for_bounds first_turn advance later_turn exit_where
+    exit_statement block_statement raise_again wait_until delay_to delay_until put_line begin_body call_subprogram
+    return_result return_value return store_result end_subprogram find_held begin_action_on begin_operation
+    call_operation_of call_operation begin_own_operation call_own_operation begin_call body_opens reprioritize
+    reprioritize_own replace_in says_base set_base says_deadline set_deadline take_base take_deadline set_deferred
+    defer_base set_or_defer_base set_base_of set_priority set_quantum defer_deadline set_or_defer_deadline
+    set_deadline_of delay_with_deadline delay_and_set_deadline cancel_at_once wait_for_call wait_or_cancel
+    not_accepted send_on cancel_sent begin_abortable sent_not_begun_by sent_not_begun serve_ends end_release
+    wait_or_unwind wait_for_own resume_own behind_action release_object settle_sent begins_part serve_next
+    serve_calls go_on_by_mode end_operation finish_raised finish_well finish_call end_entry_body
+    end_in_protected_by end_in_protected keep_values end_body_of_entry begin_accept finish_without_room
+    accept_with_room accept_call accept_or_wait accept accept_chosen wait_at_select select_delay select_wait
+    select_otherwise select_by_call select_open selective_accept gone_sent meet_sent arrive_at arrive finish_accept
+    finish_rendezvous behind_accept end_in_accept end_at_once call_gone call_meets call_queues call_not_met
+    call_accepted_by call_callable call_task call_runs call_without_room call_runs_if_room call_passes call_refused
+    call_closed call_by_barrier call_object call_owner call_named entry_call trigger_delay async_delay
+    async_by_trigger asynchronous_select requeue open_operation register initialize_by initialize end_in_initialize
+    open_finalize finalize_by finalize_now finalize behind_finalize end_in_finalize begin_assignment
+    assign_registered assign_located assign_controlled leave_without_room finalize_target_by adjust_by
+    end_in_assign says_object declare_protected declare_quietly declare_by declare says_created create_task create
+    fall_from begin_task says_done fail_to_begin activate_one await_group activate_group activate
+    end_own_activation end_made complete_if_task wait_for_dependents leave_region end_task behind_scope says_left
+    end_of_scope go_on_leaving end_scope_mark_of end_scope_mark says_abort abort_one unwind_by unwind_one abort_all
+    abort_statement block_at_terminate take_terminates unwind_all says_release wake_agent release begin_handler
+    begin_handler_if_room enter_handler call_handler interrupt answer appoint_event event_set_to set_event
+    cancel_event timer_set_beyond timer_set_to set_timer cancel_timer change_member add_member remove_member
+    fill_budget replenish add_to_budget set_budget cancel_budget call_main call handle_or_pass behind_handled
+    end_handled end_top wait_for_trigger end_abortable_by end_in_abortable act_statement end_mark act_frame
+    act_without act_top act effect interrupt_comes deliver_kept_interrupt script_item items_due take_delay
+    end_delay time_out come_due all_due expire expire_timer run_out spend_quantum opens
 computing = tt

@@ -57,11 +57,17 @@ first_place p l = (declaration_of p l.declared).place
 
 -- the body of an operation, with its object
 abbrev pub operation_beginning : Image → World → Who → SubprogramNo → Located → Beginning
-operation_beginning p w name f l = record { outer = option_and_then (λ outer. home w outer (innermost w name)) (scope_of p (subprogram_of p f).scope).outer; object = None; subject = Some l; values = read_cell w l.within (first_place p l) ∷ [] }
+operation_beginning p w name f l = record {
+  outer = option_and_then (λ outer. home w outer (innermost w name)) (scope_of p (subprogram_of p f).scope).outer;
+  object = None;
+  subject = Some l;
+  values = read_cell w l.within (first_place p l) ∷ [];
+}
 
 unfoldable pub open_operation : Image → Who → SubprogramNo → Located → Step
 open_operation p name f l =
-    looks (λ w. changes (open_scope p name (subprogram_of p f).scope (operation_beginning p w name f l) (opened_for.Subprogram [] bound_for.Nowhere)))
+    looks (λ w. changes (open_scope p name (subprogram_of p f).scope (operation_beginning p w name f l)
+    (opened_for.Subprogram [] bound_for.Nowhere)))
 
 abbrev pub marks_of_operation : Image → SubprogramNo → ℕ
 marks_of_operation p f = marks_of p (subprogram_of p f).scope
@@ -79,7 +85,10 @@ abbrev pub top_region : World → Who → RegionNo
 top_region w name = region_or_none (option_and_then (λ f. region_of_mark f.mark) (top_of w name))
 
 abbrev pub registered_as : ℕ → RegionNo → Located → World → World
-registered_as n r l w = record w { registered = record { object = n; region = r; located = l } ∷ w.registered; drawn = controlled_drawn w.drawn }
+registered_as n r l w = record w {
+  registered = record { object = n; region = r; located = l } ∷ w.registered;
+  drawn = controlled_drawn w.drawn;
+}
 
 -- the object is registered in the region of the scope on top
 unfoldable pub register : Image → Who → Located → Step
@@ -155,10 +164,11 @@ no_longer_registered n w = record w { registered = without (is_number n) w.regis
 
 unfoldable pub finalize_now : Image → Who → Registered → Step
 finalize_now p name r =
-    says Own (line.Final name r.object) ▷ changes (no_longer_registered r.object) ▷ finalize_by p name r (type_of p r.located).finalize
+    says Own (line.Final name r.object) ▷ changes (no_longer_registered r.object)
+    ▷ finalize_by p name r (type_of p r.located).finalize
 
--- the target of an assignment that is under way stays registered: its scope is left no further before the assignment has
--- ended. No source is known whose assignments outlast the wait for dependents (own).
+-- the target of an assignment that is under way stays registered: its scope is left no further before the assignment
+-- has ended. No source is known whose assignments outlast the wait for dependents (own).
 abbrev pub assigns_to : ℕ → Mark → Bool
 assigns_to n (InAssign m) = eqb n m.target
 assigns_to n (Scope m) = false
@@ -227,7 +237,8 @@ new_assign_mark target source = InAssign (record { target = target; source = sou
 unfoldable pub begin_assignment : Image → Who → StatementNo → ℕ → ℕ → Step
 begin_assignment p name s target source =
     with_room name 1 0
-    (goes name (next_of p s) ▷ says Own (line.Replace name target) ▷ changes (push name (new_frame (new_assign_mark target source) None)))
+    (goes name (next_of p s) ▷ says Own (line.Replace name target)
+    ▷ changes (push name (new_frame (new_assign_mark target source) None)))
 
 -- a target or a source that is not registered raises Program_Error (own)
 unfoldable pub assign_registered : Image → Who → StatementNo → Option Registered → Option Registered → Step
@@ -243,7 +254,8 @@ assign_located p name s target source =
 
 unfoldable pub assign_controlled : Image → Who → StatementNo → DeclNo → DeclNo → Step
 assign_controlled p name s target source =
-    sees p name (λ q. given Own name (located q target) (λ t. given Own name (located q source) (λ f. assign_located p name s t f)))
+    sees p name (λ q. given Own name (located q target)
+    (λ t. given Own name (located q source) (λ f. assign_located p name s t f)))
 
 -- ---- the steps of an assignment
 
@@ -273,7 +285,11 @@ leave_without_room name = leaves name (how.Exception exception.Storage)
 unfoldable pub finalize_target_by : Image → Who → Registered → Option SubprogramNo → Step
 finalize_target_by p name r None = nothing
 finalize_target_by p name r (Some f) =
-    looks (λ w. elim (has_room_to_finalize p w name f) [ true ↦ open_finalize p name r.object r.located f | false ↦ leave_without_room name ])
+    looks (λ w. elim (has_room_to_finalize p w name f) [
+      | true ↦ open_finalize p name r.object r.located f
+      | false ↦
+          leave_without_room name
+    ])
 
 abbrev pub has_room_to_adjust : Image → World → Who → SubprogramNo → Bool
 has_room_to_adjust p w name f = has_room w name (marks_of_operation p f) (size_of_body p f)
@@ -281,7 +297,11 @@ has_room_to_adjust p w name f = has_room w name (marks_of_operation p f) (size_o
 unfoldable pub adjust_by : Image → Who → Registered → Option SubprogramNo → Step
 adjust_by p name r None = nothing
 adjust_by p name r (Some f) =
-    looks (λ w. elim (has_room_to_adjust p w name f) [ true ↦ open_operation p name f r.located | false ↦ leave_without_room name ])
+    looks (λ w. elim (has_room_to_adjust p w name f) [
+      | true ↦ open_operation p name f r.located
+      | false ↦
+          leave_without_room name
+    ])
 
 -- the components alone are copied
 abbrev pub components_at : Image → Located → Variable
@@ -292,18 +312,23 @@ abbrev pub cells_of_components : Image → Located → ℕ
 cells_of_components p l = (declaration_of p l.declared).cells - CONTROLLED_CELLS
 
 abbrev pub copy_components_of : Variable → Variable → ℕ → World → World
-copy_components_of target source count w = edit_cells target.within (put_cells target.place (cells_from w source count)) w
+copy_components_of target source count w =
+    edit_cells target.within (put_cells target.place (cells_from w source count)) w
 
 abbrev pub copy_object : Image → Located → Located → World → World
-copy_object p target source = copy_components_of (components_at p target) (components_at p source) (cells_of_components p target)
+copy_object p target source =
+    copy_components_of (components_at p target) (components_at p source) (cells_of_components p target)
 
 abbrev pub do_step : Image → Who → AssignStep → Registered → Registered → Step
 do_step p name assigning.FinalizeTarget target source =
-    changes (edit_top_assign name (at_step assigning.CopyComponents)) ▷ finalize_target_by p name target (type_of p target.located).finalize
+    changes (edit_top_assign name (at_step assigning.CopyComponents))
+    ▷ finalize_target_by p name target (type_of p target.located).finalize
 do_step p name assigning.CopyComponents target source =
-    changes (edit_top_assign name (at_step assigning.AdjustTarget)) ▷ changes (copy_object p target.located source.located)
+    changes (edit_top_assign name (at_step assigning.AdjustTarget))
+    ▷ changes (copy_object p target.located source.located)
 do_step p name assigning.AdjustTarget target source =
-    changes (edit_top_assign name (at_step assigning.Assigned)) ▷ adjust_by p name target (type_of p target.located).adjust
+    changes (edit_top_assign name (at_step assigning.Assigned))
+    ▷ adjust_by p name target (type_of p target.located).adjust
 do_step p name assigning.Assigned target source = changes (pop name)
 
 abbrev pub step_with : Image → Who → AssignStep → Option Registered → Option Registered → Step
@@ -314,4 +339,5 @@ step_with p name step None source = changes (pop name)
 -- InAssign that is left by an exception goes on with Program_Error; else its next step is done
 unfoldable pub end_in_assign : Image → Who → AssignMark → Option Leaving → Step
 end_in_assign p name m (Some (how.Exception e)) = changes (pop name) ▷ raises Own name exception.Program
-end_in_assign p name m _ = looks (λ w. step_with p name m.step (registered_object w m.target) (registered_object w m.source))
+end_in_assign p name m _ =
+    looks (λ w. step_with p name m.step (registered_object w m.target) (registered_object w m.source))

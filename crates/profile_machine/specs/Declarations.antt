@@ -70,7 +70,8 @@ initial_of kind.Other = initial.Default
 abbrev pub components_initialized : Seen → ℕ → Located → List DeclNo → World → Valued World
 components_initialized q own_cells l [] w = Ok w
 components_initialized q own_cells l (c ∷ cs) w =
-    initialized q (component_at q.program own_cells l c) (initial_of (declaration_of q.program c).kind) w >>= components_initialized q own_cells l cs
+    initialized q (component_at q.program own_cells l c) (initial_of (declaration_of q.program c).kind) w
+    >>= components_initialized q own_cells l cs
 
 -- ---- by kind
 
@@ -93,7 +94,14 @@ no_calls [] = []
 no_calls (x ∷ xs) = [] ∷ no_calls xs
 
 abbrev pub new_object : Image → Located → ProtectedUnitNo → ℕ → Object
-new_object p l u n = record { number = record { 0 = n }; unit = u; located = l; ceiling = (protected_unit_of p u).ceiling; actions = []; queues = no_calls (protected_unit_of p u).entries }
+new_object p l u n = record {
+  number = record { 0 = n };
+  unit = u;
+  located = l;
+  ceiling = (protected_unit_of p u).ceiling;
+  actions = [];
+  queues = no_calls (protected_unit_of p u).entries;
+}
 
 abbrev pub with_object : Image → Located → ProtectedUnitNo → World → World
 with_object p l u w =
@@ -103,7 +111,8 @@ with_object p l u w =
 -- `new` with the ceiling
 unfoldable pub says_object : Image → Located → ProtectedUnitNo → Step
 says_object p l u =
-    looks (λ w. says Own (line.New (created.Object (record { 0 = w.drawn.objects })) (Some l.declared) (protected_unit_of p u).ceiling))
+    looks (λ w. says Own (line.New (created.Object (record { 0 = w.drawn.objects })) (Some l.declared)
+    (protected_unit_of p u).ceiling))
 
 unfoldable pub declare_protected : Image → Who → StatementNo → DeclNo → ProtectedUnitNo → Step
 declare_protected p name s d u =
@@ -114,7 +123,8 @@ declare_protected p name s d u =
 -- a controlled object is made; it is registered behind its Initialize
 abbrev pub controlled_declared : Seen → DeclNo → ControlledNo → Valued World
 controlled_declared q d c =
-    located_here q d >>= λ l. components_initialized q CONTROLLED_CELLS l (controlled_of q.program c).components q.world >>= λ next.
+    located_here q d >>= λ l. components_initialized q CONTROLLED_CELLS l (controlled_of q.program c).components
+    q.world >>= λ next.
     Ok (set_thing q.program l (Thing 0) next)
 
 abbrev pub event_drawn : Drawn → Drawn
@@ -122,13 +132,15 @@ event_drawn d = record d { events = suc d.events }
 
 abbrev pub event_declared : Seen → DeclNo → Valued World
 event_declared q d =
-    located_here q d >>= λ l. Ok (set_thing q.program l (Thing q.world.drawn.events) (record q.world { drawn = event_drawn q.world.drawn }))
+    located_here q d >>= λ l. Ok (set_thing q.program l (Thing q.world.drawn.events)
+    (record q.world { drawn = event_drawn q.world.drawn }))
 
 abbrev pub with_budget : World → World
 with_budget w = record w { budgets = w.budgets ++ no_budget ∷ [] }
 
 abbrev pub budget_declared : Seen → DeclNo → Valued World
-budget_declared q d = located_here q d >>= λ l. Ok (set_thing q.program l (Thing (length q.world.budgets)) (with_budget q.world))
+budget_declared q d = located_here q d
+    >>= λ l. Ok (set_thing q.program l (Thing (length q.world.budgets)) (with_budget q.world))
 
 abbrev pub timed_task : Seen → DeclNo → Valued TaskNo
 timed_task q d = home_of q d >>= λ id. must_be_task (task_in (first_cell q d id))
@@ -154,7 +166,8 @@ declared q d kind.Other = Ok q.world
 
 unfoldable pub declare_quietly : Image → Who → StatementNo → DeclNo → Step
 declare_quietly p name s d =
-    sees p name (λ q. given Own name (declared q d (declaration_of p d).kind) (λ next. changes (λ _. next) ▷ goes name (next_of p s)))
+    sees p name (λ q. given Own name (declared q d (declaration_of p d).kind) (λ next. changes (λ _. next)
+    ▷ goes name (next_of p s)))
 
 unfoldable pub declare_by : Image → Who → StatementNo → DeclNo → DeclarationKind → Step
 declare_by p name s d (kind.Protected u) = declare_protected p name s d u

@@ -81,12 +81,14 @@ inside_objects w (o ∷ os) = inside_object w o.ceiling o.actions ++ inside_obje
 -- the other tasks that are ready, with their levels
 abbrev pub ready_rivals : Image → Who → List Task → List Rival
 ready_rivals p name tasks =
-    map (λ t. record { level = active p t; deadline = t.deadline }) (filter (λ t. is_runnable t && not (is_who name t)) tasks)
+    map (λ t. record { level = active p t; deadline = t.deadline }) (filter (λ t. is_runnable t
+    && not (is_who name t)) tasks)
 
 abbrev pub level_kept_by : Image → World → Task → Option ℕ → Option ℕ
 level_kept_by p w t None = None
 level_kept_by p w t (Some low) =
-    Some (edf_level low t.base (greatest_of (levels_inherited t) 0) t.deadline (inside_objects w w.objects) (ready_rivals p t.who w.tasks))
+    Some (edf_level low t.base (greatest_of (levels_inherited t) 0) t.deadline (inside_objects w w.objects)
+    (ready_rivals p t.who w.tasks))
 
 -- a task that is activated or released keeps the level that it then has, where its base lies in an EDF range
 abbrev pub keep_level : Image → Who → World → World
@@ -104,7 +106,8 @@ says_ready p part name end =
 
 -- a task at the tail of its base level gets the level's full quantum, where that is round robin
 abbrev pub granted : Image → List ℕ → Task → Task
-granted p quanta t = cond (eqb (active p t) t.base && is_robin_level p t.base) (record t { quantum = slice_index_or quanta t.base 0 }) t
+granted p quanta t =
+    cond (eqb (active p t) t.base && is_robin_level p t.base) (record t { quantum = slice_index_or quanta t.base 0 }) t
 
 abbrev pub grant_quantum : Image → Who → World → World
 grant_quantum p name w = edit_task name (granted p w.quanta) w

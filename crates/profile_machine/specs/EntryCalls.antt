@@ -71,7 +71,9 @@ owner_in_scope None = None
 owner_in_scope (Some s) = number_of s.owner
 
 abbrev pub own_unit : Seen → EntryUnit → Valued Owner
-own_unit q (unit.Task u) = owner_task (owner_in_scope (option_and_then (scope_in_use q.world) (home q.world (task_unit_of q.program u).scope q.within)))
+own_unit q (unit.Task u) =
+    owner_task (owner_in_scope (option_and_then (scope_in_use q.world)
+    (home q.world (task_unit_of q.program u).scope q.within)))
 own_unit q (unit.Protected u) = or_misfit (own_object q u) >>= λ o. Ok (owned_by.Object o)
 
 abbrev pub owner_of_entry : Seen → EntryNo → EntryOwner → Valued Owner
@@ -83,14 +85,16 @@ owner_of_entry q e owner.Own = own_unit q (entry_of q.program e).unit
 -- the value that a parameter has at first, and the variable that gets its result
 abbrev pub entry_parameter : Seen → Formal → Actual → Valued (Value × Option Variable)
 entry_parameter q f (actual.In e) = value q e >>= checked f.constraint >>= λ v. Ok (v, None)
-entry_parameter q f (actual.InOut name) = variable q name >>= λ x. checked f.constraint (read q.world x) >>= λ v. Ok (v, Some x)
+entry_parameter q f (actual.InOut name) = variable q name >>= λ x. checked f.constraint (read q.world x)
+    >>= λ v. Ok (v, Some x)
 entry_parameter q f (actual.Out name) = variable q name >>= λ x. Ok (f.initial, Some x)
 entry_parameter q f (actual.Thing d) = thing q d >>= λ v. Ok (v, None)
 
 abbrev pub entry_parameters : Seen → List Formal → List Actual → Valued (List (Value × Option Variable))
 entry_parameters q [] actuals = Ok []
 entry_parameters q (f ∷ fs) [] = Ok []
-entry_parameters q (f ∷ fs) (a ∷ as') = entry_parameter q f a >>= λ v. entry_parameters q fs as' >>= λ rest. Ok (v ∷ rest)
+entry_parameters q (f ∷ fs) (a ∷ as') = entry_parameter q f a >>= λ v. entry_parameters q fs as'
+    >>= λ rest. Ok (v ∷ rest)
 
 abbrev pub values_in : List (Value × Option Variable) → List Value
 values_in [] = []
@@ -118,8 +122,26 @@ timed_moment q _ = Ok None
 
 -- ---- a call is made: it draws its number, and `call` comes first of all
 
-abbrev pub new_call : TaskNo → CallKind → StatementNo → EntryCallNamed → Owner → ℕ → List (Value × Option Variable) → Option ℤ → Call
-new_call t kind s n o priority parameters moment = record { number = record { 0 = 0 }; caller = t; kind = kind; statement = s; owner = o; entry = n.entry; priority = priority; begun = false; firm = false; sent_with_abort = false; attempted = false; moment = moment; values = values_in parameters; results = results_in parameters; sending = None; outcome = None }
+abbrev pub new_call : TaskNo → CallKind → StatementNo → EntryCallNamed → Owner → ℕ → List (Value × Option Variable)
+    → Option ℤ → Call
+new_call t kind s n o priority parameters moment = record {
+  number = record { 0 = 0 };
+  caller = t;
+  kind = kind;
+  statement = s;
+  owner = o;
+  entry = n.entry;
+  priority = priority;
+  begun = false;
+  firm = false;
+  sent_with_abort = false;
+  attempted = false;
+  moment = moment;
+  values = values_in parameters;
+  results = results_in parameters;
+  sending = None;
+  outcome = None;
+}
 
 abbrev pub numbered : ℕ → Call → Call
 numbered n c = record c { number = record { 0 = n } }
@@ -132,7 +154,8 @@ add_call c w = record w { calls = numbered (suc w.drawn.calls) c ∷ w.calls; dr
 abbrev pub make_call : Image → Call → (Call → Step) → Step
 make_call p c step =
     goes (who.Task c.caller) (next_of p c.statement)
-    ▷ looks (λ w. changes (add_call c) ▷ says_call TheCall (numbered (suc w.drawn.calls) c) ▷ step (numbered (suc w.drawn.calls) c))
+    ▷ looks (λ w. changes (add_call c) ▷ says_call TheCall (numbered (suc w.drawn.calls) c)
+    ▷ step (numbered (suc w.drawn.calls) c))
 
 -- it ends at once with an exception
 unfoldable pub end_at_once : Part → Call → Raised → Step
@@ -191,7 +214,8 @@ call_without_room o c =
 
 abbrev pub has_room_for_action : Image → World → Call → Bool
 has_room_for_action p w c =
-    has_room w (who.Task c.caller) (1 + marks_of p (body_scope_of p c.entry)) (scope_of p (body_scope_of p c.entry)).size
+    has_room w (who.Task c.caller) (1
+    + marks_of p (body_scope_of p c.entry)) (scope_of p (body_scope_of p c.entry)).size
 
 unfoldable pub call_runs_if_room : Image → ObjectNo → Call → Step
 call_runs_if_room p o c =
@@ -205,7 +229,8 @@ call_passes p o c =
 
 unfoldable pub call_refused : ObjectNo → Call → Step
 call_refused o c =
-    says Own (line.Enter (who.Task c.caller) o Write) ▷ says Own (line.Exit (who.Task c.caller) o) ▷ end_at_once Own c exception.Program
+    says Own (line.Enter (who.Task c.caller) o Write) ▷ says Own (line.Exit (who.Task c.caller) o)
+    ▷ end_at_once Own c exception.Program
 
 unfoldable pub call_closed : Image → ObjectNo → Call → Bool → Step
 call_closed p o c true = make_call p c (call_refused o)
@@ -239,7 +264,8 @@ is_forbidden w name kind = in_protected w name || (is_triggering kind && is_defe
 
 unfoldable pub entry_call : Image → Who → CallKind → StatementNo → Step
 entry_call p (who.Task t) kind s =
-    looks (λ w. raise_if (who.Task t) (is_forbidden w (who.Task t) kind) exception.Program (call_named p t kind s (named_call p s)))
+    looks (λ w. raise_if (who.Task t) (is_forbidden w (who.Task t) kind) exception.Program
+    (call_named p t kind s (named_call p s)))
 entry_call p who.Agent kind s = raises Own who.Agent exception.Program
 
 -- ---- the asynchronous select (9.7.4): the trigger is issued first
@@ -253,7 +279,8 @@ unfoldable pub trigger_delay : Image → Who → StatementNo → StatementNo →
 trigger_delay p name s trigger m false = goes name (next_of p trigger)
 trigger_delay p name s trigger m true =
     with_room name 1 0
-    (goes name (next_of p s) ▷ looks (λ w. changes (open_abortable p name s None) ▷ changes (appoint_trigger name (length (frames_of w name)) m)))
+    (goes name (next_of p s) ▷ looks (λ w. changes (open_abortable p name s None)
+    ▷ changes (appoint_trigger name (length (frames_of w name)) m)))
 
 unfoldable pub async_delay : Image → Who → StatementNo → StatementNo → Step
 async_delay p name s trigger =

@@ -89,7 +89,8 @@ cells_in_use w = sum_by (λ s. length s.cells) w.scopes
 
 abbrev pub has_room : World → Who → ℕ → ℕ → Bool
 has_room w name marks cells =
-    leb (length (frames_of w name) + marks) MOST_MARKS_OF_TASK && leb (marks_in_use w + marks) MOST_MARKS && leb (cells_in_use w + cells) MOST_CELLS
+    leb (length (frames_of w name) + marks) MOST_MARKS_OF_TASK && leb (marks_in_use w + marks) MOST_MARKS
+    && leb (cells_in_use w + cells) MOST_CELLS
 
 -- ---- sequences with handlers (11.2)
 
@@ -155,7 +156,11 @@ stands_in p loop (Some f) = same_option same_statement (within_of (form_of p loo
 -- an exit goes on behind its loop, once the marks inside the loop are left (5.7)
 unfoldable pub exit_loop : Image → Who → StatementNo → Step
 exit_loop p name loop =
-    looks (λ w. elim (stands_in p loop (top_of w name)) [ true ↦ goes name (next_of p loop) | false ↦ leaves name (how.Exit loop) ])
+    looks (λ w. elim (stands_in p loop (top_of w name)) [
+      | true ↦ goes name (next_of p loop)
+      | false ↦ leaves name
+          (how.Exit loop)
+    ])
 
 -- a mark has ended, and the task goes on as the mark was left
 unfoldable pub pass_on : Image → Who → Leaving → Step

@@ -60,7 +60,10 @@ abbrev pub release_drawn : Drawn → Drawn
 release_drawn d = record d { releases = suc d.releases }
 
 abbrev pub add_release : HandlerOf → Option ℕ → World → World
-add_release h argument w = record w { releases = w.releases ++ record { number = suc w.drawn.releases; handler = h; argument = argument } ∷ []; drawn = release_drawn w.drawn }
+add_release h argument w = record w {
+  releases = w.releases ++ record { number = suc w.drawn.releases; handler = h; argument = argument } ∷ [];
+  drawn = release_drawn w.drawn;
+}
 
 unfoldable pub says_release : Part → HandlerOf → Step
 says_release part h =
@@ -92,12 +95,15 @@ argument_values (Some n) = Thing n ∷ []
 unfoldable pub begin_handler : Image → Release → Step
 begin_handler p r =
     begin_action_on p who.Agent r.handler.object Write None (Some r.number)
-    ▷ looks (λ w. changes (open_scope p who.Agent (subprogram_of p r.handler.procedure).scope (body_of_object p w (subprogram_of p r.handler.procedure).scope r.handler.object None (argument_values r.argument)) (opened_for.Subprogram [] bound_for.Nowhere)))
+    ▷ looks (λ w. changes (open_scope p who.Agent (subprogram_of p r.handler.procedure).scope
+    (body_of_object p w (subprogram_of p r.handler.procedure).scope r.handler.object None
+    (argument_values r.argument)) (opened_for.Subprogram [] bound_for.Nowhere)))
 
 -- without room it is served at once
 unfoldable pub begin_handler_if_room : Image → Release → Step
 begin_handler_if_room p r =
-    looks (λ w. elim (has_room w who.Agent (1 + marks_of p (subprogram_of p r.handler.procedure).scope) (size_of_body p r.handler.procedure))
+    looks (λ w. elim (has_room w who.Agent (1
+    + marks_of p (subprogram_of p r.handler.procedure).scope) (size_of_body p r.handler.procedure))
     [ true ↦ begin_handler p r | false ↦ end_release r.number ])
 
 unfoldable pub enter_handler : Image → Release → Entering → Step
@@ -116,7 +122,8 @@ attached_in n [] = None
 attached_in n (a ∷ as') = cond (eqb n a.interrupt) (Some a.handler) (attached_in n as')
 
 abbrev pub handler_in : Image → ℕ → Object → Option HandlerOf
-handler_in p n o = option_map (λ f. record { object = o.number; procedure = f }) (attached_in n (protected_unit_of p o.unit).attached)
+handler_in p n o =
+    option_map (λ f. record { object = o.number; procedure = f }) (attached_in n (protected_unit_of p o.unit).attached)
 
 abbrev pub handler_attached : Image → ℕ → List Object → Option HandlerOf
 handler_attached p n [] = None
@@ -146,7 +153,8 @@ is_interrupt_handler p w (Some h) = leb (interrupt_priority p) (ceiling_of (obje
 abbrev pub setting_of : Image → Who → Seen → ℤ → Setting → Option HandlerName → (Option HandlerOf → ℤ → Step) → Step
 setting_of p name q base set handler step =
     given Own name (handler_named q handler) (λ h. with_room_for_release name (is_some h)
-    (given Own name (set_value q base set) (λ v. raise_if name (not (is_interrupt_handler p q.world h)) exception.Program (step h v))))
+    (given Own name (set_value q base set) (λ v. raise_if name (not (is_interrupt_handler p q.world h))
+    exception.Program (step h v))))
 
 -- a variable gets whether something was set
 unfoldable pub answer : Image → Who → Variable → Bool → Step
@@ -186,10 +194,17 @@ with_setting s t = record t { setting = s }
 
 -- a timer is not set, and what the last tick made due of it is undone
 abbrev pub clear_timer : ℕ → World → World
-clear_timer k w = record w { timers = edit_at k (with_setting None) w.timers; timers_set = without_number k w.timers_set; timers_due = without_number k w.timers_due }
+clear_timer k w = record w {
+  timers = edit_at k (with_setting None) w.timers;
+  timers_set = without_number k w.timers_set;
+  timers_due = without_number k w.timers_due;
+}
 
 abbrev pub with_timer_set : ℕ → HandlerOf → ℤ → World → World
-with_timer_set k h v w = record w { timers = edit_at k (with_setting (Some (record { value = v; handler = h }))) w.timers; timers_set = w.timers_set ++ k ∷ [] }
+with_timer_set k h v w = record w {
+  timers = edit_at k (with_setting (Some (record { value = v; handler = h }))) w.timers;
+  timers_set = w.timers_set ++ k ∷ [];
+}
 
 -- a value that is already reached releases at once
 unfoldable pub timer_set_beyond : Image → ℕ → HandlerOf → ℤ → Bool → Step
@@ -233,7 +248,8 @@ is_the_budget b (Some c) = eqb b c
 -- a task is a member of at most one group budget, else Group_Budget_Error is raised
 unfoldable pub change_member : Image → Who → StatementNo → world.Task → Bool → Option ℕ → Step
 change_member p name s t is_right b =
-    raise_if name (not is_right) exception.GroupBudget (goes name (next_of p s) ▷ changes (edit_task t.who (member_of b)))
+    raise_if name (not is_right) exception.GroupBudget (goes name (next_of p s)
+    ▷ changes (edit_task t.who (member_of b)))
 
 abbrev pub named_live : Seen → ExprNo → Valued world.Task
 named_live q e = value q e >>= λ v. live_task q.world (task_in v)
@@ -281,7 +297,8 @@ set_budget p name s d handler =
 unfoldable pub cancel_budget : Image → Who → StatementNo → DeclNo → VariableName → Step
 cancel_budget p name s d target =
     sees p name (λ q. given Own name (number_of_thing q d) (λ b. given Own name (variable q target) (λ v.
-    goes name (next_of p s) ▷ changes (edit_budget b (with_handler None)) ▷ answer p name v (is_some (budget_of q.world b).handler))))
+    goes name (next_of p s) ▷ changes (edit_budget b (with_handler None))
+    ▷ answer p name v (is_some (budget_of q.world b).handler))))
 
 -- ---- one tick is charged (D.14, D.2.5)
 

@@ -23,7 +23,8 @@ same_cause (inherited_by.Ceiling o) (inherited_by.Rendezvous d) = false
 same_cause (inherited_by.Ceiling o) (inherited_by.Ceiling q) = same_object o q
 
 abbrev pub inherit : Who → Cause → ℕ → World → World
-inherit name cause level = edit_task name (λ t. record t { inherited = record { cause = cause; level = level } ∷ t.inherited })
+inherit name cause level =
+    edit_task name (λ t. record t { inherited = record { cause = cause; level = level } ∷ t.inherited })
 
 abbrev pub lose : Who → Cause → World → World
 lose name cause = edit_task name (λ t. record t { inherited = without (λ i. same_cause cause i.cause) t.inherited })
@@ -38,7 +39,8 @@ falls p name before after = ltb (active_of p after name) (active_of p before nam
 -- the running task inherits: it goes to the head where its active priority rises (D.2.3)
 unfoldable pub inherit_running : Image → Who → Cause → ℕ → Step
 inherit_running p name cause level =
-    looks (λ w. changes (inherit name cause level) ▷ when (rises p name w (inherit name cause level w)) (to_head p ThePlacing name))
+    looks (λ w. changes (inherit name cause level)
+    ▷ when (rises p name w (inherit name cause level w)) (to_head p ThePlacing name))
 
 -- it loses an inherited priority: it goes to the head where its active priority falls
 unfoldable pub lose_running : Image → Who → Cause → Step

@@ -37,7 +37,8 @@ use Rattle.profile_machine.specs.Act.{act}
 
 unfoldable pub effect : Image → Who → Step
 effect p name =
-    changes (edit_task name (with_ticks None)) ▷ act p name ▷ open_if_ready p name ▷ take_terminates p name ▷ unwind_all p name
+    changes (edit_task name (with_ticks None)) ▷ act p name ▷ open_if_ready p name ▷ take_terminates p name
+    ▷ unwind_all p name
 
 abbrev pub is_over : Option ℕ → Bool
 is_over None = false
@@ -45,7 +46,8 @@ is_over (Some ticks) = eqb ticks 0
 
 abbrev pub effect_of_runner : Image → Option Who → Move
 effect_of_runner p None = rests
-effect_of_runner p (Some name) = watches (λ w. elim (is_over (task_of w name).ticks_left) [ true ↦ settles p (effect p name) | false ↦ rests ])
+effect_of_runner p (Some name) =
+    watches (λ w. elim (is_over (task_of w name).ticks_left) [ true ↦ settles p (effect p name) | false ↦ rests ])
 
 abbrev pub finish_action : Image → Move
 finish_action p = watches (λ w. effect_of_runner p w.ran)
@@ -76,7 +78,8 @@ script_item p (item.Interrupt n) = looks (λ w. interrupt_comes p n (is_flag w.m
 script_item p (item.Port n value) = changes (with_port n value) ▷ says Own (line.Port n value)
 script_item p (item.Mask n) = changes (with_masked n true) ▷ says Own (line.Mask n)
 script_item p (item.Unmask n) =
-    changes (with_masked n false) ▷ says Own (line.Unmask n) ▷ looks (λ w. deliver_kept_interrupt p n (is_flag w.kept_interrupts n))
+    changes (with_masked n false) ▷ says Own (line.Unmask n)
+    ▷ looks (λ w. deliver_kept_interrupt p n (is_flag w.kept_interrupts n))
 
 abbrev pub with_script : List (ℤ × Item) → World → World
 with_script script w = record w { script = script }
@@ -84,7 +87,11 @@ with_script script w = record w { script = script }
 -- the first item that is ahead, where its moment has come
 abbrev pub take_item : Image → ℕ → Step → List (ℤ × Item) → Step
 take_item p now again [] = nothing
-take_item p now again (x ∷ xs) = elim (int_le x.0 (pos now)) [ true ↦ changes (with_script xs) ▷ script_item p x.1 ▷ again | false ↦ nothing ]
+take_item p now again (x ∷ xs) = elim (int_le x.0 (pos now)) [
+  | true ↦ changes (with_script xs) ▷ script_item p x.1
+      ▷ again
+  | false ↦ nothing
+]
 
 -- all items whose moment has come; the fuel is the number of items
 unfoldable pub items_due : ℕ → Image → Step
@@ -166,17 +173,20 @@ no_budget_due w = record w { budget_due = None }
 abbrev pub budgets_due : Image → Move
 budgets_due p = settles p (looks (λ w. for_some w.budget_due (run_out p)) ▷ changes no_budget_due)
 
--- ---- 7: a task that ran and has spent its quantum goes to the tail, if it inherits nothing and has no action open (D.2.5)
+-- ---- 7: a task that ran and has spent its quantum goes to the tail, if it inherits nothing and has no action open
+-- (D.2.5)
 
 abbrev pub has_spent_quantum : Image → Task → Bool
 has_spent_quantum p t =
-    is_runnable t && eqb t.quantum 0 && is_robin_level p t.base && eqb (active p t) t.base && is_empty t.inherited && not (any_protected t.frames)
+    is_runnable t && eqb t.quantum 0 && is_robin_level p t.base && eqb (active p t) t.base && is_empty t.inherited
+    && not (any_protected t.frames)
 
 unfoldable pub spend_quantum : Image → Option Who → Step
 spend_quantum p None = nothing
 spend_quantum p (Some who.Agent) = nothing
 spend_quantum p (Some (who.Task t)) =
-    looks (λ w. when (has_spent_quantum p (task_of w (who.Task t))) (says Own (line.Quantum t) ▷ to_tail p Own (who.Task t)))
+    looks (λ w. when (has_spent_quantum p (task_of w (who.Task t))) (says Own (line.Quantum t)
+    ▷ to_tail p Own (who.Task t)))
 
 abbrev pub quantum_spent : Image → Move
 quantum_spent p = settles p (looks (λ w. spend_quantum p w.ran))

@@ -72,7 +72,8 @@ event_of p (line.Init who object region declared) = written.Init who object regi
 event_of p (line.Final who object) = written.Final who object
 event_of p (line.Left who region) = written.Left who region
 event_of p (line.Replace who object) = written.Replace who object
-event_of p (line.Release release handler) = written.Release release handler.object (subprogram_of p handler.procedure).name
+event_of p (line.Release release handler) =
+    written.Release release handler.object (subprogram_of p handler.procedure).name
 event_of p (line.Served release) = written.Served release
 event_of p (line.Interrupt number) = written.Interrupt number
 event_of p (line.Port number value) = written.Port number value

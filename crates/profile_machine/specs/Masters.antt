@@ -120,7 +120,8 @@ queued_calls w t = calls_in_order (calls_there w (flat_map (λ q. q) t.queues))
 -- only when all have got it is it asked who is unwound
 unfoldable pub gone_by_completion : Image → Who → Call → Step
 gone_by_completion p actor c =
-    gone p (part_of actor (who.Task c.caller)) c ▷ end_call p (part_of actor (who.Task c.caller)) c (call_ended.ToRaise exception.Tasking)
+    gone p (part_of actor (who.Task c.caller)) c
+    ▷ end_call p (part_of actor (who.Task c.caller)) c (call_ended.ToRaise exception.Tasking)
 
 -- ---- the end of an activation (9.2)
 
@@ -141,12 +142,14 @@ waits_for_activation _ = false
 -- Tasking_Error is raised once in the activator where a task of the group failed
 unfoldable pub wake_activator : Image → Part → Who → Step
 wake_activator p part name =
-    looks (λ w. ready p part name ▷ when (task_of w name).group_failed (raises part name exception.Tasking) ▷ open_sequence p part name)
+    looks (λ w. ready p part name ▷ when (task_of w name).group_failed (raises part name exception.Tasking)
+    ▷ open_sequence p part name)
 
 -- behind the last of the group the activator is ready, if it still waits for this activation
 unfoldable pub end_group : Image → Who → Who → Step
 end_group p actor activator =
-    looks (λ w. when (not (has_activating w activator) && waits_for_activation (waiting_of w activator)) (wake_activator p (part_of actor activator) activator))
+    looks (λ w. when (not (has_activating w activator)
+    && waits_for_activation (waiting_of w activator)) (wake_activator p (part_of actor activator) activator))
 
 abbrev pub not_activating : Task → Task
 not_activating t = record t { activator = None }
@@ -184,12 +187,14 @@ has_failed t = is_exception (last_left_as t.frames) && not t.abnormal
 
 unfoldable pub complete_with : Image → Who → Who → List Call → Bool → Step
 complete_with p actor name calls failed =
-    changes (edit_task name completed_task) ▷ for_each calls (gone_by_completion p actor) ▷ end_activation p actor name failed
+    changes (edit_task name completed_task) ▷ for_each calls (gone_by_completion p actor)
+    ▷ end_activation p actor name failed
 
 -- a task is completed: no call on it is accepted any more
 unfoldable pub complete : Image → Who → Who → Step
 complete p actor name =
-    looks (λ w. when (not (task_of w name).completed) (complete_with p actor name (queued_calls w (task_of w name)) (has_failed (task_of w name))))
+    looks (λ w. when (not (task_of w name).completed)
+    (complete_with p actor name (queued_calls w (task_of w name)) (has_failed (task_of w name))))
 
 abbrev pub waits_in : RegionNo → Option Waiting → Bool
 waits_in r (Some (waits_for.Dependents s)) = same_region r s
@@ -201,7 +206,8 @@ waits_for_dependents r t = waits_in r (waiting_in t.state)
 -- a master that waits becomes ready when the last task that depends on it has terminated
 unfoldable pub wake_master : Image → Who → RegionNo → Step
 wake_master p actor r =
-    looks (λ w. when (not (has_dependents w r)) (for_some (find (waits_for_dependents r) w.tasks) (λ t. ready p (part_of actor t.who) t.who)))
+    looks (λ w. when (not (has_dependents w r))
+    (for_some (find (waits_for_dependents r) w.tasks) (λ t. ready p (part_of actor t.who) t.who)))
 
 abbrev pub forget_task : Who → World → World
 forget_task name w = record w { tasks = without (is_who name) w.tasks }
@@ -209,7 +215,8 @@ forget_task name w = record w { tasks = without (is_who name) w.tasks }
 -- it is completed if it was not, and is no longer there
 unfoldable pub terminate : Image → Who → Who → Step
 terminate p actor name =
-    looks (λ w. complete p actor name ▷ changes (drop_delay name) ▷ changes (forget_task name) ▷ for_some (task_of w name).master (wake_master p actor))
+    looks (λ w. complete p actor name ▷ changes (drop_delay name) ▷ changes (forget_task name)
+    ▷ for_some (task_of w name).master (wake_master p actor))
 
 -- ---- terminate alternatives (9.7.1, 9.3)
 
@@ -225,7 +232,8 @@ abbrev pub all_at_terminate : World → RegionNo → Bool
 all_at_terminate w r = list_all is_at_terminate (filter (depends_on_region w r) w.tasks)
 
 abbrev pub may_terminate : World → Task → Bool
-may_terminate w t = is_at_terminate t && list_any (λ r. is_region_being_left w r && all_at_terminate w r) (masters_of w t)
+may_terminate w t = is_at_terminate t && list_any (λ r. is_region_being_left w r
+    && all_at_terminate w r) (masters_of w t)
 
 -- one that waits becomes ready; who comes to its select in this effect does not even block
 unfoldable pub leave_by_terminate : Image → Who → Task → Step

@@ -111,8 +111,18 @@ of_object n name = called.OfObject (p n) name
 
 -- ---- the items of an image, by their fields in order
 
-abbrev pub declaration : List ℕ → List ℕ → DeclarationKind → ScopeNo → ℕ → ℕ → Constraint → Option Constraint → Declaration
-declaration name expanded kind scope place cells constraint index = record { name = name; expanded = expanded; kind = kind; scope = scope; place = place; cells = cells; constraint = constraint; index = index }
+abbrev pub declaration : List ℕ → List ℕ → DeclarationKind → ScopeNo → ℕ → ℕ → Constraint → Option Constraint
+    → Declaration
+declaration name expanded kind scope place cells constraint index = record {
+  name = name;
+  expanded = expanded;
+  kind = kind;
+  scope = scope;
+  place = place;
+  cells = cells;
+  constraint = constraint;
+  index = index;
+}
 
 abbrev pub variable : ObjectName → Option ExprNo → VariableName
 variable object index = record { object = object; index = index }
@@ -136,31 +146,65 @@ abbrev pub cell_run : ℕ → ℕ → Value → CellRun
 cell_run place count value = record { place = place; count = count; value = value }
 
 abbrev pub scope_text : Option ScopeNo → ℕ → List CellRun → Bool → Option StatementNo → Scope
-scope_text outer size cells kept first = record { outer = outer; size = size; cells = cells; kept = kept; first = first }
+scope_text outer size cells kept first = record {
+  outer = outer;
+  size = size;
+  cells = cells;
+  kept = kept;
+  first = first;
+}
 
 abbrev pub formal : Constraint → Value → Formal
 formal constraint initial = record { constraint = constraint; initial = initial }
 
 abbrev pub subprogram_text : List ℕ → ScopeNo → List Formal → Option Constraint → Option ProtectedUnitNo → Subprogram
-subprogram_text name scope formals result unit = record { name = name; scope = scope; formals = formals; result = result; unit = unit }
+subprogram_text name scope formals result unit = record {
+  name = name;
+  scope = scope;
+  formals = formals;
+  result = result;
+  unit = unit;
+}
 
 abbrev pub task_unit_text : ScopeNo → Option ℕ → Option ExprNo → List EntryNo → TaskUnit
-task_unit_text scope priority relative_deadline entries = record { scope = scope; priority = priority; relative_deadline = relative_deadline; entries = entries }
+task_unit_text scope priority relative_deadline entries = record {
+  scope = scope;
+  priority = priority;
+  relative_deadline = relative_deadline;
+  entries = entries;
+}
 
 abbrev pub attachment : ℕ → SubprogramNo → Attachment
 attachment interrupt handler = record { interrupt = interrupt; handler = handler }
 
 abbrev pub protected_unit_text : ℕ → List EntryNo → List DeclNo → List Attachment → ProtectedUnit
-protected_unit_text ceiling entries components attached = record { ceiling = ceiling; entries = entries; components = components; attached = attached }
+protected_unit_text ceiling entries components attached = record {
+  ceiling = ceiling;
+  entries = entries;
+  components = components;
+  attached = attached;
+}
 
 abbrev pub entry_body : ExprNo → ScopeNo → EntryBody
 entry_body barrier scope = record { barrier = barrier; scope = scope }
 
 abbrev pub entry_text : List ℕ → EntryUnit → ℕ → List Formal → Option EntryBody → Entry
-entry_text name unit place formals body = record { name = name; unit = unit; place = place; formals = formals; body = body }
+entry_text name unit place formals body = record {
+  name = name;
+  unit = unit;
+  place = place;
+  formals = formals;
+  body = body;
+}
 
-abbrev pub controlled_text : List DeclNo → Option SubprogramNo → Option SubprogramNo → Option SubprogramNo → ControlledType
-controlled_text components initialize finalize adjust = record { components = components; initialize = initialize; finalize = finalize; adjust = adjust }
+abbrev pub controlled_text : List DeclNo → Option SubprogramNo → Option SubprogramNo → Option SubprogramNo
+    → ControlledType
+controlled_text components initialize finalize adjust = record {
+  components = components;
+  initialize = initialize;
+  finalize = finalize;
+  adjust = adjust;
+}
 
 abbrev pub enumeration_text : List (List ℕ) → Enumeration
 enumeration_text literals = record { literals = literals }
@@ -169,7 +213,12 @@ abbrev pub dispatching_range : Dispatching → ℕ → ℕ → DispatchingRange
 dispatching_range policy first last = record { policy = policy; first = first; last = last }
 
 abbrev pub policies : List DispatchingRange → Queuing → Option ℕ → ℕ → Policies
-policies dispatching queuing longest_queue last_priority = record { dispatching = dispatching; queuing = queuing; longest_queue = longest_queue; last_priority = last_priority }
+policies dispatching queuing longest_queue last_priority = record {
+  dispatching = dispatching;
+  queuing = queuing;
+  longest_queue = longest_queue;
+  last_priority = last_priority;
+}
 
 abbrev pub main_procedure : List ℕ → ℕ → ScopeNo → MainProcedure
 main_procedure name priority scope = record { name = name; priority = priority; scope = scope }

@@ -45,11 +45,13 @@ with_priority level c = record c { priority = level }
 abbrev pub placed_anew : Queuing → Image → Call → ℕ → World → World
 placed_anew queuing.Fifo p c level w = w
 placed_anew queuing.Priority p c level w =
-    edit_queue c.owner (place_of_entry p c.entry) (λ q. put_call queuing.Priority w c.number level (take_call c.number q)) w
+    edit_queue c.owner (place_of_entry p c.entry)
+    (λ q. put_call queuing.Priority w c.number level (take_call c.number q)) w
 
 unfoldable pub reprioritize : Image → ℕ → Call → Step
 reprioritize p level c =
-    when (is_queued c) (changes (edit_call c.number (with_priority level)) ▷ changes (placed_anew p.policies.queuing p c level))
+    when (is_queued c) (changes (edit_call c.number (with_priority level))
+    ▷ changes (placed_anew p.policies.queuing p c level))
 
 abbrev pub call_waited_for : Waiting → Option CallNo
 call_waited_for waits_for.Activation = None
@@ -101,15 +103,18 @@ set_deadline p part placing name d =
 
 unfoldable pub take_base : Image → Who → Option ℕ → Step
 take_base p name None = nothing
-take_base p name (Some level) = changes (edit_task name (λ t. record t { deferred_base = None })) ▷ set_base p ThePlacing ThePlacing name level
+take_base p name (Some level) = changes (edit_task name (λ t. record t { deferred_base = None }))
+    ▷ set_base p ThePlacing ThePlacing name level
 
 unfoldable pub take_deadline : Image → Who → Option ℤ → Step
 take_deadline p name None = nothing
-take_deadline p name (Some d) = changes (edit_task name (λ t. record t { deferred_deadline = None })) ▷ set_deadline p ThePlacing ThePlacing name d
+take_deadline p name (Some d) = changes (edit_task name (λ t. record t { deferred_deadline = None }))
+    ▷ set_deadline p ThePlacing ThePlacing name d
 
 unfoldable pub set_deferred : Image → Who → Step
 set_deferred p name =
-    looks (λ w. when (not (in_protected w name)) (take_base p name (task_of w name).deferred_base ▷ take_deadline p name (task_of w name).deferred_deadline))
+    looks (λ w. when (not (in_protected w name)) (take_base p name (task_of w name).deferred_base
+    ▷ take_deadline p name (task_of w name).deferred_deadline))
 
 -- ---- Set_Priority (D.5.1)
 
@@ -127,7 +132,11 @@ defer_base name level = changes (edit_task name (λ t. record t { deferred_base 
 -- it is deferred while its target is inside a protected action
 unfoldable pub set_or_defer_base : Image → Who → Who → ℕ → Step
 set_or_defer_base p actor name level =
-    looks (λ w. elim (in_protected w name) [ true ↦ defer_base name level | false ↦ set_base p (part_of actor name) (placing_of actor name) name level ])
+    looks (λ w. elim (in_protected w name) [
+      | true ↦ defer_base name level
+      | false ↦ set_base p (part_of actor name)
+          (placing_of actor name) name level
+    ])
 
 unfoldable pub set_base_of : Image → Who → StatementNo → ℕ → Option world.Task → Step
 set_base_of p actor s level None = goes actor (next_of p s)
@@ -168,7 +177,12 @@ defer_deadline name d = changes (edit_task name (λ t. record t { deferred_deadl
 -- in a source with an EDF range it is deferred while its target is inside a protected action
 unfoldable pub set_or_defer_deadline : Image → Who → Who → ℤ → Step
 set_or_defer_deadline p actor name d =
-    looks (λ w. elim (in_protected w name && has_edf p) [ true ↦ defer_deadline name d | false ↦ set_deadline p (part_of actor name) (placing_of actor name) name d ])
+    looks (λ w. elim (in_protected w name
+    && has_edf p) [
+      | true ↦ defer_deadline name d
+      | false ↦ set_deadline p (part_of actor name)
+          (placing_of actor name) name d
+    ])
 
 unfoldable pub set_deadline_of : Image → Who → StatementNo → ExprNo → Option ExprNo → Step
 set_deadline_of p name s e task =

@@ -36,7 +36,16 @@ use Rattle.profile_machine.specs.declared.values.Constraint.TheVariants.{Free}
 -- ---- look-ups
 
 abbrev pub no_declaration : Declaration
-no_declaration = record { name = []; expanded = []; kind = Other; scope = record { 0 = 0 }; place = 0; cells = 0; constraint = Free; index = None }
+no_declaration = record {
+  name = [];
+  expanded = [];
+  kind = Other;
+  scope = record { 0 = 0 };
+  place = 0;
+  cells = 0;
+  constraint = Free;
+  index = None;
+}
 
 abbrev pub declaration_of : Image → DeclNo → Declaration
 declaration_of p d = slice_index_or p.declarations d.0 no_declaration
@@ -121,7 +130,8 @@ abbrev pub opens_handled : StatementForm → Bool
 opens_handled (form.Handled handlers first) = true
 opens_handled _ = false
 
--- how many marks one effect opens with a body or a block: the scope, and its sequence with handlers where that comes first
+-- how many marks one effect opens with a body or a block: the scope, and its sequence with handlers where that comes
+-- first
 abbrev pub marks_with : Image → Option StatementNo → ℕ
 marks_with p None = 1
 marks_with p (Some s) = cond (opens_handled (form_of p s)) 2 1

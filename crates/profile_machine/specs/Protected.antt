@@ -106,7 +106,15 @@ where_let_inside p name o mode step = looks (λ w. enter_or p name o mode step (
 -- ---- an action begins: `enter`, and the ceiling is inherited
 
 abbrev pub new_protected_mark : ObjectNo → Mode → Option CallNo → Option ℕ → Mark
-new_protected_mark o mode call release = InProtected (record { object = o; mode = mode; own_call = call; serves = None; body_left = how.End; release = release })
+new_protected_mark o mode call release =
+    InProtected (record {
+      object = o;
+      mode = mode;
+      own_call = call;
+      serves = None;
+      body_left = how.End;
+      release = release;
+    })
 
 abbrev pub open_action : Who → ObjectNo → Mode → World → World
 open_action name o mode = edit_object o (λ x. record x { actions = record { who = name; mode = mode } ∷ x.actions })
@@ -124,10 +132,16 @@ begin_action_on p name o mode call release =
 -- a body of an object's unit: what stands round it is found from the object
 abbrev pub outer_of_body : Image → World → ScopeNo → Option Object → Option ScopeId
 outer_of_body p w scope None = None
-outer_of_body p w scope (Some o) = option_and_then (λ outer. home w outer (Some o.located.within)) (scope_of p scope).outer
+outer_of_body p w scope (Some o) =
+    option_and_then (λ outer. home w outer (Some o.located.within)) (scope_of p scope).outer
 
 abbrev pub body_of_object : Image → World → ScopeNo → ObjectNo → Option Located → List Value → Beginning
-body_of_object p w scope o subject values = record { outer = outer_of_body p w scope (object_of w o); object = Some o; subject = subject; values = values }
+body_of_object p w scope o subject values = record {
+  outer = outer_of_body p w scope (object_of w o);
+  object = Some o;
+  subject = subject;
+  values = values;
+}
 
 -- ---- a protected procedure or function called from outside (9.5.1)
 
@@ -137,24 +151,29 @@ mode_of s = elim s.result [ None ↦ Write | Some range ↦ Read ]
 unfoldable pub begin_operation : Image → Who → StatementNo → SubprogramNo → ObjectNo → Handed → ResultTo → Step
 begin_operation p name s f o h to =
     goes name (next_of p s) ▷ begin_action_on p name o (mode_of (subprogram_of p f)) None None
-    ▷ looks (λ w. changes (open_scope p name (subprogram_of p f).scope (body_of_object p w (subprogram_of p f).scope o h.subject h.values) (opened_for.Subprogram h.back to)))
+    ▷ looks (λ w. changes (open_scope p name (subprogram_of p f).scope
+    (body_of_object p w (subprogram_of p f).scope o h.subject h.values) (opened_for.Subprogram h.back to)))
 
 abbrev pub has_object_open : World → Who → ObjectNo → Bool
 has_object_open w name o = elim (object_of w o) [ None ↦ false | Some x ↦ has_open name x.actions ]
 
--- first the object and whether it is the own one, then room, then the parameters, then the ceiling and whether it is held
-unfoldable pub call_operation_of : Image → Who → StatementNo → SubprogramNo → List Actual → Destination → ObjectNo → Step
+-- first the object and whether it is the own one, then room, then the parameters, then the ceiling and whether it is
+-- held
+unfoldable pub call_operation_of : Image → Who → StatementNo → SubprogramNo → List Actual → Destination → ObjectNo
+    → Step
 call_operation_of p name s f actuals to o =
     looks (λ w. raise_if name (has_object_open w name o) exception.Program
     (with_room name (1 + marks_of p (subprogram_of p f).scope) (scope_of p (subprogram_of p f).scope).size
-    (handing p name f actuals to (λ h r. where_let_inside p name o (mode_of (subprogram_of p f)) (begin_operation p name s f o h r)))))
+    (handing p name f actuals to (λ h r. where_let_inside p name o (mode_of (subprogram_of p f))
+    (begin_operation p name s f o h r)))))
 
 unfoldable pub call_operation : Image → Who → StatementNo → DeclNo → SubprogramNo → List Actual → Destination → Step
 call_operation p name s d f actuals to =
     sees p name (λ q. given Own name (object_number q d) (call_operation_of p name s f actuals to))
 
 -- an internal call: no action begins
-unfoldable pub begin_own_operation : Image → Who → StatementNo → SubprogramNo → Option ObjectNo → Handed → ResultTo → Step
+unfoldable pub begin_own_operation : Image → Who → StatementNo → SubprogramNo → Option ObjectNo → Handed → ResultTo
+    → Step
 begin_own_operation p name s f None h to = raises Own name exception.Program
 begin_own_operation p name s f (Some o) h to =
     looks (λ w. begin_body p name s f (body_of_object p w (subprogram_of p f).scope o h.subject h.values) h to)
@@ -165,12 +184,19 @@ unit_of_operation s = unwrap_or s.unit (record { 0 = 0 })
 unfoldable pub call_own_operation : Image → Who → StatementNo → SubprogramNo → List Actual → Destination → Step
 call_own_operation p name s f actuals to =
     with_room name (marks_of p (subprogram_of p f).scope) (scope_of p (subprogram_of p f).scope).size
-    (handing p name f actuals to (λ h r. sees p name (λ q. begin_own_operation p name s f (own_object q (unit_of_operation (subprogram_of p f))) h r)))
+    (handing p name f actuals to (λ h r. sees p name
+    (λ q. begin_own_operation p name s f (own_object q (unit_of_operation (subprogram_of p f))) h r)))
 
 -- ---- barriers (9.5.2): evaluating one costs nothing and never raises (own)
 
 abbrev pub seen_by_barrier : Image → World → Who → Object → Seen
-seen_by_barrier p w name o = record { program = p; world = w; who = name; within = Some o.located.within; object = Some o.number }
+seen_by_barrier p w name o = record {
+  program = p;
+  world = w;
+  who = name;
+  within = Some o.located.within;
+  object = Some o.number;
+}
 
 abbrev pub is_open_body : Image → World → Who → Object → Option EntryBody → Bool
 is_open_body p w name o None = false
@@ -220,12 +246,14 @@ begin_call p part name c =
 unfoldable pub body_opens : Image → Who → ObjectNo → Call → Step
 body_opens p name o c =
     changes (edit_top_protected name (λ m. record m { serves = Some c.number }))
-    ▷ looks (λ w. changes (open_scope p name (body_scope_of p c.entry) (body_of_object p w (body_scope_of p c.entry) o None (parameters_of p c)) (opened_for.EntryBody c.number)))
+    ▷ looks (λ w. changes (open_scope p name (body_scope_of p c.entry)
+    (body_of_object p w (body_scope_of p c.entry) o None (parameters_of p c)) (opened_for.EntryBody c.number)))
 
 abbrev pub has_room_for_body : Image → World → Who → EntryNo → Bool
 has_room_for_body p w name e = has_room w name (marks_of p (body_scope_of p e)) (scope_of p (body_scope_of p e)).size
 
--- the body of a served call opens; without room it starts and finishes at once with Storage_Error, and `otherwise` is done
+-- the body of a served call opens; without room it starts and finishes at once with Storage_Error, and `otherwise` is
+-- done
 abbrev pub serve_call : Image → Part → Who → ObjectNo → Call → Step → Step → Step
 serve_call p part name o c then_ otherwise =
     looks (λ w. begin_call p part name c

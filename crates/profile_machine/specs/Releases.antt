@@ -84,7 +84,10 @@ abbrev pub flags_after : Item → Flags → Flags
 flags_after (item.Interrupt n) f = record f { kept_interrupts = kept_where (is_flag f.masked n) n f.kept_interrupts }
 flags_after (item.Port n value) f = f
 flags_after (item.Mask n) f = record f { masked = marked n true f.masked }
-flags_after (item.Unmask n) f = record { masked = marked n false f.masked; kept_interrupts = marked n false f.kept_interrupts }
+flags_after (item.Unmask n) f = record {
+  masked = marked n false f.masked;
+  kept_interrupts = marked n false f.kept_interrupts;
+}
 
 abbrev pub due_by_item : Image → World → Item → Flags → List NamedHandler
 due_by_item p w (item.Interrupt n) f = attached_to p w n (not (is_flag f.masked n))
@@ -95,7 +98,11 @@ due_by_item p w (item.Unmask n) f = attached_to p w n (is_flag f.kept_interrupts
 abbrev pub due_interrupts : Image → World → List (ℤ × Item) → Flags → List NamedHandler
 due_interrupts p w [] f = []
 due_interrupts p w (x ∷ script) f =
-    elim (int_le x.0 (pos w.time)) [ true ↦ due_by_item p w x.1 f ++ due_interrupts p w script (flags_after x.1 f) | false ↦ [] ]
+    elim (int_le x.0 (pos w.time)) [
+      | true ↦ due_by_item p w x.1 f
+          ++ due_interrupts p w script (flags_after x.1 f)
+      | false ↦ []
+    ]
 
 -- an event whose moment has come, in the order of setting
 abbrev pub due_event : Image → ℕ → Appointment → Due → List NamedHandler
@@ -125,7 +132,8 @@ due_budget p w (Some b) = handler_list p (budget_of w b).handler
 -- all that is to be released behind the first step, in the order of the steps
 abbrev pub due_in : Image → World → List NamedHandler
 due_in p w =
-    due_interrupts p w w.script (record { masked = w.masked; kept_interrupts = w.kept_interrupts }) ++ due_events p w.time w.appointments
+    due_interrupts p w w.script (record { masked = w.masked; kept_interrupts = w.kept_interrupts })
+    ++ due_events p w.time w.appointments
     ++ due_timers p w w.timers_due ++ due_budget p w w.budget_due
 
 abbrev pub later_steps : Image → Move
@@ -162,7 +170,8 @@ stays w a (due_for.Timeout c) = true
 stays w a (due_for.Trigger t depth) = true
 
 abbrev pub later_events_stay : World → World → Bool
-later_events_stay before after = list_all (λ a. int_le a.moment (pos before.time) || stays after a a.due) before.appointments
+later_events_stay before after =
+    list_all (λ a. int_le a.moment (pos before.time) || stays after a a.due) before.appointments
 
 -- ---- the law
 
@@ -182,8 +191,8 @@ releases_ok_from (suc fuel) p bound w =
       | None ↦ instant_releases_ok p w first later && releases_ok_from fuel p bound t.0
     ]
 
--- a timing event set for a later moment, and neither set again nor cancelled up to that instant, is released there; so are
--- timers, budgets and attached interrupts at their instants; and a release has one of these causes, or a setting at its
--- own tick that was due at once
+-- a timing event set for a later moment, and neither set again nor cancelled up to that instant, is released there; so
+-- are timers, budgets and attached interrupts at their instants; and a release has one of these causes, or a setting at
+-- its own tick that was due at once
 abbrev pub releases_ok : Image → List (ℤ × Item) → ℕ → Bool
 releases_ok p script bound = releases_ok_from (suc bound) p bound (opening p script).0

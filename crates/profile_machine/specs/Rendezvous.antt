@@ -85,7 +85,8 @@ abbrev pub open_accept : Image → Who → StatementNo → Call → World → Wo
 open_accept p name s c w =
     let scope = accept_scope (form_of p s) in
     let mark : Mark = InAccept (record { call = c.number; accept = s; within = next_id w; handles = None }) in
-    push name (new_frame mark (scope_of p scope).first) (begin_scope p name scope (record (plainly (innermost w name)) { values = parameters_of p c }) w)
+    push name (new_frame mark (scope_of p scope).first)
+    (begin_scope p name scope (record (plainly (innermost w name)) { values = parameters_of p c }) w)
 
 abbrev pub has_room_for_accept : Image → World → Who → StatementNo → Bool
 has_room_for_accept p w name s =
@@ -105,17 +106,20 @@ unfoldable pub accept_with_room : Image → Who → StatementNo → Call → Boo
 accept_with_room p name s c true =
     changes (open_accept p name s c) ▷ inherit_running p name (inherited_by.Rendezvous c.number) c.priority
 accept_with_room p name s c false =
-    finish_without_room Own name c ▷ deliver p Own c.number (call_ended.ToRaise exception.Storage) ▷ raises Own name exception.Storage
+    finish_without_room Own name c ▷ deliver p Own c.number (call_ended.ToRaise exception.Storage)
+    ▷ raises Own name exception.Storage
 
 unfoldable pub accept_call : Image → Who → StatementNo → CallNo → Step
 accept_call p name s c =
-    with_call c (λ d. begin_accept p Own name s d ▷ looks (λ w. accept_with_room p name s d (has_room_for_accept p w name s)))
+    with_call c (λ d. begin_accept p Own name s d
+    ▷ looks (λ w. accept_with_room p name s d (has_room_for_accept p w name s)))
 
 -- the acceptor waited: it becomes ready, behind the `start`
 abbrev pub meet_with_room : Image → Part → Who → StatementNo → Call → Step → Step
 meet_with_room p part name s c then_ =
     begin_accept p part name s c ▷ changes (open_accept p name s c)
-    ▷ changes (inherit name (inherited_by.Rendezvous c.number) c.priority) ▷ ready p part name ▷ open_sequence p part name ▷ then_
+    ▷ changes (inherit name (inherited_by.Rendezvous c.number) c.priority) ▷ ready p part name
+    ▷ open_sequence p part name ▷ then_
 
 -- without room the call has ended at once: its lines and its caller's come first, then those of the acceptor
 abbrev pub meet_without_room : Image → Part → Who → StatementNo → Call → Step → Step
@@ -126,7 +130,11 @@ meet_without_room p part name s c otherwise =
 abbrev pub meet : Image → Part → Who → StatementNo → Call → Step → Step → Step
 meet p part name s c then_ otherwise =
     changes (drop_delay name)
-    ▷ looks (λ w. elim (has_room_for_accept p w name s) [ true ↦ meet_with_room p part name s c then_ | false ↦ meet_without_room p part name s c otherwise ])
+    ▷ looks (λ w. elim (has_room_for_accept p w name s) [
+      | true ↦ meet_with_room p part name s c then_
+      | false ↦
+          meet_without_room p part name s c otherwise
+    ])
 
 -- ---- the accept statement (9.5.2): it begins with the next call, or waits
 
@@ -182,7 +190,8 @@ delay_moment q s = delay_moment_in q (form_of q.program s)
 abbrev pub open_delays : Seen → List SelectKind → Valued (List DelayMoment)
 open_delays q [] = Ok []
 open_delays q (select.Accept s ∷ kinds) = open_delays q kinds
-open_delays q (select.Delay s ∷ kinds) = delay_moment q s >>= λ m. open_delays q kinds >>= λ rest. Ok (record { delay = s; at = m } ∷ rest)
+open_delays q (select.Delay s ∷ kinds) = delay_moment q s >>= λ m. open_delays q kinds
+    >>= λ rest. Ok (record { delay = s; at = m } ∷ rest)
 open_delays q (select.Terminate ∷ kinds) = open_delays q kinds
 
 -- the delay of the least moment; of equal ones the first in the text (own)
@@ -208,7 +217,8 @@ accept_chosen p name accepts c =
 
 -- a task at an open terminate alternative says that it blocks when it is sure that it need not end at once
 unfoldable pub wait_at_select : Who → List StatementNo → Option StatementNo → Bool → Step
-wait_at_select name accepts delay true = changes (edit_task name (with_state (Blocked (waits_for.Select accepts delay true))))
+wait_at_select name accepts delay true =
+    changes (edit_task name (with_state (Blocked (waits_for.Select accepts delay true))))
 wait_at_select name accepts delay false = block TheBlock name (waits_for.Select accepts delay false)
 
 abbrev pub appoint_delay : Who → ℤ → World → World
@@ -226,11 +236,13 @@ select_wait p name s accepts terminate None = goes name (next_of p s) ▷ wait_a
 select_wait p name s accepts terminate (Some m) =
     looks (λ w. select_delay p name s accepts m terminate (int_le m.at (pos w.time)))
 
-unfoldable pub select_otherwise : Image → Who → StatementNo → List SelectKind → Option DelayMoment → Option StatementNo → Step
+unfoldable pub select_otherwise : Image → Who → StatementNo → List SelectKind → Option DelayMoment
+    → Option StatementNo → Step
 select_otherwise p name s kinds m (Some otherwise) = goes name (Some otherwise)
 select_otherwise p name s kinds m None = select_wait p name s (open_accepts kinds) (has_terminate kinds) m
 
-unfoldable pub select_by_call : Image → Who → StatementNo → List SelectKind → Option DelayMoment → Option StatementNo → Option CallNo → Step
+unfoldable pub select_by_call : Image → Who → StatementNo → List SelectKind → Option DelayMoment
+    → Option StatementNo → Option CallNo → Step
 select_by_call p name s kinds m otherwise (Some c) = accept_chosen p name (open_accepts kinds) c
 select_by_call p name s kinds m otherwise None = select_otherwise p name s kinds m otherwise
 
@@ -243,12 +255,14 @@ is_closed (kind ∷ kinds) otherwise = false
 unfoldable pub select_open : Image → Who → StatementNo → Option StatementNo → List SelectKind → List DelayMoment → Step
 select_open p name s otherwise kinds moments =
     raise_if name (is_closed kinds otherwise) exception.Program
-    (looks (λ w. select_by_call p name s kinds (least_delay moments) otherwise (next_call p w (queues_of_accepts p w name (open_accepts kinds)))))
+    (looks (λ w. select_by_call p name s kinds (least_delay moments) otherwise
+    (next_call p w (queues_of_accepts p w name (open_accepts kinds)))))
 
 unfoldable pub selective_accept : Image → Who → StatementNo → List SelectAlternative → Option StatementNo → Step
 selective_accept p name s alternatives otherwise =
     sees p name (λ q. raise_if name (in_protected q.world name) exception.Program
-    (given Own name (open_alternatives q alternatives) (λ kinds. given Own name (open_delays q kinds) (select_open p name s otherwise kinds))))
+    (given Own name (open_alternatives q alternatives)
+    (λ kinds. given Own name (open_delays q kinds) (select_open p name s otherwise kinds))))
 
 -- ---- the end of an accept (9.5.2, 9.5.4)
 
@@ -266,7 +280,8 @@ gone_sent p c = gone p TheFinish c ▷ deliver p TheFinish c.number (call_ended.
 
 unfoldable pub meet_sent : Image → TaskNo → Call → Option StatementNo → Step
 meet_sent p t c (Some s) =
-    meet p TheFinish (who.Task t) s c (begin_abortable p c.number) (deliver p TheFinish c.number (call_ended.ToRaise exception.Storage))
+    meet p TheFinish (who.Task t) s c (begin_abortable p c.number)
+    (deliver p TheFinish c.number (call_ended.ToRaise exception.Storage))
 meet_sent p t c None = enqueue p c.number ▷ sent_not_begun p c.number
 
 unfoldable pub arrive_at : Image → TaskNo → Call → Bool → Step
@@ -282,7 +297,8 @@ unfoldable pub finish_accept : Image → Who → Call → Option Sending → Ste
 finish_accept p name c None =
     says TheFinish (line.Finish name c.number meeting.Ok) ▷ deliver p TheFinish c.number call_ended.Finished
 finish_accept p name c (Some s) =
-    says TheFinish (line.Finish name c.number meeting.Requeue) ▷ send_on c.number s ▷ with_call c.number (λ d. arrive p d d.owner)
+    says TheFinish (line.Finish name c.number meeting.Requeue) ▷ send_on c.number s
+    ▷ with_call c.number (λ d. arrive p d d.owner)
 
 -- an exception is raised in the caller too; where the acceptor is aborted the caller gets Tasking_Error
 unfoldable pub finish_rendezvous : Image → Who → Call → Leaving → Step

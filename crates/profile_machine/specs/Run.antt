@@ -45,11 +45,45 @@ abbrev pub agent_at_first : Image → Task
 agent_at_first p = new_task who.Agent (interrupt_priority p) (Blocked waits_for.Release)
 
 abbrev pub nothing_drawn : Drawn
-nothing_drawn = record { tasks = 1; objects = 0; calls = 0; regions = 0; controlled = 0; releases = 0; scopes = 0; events = 0 }
+nothing_drawn = record {
+  tasks = 1;
+  objects = 0;
+  calls = 0;
+  regions = 0;
+  controlled = 0;
+  releases = 0;
+  scopes = 0;
+  events = 0;
+}
 
 -- the world before the environment task is ready
 abbrev pub blank_world : Image → List (ℤ × Item) → World
-blank_world p script = record { time = 0; ran = None; script = script; ports = replicate (LAST_OUTSIDE_LINE + 1) (pos 0); masked = replicate (LAST_OUTSIDE_LINE + 1) false; kept_interrupts = replicate (LAST_OUTSIDE_LINE + 1) false; tasks = environment_task p ∷ []; agent = agent_at_first p; places = []; quanta = replicate (interrupt_priority p + 1) DEFAULT_QUANTUM; ended = None; scopes = []; objects = []; calls = []; appointments = []; timers = []; timers_set = []; timers_due = []; budgets = []; budget_due = None; registered = []; releases = []; serving = None; drawn = nothing_drawn }
+blank_world p script = record {
+  time = 0;
+  ran = None;
+  script = script;
+  ports = replicate (LAST_OUTSIDE_LINE + 1) (pos 0);
+  masked = replicate (LAST_OUTSIDE_LINE + 1) false;
+  kept_interrupts = replicate (LAST_OUTSIDE_LINE + 1) false;
+  tasks = environment_task p ∷ [];
+  agent = agent_at_first p;
+  places = [];
+  quanta = replicate (interrupt_priority p + 1) DEFAULT_QUANTUM;
+  ended = None;
+  scopes = [];
+  objects = [];
+  calls = [];
+  appointments = [];
+  timers = [];
+  timers_set = [];
+  timers_due = [];
+  budgets = [];
+  budget_due = None;
+  registered = [];
+  releases = [];
+  serving = None;
+  drawn = nothing_drawn;
+}
 
 abbrev pub environment : Who
 environment = who.Task (record { 0 = 0 })

@@ -106,7 +106,15 @@ scope_drawn d = record d { scopes = suc d.scopes }
 -- says, so a parameter beyond the last one is not kept
 abbrev pub begin_scope : Image → Who → ScopeNo → Beginning → World → World
 begin_scope p name scope b w =
-    let new : ScopeInUse = record { id = next_id w; scope = scope; outer = b.outer; owner = name; object = b.object; subject = b.subject; cells = put_cells 0 b.values (initial_cells (scope_of p scope)) } in
+    let new : ScopeInUse = record {
+      id = next_id w;
+      scope = scope;
+      outer = b.outer;
+      owner = name;
+      object = b.object;
+      subject = b.subject;
+      cells = put_cells 0 b.values (initial_cells (scope_of p scope));
+    } in
     record w { scopes = new ∷ w.scopes; drawn = scope_drawn w.drawn }
 
 -- a kept scope draws its region
@@ -121,7 +129,15 @@ abbrev pub region_of_next : Bool → World → Option RegionNo
 region_of_next kept w = then_some kept (record { 0 = suc w.drawn.regions })
 
 abbrev pub new_scope_mark : ScopeId → Option RegionNo → Purpose → Mark
-new_scope_mark id region purpose = Scope (record { within = id; region = region; being_left = false; handles = None; finalize_raised = false; purpose = purpose })
+new_scope_mark id region purpose =
+    Scope (record {
+      within = id;
+      region = region;
+      being_left = false;
+      handles = None;
+      finalize_raised = false;
+      purpose = purpose;
+    })
 
 -- a Scope is opened with what stands in it
 abbrev pub open_scope : Image → Who → ScopeNo → Beginning → Purpose → World → World

@@ -43,7 +43,8 @@ abbrev pub new_abortable_mark : StatementNo → Option CallNo → Mark
 new_abortable_mark select call = Abortable (record { select = select; call = call; triggered = false; waits = false })
 
 abbrev pub open_abortable : Image → Who → StatementNo → Option CallNo → World → World
-open_abortable p name select call = push name (new_frame (new_abortable_mark select call) (abortable_in (form_of p select)))
+open_abortable p name select call =
+    push name (new_frame (new_abortable_mark select call) (abortable_in (form_of p select)))
 
 -- ---- a call that is queued and was not accepted at once (9.7.2, 9.7.3, 9.7.4)
 
@@ -89,7 +90,13 @@ not_accepted p part c call_kind.Triggering = changes (open_abortable p (who.Task
 -- ---- a call is sent on (9.5.4)
 
 abbrev pub sent_call : Sending → Call → Call
-sent_call s c = record c { owner = s.owner; entry = s.entry; firm = not s.with_abort; sent_with_abort = c.sent_with_abort || s.with_abort; sending = None }
+sent_call s c = record c {
+  owner = s.owner;
+  entry = s.entry;
+  firm = not s.with_abort;
+  sent_with_abort = c.sent_with_abort || s.with_abort;
+  sending = None;
+}
 
 -- its new entry, and its `call` line
 unfoldable pub send_on : CallNo → Sending → Step
@@ -108,7 +115,8 @@ is_to_be_cancelled now c = not c.firm && (is_conditional c.kind || c.attempted |
 
 unfoldable pub cancel_sent : Image → Call → Step
 cancel_sent p c =
-    changes (unqueued p c) ▷ says TheFinish (line.Cancel c.caller c.number) ▷ deliver p TheFinish c.number call_ended.Cancelled
+    changes (unqueued p c) ▷ says TheFinish (line.Cancel c.caller c.number)
+    ▷ deliver p TheFinish c.number call_ended.Cancelled
 
 -- a triggering call whose abortable part has not begun, and whose cancellation was not attempted
 abbrev pub is_triggering : CallKind → Bool
@@ -126,7 +134,8 @@ may_begin_abortable w c =
 unfoldable pub begin_abortable : Image → CallNo → Step
 begin_abortable p c =
     with_call c (λ d. looks (λ w. when (may_begin_abortable w d)
-    (changes (open_abortable p (who.Task d.caller) d.statement (Some d.number)) ▷ ready p TheFinish (who.Task d.caller))))
+    (changes (open_abortable p (who.Task d.caller) d.statement (Some d.number))
+    ▷ ready p TheFinish (who.Task d.caller))))
 
 -- queued on: a timed call has its time-out again for its first moment
 abbrev pub timeout_again : Image → Call → World → World

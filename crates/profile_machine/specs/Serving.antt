@@ -70,7 +70,8 @@ abbrev pub may_open_abortable : World → Who → Call → Bool
 may_open_abortable w name c = is_triggering c.kind && c.sent_with_abort && not c.attempted && has_room w name 1 0
 
 unfoldable pub wait_or_unwind : Image → Who → Call → Bool → Step
-wait_or_unwind p name c true = attempt_with p Own c (changes (forget_call c.number) ▷ leaves name how.Abort) (wait_for_call c)
+wait_or_unwind p name c true =
+    attempt_with p Own c (changes (forget_call c.number) ▷ leaves name how.Abort) (wait_for_call c)
 wait_or_unwind p name c false = wait_for_call c
 
 unfoldable pub wait_for_own : Image → Who → Call → Bool → Step
@@ -91,7 +92,8 @@ behind_action p name m None (Some c) = with_call c (λ d. resume_own p name d d.
 unfoldable pub release_object : Image → Who → ProtectedMark → Step
 release_object p name m =
     says Own (line.Exit name m.object) ▷ changes (pop name) ▷ changes (close_action name m.object)
-    ▷ lose_running p name (inherited_by.Ceiling m.object) ▷ set_deferred p name ▷ behind_action p name m m.release m.own_call
+    ▷ lose_running p name (inherited_by.Ceiling m.object) ▷ set_deferred p name
+    ▷ behind_action p name m m.release m.own_call
 
 -- ---- the next call is served, or the object is released (9.5.3)
 
@@ -168,9 +170,11 @@ finish_raised p name m c e =
 
 unfoldable pub finish_well : Image → Who → ProtectedMark → Call → Option Sending → Step
 finish_well p name m c None =
-    says TheFinish (line.Finish name c.number meeting.Ok) ▷ deliver p TheFinish c.number call_ended.Finished ▷ serve_calls p name m None
+    says TheFinish (line.Finish name c.number meeting.Ok) ▷ deliver p TheFinish c.number call_ended.Finished
+    ▷ serve_calls p name m None
 finish_well p name m c (Some s) =
-    says TheFinish (line.Finish name c.number meeting.Requeue) ▷ send_on c.number s ▷ enqueue p c.number ▷ serve_calls p name m (Some c.number)
+    says TheFinish (line.Finish name c.number meeting.Requeue) ▷ send_on c.number s ▷ enqueue p c.number
+    ▷ serve_calls p name m (Some c.number)
 
 unfoldable pub finish_call : Image → Who → ProtectedMark → Leaving → Call → Step
 finish_call p name m (how.Exception e) c = finish_raised p name m c e

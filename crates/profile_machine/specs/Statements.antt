@@ -58,7 +58,8 @@ null p name s = goes name (next_of p s)
 -- the place of the target is found first, then the value
 unfoldable pub assign : Image → Who → StatementNo → VariableName → ExprNo → Step
 assign p name s target e =
-    sees p name (λ q. given Own name (variable q target >>= λ v. value q e >>= λ x. store p v x q.world) (λ next. changes (λ _. next) ▷ goes name (next_of p s)))
+    sees p name (λ q. given Own name (variable q target >>= λ v. value q e
+    >>= λ x. store p v x q.world) (λ next. changes (λ _. next) ▷ goes name (next_of p s)))
 
 -- the cells of a whole array
 abbrev pub cells_from : World → Variable → ℕ → List Value
@@ -69,11 +70,13 @@ copy_cells p target source w =
     edit_cells target.within (put_cells target.place (cells_from w source (declaration_of p source.declared).cells)) w
 
 abbrev pub array_copied : Image → Seen → ObjectName → ObjectName → Valued World
-array_copied p q target source = object_cell q target >>= λ t. object_cell q source >>= λ f. Ok (copy_cells p t f q.world)
+array_copied p q target source = object_cell q target >>= λ t. object_cell q source
+    >>= λ f. Ok (copy_cells p t f q.world)
 
 unfoldable pub assign_array : Image → Who → StatementNo → ObjectName → ObjectName → Step
 assign_array p name s target source =
-    sees p name (λ q. given Own name (array_copied p q target source) (λ next. changes (λ _. next) ▷ goes name (next_of p s)))
+    sees p name (λ q. given Own name (array_copied p q target source) (λ next. changes (λ _. next)
+    ▷ goes name (next_of p s)))
 
 -- ---- if and case (5.3, 5.4)
 
@@ -137,7 +140,8 @@ bounds_set q d reverse low high =
 
 unfoldable pub for_bounds : Image → Who → DeclNo → Bool → ExprNo → ExprNo → StatementNo → Step
 for_bounds p name d reverse low high turn =
-    sees p name (λ q. given Own name (bounds_set q d reverse low high) (λ next. changes (λ _. next) ▷ goes name (Some turn)))
+    sees p name (λ q. given Own name (bounds_set q d reverse low high) (λ next. changes (λ _. next)
+    ▷ goes name (Some turn)))
 
 -- the first turn finds an empty range
 abbrev pub is_past : Bool → Value → Value → Valued Bool
@@ -146,7 +150,8 @@ is_past true x last = is_less x last
 
 unfoldable pub first_turn : Image → Who → StatementNo → DeclNo → Bool → StatementNo → Step
 first_turn p name s d reverse body =
-    sees p name (λ q. given Own name (loop_cell q d 0 >>= λ x. loop_cell q d 1 >>= λ y. is_past reverse (read q.world x) (read q.world y))
+    sees p name (λ q. given Own name (loop_cell q d 0 >>= λ x. loop_cell q d 1
+    >>= λ y. is_past reverse (read q.world x) (read q.world y))
     (λ past. goes name (branch (not past) body (next_of p s))))
 
 -- the next value in the direction of the loop
@@ -167,7 +172,8 @@ advance name x reverse v body past false = changes (put x (stepped reverse v)) �
 -- a later turn: past the loop at the last value, else on to the next one
 unfoldable pub later_turn : Image → Who → StatementNo → DeclNo → Bool → StatementNo → Step
 later_turn p name s d reverse body =
-    sees p name (λ q. given Own name (loop_cell q d 0) (λ x. given Own name (loop_cell q d 1 >>= λ y. same_value (read q.world x) (read q.world y))
+    sees p name (λ q. given Own name (loop_cell q d 0) (λ x. given Own name (loop_cell q d 1
+    >>= λ y. same_value (read q.world x) (read q.world y))
     (advance name x reverse (read q.world x) body (next_of p s))))
 
 -- ---- exit (5.7)
@@ -185,7 +191,8 @@ exit_statement p name s loop (Some e) = sees p name (λ q. given Own name (condi
 unfoldable pub block_statement : Image → Who → StatementNo → ScopeNo → Step
 block_statement p name s scope =
     with_room name (marks_of p scope) (scope_of p scope).size
-    (goes name (next_of p s) ▷ looks (λ w. changes (open_scope p name scope (plainly (innermost w name)) (opened_for.Block s))))
+    (goes name (next_of p s)
+    ▷ looks (λ w. changes (open_scope p name scope (plainly (innermost w name)) (opened_for.Block s))))
 
 -- ---- raise (11.3)
 
@@ -215,7 +222,8 @@ raise_again p name scope = sees p name (λ q. given Own name (exception_handled 
 
 -- a task that waits for a moment blocks; where the moment is not in the future it goes to the tail (D.2.1)
 unfoldable pub wait_until : Image → Who → ℤ → Bool → Step
-wait_until p (who.Task t) until true = changes (appoint (due_for.Delay t) until) ▷ block TheBlock (who.Task t) waits_for.Moment
+wait_until p (who.Task t) until true = changes (appoint (due_for.Delay t) until)
+    ▷ block TheBlock (who.Task t) waits_for.Moment
 wait_until p (who.Task t) until false = to_tail p ThePlacing (who.Task t)
 wait_until p who.Agent until future = nothing
 
@@ -224,7 +232,8 @@ delay_to p name until = looks (λ w. wait_until p name until (int_lt (pos w.time
 
 unfoldable pub delay_until : Image → Who → StatementNo → Valued ℤ → Step
 delay_until p name s until =
-    looks (λ w. raise_if name (in_protected w name) exception.Program (given Own name until (λ m. goes name (next_of p s) ▷ delay_to p name m)))
+    looks (λ w. raise_if name (in_protected w name) exception.Program
+    (given Own name until (λ m. goes name (next_of p s) ▷ delay_to p name m)))
 
 -- a relative delay's moment
 abbrev pub from_now : World → ℤ → ℤ
@@ -247,4 +256,5 @@ text_of_pieces q (x ∷ xs) = piece_text q x >>= λ text. text_of_pieces q xs >>
 
 unfoldable pub put_line : Image → Who → StatementNo → List Piece → Step
 put_line p name s pieces =
-    sees p name (λ q. given Own name (text_of_pieces q pieces) (λ text. goes name (next_of p s) ▷ says Own (line.Put name text)))
+    sees p name (λ q. given Own name (text_of_pieces q pieces) (λ text. goes name (next_of p s)
+    ▷ says Own (line.Put name text)))

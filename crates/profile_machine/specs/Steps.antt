@@ -135,7 +135,8 @@ take_out who = without (λ x. same_who who x.who)
 
 -- the ready queues behind a line: `ready` places, `block` and `done` take out, no other line moves anybody
 abbrev pub places_after : Event → List Placed → List Placed
-places_after (written.Ready who level end deadline) places = put_at end (record { who = who; level = level; deadline = deadline }) (take_out who places)
+places_after (written.Ready who level end deadline) places =
+    put_at end (record { who = who; level = level; deadline = deadline }) (take_out who places)
 places_after (written.Block who waits) places = take_out who places
 places_after (written.Done task) places = take_out (Task task) places
 places_after _ places = places

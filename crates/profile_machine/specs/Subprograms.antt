@@ -52,7 +52,8 @@ abbrev pub hand_value : Value → Handed → Valued Handed
 hand_value v rest = Ok (record rest { values = v ∷ rest.values })
 
 abbrev pub hand_back : ℕ → Variable → Value → Handed → Valued Handed
-hand_back place target v rest = Ok (record rest { values = v ∷ rest.values; back = record { place = place; target = target } ∷ rest.back })
+hand_back place target v rest =
+    Ok (record rest { values = v ∷ rest.values; back = record { place = place; target = target } ∷ rest.back })
 
 abbrev pub hand_thing : Value → Located → Handed → Valued Handed
 hand_thing v l rest = Ok (record rest { values = v ∷ rest.values; subject = Some l })
@@ -60,7 +61,8 @@ hand_thing v l rest = Ok (record rest { values = v ∷ rest.values; subject = So
 -- one parameter, and then the others
 abbrev pub hand_over : Seen → ℕ → Formal → Actual → Valued Handed → Valued Handed
 hand_over q place f (actual.In e) rest = value q e >>= checked f.constraint >>= λ v. rest >>= hand_value v
-hand_over q place f (actual.InOut name) rest = variable q name >>= λ x. checked f.constraint (read q.world x) >>= λ v. rest >>= hand_back place x v
+hand_over q place f (actual.InOut name) rest = variable q name >>= λ x. checked f.constraint (read q.world x)
+    >>= λ v. rest >>= hand_back place x v
 hand_over q place f (actual.Out name) rest = variable q name >>= λ x. rest >>= hand_back place x f.initial
 hand_over q place f (actual.Thing d) rest = thing q d >>= λ v. located q d >>= λ l. rest >>= hand_thing v l
 
@@ -80,7 +82,14 @@ result_to q (destination.Return f) = Ok (bound_for.Return f)
 -- ---- the call of a subprogram that is no protected operation
 
 abbrev pub beginning_of : Seen → SubprogramNo → Handed → Beginning
-beginning_of q s h = record { outer = option_and_then (λ outer. home q.world outer q.within) (scope_of q.program (subprogram_of q.program s).scope).outer; object = None; subject = h.subject; values = h.values }
+beginning_of q s h = record {
+  outer =
+      option_and_then (λ outer. home q.world outer q.within)
+      (scope_of q.program (subprogram_of q.program s).scope).outer;
+  object = None;
+  subject = h.subject;
+  values = h.values;
+}
 
 unfoldable pub begin_body : Image → Who → StatementNo → SubprogramNo → Beginning → Handed → ResultTo → Step
 begin_body p name s f b h to =
@@ -89,7 +98,8 @@ begin_body p name s f b h to =
 -- a step with what a call hands over, and where its result goes
 abbrev pub handing : Image → Who → SubprogramNo → List Actual → Destination → (Handed → ResultTo → Step) → Step
 handing p name f actuals to step =
-    sees p name (λ q. given Own name (result_to q to) (λ r. given Own name (handed q 0 (subprogram_of p f).formals actuals) (λ h. step h r)))
+    sees p name (λ q. given Own name (result_to q to)
+    (λ r. given Own name (handed q 0 (subprogram_of p f).formals actuals) (λ h. step h r)))
 
 unfoldable pub call_subprogram : Image → Who → StatementNo → SubprogramNo → List Actual → Destination → Step
 call_subprogram p name s f actuals to =
@@ -141,7 +151,8 @@ ended_by_mark (InAssign m) = goes_further
 -- the call of the accept or entry body that a return ends
 abbrev pub call_that_returns : List Frame → Option CallNo
 call_that_returns [] = None
-call_that_returns (f ∷ fs) = elim (ended_by_mark f.mark) [ goes_further ↦ call_that_returns fs | serves_none ↦ None | serves_call c ↦ Some c ]
+call_that_returns (f ∷ fs) =
+    elim (ended_by_mark f.mark) [ goes_further ↦ call_that_returns fs | serves_none ↦ None | serves_call c ↦ Some c ]
 
 abbrev pub without_sending : Call → Call
 without_sending c = record c { sending = None }
@@ -163,7 +174,8 @@ cell_in cells place = slice_index_or cells place (Whole (pos 0))
 abbrev pub copy_parameters : Image → Who → List Value → List CopyBack → Step → Step
 copy_parameters p name cells [] step = step
 copy_parameters p name cells (b ∷ bs) step =
-    looks (λ w. given Own name (store p b.target (cell_in cells b.place) w) (λ next. changes (λ _. next) ▷ copy_parameters p name cells bs step))
+    looks (λ w. given Own name (store p b.target (cell_in cells b.place) w) (λ next. changes (λ _. next)
+    ▷ copy_parameters p name cells bs step))
 
 abbrev pub last_cell : List Value → Value
 last_cell cells = cell_in cells (length cells - 1)
@@ -187,4 +199,5 @@ store_result p name cells (bound_for.Return f) = return_result p name f (last_ce
 -- `cells` are those of the scope that has ended
 unfoldable pub end_subprogram : Image → Who → List Value → List CopyBack → ResultTo → Leaving → Step
 end_subprogram p name cells back to leaving =
-    raise_if name (falls_through leaving to) exception.Program (copy_parameters p name cells back (store_result p name cells to))
+    raise_if name (falls_through leaving to) exception.Program
+    (copy_parameters p name cells back (store_result p name cells to))

@@ -77,8 +77,15 @@ outer_of_task q u = option_and_then (λ outer. home q.world outer q.within) (sco
 abbrev pub created_task : Seen → DeclNo → TaskUnitNo → ℕ → Option ℤ → ℕ → world.Task
 created_task q d u declarative_part span n =
     let unit = task_unit_of q.program u in
-    record (new_task (who.Task (record { 0 = n })) (unwrap_or unit.priority (task_of q.world q.who).base) Made)
-    { declared = Some d; unit = Some u; outer = outer_of_task q unit; relative_deadline = span; master = Some (top_region q.world q.who); declarative_part = declarative_part; queues = no_calls unit.entries }
+    record (new_task (who.Task (record { 0 = n })) (unwrap_or unit.priority (task_of q.world q.who).base) Made) {
+      declared = Some d;
+      unit = Some u;
+      outer = outer_of_task q unit;
+      relative_deadline = span;
+      master = Some (top_region q.world q.who);
+      declarative_part = declarative_part;
+      queues = no_calls unit.entries;
+    }
 
 abbrev pub task_drawn : Drawn → Drawn
 task_drawn d = record d { tasks = suc d.tasks }
@@ -93,16 +100,21 @@ says_created d t =
 unfoldable pub create_task : Image → Who → StatementNo → DeclNo → Option ScopeId → world.Task → Step
 create_task p name s d id t =
     goes name (next_of p s) ▷ changes (add_task t)
-    ▷ for_some id (λ within. looks (λ w. changes (set_thing p (record { within = within; declared = d }) (value_of.Task (Some (record { 0 = w.drawn.tasks - 1 }))))))
+    ▷ for_some id (λ within. looks (λ w. changes (set_thing p (record {
+      within = within;
+      declared = d;
+    }) (value_of.Task (Some (record { 0 = w.drawn.tasks - 1 }))))))
     ▷ says_created d t
 
--- Program_Error inside a protected action and wherever abort is deferred; Storage_Error while so many tasks are live (own)
+-- Program_Error inside a protected action and wherever abort is deferred; Storage_Error while so many tasks are live
+-- (own)
 unfoldable pub create : Image → Who → StatementNo → DeclNo → ℕ → Step
 create p name s d declarative_part =
     sees p name (λ q. raise_if name (in_protected q.world name || is_deferred q.world name) exception.Program
     (raise_if name (leb MOST_LIVE_TASKS (length q.world.tasks)) exception.Storage
     (given Own name (optional_span q (task_unit_of p (unit_of_declaration p d)).relative_deadline) (λ span.
-    create_task p name s d (home q.world (declaration_of p d).scope q.within) (created_task q d (unit_of_declaration p d) declarative_part span q.world.drawn.tasks)))))
+    create_task p name s d (home q.world (declaration_of p d).scope q.within)
+    (created_task q d (unit_of_declaration p d) declarative_part span q.world.drawn.tasks)))))
 
 -- the region of the scope on top; a sequence with handlers may stand above it
 abbrev pub region_of_frames : List Frame → Option RegionNo
@@ -119,7 +131,8 @@ fall_from p name before = looks (λ w. when (falls p name before w) (to_head p T
 -- ---- activation (9.2): the tasks that the declarative part made become ready in order
 
 abbrev pub is_to_activate : RegionNo → ℕ → world.Task → Bool
-is_to_activate r declarative_part t = is_made t && is_the same_region t.master r && eqb t.declarative_part declarative_part
+is_to_activate r declarative_part t = is_made t && is_the same_region t.master r
+    && eqb t.declarative_part declarative_part
 
 abbrev pub unit_of_task : Image → world.Task → TaskUnit
 unit_of_task p t = task_unit_of p (unwrap_or t.unit (record { 0 = 0 }))
@@ -130,12 +143,16 @@ deadline_at now None old_deadline = old_deadline
 deadline_at now (Some span) old_deadline = held_moment (pos now +ℤ span)
 
 abbrev pub activated_task : Who → ℕ → world.Task → world.Task
-activated_task activator now t = record t { activator = Some activator; deadline = deadline_at now t.relative_deadline t.deadline }
+activated_task activator now t = record t {
+  activator = Some activator;
+  deadline = deadline_at now t.relative_deadline t.deadline;
+}
 
 unfoldable pub begin_task : Image → Who → ℕ → world.Task → Step
 begin_task p activator level t =
     looks (λ w. changes (open_scope p t.who (unit_of_task p t).scope (plainly t.outer) opened_for.Task)
-    ▷ changes (edit_task t.who (activated_task activator w.time)) ▷ changes (inherit t.who inherited_by.Activation level) ▷ ready p (OfOther t.who) t.who)
+    ▷ changes (edit_task t.who (activated_task activator w.time))
+    ▷ changes (inherit t.who inherited_by.Activation level) ▷ ready p (OfOther t.who) t.who)
 
 -- a task without room prints `raise` and `done`, and counts as failed
 unfoldable pub says_done : Part → Who → Step
@@ -167,13 +184,15 @@ no_failure t = record t { group_failed = false }
 unfoldable pub activate_group : Image → Who → StatementNo → ℕ → Step
 activate_group p name s declarative_part =
     looks (λ w. goes name (next_of p s) ▷ changes (edit_task name no_failure)
-    ▷ for_each (filter (is_to_activate (top_region_of_scope w name) declarative_part) w.tasks) (activate_one p name (active_of p w name)))
+    ▷ for_each (filter (is_to_activate (top_region_of_scope w name) declarative_part) w.tasks)
+    (activate_one p name (active_of p w name)))
     ▷ looks (λ w. await_group name (has_activating w name) (task_of w name).group_failed)
 
 -- Program_Error where no task may be created either (own)
 unfoldable pub activate : Image → Who → StatementNo → ℕ → Step
 activate p name s declarative_part =
-    looks (λ w. raise_if name (in_protected w name || is_deferred w name) exception.Program (activate_group p name s declarative_part))
+    looks (λ w. raise_if name (in_protected w name
+    || is_deferred w name) exception.Program (activate_group p name s declarative_part))
 
 -- the end of a task's own activation: it goes to the head where its active priority falls
 unfoldable pub end_own_activation : Image → Who → StatementNo → Step
@@ -264,8 +283,10 @@ end_body p name leaving normally = elim (is_normal leaving) [ true ↦ normally 
 
 unfoldable pub behind_scope : Image → Who → Purpose → List Value → Leaving → Step
 behind_scope p name (opened_for.Block s) cells leaving = pass_on p name leaving
-behind_scope p name (opened_for.Subprogram back to) cells leaving = end_body p name leaving (end_subprogram p name cells back to leaving)
-behind_scope p name (opened_for.EntryBody c) cells leaving = end_body p name leaving (end_body_of_entry p c cells leaving)
+behind_scope p name (opened_for.Subprogram back to) cells leaving =
+    end_body p name leaving (end_subprogram p name cells back to leaving)
+behind_scope p name (opened_for.EntryBody c) cells leaving =
+    end_body p name leaving (end_body_of_entry p c cells leaving)
 behind_scope p name opened_for.Task cells leaving = end_task p name leaving
 
 -- Program_Error where a Finalize raised, unless the scope was left by abort or a terminate alternative (7.6.1)
@@ -285,7 +306,8 @@ left_by m leaving = cond (raises_behind m leaving) (how.Exception exception.Prog
 
 unfoldable pub says_left : Who → ScopeMark → Leaving → Step
 says_left name m leaving =
-    for_some m.region (λ r. says Own (line.Left name r)) ▷ when (raises_behind m leaving) (says Own (line.Raise name exception.Program))
+    for_some m.region (λ r. says Own (line.Left name r))
+    ▷ when (raises_behind m leaving) (says Own (line.Raise name exception.Program))
 
 unfoldable pub end_of_scope : Image → Who → ScopeMark → Leaving → Step
 end_of_scope p name m leaving =
@@ -312,7 +334,8 @@ named_tasks q [] = Ok []
 named_tasks q (d ∷ ds) = thing q d >>= λ v. named_tasks q ds >>= λ rest. Ok (cons_option (task_in v) rest)
 
 abbrev pub is_to_abort : World → List TaskNo → world.Task → Bool
-is_to_abort w aborted t = not t.abnormal && list_any (λ n. same_who (who.Task n) t.who || depends_on_task w (who.Task n) t) aborted
+is_to_abort w aborted t = not t.abnormal
+    && list_any (λ n. same_who (who.Task n) t.who || depends_on_task w (who.Task n) t) aborted
 
 abbrev pub abnormal_task : world.Task → world.Task
 abnormal_task t = record t { abnormal = true }
@@ -337,12 +360,14 @@ unwind_one p actor t = unwind_by p t.who (same_who actor t.who)
 
 unfoldable pub abort_all : Image → Who → List world.Task → Step
 abort_all p actor tasks =
-    for_each tasks (λ t. changes (edit_task t.who abnormal_task)) ▷ for_each tasks (abort_one p actor) ▷ for_each tasks (unwind_one p actor)
+    for_each tasks (λ t. changes (edit_task t.who abnormal_task)) ▷ for_each tasks (abort_one p actor)
+    ▷ for_each tasks (unwind_one p actor)
 
 unfoldable pub abort_statement : Image → Who → StatementNo → List DeclNo → Step
 abort_statement p name s tasks =
     sees p name (λ q. raise_if name (in_protected q.world name) exception.Program
-    (given Own name (named_tasks q tasks) (λ aborted. goes name (next_of p s) ▷ looks (λ w. abort_all p name (filter (is_to_abort w aborted) w.tasks)))))
+    (given Own name (named_tasks q tasks) (λ aborted. goes name (next_of p s)
+    ▷ looks (λ w. abort_all p name (filter (is_to_abort w aborted) w.tasks)))))
 
 -- ---- what an effect brings about elsewhere
 
@@ -354,7 +379,8 @@ block_at_terminate name (Some waiting) = when (waits_at_terminate (Some waiting)
 -- tasks at open terminate alternatives that may end become ready, in order of number
 unfoldable pub take_terminates : Image → Who → Step
 take_terminates p actor =
-    looks (λ w. for_each (filter (may_terminate w) w.tasks) (leave_by_terminate p actor)) ▷ looks (λ w. block_at_terminate actor (waiting_of w actor))
+    looks (λ w. for_each (filter (may_terminate w) w.tasks) (leave_by_terminate p actor))
+    ▷ looks (λ w. block_at_terminate actor (waiting_of w actor))
 
 -- tasks whose struck constructs may be left now
 unfoldable pub unwind_all : Image → Who → Step

@@ -14,7 +14,32 @@ use Rattle.profile_machine.specs.Words.{same_who, set_where}
 
 -- a task, or the agent, as it begins
 abbrev pub new_task : Who → ℕ → State → Task
-new_task name base state = record { who = name; declared = None; unit = None; outer = None; state = state; frames = []; ticks_left = None; base = base; inherited = []; kept_level = None; deadline = TIME_LAST; relative_deadline = None; quantum = 0; cpu_ticks = 0; master = None; declarative_part = 0; activator = None; group_failed = false; completed = false; abnormal = false; deferred_base = None; deferred_deadline = None; budget = None; queues = [] }
+new_task name base state = record {
+  who = name;
+  declared = None;
+  unit = None;
+  outer = None;
+  state = state;
+  frames = [];
+  ticks_left = None;
+  base = base;
+  inherited = [];
+  kept_level = None;
+  deadline = TIME_LAST;
+  relative_deadline = None;
+  quantum = 0;
+  cpu_ticks = 0;
+  master = None;
+  declarative_part = 0;
+  activator = None;
+  group_failed = false;
+  completed = false;
+  abnormal = false;
+  deferred_base = None;
+  deferred_deadline = None;
+  budget = None;
+  queues = [];
+}
 
 -- ---- looking
 

@@ -85,7 +85,8 @@ wake_and_leave p part name = stop_waiting p part name ▷ leave_by_abort name
 
 -- who waits for a call tries to cancel it, and waits on where that fails
 unfoldable pub unwind_blocked : Image → Part → Who → Waiting → Step
-unwind_blocked p part name (waits_for.Call c) = attempt p part c (changes (forget_call c) ▷ wake_and_leave p part name) nothing
+unwind_blocked p part name (waits_for.Call c) =
+    attempt p part c (changes (forget_call c) ▷ wake_and_leave p part name) nothing
 unwind_blocked p part name (waits_for.EndOfCall c) = nothing
 unwind_blocked p part name waits_for.Activation = wake_and_leave p part name
 unwind_blocked p part name waits_for.Moment = wake_and_leave p part name

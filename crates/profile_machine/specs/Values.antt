@@ -144,11 +144,16 @@ is_parameter p d = is_parameter_kind (declaration_of p d).kind
 abbrev pub located : Seen → DeclNo → Valued Located
 located q d =
     home_of q d >>= λ id. declared_already (first_cell q d id) >>= λ v.
-    Ok (cond (is_parameter q.program d) (located_in d id (subject_of (scope_in_use q.world id))) (record { within = id; declared = d }))
+    Ok (cond (is_parameter q.program d) (located_in d id (subject_of (scope_in_use q.world id)))
+    (record { within = id; declared = d }))
 
 -- the place of the first cell of a component: behind the cells that its object has of its own
 abbrev pub component_at : Image → ℕ → Located → DeclNo → Variable
-component_at p own_cells object component = record { within = object.within; place = (declaration_of p object.declared).place + own_cells + (declaration_of p component).place; declared = component }
+component_at p own_cells object component = record {
+  within = object.within;
+  place = (declaration_of p object.declared).place + own_cells + (declaration_of p component).place;
+  declared = component;
+}
 
 abbrev pub component_of_own : Image → DeclNo → Option Object → Valued Variable
 component_of_own p component None = misfit
@@ -156,8 +161,10 @@ component_of_own p component (Some o) = Ok (component_at p PROTECTED_CELLS o.loc
 
 -- the first cell of the object that has this name
 abbrev pub object_cell : Seen → ObjectName → Valued Variable
-object_cell q (Declared d) = home_of q d >>= λ id. Ok (record { within = id; place = (declaration_of q.program d).place; declared = d })
-object_cell q (OwnComponent u component) = component_of_own q.program component (option_and_then (object_of q.world) (own_object q u))
+object_cell q (Declared d) = home_of q d
+    >>= λ id. Ok (record { within = id; place = (declaration_of q.program d).place; declared = d })
+object_cell q (OwnComponent u component) =
+    component_of_own q.program component (option_and_then (object_of q.world) (own_object q u))
 object_cell q (Component d component) = located q d >>= λ l. Ok (component_at q.program CONTROLLED_CELLS l component)
 
 abbrev pub shifted : ℕ → Variable → Variable
@@ -166,7 +173,8 @@ shifted by v = record v { place = v.place + by }
 -- the component of an array with this index (4.1.1)
 abbrev pub component_cell : Seen → Variable → Value → Valued Variable
 component_cell q v index =
-    or_misfit ((declaration_of q.program v.declared).index) >>= λ range. component_place range index >>= λ at. Ok (shifted at v)
+    or_misfit ((declaration_of q.program v.declared).index) >>= λ range. component_place range index
+    >>= λ at. Ok (shifted at v)
 
 abbrev pub indexed : (ExprNo → Valued Value) → Seen → Option ExprNo → Variable → Valued Variable
 indexed value q None v = Ok v
@@ -229,7 +237,9 @@ budget_of w b = slice_index_or w.budgets b no_budget
 
 -- the value of a port; they are numbered from 0
 abbrev pub port_value : World → Value → Valued Value
-port_value w (Whole n) = unless (int_le (pos 0) n && int_le n (pos LAST_OUTSIDE_LINE)) exception.Constraint (Whole (slice_index_or w.ports (nat_abs n) (pos 0)))
+port_value w (Whole n) =
+    unless (int_le (pos 0) n
+    && int_le n (pos LAST_OUTSIDE_LINE)) exception.Constraint (Whole (slice_index_or w.ports (nat_abs n) (pos 0)))
 port_value w _ = misfit
 
 -- ---- 'Count (9.9): of the object in whose body the name stands, or of the task that runs
@@ -276,7 +286,8 @@ form_value value q (of.TimeOfEvent d) = number_of_thing q d >>= λ n. Ok (Ticks 
 form_value value q (of.TimeRemaining d) =
     number_of_thing q d >>= λ n. live_task q.world (Some (timer_of q.world n).task) >>= λ t.
     Ok (Ticks (time_left (timer_of q.world n).setting t.cpu_ticks))
-form_value value q (of.BudgetHasExpired d) = number_of_thing q d >>= λ n. Ok (Truth (int_le (budget_of q.world n).remaining (pos 0)))
+form_value value q (of.BudgetHasExpired d) = number_of_thing q d
+    >>= λ n. Ok (Truth (int_le (budget_of q.world n).remaining (pos 0)))
 form_value value q (of.BudgetRemaining d) = number_of_thing q d >>= λ n. Ok (Ticks (budget_of q.world n).remaining)
 form_value value q (of.PortValue n) = value n >>= port_value q.world
 

@@ -71,7 +71,8 @@ is_at_active p w x =
 
 abbrev pub places_are_right : Image → World → Bool
 places_are_right p w =
-    ready_are_placed w && all_differ (λ x y. same_who x.who y.who) w.places && all_adjacent (λ x y. not (is_above y x)) w.places
+    ready_are_placed w && all_differ (λ x y. same_who x.who y.who) w.places
+    && all_adjacent (λ x y. not (is_above y x)) w.places
     && list_all (is_at_active p w) w.places
 
 -- ---- numbers: tasks by number, and below those that were drawn
@@ -82,11 +83,13 @@ number_in who.Agent = 0
 
 abbrev pub tasks_are_numbered : World → Bool
 tasks_are_numbered w =
-    all_adjacent (λ a b. ltb (number_in a.who) (number_in b.who)) w.tasks && list_all (λ t. ltb (number_in t.who) w.drawn.tasks) w.tasks
+    all_adjacent (λ a b. ltb (number_in a.who) (number_in b.who)) w.tasks
+    && list_all (λ t. ltb (number_in t.who) w.drawn.tasks) w.tasks
 
 abbrev pub registered_are_numbered : World → Bool
 registered_are_numbered w =
-    all_adjacent (λ a b. ltb b.object a.object) w.registered && list_all (λ r. leb r.object w.drawn.controlled) w.registered
+    all_adjacent (λ a b. ltb b.object a.object) w.registered
+    && list_all (λ r. leb r.object w.drawn.controlled) w.registered
 
 abbrev pub releases_are_numbered : World → Bool
 releases_are_numbered w = all_adjacent (λ a b. eqb (suc a.number) b.number) w.releases
@@ -97,7 +100,15 @@ abbrev pub is_older : ScopeId → ScopeId → Bool
 is_older a b = ltb a.0 b.0
 
 abbrev pub has_scope : World → Who → Frame → Bool
-has_scope w name f = elim (id_in f.mark) [ None ↦ true | Some id ↦ elim (scope_in_use w id) [ None ↦ false | Some s ↦ same_who s.owner name ] ]
+has_scope w name f =
+    elim (id_in f.mark) [
+      | None ↦ true
+      | Some id ↦ elim (scope_in_use w id) [
+        | None ↦ false
+        | Some s ↦ same_who
+            s.owner name
+      ]
+    ]
 
 abbrev pub frames_with_scopes : List Frame → ℕ
 frames_with_scopes frames = length (filter (λ f. is_some (id_in f.mark)) frames)
@@ -108,7 +119,8 @@ scopes_counted (t ∷ ts) = frames_with_scopes t.frames + scopes_counted ts
 
 abbrev pub scopes_are_right : World → Bool
 scopes_are_right w =
-    all_adjacent (λ a b. is_older b.id a.id) w.scopes && list_all (λ t. list_all (has_scope w t.who) t.frames) (everybody w)
+    all_adjacent (λ a b. is_older b.id a.id) w.scopes
+    && list_all (λ t. list_all (has_scope w t.who) t.frames) (everybody w)
     && eqb (length w.scopes) (scopes_counted (everybody w))
 
 -- a scope in use has as many cells as its text, so a cell that a name leads to is there
@@ -136,14 +148,16 @@ has_action_mark o t = list_any (λ f. is_mark_of o f.mark) t.frames
 
 abbrev pub holds_rightly : Image → World → Object → Action → Bool
 holds_rightly p w o a =
-    has_action_mark o.number (task_of w a.who) && is_runnable (task_of w a.who) && leb o.ceiling (active p (task_of w a.who))
+    has_action_mark o.number (task_of w a.who) && is_runnable (task_of w a.who)
+    && leb o.ceiling (active p (task_of w a.who))
 
 abbrev pub has_action : World → Who → Frame → Bool
 has_action w name f = list_all (λ o. cond (is_mark_of o.number f.mark) (has_open name o.actions) true) w.objects
 
 abbrev pub actions_are_right : Image → World → Bool
 actions_are_right p w =
-    list_all (λ o. list_all (holds_rightly p w o) o.actions) w.objects && list_all (λ t. list_all (has_action w t.who) t.frames) (everybody w)
+    list_all (λ o. list_all (holds_rightly p w o) o.actions) w.objects
+    && list_all (λ t. list_all (has_action w t.who) t.frames) (everybody w)
 
 -- ---- calls: what stands in a queue is a call on that entry which has not begun; a task that is not there has none
 
@@ -175,9 +189,11 @@ queues_are_right p w =
     && list_all (λ o. queues_from p w (owned_by.Object o.number) 0 o.queues) w.objects
     && all_adjacent (λ a b. ltb b.number.0 a.number.0) w.calls
 
--- ---- appointments: by moment, and none of them before now; whatever one is for waits for it, so none comes for nothing
+-- ---- appointments: by moment, and none of them before now; whatever one is for waits for it, so none comes for
+-- nothing
 
--- a delay's task is blocked for that delay: it waits for the moment, or at a select whose delay alternative is to be taken
+-- a delay's task is blocked for that delay: it waits for the moment, or at a select whose delay alternative is to be
+-- taken
 abbrev pub waits_for_delay : Option Waiting → Bool
 waits_for_delay None = false
 waits_for_delay (Some waits_for.Activation) = false
@@ -213,13 +229,15 @@ is_awaited p w (due_for.Trigger t depth) = awaits_trigger_at depth (frames_of w 
 
 abbrev pub appointments_are_right : Image → World → Bool
 appointments_are_right p w =
-    all_adjacent (λ a b. int_le a.moment b.moment) w.appointments && list_all (λ a. int_le (pos w.time) a.moment) w.appointments
+    all_adjacent (λ a b. int_le a.moment b.moment) w.appointments
+    && list_all (λ a. int_le (pos w.time) a.moment) w.appointments
     && list_all (λ a. is_awaited p w a.due) w.appointments
 
--- ---- marks: each is struck for a cause of its own task, and each Finalize stands where its end leads on (7.6.1, 9.7.4, 9.8)
+-- ---- marks: each is struck for a cause of its own task, and each Finalize stands where its end leads on (7.6.1,
+-- 9.7.4, 9.8)
 
--- a struck mark is the outermost one of an abnormal task, or an abortable part of it whose trigger has completed, so what
--- is left by abort is what was struck
+-- a struck mark is the outermost one of an abnormal task, or an abortable part of it whose trigger has completed, so
+-- what is left by abort is what was struck
 abbrev pub is_triggered : Mark → Bool
 is_triggered (Scope m) = false
 is_triggered (Handled s) = false
@@ -233,10 +251,11 @@ is_triggered (InAssign m) = false
 abbrev pub is_struck_rightly : Task → Frame → List Frame → Bool
 is_struck_rightly t f below = cond f.struck (is_triggered f.mark || (is_empty below && t.abnormal)) true
 
--- an InFinalize mark stands on the scope that is being left, and its object has been taken out of the register; or on the
--- assignment to its object, which stays registered. So an exception of it has a scope or an assignment to go to.
+-- an InFinalize mark stands on the scope that is being left, and its object has been taken out of the register; or on
+-- the assignment to its object, which stays registered. So an exception of it has a scope or an assignment to go to.
 abbrev pub finalizes_on : World → ℕ → Mark → Bool
-finalizes_on w n (Scope m) = m.being_left && is_some m.region && is_none (registered_object w n) && leb n w.drawn.controlled
+finalizes_on w n (Scope m) = m.being_left && is_some m.region && is_none (registered_object w n)
+    && leb n w.drawn.controlled
 finalizes_on w n (Handled s) = false
 finalizes_on w n (InProtected m) = false
 finalizes_on w n (InAccept m) = false
@@ -282,8 +301,10 @@ sequences_are_open p w = list_all (has_opened p w) (everybody w)
 
 abbrev pub is_well_formed : Image → World → Bool
 is_well_formed p w =
-    places_are_right p w && tasks_are_numbered w && registered_are_numbered w && releases_are_numbered w && scopes_are_right w
-    && cells_are_right p w && actions_are_right p w && queues_are_right p w && appointments_are_right p w && marks_are_right w
+    places_are_right p w && tasks_are_numbered w && registered_are_numbered w && releases_are_numbered w
+    && scopes_are_right w
+    && cells_are_right p w && actions_are_right p w && queues_are_right p w && appointments_are_right p w
+    && marks_are_right w
     && sequences_are_open p w
 
 -- now never passes the bound

@@ -43,10 +43,15 @@ is_robin Edf = false
 
 -- a whole key: its quantum falls on a level of any kind, since a task may run at an inherited one
 abbrev pub any_discipline : LevelKind → Discipline AnyKey
-any_discipline kind = record { rank = rank_by kind; after_tick = λ key. record key { quantum = key.quantum - 1 }; is_spent = λ key. if is_robin kind then key.quantum == 0 else false }
+any_discipline kind = record {
+  rank = rank_by kind;
+  after_tick = λ key. record key { quantum = key.quantum - 1 };
+  is_spent = λ key. if is_robin kind then key.quantum == 0 else false;
+}
 
 -- the quantum is no part of a rank
-pub rank_by-after_tick : (kind : LevelKind) (key : AnyKey) → rank_by kind (record key { quantum = key.quantum - 1 }) ≡ rank_by kind key
+pub rank_by-after_tick : (kind : LevelKind) (key : AnyKey)
+    → rank_by kind (record key { quantum = key.quantum - 1 }) ≡ rank_by kind key
 rank_by-after_tick Fifo key = refl
 rank_by-after_tick Robin key = refl
 rank_by-after_tick Edf key = refl

@@ -18,7 +18,8 @@ is_ahead_inside deadline p (e ∷ es) = (not (e.0 == p) || int_lt deadline e.1) 
 -- the deadline is earlier than those of all ready tasks at levels of the range below p
 abbrev pub is_ahead_ready : ℕ → ℤ → ℕ → List Dated → Bool
 is_ahead_ready low deadline p [] = true
-is_ahead_ready low deadline p (e ∷ es) = (not (nat_le low e.0 && nat_lt e.0 p) || int_lt deadline e.1) && is_ahead_ready low deadline p es
+is_ahead_ready low deadline p (e ∷ es) = (not (nat_le low e.0 && nat_lt e.0 p) || int_lt deadline e.1)
+    && is_ahead_ready low deadline p es
 
 -- p may preempt: it is below the base priority, somebody is inside an object of that ceiling, and the deadline is
 -- earlier than all that stand in the way
@@ -37,11 +38,15 @@ pub record IsEdfLevel (low base inherited : ℕ) (deadline : ℤ) (inside ready 
 
 -- the same by computing: the tasks inside objects are gone through, each with its ceiling
 abbrev pub may_preempt : ℕ → ℕ → ℤ → List Dated → List Dated → ℕ → Bool
-may_preempt low base deadline inside ready p = nat_lt p base && (is_ahead_inside deadline p inside && is_ahead_ready low deadline p ready)
+may_preempt low base deadline inside ready p = nat_lt p base
+    && (is_ahead_inside deadline p inside && is_ahead_ready low deadline p ready)
 
 abbrev pub raised_by : ℕ → ℕ → ℤ → List Dated → List Dated → ℕ → List Dated → ℕ
 raised_by low base deadline inside ready level [] = level
-raised_by low base deadline inside ready level (e ∷ es) = raised_by low base deadline inside ready (if may_preempt low base deadline inside ready e.0 then max level e.0 else level) es
+raised_by low base deadline inside ready level (e ∷ es) =
+    raised_by low base deadline inside ready (if may_preempt low base deadline inside ready e.0 then max level e.0
+    else level) es
 
 abbrev pub edf_level_of : ℕ → ℕ → ℕ → ℤ → List Dated → List Dated → ℕ
-edf_level_of low base inherited deadline inside ready = raised_by low base deadline inside ready (max low inherited) inside
+edf_level_of low base inherited deadline inside ready =
+    raised_by low base deadline inside ready (max low inherited) inside

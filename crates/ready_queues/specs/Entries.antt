@@ -29,12 +29,14 @@ key_of t (e ∷ es) = if e.0.0 == t.0 then Some e.1 else key_of t es
 -- t behind all whose rank is not greater, and before the others
 abbrev pub placed_tail : {K : Type 0} → (K → ℤ) → Slot → K → List (Entry K) → List (Entry K)
 placed_tail rank t key [] = (t, key) ∷ []
-placed_tail rank t key (e ∷ es) = if int_lt (rank key) (rank e.1) then (t, key) ∷ e ∷ es else e ∷ placed_tail rank t key es
+placed_tail rank t key (e ∷ es) = if int_lt (rank key) (rank e.1) then (t, key) ∷ e ∷ es
+    else e ∷ placed_tail rank t key es
 
 -- t before all whose rank is not smaller, and behind the others
 abbrev pub placed_head : {K : Type 0} → (K → ℤ) → Slot → K → List (Entry K) → List (Entry K)
 placed_head rank t key [] = (t, key) ∷ []
-placed_head rank t key (e ∷ es) = if int_lt (rank e.1) (rank key) then e ∷ placed_head rank t key es else (t, key) ∷ e ∷ es
+placed_head rank t key (e ∷ es) = if int_lt (rank e.1) (rank key) then e ∷ placed_head rank t key es
+    else (t, key) ∷ e ∷ es
 
 -- the others, in their order
 abbrev pub removed : {K : Type 0} → Slot → List (Entry K) → List (Entry K)

@@ -35,10 +35,12 @@ discipline_at level disciplines = slice_index_or disciplines level no_discipline
 
 -- t put at the tail, or at the head, of its rank on a level; the other lists stay
 abbrev pub tail_at : {K : Type 0} → List (Discipline K) → ℕ → Slot → K → List (List (Entry K)) → List (List (Entry K))
-tail_at disciplines level t key lists = slice_set lists level (placed_tail (discipline_at level disciplines).rank t key (entries_at level lists))
+tail_at disciplines level t key lists =
+    slice_set lists level (placed_tail (discipline_at level disciplines).rank t key (entries_at level lists))
 
 abbrev pub head_at : {K : Type 0} → List (Discipline K) → ℕ → Slot → K → List (List (Entry K)) → List (List (Entry K))
-head_at disciplines level t key lists = slice_set lists level (placed_head (discipline_at level disciplines).rank t key (entries_at level lists))
+head_at disciplines level t key lists =
+    slice_set lists level (placed_head (discipline_at level disciplines).rank t key (entries_at level lists))
 
 -- t out of every list
 abbrev pub out_of_all : {K : Type 0} → Slot → List (List (Entry K)) → List (List (Entry K))
@@ -47,7 +49,8 @@ out_of_all t (es ∷ higher) = removed t es ∷ out_of_all t higher
 
 -- one tick charged to t where it stands
 abbrev pub charged_at : {K : Type 0} → List (Discipline K) → ℕ → Slot → List (List (Entry K)) → List (List (Entry K))
-charged_at disciplines level t lists = slice_set lists level (rekeyed (discipline_at level disciplines).after_tick t (entries_at level lists))
+charged_at disciplines level t lists =
+    slice_set lists level (rekeyed (discipline_at level disciplines).after_tick t (entries_at level lists))
 
 -- whether the quantum of t is spent there
 abbrev pub is_spent_on : {K : Type 0} → List (Discipline K) → ℕ → Slot → List (List (Entry K)) → Bool
@@ -65,7 +68,8 @@ is_place level (Some place) = level == place
 
 -- the table of slots tells of each where it stands
 abbrev pub Agrees : {K : Type 0} → List (List (Entry K)) → List (Option ℕ) → Type 0
-Agrees lists places = (t : Slot) → IsSlot t → (level : ℕ) → holds t (entries_at level lists) ≡ is_place level (slice_index_or places t.0 None)
+Agrees lists places = (t : Slot) → IsSlot t → (level : ℕ)
+    → holds t (entries_at level lists) ≡ is_place level (slice_index_or places t.0 None)
 
 -- each list is ordered as its level says
 abbrev pub AreOrdered : {K : Type 0} → List (Discipline K) → List (List (Entry K)) → Type 0
@@ -77,7 +81,8 @@ AreEmpty [] = Unit {0}
 AreEmpty (es ∷ higher) = (es ≡ []) × AreEmpty higher
 
 -- what the table of levels keeps: all levels, a place for each slot, and both say the same
-pub record IsTable {K : Type 0} (disciplines : List (Discipline K)) (lists : List (List (Entry K))) (places : List (Option ℕ)) : Type 0 where
+pub record IsTable {K : Type 0} (disciplines : List (Discipline K)) (lists : List (List (Entry K)))
+    (places : List (Option ℕ)) : Type 0 where
   pub levels : length lists ≡ LEVELS
   pub slots : length places ≡ SLOTS
   pub agrees : Agrees lists places

@@ -1,5 +1,5 @@
--- A tick is charged to who has it (D.14): the clock of the task that runs rises by one, and the budget of its group falls by one
--- where it is positive. No other clock and no other budget changes; the agent is charged nothing (own).
+-- A tick is charged to who has it (D.14): the clock of the task that runs rises by one, and the budget of its group
+-- falls by one where it is positive. No other clock and no other budget changes; the agent is charged nothing (own).
 use Rattle.std.specs.Prelude.{◌≡◌, ℕ, suc, Bool, cond, ◌&&◌, List, Option, Some, None, is_some}
 use Rattle.ann_base.specs.declared.identities.TaskNo.{TaskNo}
 use Rattle.trace_text.specs.declared.events.Who.{Who}
@@ -31,7 +31,8 @@ charged_of None budgets = budgets
 charged_of (Some b) budgets = edit_at b charged_budget budgets
 
 pub record Charges (before after : World) : Type 0 where
-  pub clocks : (t : TaskNo) → clock_of after t ≡ cond (runs before after.ran t) (suc (clock_of before t)) (clock_of before t)
+  pub clocks : (t : TaskNo) → clock_of after t
+      ≡ cond (runs before after.ran t) (suc (clock_of before t)) (clock_of before t)
   pub budgets : after.budgets ≡ charged_of (group_of before after.ran) before.budgets
 
 -- of any world

@@ -71,8 +71,10 @@ four_program =
           ∷ statement (form.SetBudget (decl 3) (Some (handler_name (decl 4) (subprogram 2)))) 0 (Some (stmt 2))
           ∷ statement (form.Replenish (decl 3) (expr 7)) 1 (Some (stmt 6))
           ∷ statement (form.AddTask (decl 3) (expr 8)) 1 (Some (stmt 7))
-          ∷ statement (form.SetTimer (decl 2) (setting.In (expr 10)) (Some (handler_name (decl 4) (subprogram 1)))) 1 (Some (stmt 8))
-          ∷ statement (form.SetEvent (decl 0) (setting.At (expr 14)) (Some (handler_name (decl 4) (subprogram 0)))) 3 (Some (stmt 9))
+          ∷ statement (form.SetTimer (decl 2) (setting.In (expr 10)) (Some (handler_name (decl 4) (subprogram 1))))
+          1 (Some (stmt 8))
+          ∷ statement (form.SetEvent (decl 0) (setting.At (expr 14)) (Some (handler_name (decl 4) (subprogram 0))))
+          3 (Some (stmt 9))
           ∷ statement (form.Null) 0 None
           ∷ statement (form.Null) 0 None
           ∷ statement (form.Null) 0 None
@@ -119,7 +121,8 @@ four_script =
     ∷ []
 
 abbrev pub keeps_releases_by : Machine → Bool
-keeps_releases_by m = follows_releases four_program (first_account four_script) (history_by m four_program four_script 200)
+keeps_releases_by m =
+    follows_releases four_program (first_account four_script) (history_by m four_program four_script 200)
 
 -- ---- the profile machine
 
@@ -128,7 +131,8 @@ rightly = keeps_releases_by (machine_of four_program)
 
 -- ---- machines that break the law
 
--- the steps of an instant behind the first, with others for the items of the script, the events, the timers and the budgets
+-- the steps of an instant behind the first, with others for the items of the script, the events, the timers and the
+-- budgets
 abbrev pub with_steps : Move → Move → Move → Move → Machine
 with_steps items events timers budgets =
     record {
@@ -145,30 +149,45 @@ as_at shifted move w =
 
 -- no timer is ever fired
 unfoldable pub without_timers : Bool
-without_timers = keeps_releases_by (with_steps (script_items four_program) (events_due four_program) rests (budgets_due four_program))
+without_timers =
+    keeps_releases_by (with_steps (script_items four_program) (events_due four_program) rests
+    (budgets_due four_program))
 
 -- a budget that runs out is dropped
 unfoldable pub without_budgets : Bool
-without_budgets = keeps_releases_by (with_steps (script_items four_program) (events_due four_program) (timers_due four_program) (silently no_budget_due))
+without_budgets =
+    keeps_releases_by (with_steps (script_items four_program) (events_due four_program) (timers_due four_program)
+    (silently no_budget_due))
 
 -- an event comes at once
 unfoldable pub events_at_once : Bool
-events_at_once = keeps_releases_by (with_steps (script_items four_program) (as_at (λ n. n + 1000) (events_due four_program)) (timers_due four_program) (budgets_due four_program))
+events_at_once =
+    keeps_releases_by (with_steps (script_items four_program) (as_at (λ n. n
+    + 1000) (events_due four_program)) (timers_due four_program) (budgets_due four_program))
 
 -- an event comes a tick late
 unfoldable pub events_late : Bool
-events_late = keeps_releases_by (with_steps (script_items four_program) (as_at (λ n. n - 1) (events_due four_program)) (timers_due four_program) (budgets_due four_program))
+events_late =
+    keeps_releases_by (with_steps (script_items four_program) (as_at (λ n. n - 1) (events_due four_program))
+    (timers_due four_program) (budgets_due four_program))
 
 -- the script is dropped
 unfoldable pub without_script : Bool
-without_script = keeps_releases_by (with_steps (silently (with_script [])) (events_due four_program) (timers_due four_program) (budgets_due four_program))
+without_script =
+    keeps_releases_by (with_steps (silently (with_script [])) (events_due four_program) (timers_due four_program)
+    (budgets_due four_program))
 
 abbrev pub forget_events : World → World
 forget_events = drop_appointment is_an_event
 
 -- events are forgotten at a tick
 unfoldable pub forgets_at_ticks : Bool
-forgets_at_ticks = keeps_releases_by (record { acts = finish_action four_program; goes_on = (machine_of four_program).goes_on; ticks = tock four_program ▶ silently forget_events })
+forgets_at_ticks =
+    keeps_releases_by (record {
+      acts = finish_action four_program;
+      goes_on = (machine_of four_program).goes_on;
+      ticks = tock four_program ▶ silently forget_events;
+    })
 
 abbrev pub is_null : StatementForm → Bool
 is_null form.Null = true
@@ -185,7 +204,13 @@ ends_null w (Some name) = is_over (task_of w name).ticks_left && comes_to_null (
 
 -- events are forgotten at a `null`
 unfoldable pub forgets_at_null : Bool
-forgets_at_null = keeps_releases_by (record { acts = watches (λ w. finish_action four_program ▶ silently (λ v. cond (ends_null w w.ran) (forget_events v) v)); goes_on = (machine_of four_program).goes_on; ticks = tock four_program })
+forgets_at_null =
+    keeps_releases_by (record {
+      acts = watches
+          (λ w. finish_action four_program ▶ silently (λ v. cond (ends_null w w.ran) (forget_events v) v));
+      goes_on = (machine_of four_program).goes_on;
+      ticks = tock four_program;
+    })
 
 -- a line that names another procedure
 abbrev pub of_another : Event → Event
@@ -197,4 +222,6 @@ telling_another move w = ((move w).0, map of_another (move w).1)
 
 -- the handler of another cause is released
 unfoldable pub another_handler : Bool
-another_handler = keeps_releases_by (with_steps (script_items four_program) (telling_another (events_due four_program)) (timers_due four_program) (budgets_due four_program))
+another_handler =
+    keeps_releases_by (with_steps (script_items four_program) (telling_another (events_due four_program))
+    (timers_due four_program) (budgets_due four_program))

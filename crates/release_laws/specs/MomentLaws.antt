@@ -1,5 +1,6 @@
--- The law of releases said of two instants of a history, without an account: at the first an event or a timer is set, or a budget
--- gets a handler, and up to the second this is neither set again nor cancelled. And of an interrupt at its moment.
+-- The law of releases said of two instants of a history, without an account: at the first an event or a timer is set,
+-- or a budget gets a handler, and up to the second this is neither set again nor cancelled. And of an interrupt at its
+-- moment.
 use Rattle.std.specs.Prelude.{◌≡◌, ℕ, ℤ, pos, int_le, int_lt, Bool, true, not, ◌⊎◌, List, [], ◌∷◌, ◌++◌, Some, eqb, false, map}
 use Rattle.ann_base.specs.declared.identities.TaskNo.{TaskNo}
 use Rattle.profile_machine.specs.declared.image.Image.{Image}
@@ -26,10 +27,12 @@ leaves_event n _ = true
 -- these instants are before the moment, and name the event not
 abbrev pub BeforeMoment : Image → ℕ → ℤ → List Passage → Type 0
 BeforeMoment p n moment [] = Unit {0}
-BeforeMoment p n moment (x ∷ xs) = (leaves_event n (asked p x.before) ≡ true) × (int_lt (pos x.before.time) moment ≡ true) × BeforeMoment p n moment xs
+BeforeMoment p n moment (x ∷ xs) = (leaves_event n (asked p x.before) ≡ true)
+    × (int_lt (pos x.before.time) moment ≡ true) × BeforeMoment p n moment xs
 
 -- An event that x sets for a later moment is released at y, the instant of that moment.
-pub record SetsEvent (p : Image) (n : ℕ) (h : HandlerOf) (moment : ℤ) (x : Passage) (between : List Passage) (y : Passage) : Type 0 where
+pub record SetsEvent (p : Image) (n : ℕ) (h : HandlerOf) (moment : ℤ) (x : Passage) (between : List Passage)
+    (y : Passage) : Type 0 where
   pub sets : asked p x.before ≡ OfEvent n (Some h) moment
   pub later : int_lt (pos x.before.time) moment ≡ true
   pub waits : BeforeMoment p n moment between
@@ -38,8 +41,10 @@ pub record SetsEvent (p : Image) (n : ℕ) (h : HandlerOf) (moment : ℤ) (x : P
 
 abbrev pub EventsCome : Type 0
 EventsCome =
-    (p : Image) (script : List (ℤ × Item)) (bound : ℕ) (front between back : List Passage) (x y : Passage) (n : ℕ) (h : HandlerOf) (moment : ℤ)
-    → history p script bound ≡ front ++ (x ∷ (between ++ (y ∷ back))) → SetsEvent p n h moment x between y → IsAmong (named_handler p h) (released y.lines)
+    (p : Image) (script : List (ℤ
+    × Item)) (bound : ℕ) (front between back : List Passage) (x y : Passage) (n : ℕ) (h : HandlerOf) (moment : ℤ)
+    → history p script bound ≡ front ++ (x ∷ (between ++ (y ∷ back))) → SetsEvent p n h moment x between y
+    → IsAmong (named_handler p h) (released y.lines)
 
 -- ---- timers
 
@@ -50,10 +55,12 @@ leaves_timer n _ = true
 -- at these instants the task's clock is below the value, and they name the timer not
 abbrev pub BelowValue : Image → ℕ → TaskNo → ℤ → List Passage → Type 0
 BelowValue p n t value [] = Unit {0}
-BelowValue p n t value (x ∷ xs) = (leaves_timer n (asked p x.before) ≡ true) × (int_lt (pos (clock_of x.before t)) value ≡ true) × BelowValue p n t value xs
+BelowValue p n t value (x ∷ xs) = (leaves_timer n (asked p x.before) ≡ true)
+    × (int_lt (pos (clock_of x.before t)) value ≡ true) × BelowValue p n t value xs
 
 -- A timer that x sets to a value that its task's clock has not reached is released at y, where the clock reaches it.
-pub record SetsTimer (p : Image) (n : ℕ) (t : TaskNo) (h : HandlerOf) (value : ℤ) (x : Passage) (between : List Passage) (y : Passage) : Type 0 where
+pub record SetsTimer (p : Image) (n : ℕ) (t : TaskNo) (h : HandlerOf) (value : ℤ) (x : Passage)
+    (between : List Passage) (y : Passage) : Type 0 where
   pub there : is_number_of x.before.timers n ≡ true
   pub sets : asked p x.before ≡ OfTimer n t (Some h) value
   pub later : int_lt (pos (clock_of x.before t)) value ≡ true
@@ -63,8 +70,11 @@ pub record SetsTimer (p : Image) (n : ℕ) (t : TaskNo) (h : HandlerOf) (value :
 
 abbrev pub TimersCome : Type 0
 TimersCome =
-    (p : Image) (script : List (ℤ × Item)) (bound : ℕ) (front between back : List Passage) (x y : Passage) (n : ℕ) (t : TaskNo) (h : HandlerOf) (value : ℤ)
-    → history p script bound ≡ front ++ (x ∷ (between ++ (y ∷ back))) → SetsTimer p n t h value x between y → IsAmong (named_handler p h) (released y.lines)
+    (p : Image) (script : List (ℤ
+    × Item)) (bound : ℕ) (front between back : List Passage) (x y : Passage) (n : ℕ) (t : TaskNo)
+    (h : HandlerOf) (value : ℤ)
+    → history p script bound ≡ front ++ (x ∷ (between ++ (y ∷ back))) → SetsTimer p n t h value x between y
+    → IsAmong (named_handler p h) (released y.lines)
 
 -- ---- budgets
 
@@ -82,7 +92,8 @@ last_of x [] = x
 last_of x (y ∷ ys) = last_of y ys
 
 -- A budget gets a handler at x, and is brought to zero by the tick before y.
-pub record SetsBudget (p : Image) (n : ℕ) (h : HandlerOf) (x : Passage) (between : List Passage) (y : Passage) : Type 0 where
+pub record SetsBudget (p : Image) (n : ℕ) (h : HandlerOf) (x : Passage) (between : List Passage)
+    (y : Passage) : Type 0 where
   pub there : is_number_of x.before.budgets n ≡ true
   pub sets : asked p x.before ≡ OfBudget n (Some h)
   pub waits : LeaveBudget p n between
@@ -92,8 +103,10 @@ pub record SetsBudget (p : Image) (n : ℕ) (h : HandlerOf) (x : Passage) (betwe
 
 abbrev pub BudgetsCome : Type 0
 BudgetsCome =
-    (p : Image) (script : List (ℤ × Item)) (bound : ℕ) (front between back : List Passage) (x y : Passage) (n : ℕ) (h : HandlerOf)
-    → history p script bound ≡ front ++ (x ∷ (between ++ (y ∷ back))) → SetsBudget p n h x between y → IsAmong (named_handler p h) (released y.lines)
+    (p : Image) (script : List (ℤ
+    × Item)) (bound : ℕ) (front between back : List Passage) (x y : Passage) (n : ℕ) (h : HandlerOf)
+    → history p script bound ≡ front ++ (x ∷ (between ++ (y ∷ back))) → SetsBudget p n h x between y
+    → IsAmong (named_handler p h) (released y.lines)
 
 -- ---- interrupts
 
@@ -108,9 +121,10 @@ NoneLater moment (x ∷ xs) = (int_le x.0 moment ≡ true) × NoneLater moment x
 abbrev pub items_of : List (ℤ × Item) → List Item
 items_of = map (λ x. x.1)
 
--- An interrupt comes in the script at a moment, behind these items, none of which is later; y is the instant of that moment, the
--- interrupt is not masked behind these items, and the handler is attached to it there.
-pub record Comes (p : Image) (script first last : List (ℤ × Item)) (moment : ℤ) (n : ℕ) (h : HandlerOf) (before : List Passage) (y : Passage) : Type 0 where
+-- An interrupt comes in the script at a moment, behind these items, none of which is later; y is the instant of that
+-- moment, the interrupt is not masked behind these items, and the handler is attached to it there.
+pub record Comes (p : Image) (script first last : List (ℤ
+    × Item)) (moment : ℤ) (n : ℕ) (h : HandlerOf) (before : List Passage) (y : Passage) : Type 0 where
   pub in_script : script ≡ first ++ ((moment, item.Interrupt n) ∷ last)
   pub in_order : NoneLater moment first
   pub earlier : AllBefore moment before
@@ -120,5 +134,8 @@ pub record Comes (p : Image) (script first last : List (ℤ × Item)) (moment : 
 
 abbrev pub InterruptsCome : Type 0
 InterruptsCome =
-    (p : Image) (script : List (ℤ × Item)) (bound : ℕ) (before behind : List Passage) (y : Passage) (first last : List (ℤ × Item)) (moment : ℤ) (n : ℕ) (h : HandlerOf)
-    → history p script bound ≡ before ++ (y ∷ behind) → Comes p script first last moment n h before y → IsAmong (named_handler p h) (released y.lines)
+    (p : Image) (script : List (ℤ
+    × Item)) (bound : ℕ) (before behind : List Passage) (y : Passage) (first last : List (ℤ
+    × Item)) (moment : ℤ) (n : ℕ) (h : HandlerOf)
+    → history p script bound ≡ before ++ (y ∷ behind) → Comes p script first last moment n h before y
+    → IsAmong (named_handler p h) (released y.lines)

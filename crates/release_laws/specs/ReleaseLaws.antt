@@ -1,7 +1,7 @@
--- Each handler is released at its tick, and no other (C.3, D.14, D.15): a law on the history of a run, which is what its instants
--- lead from and to, and say. It keeps an account of what was asked for and has not come yet. What the machine itself keeps of
--- settings, in its appointments, timers, budgets' handlers, script and flags, is not looked at: a machine that forgets one breaks
--- the law.
+-- Each handler is released at its tick, and no other (C.3, D.14, D.15): a law on the history of a run, which is what
+-- its instants lead from and to, and say. It keeps an account of what was asked for and has not come yet. What the
+-- machine itself keeps of settings, in its appointments, timers, budgets' handlers, script and flags, is not looked at:
+-- a machine that forgets one breaks the law.
 use Rattle.std.specs.Prelude.{◌≡◌, ℕ, zero, suc, ℤ, pos, int_le, int_lt, Bool, true, false, cond, ◌&&◌, List, [], ◌∷◌, ◌++◌, Some, None, eqb, ltb, length, filter, map, replicate, IsTrue}
 use Rattle.ann_base.specs.declared.identities.TaskNo.{TaskNo}
 use Rattle.trace_text.specs.declared.events.Event.{Event}
@@ -23,8 +23,8 @@ use Rattle.release_laws.specs.Asked.{Request, OfEvent, OfTimer, OfBudget, asked}
 
 -- ---- histories
 
--- one instant: the world before it, the world in which the action that ended has had its effect, the world behind it all, and
--- its lines
+-- one instant: the world before it, the world in which the action that ended has had its effect, the world behind it
+-- all, and its lines
 pub record Passage : Type 0 where
   pub before : World
   pub acted : World
@@ -46,7 +46,8 @@ passage m w =
     let rest = m.goes_on first.0 in
     record { before = w; acted = first.0; after = rest.0; lines = first.1 ++ rest.1 }
 
--- the instants of a run from a world on, up to the first at which it stops: the fuel is one more than the ticks that are left
+-- the instants of a run from a world on, up to the first at which it stops: the fuel is one more than the ticks that
+-- are left
 abbrev pub history_from : ℕ → Machine → Image → ℕ → World → List Passage
 history_from zero m p bound w = []
 history_from (suc fuel) m p bound w =
@@ -64,7 +65,8 @@ history p = history_by (machine_of p) p
 
 -- ---- the account
 
--- an event that is set for a later moment, and a timer of a task that is set to a value which the task's clock has not reached
+-- an event that is set for a later moment, and a timer of a task that is set to a value which the task's clock has not
+-- reached
 pub record EventSet : Type 0 where
   pub event : ℕ
   pub handler : HandlerOf
@@ -80,9 +82,9 @@ pub record BudgetSet : Type 0 where
   pub budget : ℕ
   pub handler : HandlerOf
 
--- What was asked for: events by moment, and of one moment in the order of setting; timers in the order of setting; handlers of
--- budgets; the items of the script that have not come, which interrupts are masked, and which of these have come. Beside it what
--- was left of the budgets behind the instant before.
+-- What was asked for: events by moment, and of one moment in the order of setting; timers in the order of setting;
+-- handlers of budgets; the items of the script that have not come, which interrupts are masked, and which of these have
+-- come. Beside it what was left of the budgets behind the instant before.
 pub record Account : Type 0 where
   pub events : List EventSet
   pub timers : List TimerSet
@@ -92,7 +94,14 @@ pub record Account : Type 0 where
   pub flags : Flags
 
 abbrev pub first_account : List (ℤ × Item) → Account
-first_account script = record { events = []; timers = []; budgets = []; left = []; ahead = script; flags = record { masked = replicate 16 false; kept_interrupts = replicate 16 false } }
+first_account script = record {
+  events = [];
+  timers = [];
+  budgets = [];
+  left = [];
+  ahead = script;
+  flags = record { masked = replicate 16 false; kept_interrupts = replicate 16 false };
+}
 
 -- ---- events: a setting takes the place of the one before; it comes at its moment
 
@@ -106,7 +115,11 @@ put_event new (s ∷ rest) = cond (int_lt new.moment s.moment) (new ∷ s ∷ re
 abbrev pub events_asked : ℕ → Request → List EventSet → List EventSet
 events_asked time (OfEvent n None moment) events = but_event n events
 events_asked time (OfEvent n (Some h) moment) events =
-    cond (int_lt (pos time) moment) (put_event (record { event = n; handler = h; moment = moment }) (but_event n events)) (but_event n events)
+    cond (int_lt (pos time) moment) (put_event (record {
+      event = n;
+      handler = h;
+      moment = moment;
+    }) (but_event n events)) (but_event n events)
 events_asked time _ events = events
 
 abbrev pub has_come : ℕ → EventSet → Bool
@@ -126,27 +139,32 @@ clock_of w t = (task_of w (who.Task t)).cpu_ticks
 abbrev pub timers_asked : World → Request → List TimerSet → List TimerSet
 timers_asked w (OfTimer n t None value) timers = but_timer n timers
 timers_asked w (OfTimer n t (Some h) value) timers =
-    cond (is_number_of w.timers n && int_lt (pos (clock_of w t)) value) (but_timer n timers ++ record { timer = n; task = t; handler = h; value = value } ∷ []) (but_timer n timers)
+    cond (is_number_of w.timers n && int_lt (pos (clock_of w t)) value) (but_timer n timers
+    ++ record { timer = n; task = t; handler = h; value = value } ∷ []) (but_timer n timers)
 timers_asked w _ timers = timers
 
 abbrev pub is_reached : World → TimerSet → Bool
 is_reached w s = int_le s.value (pos (clock_of w s.task))
 
--- ---- budgets: a handler stays until it is set again or cancelled; a budget is due where the tick has brought it to zero
+-- ---- budgets: a handler stays until it is set again or cancelled; a budget is due where the tick has brought it to
+-- zero
 
 abbrev pub but_budget : ℕ → List BudgetSet → List BudgetSet
 but_budget n = without (λ s. eqb n s.budget)
 
 abbrev pub budgets_asked : World → Request → List BudgetSet → List BudgetSet
 budgets_asked w (OfBudget n None) budgets = but_budget n budgets
-budgets_asked w (OfBudget n (Some h)) budgets = cond (is_number_of w.budgets n) (but_budget n budgets ++ record { budget = n; handler = h } ∷ []) (but_budget n budgets)
+budgets_asked w (OfBudget n (Some h)) budgets =
+    cond (is_number_of w.budgets n) (but_budget n budgets ++ record { budget = n; handler = h }
+    ∷ []) (but_budget n budgets)
 budgets_asked w _ budgets = budgets
 
 -- those of this number, counted on with the budgets
 abbrev pub budgets_run_out : ℕ → List Budget → List Budget → List BudgetSet → List BudgetSet
 budgets_run_out n [] after budgets = []
 budgets_run_out n (x ∷ xs) [] budgets = []
-budgets_run_out n (x ∷ xs) (y ∷ ys) budgets = cond (has_run_out x y) (filter (λ s. eqb n s.budget) budgets) [] ++ budgets_run_out (suc n) xs ys budgets
+budgets_run_out n (x ∷ xs) (y ∷ ys) budgets = cond (has_run_out x y) (filter (λ s. eqb n s.budget) budgets) []
+    ++ budgets_run_out (suc n) xs ys budgets
 
 -- ---- interrupts: the items of the script whose moment has come, and those that are still ahead
 
@@ -179,13 +197,19 @@ abbrev pub owed_of_interrupts : Image → Account → Passage → List NamedHand
 owed_of_interrupts p a x = due_by_items p x.acted (items_come x.before.time a.ahead) a.flags
 
 abbrev pub owed_of_events : Image → Account → Passage → List NamedHandler
-owed_of_events p a x = map (λ s. named_handler p s.handler) (filter (has_come x.before.time) (events_asked x.before.time (asked p x.before) a.events))
+owed_of_events p a x =
+    map (λ s. named_handler p s.handler) (filter (has_come x.before.time)
+    (events_asked x.before.time (asked p x.before) a.events))
 
 abbrev pub owed_of_timers : Image → Account → Passage → List NamedHandler
-owed_of_timers p a x = map (λ s. named_handler p s.handler) (filter (is_reached x.before) (timers_asked x.before (asked p x.before) a.timers))
+owed_of_timers p a x =
+    map (λ s. named_handler p s.handler) (filter (is_reached x.before)
+    (timers_asked x.before (asked p x.before) a.timers))
 
 abbrev pub owed_of_budgets : Image → Account → Passage → List NamedHandler
-owed_of_budgets p a x = map (λ s. named_handler p s.handler) (budgets_run_out 0 a.left x.before.budgets (budgets_asked x.before (asked p x.before) a.budgets))
+owed_of_budgets p a x =
+    map (λ s. named_handler p s.handler) (budgets_run_out 0 a.left x.before.budgets
+    (budgets_asked x.before (asked p x.before) a.budgets))
 
 abbrev pub account_behind : Image → Account → Passage → Account
 account_behind p a x =
@@ -227,7 +251,8 @@ ReleasesInterrupts p a x = StandIn (owed_of_interrupts p a x) (released x.lines)
 
 -- all that an instant owes, in the order of its steps
 abbrev pub owed_in_all : Image → Account → Passage → List NamedHandler
-owed_in_all p a x = owed_at_once p x.before (asked p x.before) ++ owed_of_interrupts p a x ++ owed_of_events p a x ++ owed_of_timers p a x ++ owed_of_budgets p a x
+owed_in_all p a x = owed_at_once p x.before (asked p x.before) ++ owed_of_interrupts p a x ++ owed_of_events p a x
+    ++ owed_of_timers p a x ++ owed_of_budgets p a x
 
 -- what is owed is released, and nothing else: each release has a cause
 abbrev pub ReleasesAll : Image → Account → Passage → Type 0
@@ -239,16 +264,19 @@ HistoryOk p = AtEachInstant p (ReleasesAll p)
 -- the test
 abbrev pub follows_releases : Image → Account → List Passage → Bool
 follows_releases p a [] = true
-follows_releases p a (x ∷ xs) = same_handlers (released x.lines) (owed_in_all p a x) && follows_releases p (account_behind p a x) xs
+follows_releases p a (x ∷ xs) = same_handlers (released x.lines) (owed_in_all p a x)
+    && follows_releases p (account_behind p a x) xs
 
 -- ---- of every run
 
 abbrev pub OfEveryRun : (Image → Account → Passage → Type 0) → Type 0
-OfEveryRun Is = (p : Image) (script : List (ℤ × Item)) (bound : ℕ) → AtEachInstant p (Is p) (first_account script) (history p script bound)
+OfEveryRun Is = (p : Image) (script : List (ℤ × Item)) (bound : ℕ)
+    → AtEachInstant p (Is p) (first_account script) (history p script bound)
 
 -- so the test computes to true on the history of every run
 abbrev pub RunsFollow : Type 0
-RunsFollow = (p : Image) (script : List (ℤ × Item)) (bound : ℕ) → IsTrue (follows_releases p (first_account script) (history p script bound))
+RunsFollow = (p : Image) (script : List (ℤ × Item)) (bound : ℕ)
+    → IsTrue (follows_releases p (first_account script) (history p script bound))
 
 -- ---- the `release` lines of a run, with their ticks
 
@@ -270,4 +298,5 @@ owed_by p a (x ∷ xs) = all_at x.before.time (owed_in_all p a x) ++ owed_by p (
 
 -- the lines tell what is owed, and nothing else
 abbrev pub RunsTellReleases : Type 0
-RunsTellReleases = (p : Image) (script : List (ℤ × Item)) (bound : ℕ) → releases_in (run_of p script bound) ≡ owed_by p (first_account script) (history p script bound)
+RunsTellReleases = (p : Image) (script : List (ℤ × Item)) (bound : ℕ)
+    → releases_in (run_of p script bound) ≡ owed_by p (first_account script) (history p script bound)

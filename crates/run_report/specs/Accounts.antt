@@ -1,5 +1,5 @@
--- What a list of lines shows of each task: its jobs, its running, its preemptions, and its waiting for tasks of lower base
--- priority. Nothing here knows how the figures are kept.
+-- What a list of lines shows of each task: its jobs, its running, its preemptions, and its waiting for tasks of lower
+-- base priority. Nothing here knows how the figures are kept.
 use Rattle.std.specs.Prelude.{ℕ, zero, suc, ◌+◌, ◌-◌, ◌==◌, Bool, true, false, not, ◌&&◌, nat_lt, max, if◌then◌else◌, List, [], ◌∷◌, ◌++◌, Option, Some, None, length, map, is_some}
 use Rattle.ann_base.specs.declared.identities.TaskNo.{TaskNo}
 use Rattle.trace_text.specs.declared.events.Who.{Who}
@@ -14,7 +14,8 @@ use Rattle.trace_text.specs.Laws.{level_of}
 use Rattle.trace_lines.specs.Seen.{Seen, seen_of}
 use Rattle.run_report.specs.declared.accounts.Account.{Account}
 
--- ---- ticks: for how many of the first n a test holds, for how many directly before n, and the most that held in unbroken order
+-- ---- ticks: for how many of the first n a test holds, for how many directly before n, and the most that held in
+-- unbroken order
 
 abbrev pub count_below : ℕ → (ℕ → Bool) → ℕ
 count_below zero test = 0
@@ -66,7 +67,8 @@ runner_base (Some subject.Agent) bases = None
 
 -- it is ready, and a task of lower base priority runs
 abbrev pub is_lowered : TaskNo → Seen → Bool
-is_lowered task seen = is_in task seen.queue && is_lower (runner_base seen.runner seen.bases) (level_of task.0 seen.bases)
+is_lowered task seen = is_in task seen.queue
+    && is_lower (runner_base seen.runner seen.bases) (level_of task.0 seen.bases)
 
 abbrev pub lower_of : TaskNo → List TraceLine → ℕ
 lower_of task lines = count_below (last_from 0 lines) (λ tick. is_lowered task (at_tick lines tick))
@@ -94,7 +96,8 @@ abbrev pub responses_from : TaskNo → List Entry → Option ℕ → List TraceL
 responses_from task queue since [] = []
 responses_from task queue since (line ∷ lines) =
     response_by (is_in task queue) (is_in task (queue_after queue line.1)) line.0 since
-    ++ responses_from task (queue_after queue line.1) (since_by (is_in task queue) (is_in task (queue_after queue line.1)) line.0 since) lines
+    ++ responses_from task (queue_after queue line.1)
+    (since_by (is_in task queue) (is_in task (queue_after queue line.1)) line.0 since) lines
 
 -- the responses of the jobs that ended, in order
 abbrev pub responses_of : TaskNo → List TraceLine → List ℕ
@@ -108,7 +111,8 @@ abbrev pub total : List ℕ → ℕ
 total [] = 0
 total (n ∷ ns) = n + total ns
 
--- ---- preemptions: another subject is chosen while the task runs and is ready, and was not placed behind all of its level at that tick
+-- ---- preemptions: another subject is chosen while the task runs and is ready, and was not placed behind all of its
+-- level at that tick
 
 -- the tick of its last `ready` line with `tail`
 abbrev pub tail_after : TaskNo → Option ℕ → TraceLine → Option ℕ
@@ -129,11 +133,13 @@ chooses_another task _ = false
 
 abbrev pub is_preempted : TaskNo → List TraceLine → TraceLine → Bool
 is_preempted task before line =
-    chooses_another task line.1 && is_runner (subject.Task task) (seen_of before) && is_in task (seen_of before).queue && not (is_tick line.0 (tail_from task None before))
+    chooses_another task line.1 && is_runner (subject.Task task) (seen_of before)
+    && is_in task (seen_of before).queue && not (is_tick line.0 (tail_from task None before))
 
 abbrev pub preemptions_from : TaskNo → List TraceLine → List TraceLine → ℕ
 preemptions_from task before [] = 0
-preemptions_from task before (line ∷ lines) = (if is_preempted task before line then 1 else 0) + preemptions_from task (before ++ line ∷ []) lines
+preemptions_from task before (line ∷ lines) = (if is_preempted task before line then 1 else 0)
+    + preemptions_from task (before ++ line ∷ []) lines
 
 -- ---- the accounts
 

@@ -1,5 +1,5 @@
--- How long each task waited: told by a clock for each base priority, and by when a line last told of the task. Beside it
--- how a task is found by its number.
+-- How long each task waited: told by a clock for each base priority, and by when a line last told of the task. Beside
+-- it how a task is found by its number.
 use Rattle.std.specs.Prelude.{◌≡◌, ◌≤◌, ◌<◌, ℕ, zero, suc, ◌+◌, ◌-◌, ◌==◌, Bool, true, false, ◌||◌, max, if◌then◌else◌, List, [], ◌∷◌, ◌++◌, Option, Some, None, map, is_some, length, slice_get, cond}
 use Rattle.std.specs.List.{AllByRecursion, list_all}
 use Rattle.std.specs.Option.{option_map}
@@ -101,11 +101,13 @@ dated tally waited tick one = record { kept = record one.kept { tally = tally };
 
 -- the same, told at a tick
 abbrev pub settled : List Clock → ℕ → Dated → Dated
-settled clocks tick one = dated (tally_at clocks tick one) (waited_by (clock_at (wait_level one.kept.tally) clocks)) tick one
+settled clocks tick one =
+    dated (tally_at clocks tick one) (waited_by (clock_at (wait_level one.kept.tally) clocks)) tick one
 
 -- no waiting that is not told yet ends while these ticks pass
 abbrev pub made_quiet : List Clock → ℕ → Passing → List Dated → List Dated
-made_quiet clocks last passing items = if list_all (goes_on passing) clocks then items else map (settled clocks last) items
+made_quiet clocks last passing items = if list_all (goes_on passing) clocks then items
+    else map (settled clocks last) items
 
 -- ---- a line
 
@@ -118,7 +120,8 @@ next_waited clocks passing tally = waited_by (option_map (passed passing) (clock
 
 abbrev pub stepped : List Clock → ℕ → Passing → ℕ → Event → Dated → Dated
 stepped clocks last passing tick event one =
-    dated (next_tally clocks last passing tick event one) (next_waited clocks passing (next_tally clocks last passing tick event one)) tick one
+    dated (next_tally clocks last passing tick event one)
+    (next_waited clocks passing (next_tally clocks last passing tick event one)) tick one
 
 -- the number of a subject that is a task
 abbrev pub number_in : Option Who → Option ℕ
@@ -145,14 +148,23 @@ created_number (New (created.Task task) name level) = Some task.0
 created_number _ = None
 
 abbrev pub newly_dated : ℕ → Event → List Dated
-newly_dated tick (New (created.Task task) name level) = record { kept = record { task = task; name = name; tally = record fresh { base = Some level } }; tick = tick; waited = 0 } ∷ []
+newly_dated tick (New (created.Task task) name level) = record {
+  kept = record {
+    task = task;
+    name = name;
+    tally = record fresh { base = Some level };
+  };
+  tick = tick;
+  waited = 0;
+} ∷ []
 newly_dated tick _ = []
 
 -- ---- where a task is kept
 
 abbrev pub place_in : ℕ → List Dated → Option ℕ
 place_in number [] = None
-place_in number (one ∷ items) = if number == one.kept.task.0 then Some 0 else option_map (λ place. suc place) (place_in number items)
+place_in number (one ∷ items) = if number == one.kept.task.0 then Some 0
+    else option_map (λ place. suc place) (place_in number items)
 
 abbrev pub place_at : Option ℕ → List Dated → Option ℕ
 place_at None items = None
@@ -190,7 +202,8 @@ step_of clocks last passing tick event place (Some one) = Some (record {
 
 abbrev pub step_at : List Clock → ℕ → Passing → ℕ → Event → Option ℕ → List Dated → Option Step
 step_at clocks last passing tick event None items = None
-step_at clocks last passing tick event (Some place) items = step_of clocks last passing tick event place (slice_get items place)
+step_at clocks last passing tick event (Some place) items =
+    step_of clocks last passing tick event place (slice_get items place)
 
 -- with what a step gives at a place
 abbrev pub written_at : ℕ → Tally → ℕ → ℕ → List Dated → List Dated
@@ -243,7 +256,8 @@ pub record IsFound (items : List Dated) (places : ℕ → Option ℕ) (bases : L
 -- no waiting of this task ends while these ticks pass, or it is told already
 abbrev pub IsQuietBy : Option Clock → Passing → ℕ → Dated → Type 0
 IsQuietBy None passing tick one = Unit {0}
-IsQuietBy (Some clock) passing tick one = 0 < passing.elapsed → is_lower passing.base (Some clock.level) ≡ false → told_streak (Some clock) tick one ≤ one.kept.tally.longest
+IsQuietBy (Some clock) passing tick one = 0 < passing.elapsed → is_lower passing.base (Some clock.level) ≡ false
+    → told_streak (Some clock) tick one ≤ one.kept.tally.longest
 
 abbrev pub IsQuiet : List Clock → Passing → ℕ → Dated → Type 0
 IsQuiet clocks passing tick one = IsQuietBy (clock_at (wait_level one.kept.tally) clocks) passing tick one
@@ -253,7 +267,8 @@ pub record IsKept (tick most : ℕ) (items : List Dated) (clocks : List Clock) :
   pub within : AllByRecursion (IsWithin most) items
   pub shown : AllByRecursion (IsShown tick) clocks
 
-pub record IsReport (seen : Seen) (most agent_run idle len : ℕ) (items : List Dated) (clocks : List Clock) (places : ℕ → Option ℕ) : Type 0 where
+pub record IsReport (seen : Seen) (most agent_run idle len : ℕ) (items : List Dated) (clocks : List Clock)
+    (places : ℕ → Option ℕ) : Type 0 where
   pub count : len ≤ MOST_TRACED_TASKS
   pub tick : seen.tick ≤ LAST_TICK
   pub most_agent : agent_run ≤ most
@@ -271,7 +286,8 @@ abbrev pub IsKnown : List Dated → (ℕ → Option ℕ) → Type 0
 IsKnown items places = (number place : ℕ) → place_in number items ≡ Some place → places number ≡ Some place
 
 -- the same is told, and found
-pub record IsSame (last : ℕ) (items : List Dated) (clocks : List Clock) (items' : List Dated) (clocks' : List Clock) (places' : ℕ → Option ℕ) : Type 0 where
+pub record IsSame (last : ℕ) (items : List Dated) (clocks : List Clock) (items' : List Dated)
+    (clocks' : List Clock) (places' : ℕ → Option ℕ) : Type 0 where
   pub tells : map (told clocks' last) items' ≡ map (told clocks last) items
   pub fit : AllByRecursion (IsFit clocks' last) items'
   pub within : (most : ℕ) → AllByRecursion (IsWithin most) items → AllByRecursion (IsWithin most) items'
@@ -280,13 +296,16 @@ pub record IsSame (last : ℕ) (items : List Dated) (clocks : List Clock) (items
   pub placed : (number : ℕ) → place_in number items' ≡ place_in number items
   pub known : IsKnown items' places'
 
-pub record IsReady (event : Event) (passing : Passing) (last : ℕ) (items : List Dated) (clocks : List Clock) (places : ℕ → Option ℕ) : Type 0 where
+pub record IsReady (event : Event) (passing : Passing) (last : ℕ) (items : List Dated) (clocks : List Clock)
+    (places : ℕ → Option ℕ) : Type 0 where
   pub given : HasClock clocks (level_given event)
   pub quiet : AllByRecursion (IsQuiet clocks passing last) items
   pub noted_now : (number : ℕ) → created_number event ≡ Some number → places number ≡ Some (length items)
 
 abbrev pub is_told : Passing → Event → ℕ → Bool
-is_told passing event number = is_number (number_in passing.runner) number || (is_number (named_by event) number || false)
+is_told passing event number = is_number (number_in passing.runner) number
+    || (is_number (named_by event) number || false)
 
 abbrev pub followed : List Clock → ℕ → Passing → ℕ → Event → Dated → Dated
-followed clocks last passing tick event one = if is_told passing event one.kept.task.0 then stepped clocks last passing tick event one else one
+followed clocks last passing tick event one = if is_told passing event one.kept.task.0
+    then stepped clocks last passing tick event one else one

@@ -19,11 +19,27 @@ use Rattle.run_report.specs.declared.report.Kept.{Kept}
 use Rattle.run_report.specs.Accounts.{is_lower, is_tick, runner_base, chooses_another}
 
 abbrev pub fresh : Tally
-fresh = record { jobs = 0; worst = 0; sum = 0; run = 0; preempted = 0; lower = 0; longest = 0; base = None; since = None; tail = None; streak = 0 }
+fresh = record {
+  jobs = 0;
+  worst = 0;
+  sum = 0;
+  run = 0;
+  preempted = 0;
+  lower = 0;
+  longest = 0;
+  base = None;
+  since = None;
+  tail = None;
+  streak = 0;
+}
 
 -- so many ticks pass before a line, in which this subject runs with this base priority
 abbrev pub passing_in : Seen → ℕ → Passing
-passing_in seen tick = record { elapsed = tick - seen.tick; runner = seen.runner; base = runner_base seen.runner seen.bases }
+passing_in seen tick = record {
+  elapsed = tick - seen.tick;
+  runner = seen.runner;
+  base = runner_base seen.runner seen.bases;
+}
 
 -- these ticks, where it is so
 abbrev pub ticks_if : Bool → ℕ → ℕ
@@ -72,7 +88,8 @@ response_at Stays tick since = None
 -- another subject is chosen, and the task runs, is ready, and was not placed behind all of its level at this tick
 abbrev pub is_put_off : TaskNo → Option Who → ℕ → Event → Tally → Bool
 is_put_off task runner tick event tally =
-    chooses_another task event && somebody_eq runner (Some (subject.Task task)) && is_some tally.since && not (is_tick tick tally.tail)
+    chooses_another task event && somebody_eq runner (Some (subject.Task task)) && is_some tally.since
+    && not (is_tick tick tally.tail)
 
 abbrev pub base_after : TaskNo → Option ℕ → Event → Option ℕ
 base_after task base (New (created.Task other) name level) = level_if (task.0 == other.0) level base
@@ -97,11 +114,13 @@ tally_by task passing tick event tally response streak = record {
 -- one line more
 abbrev pub tally_after : TaskNo → Passing → ℕ → Event → Tally → Tally
 tally_after task passing tick event tally =
-    tally_by task passing tick event tally (response_at (move_of task event) tick tally.since) (streak_after passing.elapsed (is_waiting passing tally) tally.streak)
+    tally_by task passing tick event tally (response_at (move_of task event) tick tally.since)
+    (streak_after passing.elapsed (is_waiting passing tally) tally.streak)
 
 -- no figure passes 64 bits with one line more
 abbrev pub has_room : Tally → Bool
-has_room tally = nat_le tally.jobs ROOM && nat_le tally.sum ROOM && nat_le tally.run ROOM && nat_le tally.preempted ROOM && nat_le tally.lower ROOM && nat_le tally.streak ROOM
+has_room tally = nat_le tally.jobs ROOM && nat_le tally.sum ROOM && nat_le tally.run ROOM
+    && nat_le tally.preempted ROOM && nat_le tally.lower ROOM && nat_le tally.streak ROOM
 
 -- ---- all of it
 
@@ -109,7 +128,11 @@ abbrev pub kept_after : Passing → ℕ → Event → Kept → Kept
 kept_after passing tick event kept = record kept { tally = tally_after kept.task passing tick event kept.tally }
 
 abbrev pub newly_kept : Event → List Kept
-newly_kept (New (created.Task task) name level) = record { task = task; name = name; tally = record fresh { base = Some level } } ∷ []
+newly_kept (New (created.Task task) name level) = record {
+  task = task;
+  name = name;
+  tally = record fresh { base = Some level };
+} ∷ []
 newly_kept _ = []
 
 pub record Reported : Type 0 where
@@ -126,7 +149,8 @@ abbrev pub report_line : Reported → TraceLine → Reported
 report_line reported line = record {
   seen = see_line reported.seen line;
   kept = map (kept_after (passing_in reported.seen line.0) line.0 line.1) reported.kept ++ newly_kept line.1;
-  agent_run = reported.agent_run + ticks_if (somebody_eq reported.seen.runner (Some subject.Agent)) (line.0 - reported.seen.tick);
+  agent_run = reported.agent_run
+      + ticks_if (somebody_eq reported.seen.runner (Some subject.Agent)) (line.0 - reported.seen.tick);
   idle = reported.idle + ticks_if (somebody_eq reported.seen.runner None) (line.0 - reported.seen.tick);
 }
 

@@ -25,12 +25,15 @@ account_texts (account ∷ accounts) = account_text account ++ account_texts acc
 -- `agent run R`, `idle I` and `ticks T`, each with a line feed
 abbrev pub totals_text : ℕ → ℕ → ℕ → List ℕ
 totals_text agent_run idle ticks =
-    codes "agent run " ++ (decimal agent_run ++ 10 ∷ (codes "idle " ++ (decimal idle ++ 10 ∷ (codes "ticks " ++ (decimal ticks ++ 10 ∷ [])))))
+    codes "agent run " ++ (decimal agent_run ++ 10
+    ∷ (codes "idle " ++ (decimal idle ++ 10 ∷ (codes "ticks " ++ (decimal ticks ++ 10 ∷ [])))))
 
 -- the report of a list of lines
 abbrev pub report_text : List TraceLine → List ℕ
-report_text lines = account_texts (accounts_of lines) ++ totals_text (run_of subject.Agent lines) (idle_of lines) (last_from 0 lines)
+report_text lines = account_texts (accounts_of lines)
+    ++ totals_text (run_of subject.Agent lines) (idle_of lines) (last_from 0 lines)
 
 -- the same of what is kept
 abbrev pub text_in : Reported → List ℕ
-text_in reported = account_texts (accounts_in reported) ++ totals_text reported.agent_run reported.idle reported.seen.tick
+text_in reported = account_texts (accounts_in reported)
+    ++ totals_text reported.agent_run reported.idle reported.seen.tick

@@ -19,7 +19,8 @@ pub fn accounts_tell()
         → accounts_in (reported_of lines) ≡ accounts_of lines }
     ensures agent_run { (lines : List TraceLine) → Formed lines
         → (reported_of lines).agent_run ≡ run_of subject.Agent lines }
-    ensures idle { (lines : List TraceLine) → Formed lines → (reported_of lines).idle ≡ idle_of lines }
+    ensures idle { (lines : List TraceLine) → Formed lines
+        → (reported_of lines).idle ≡ idle_of lines }
     ensures ticks { (lines : List TraceLine) → (reported_of lines).seen.tick ≡ last_from 0 lines }
     ensures more { (lines : List TraceLine) (tick : ℕ) (event : Event)
         → reported_of (with_line lines tick event) ≡ report_line (reported_of lines) (tick, event) }

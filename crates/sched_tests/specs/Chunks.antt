@@ -10,11 +10,13 @@ use Rattle.sched_tests.specs.Demand.{due_in, demand, IsOver}
 
 -- A list has behind each place what becomes due of a duty in the window that ends there, beside what it had.
 abbrev pub HasDueOf : ℕ → Duty → List ℕ → List ℕ → Type 0
-HasDueOf base duty before after = (k : ℕ) → k < length before → slice_index after k + due_in (base + k) duty ≡ slice_index before k + due_in (base + k + 1) duty
+HasDueOf base duty before after = (k : ℕ) → k < length before
+    → slice_index after k + due_in (base + k) duty ≡ slice_index before k + due_in (base + k + 1) duty
 
 -- the list has what becomes due of all duties
 abbrev pub HasDue : ℕ → List Duty → List ℕ → Type 0
-HasDue base duties due = (k : ℕ) → k < length due → slice_index due k + demand duties (base + k) ≡ demand duties (base + k + 1)
+HasDue base duties due = (k : ℕ) → k < length due
+    → slice_index due k + demand duties (base + k) ≡ demand duties (base + k + 1)
 
 -- the first window that is overrun, with its demand; or none up to the end of the chunk, with the demand there
 abbrev pub IsChunkEnd : List Duty → ℕ → ChunkEnd → Type 0

@@ -53,13 +53,28 @@ are_fields words =
 -- six words and no others
 abbrev pub six_words : List (List ℕ) → Option Fields
 six_words (name ∷ cost ∷ period ∷ deadline ∷ blocking ∷ priority ∷ []) =
-    Some (record { name = name; cost = cost; period = period; deadline = deadline; blocking = blocking; priority = priority })
+    Some (record {
+      name = name;
+      cost = cost;
+      period = period;
+      deadline = deadline;
+      blocking = blocking;
+      priority = priority;
+    })
 six_words _ = None
 
 -- the duty with these numbers, where each is one; the deadline is at most the period
 abbrev pub duty_with : List ℕ → Option ℕ → Option ℕ → Option ℕ → Option ℕ → Option ℕ → Option Duty
 duty_with name (Some cost) (Some period) (Some deadline) (Some blocking) (Some priority) =
-    if nat_le deadline period then Some (record { name = name; cost = cost; period = period; deadline = deadline; blocking = blocking; priority = priority }) else None
+    if nat_le deadline period
+    then Some (record {
+      name = name;
+      cost = cost;
+      period = period;
+      deadline = deadline;
+      blocking = blocking;
+      priority = priority;
+    }) else None
 duty_with _ _ _ _ _ _ = None
 
 abbrev pub duty_in : Fields → Option Duty

@@ -50,7 +50,8 @@ module _ (number : List Before → ℕ) where
   body_completes region name before = starts_as_subprogram (nearest (declares_here region name) before)
 
   abbrev pub declares_name : ℕ → List ℕ → Occurrence → Before → Bool
-  declares_name region name (completes i s) before = is_named name i && (eqb (number (around_outside before)) region && not (body_completes region name before))
+  declares_name region name (completes i s) before = is_named name i
+      && (eqb (number (around_outside before)) region && not (body_completes region name before))
   declares_name region name o before = declares_here region name o before
 
   -- the nearest declaration of a name in a region

@@ -28,7 +28,8 @@ known_meaning is_nothing = is_nothing
 known_meaning is_several = is_nothing
 
 abbrev pub agrees_at : Names → ℕ → Identifier → Before → Bool
-agrees_at n last i before = same_meaning (told_meaning n (denoted_at n i.place)) (known_meaning (direct_name_means last i.text before))
+agrees_at n last i before =
+    same_meaning (told_meaning n (denoted_at n i.place)) (known_meaning (direct_name_means last i.text before))
 
 abbrev pub agrees_with : Names → ℕ → Occurrence → Before → Bool
 agrees_with n last (mentions name) before = agrees_at n last name.parts.first before

@@ -1,4 +1,5 @@
--- What is visible directly at a position (8.3): the innermost region around it that has a declaration of the name before it.
+-- What is visible directly at a position (8.3): the innermost region around it that has a declaration of the name
+-- before it.
 use Rattle.std.specs.Prelude.{ℕ, List, [], ◌∷◌, Option, Some, None, option_map}
 use Rattle.ann_base.specs.declared.places.Place.{Place}
 use Rattle.ada_regions.specs.declared.predefined.PredefinedUnit.{PredefinedUnit}
@@ -44,7 +45,8 @@ declared_in_region region name before =
 -- the innermost of these regions that has the name counts, and that of Standard last
 abbrev pub declared_around : List ℕ → Before → List Before → Option (Option Place)
 declared_around name before [] = declared_in_region 0 name before
-declared_around name before (b ∷ bs) = option_or (declared_in_region (number_of b) name before) (declared_around name before bs)
+declared_around name before (b ∷ bs) =
+    option_or (declared_in_region (number_of b) name before) (declared_around name before bs)
 
 abbrev pub meaning_if_seen : Option Place → Meaning
 meaning_if_seen None = is_nothing
@@ -53,4 +55,5 @@ meaning_if_seen (Some place) = is_declared place
 -- by nesting alone
 abbrev pub direct_meaning : ℕ → List ℕ → Before → Option Meaning
 direct_meaning last name before =
-    option_or (option_map meaning_if_seen (declared_around name before (around before))) (option_map meaning_of (in_standard last name))
+    option_or (option_map meaning_if_seen (declared_around name before (around before)))
+    (option_map meaning_of (in_standard last name))

@@ -25,8 +25,8 @@ end_of unit = read_on (names_in_unit unit) []
 
 -- ---- the regions around a position
 
--- the beginnings of the regions around a position, the innermost first, but for as many as these; a region that has ended is
--- passed over with those in it
+-- the beginnings of the regions around a position, the innermost first, but for as many as these; a region that has
+-- ended is passed over with those in it
 abbrev pub around_behind : ℕ → Before → List Before
 around_behind passed [] = []
 around_behind zero (begins r ∷ before) = (begins r ∷ before) ∷ around_behind zero before

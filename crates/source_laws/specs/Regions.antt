@@ -1,5 +1,5 @@
--- Which region begins where (8.1): a region has a number, which is one of its own, or that of the construct whose body it is
--- (7.2, 9.1, 9.4, 10.1.2). 0 is the number of Standard.
+-- Which region begins where (8.1): a region has a number, which is one of its own, or that of the construct whose body
+-- it is (7.2, 9.1, 9.4, 10.1.2). 0 is the number of Standard.
 use Rattle.std.specs.Prelude.{ℕ, zero, suc, Bool, true, false, not, ◌&&◌, List, [], ◌∷◌, Option, Some, None, length, eqb, is_some}
 use Rattle.ada_tree.specs.declared.units.Unit.{Unit as Tree}
 use Rattle.ada_regions.specs.declared.entities.UnitKind.{UnitKind}
@@ -31,8 +31,10 @@ module _ (number : List Before → ℕ) where
   abbrev pub number_of_region : Region → Before → ℕ
   number_of_region (package_body i) before = region_behind (package_declared i.text before) (suc (length before))
   number_of_region (the_context_of i) before = context_around (package_declared i.text before) (suc (length before))
-  number_of_region (task_body i place) before = region_behind (unit_declared unit.Task i.text before) (suc (length before))
-  number_of_region (protected_body i) before = region_behind (unit_declared unit.Protected i.text before) (suc (length before))
+  number_of_region (task_body i place) before =
+      region_behind (unit_declared unit.Task i.text before) (suc (length before))
+  number_of_region (protected_body i) before =
+      region_behind (unit_declared unit.Protected i.text before) (suc (length before))
   number_of_region _ before = suc (length before)
 
   abbrev pub number_of_beginning : Occurrence → Before → ℕ
@@ -43,8 +45,8 @@ abbrev pub first_or_none : List Before → Before
 first_or_none [] = []
 first_or_none (b ∷ bs) = b
 
--- the number of the region that begins here. Bodies stand in regions that began before: to ask as often as something stands
--- there is enough
+-- the number of the region that begins here. Bodies stand in regions that began before: to ask as often as something
+-- stands there is enough
 abbrev pub number_within : ℕ → Before → ℕ
 number_within zero b = 0
 number_within (suc limit) [] = 0
@@ -71,7 +73,8 @@ begins_body region _ before = false
 abbrev pub is_first_body : UnitKind → List ℕ → Before → Bool
 is_first_body kind name before =
     is_some (unit_declared number_of_innermost kind name before)
-    && not (is_some (nearest (begins_body (region_behind number_of_innermost (unit_declared number_of_innermost kind name before) 0)) before))
+    && not (is_some (nearest (begins_body (region_behind number_of_innermost
+    (unit_declared number_of_innermost kind name before) 0)) before))
 
 abbrev pub completes_if_body : Occurrence → Before → Bool
 completes_if_body (begins (task_body i place)) before = is_first_body unit.Task i.text before

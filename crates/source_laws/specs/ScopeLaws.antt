@@ -8,10 +8,13 @@ use Rattle.ada_image.specs.BuiltUnits.{unit_built}
 use Rattle.image_laws.specs.OwnScopes.{are_own}
 use Rattle.source_laws.specs.SourceLaws.{IsReadFrom}
 
--- each body, block and accept of it has a scope of its own in the table of its names, and none has that of the environment
+-- each body, block and accept of it has a scope of its own in the table of its names, and none has that of the
+-- environment
 abbrev pub ScopesAreOwn : Type 0
-ScopesAreOwn = (source : List ℕ) (unit : Tree) → IsReadFrom source unit → IsTrue (are_own (names_of unit) (scopes_begun unit (names_of unit)))
+ScopesAreOwn = (source : List ℕ) (unit : Tree) → IsReadFrom source unit
+    → IsTrue (are_own (names_of unit) (scopes_begun unit (names_of unit)))
 
 -- so nothing of it is lost in its image where its forms are those that an image has
 abbrev pub NothingReadIsLost : Type 0
-NothingReadIsLost = (source : List ℕ) (unit : Tree) → IsReadFrom source unit → IsTrue (unit_built unit (names_of unit)) → IsTrue (nothing_is_lost unit)
+NothingReadIsLost = (source : List ℕ) (unit : Tree) → IsReadFrom source unit
+    → IsTrue (unit_built unit (names_of unit)) → IsTrue (nothing_is_lost unit)

@@ -23,20 +23,24 @@ NamesStandApart = (source : List ℕ) (unit : Tree) → IsReadFrom source unit �
 
 -- each direct name of it denotes by its table what it means by its position, where its bodies complete units
 abbrev pub ReadNamesByPosition : Type 0
-ReadNamesByPosition = (source : List ℕ) (unit : Tree) → IsReadFrom source unit → IsTrue (bodies_complete unit) → IsTrue (denotes_by_position unit)
+ReadNamesByPosition = (source : List ℕ) (unit : Tree) → IsReadFrom source unit → IsTrue (bodies_complete unit)
+    → IsTrue (denotes_by_position unit)
 
 -- ---- bodies of task and protected units
 
 -- a source whose table knows the unit of each body has bodies that complete units
 abbrev pub BodiesCompleteWhereKnown : Type 0
-BodiesCompleteWhereKnown = (unit : Tree) → IsTrue (names_stand_apart unit) → IsTrue (bodies_known unit) → IsTrue (bodies_complete unit)
+BodiesCompleteWhereKnown = (unit : Tree) → IsTrue (names_stand_apart unit) → IsTrue (bodies_known unit)
+    → IsTrue (bodies_complete unit)
 
 -- ---- sources that break no rule of legality
 
 -- the bodies of task and protected units of such a source complete units, and each is the only body of its unit
 abbrev pub UnbrokenBodiesComplete : Type 0
-UnbrokenBodiesComplete = (source : List ℕ) (unit : Tree) → IsReadFrom source unit → first_fault_of unit ≡ None → IsTrue (bodies_complete unit)
+UnbrokenBodiesComplete = (source : List ℕ) (unit : Tree) → IsReadFrom source unit → first_fault_of unit ≡ None
+    → IsTrue (bodies_complete unit)
 
 -- each direct name of it denotes by its table what it means by its position
 abbrev pub UnbrokenNamesByPosition : Type 0
-UnbrokenNamesByPosition = (source : List ℕ) (unit : Tree) → IsReadFrom source unit → first_fault_of unit ≡ None → IsTrue (denotes_by_position unit)
+UnbrokenNamesByPosition = (source : List ℕ) (unit : Tree) → IsReadFrom source unit → first_fault_of unit ≡ None
+    → IsTrue (denotes_by_position unit)

@@ -34,9 +34,11 @@ abbrev pub begun_at : ℕ → List Before → Bool
 begun_at home bs = eqb (length (first_or_none bs)) home
 
 abbrev pub exports_here : ℕ → List ℕ → Occurrence → Before → Bool
-exports_here home name (declares i what) before = is_named name i && (begun_at home (around before) && not (is_private_behind 0 before))
+exports_here home name (declares i what) before = is_named name i
+    && (begun_at home (around before) && not (is_private_behind 0 before))
 exports_here home name (completes i s) before =
-    is_named name i && (begun_at home (around_outside before) && (not (body_completes number_of_innermost home name before) && not (is_private_behind 1 before)))
+    is_named name i && (begun_at home (around_outside before)
+    && (not (body_completes number_of_innermost home name before) && not (is_private_behind 1 before)))
 exports_here home name _ before = false
 
 abbrev pub exported_by_package : ℕ → List ℕ → Before → Option Meaning
@@ -74,8 +76,10 @@ abbrev pub package_at : Place → Before → Option ℕ
 package_at place before = option_map (λ b. suc (length b)) (nearest (declares_package place) before)
 
 abbrev pub visible_by : ℕ → List ℕ → Before → Meaning → Option Meaning
-visible_by last name here (is_declared place) = and_then (package_at place here) (λ home. exported_by_package home name here)
-visible_by last name here (is_unit u) = option_or (option_map meaning_of (item_of last u name)) (and_then (child_unit u name) (child_if_withed here))
+visible_by last name here (is_declared place) =
+    and_then (package_at place here) (λ home. exported_by_package home name here)
+visible_by last name here (is_unit u) =
+    option_or (option_map meaning_of (item_of last u name)) (and_then (child_unit u name) (child_if_withed here))
 visible_by last name here (is_item u) = None
 visible_by last name here is_nothing = None
 visible_by last name here is_several = None
@@ -98,7 +102,8 @@ with_meaning (Some m) ms = cond (list_any (same_meaning m) ms) ms (m ∷ ms)
 abbrev pub by_clauses : (Name → Before → Meaning) → ℕ → List ℕ → Before → Before → List Meaning
 by_clauses meaning last name here [] = []
 by_clauses meaning last name here (use_package p ∷ before) =
-    cond (stands_around here before) (with_meaning (visible_by last name here (meaning p before)) (by_clauses meaning last name here before))
+    cond (stands_around here before) (with_meaning (visible_by last name here (meaning p before))
+    (by_clauses meaning last name here before))
     (by_clauses meaning last name here before)
 by_clauses meaning last name here (_ ∷ before) = by_clauses meaning last name here before
 
@@ -114,15 +119,17 @@ meaning_or used (Some m) = m
 -- further parts of a clause's name are children of predefined units
 abbrev pub child_meaning : Meaning → List Identifier → Meaning
 child_meaning m [] = m
-child_meaning (is_unit u) (i ∷ rest) = child_meaning (meaning_or is_nothing (option_map is_unit (child_unit u i.text))) rest
+child_meaning (is_unit u) (i ∷ rest) =
+    child_meaning (meaning_or is_nothing (option_map is_unit (child_unit u i.text))) rest
 child_meaning m (i ∷ rest) = is_nothing
 
--- what a direct name means at a position. A clause's name means what it means where the clause stands, which is before: to
--- ask as often as something stands there is enough
+-- what a direct name means at a position. A clause's name means what it means where the clause stands, which is before:
+-- to ask as often as something stands there is enough
 abbrev pub meaning_within : ℕ → ℕ → List ℕ → Before → Meaning
 meaning_within zero last name before = meaning_or is_nothing (direct_meaning last name before)
 meaning_within (suc limit) last name before =
-    meaning_or (one_of (by_clauses (λ p b. child_meaning (meaning_within limit last p.parts.first.text b) p.parts.others) last name before before))
+    meaning_or (one_of (by_clauses (λ p b. child_meaning (meaning_within limit last p.parts.first.text b)
+    p.parts.others) last name before before))
     (direct_meaning last name before)
 
 unfoldable pub direct_name_means : ℕ → List ℕ → Before → Meaning

@@ -11,7 +11,8 @@ of_slot slot (x ∷ xs) = if x.slot.0 == slot then (x.cause, x.level) ∷ of_slo
 
 abbrev pub shown_task : ℕ → List Inherited → Option Own → Option Priorities
 shown_task slot inherited None = None
-shown_task slot inherited (Some own) = Some (record { base = own.base; deferred = own.deferred; kept = own.kept; inherited = of_slot slot inherited })
+shown_task slot inherited (Some own) =
+    Some (record { base = own.base; deferred = own.deferred; kept = own.kept; inherited = of_slot slot inherited })
 
 -- the tasks from this slot on
 abbrev pub shown_from : ℕ → List Inherited → List (Option Own) → List (Option Priorities)

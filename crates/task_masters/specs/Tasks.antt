@@ -39,7 +39,14 @@ home_of tasks creator master part =
 -- the environment task, which has no master (10.2)
 abbrev pub environment_task : Task
 environment_task =
-    record { slot = record { 0 = 0 }; number = record { 0 = 0 }; home = None; stage = Begun; activation = None; waits = false }
+    record {
+      slot = record { 0 = 0 };
+      number = record { 0 = 0 };
+      home = None;
+      stage = Begun;
+      activation = None;
+      waits = false;
+    }
 
 -- a task that is made
 abbrev pub made_task : Slot → TaskNo → Home → Task

@@ -5,7 +5,8 @@ use Rattle.std.specs.Char.{is_ascii_digit}
 
 -- a numeral is digits without a leading zero, or the digit 0
 abbrev pub is_numeral : List ℕ → Bool
-is_numeral word = nat_lt 0 (length word) && list_all is_ascii_digit word && (not (slice_index word 0 == 48) || (length word == 1))
+is_numeral word = nat_lt 0 (length word) && list_all is_ascii_digit word
+    && (not (slice_index word 0 == 48) || (length word == 1))
 
 -- the number of a numeral
 abbrev pub numeral_value : List ℕ → ℕ

@@ -60,11 +60,13 @@ ended (byte ∷ bytes) = None
 
 -- digits without a leading zero
 abbrev pub is_number : List ℕ → Bool
-is_number bytes = list_all is_ascii_digit bytes && not (length bytes == 0) && (not (slice_index bytes 0 == 48) || length bytes == 1)
+is_number bytes = list_all is_ascii_digit bytes && not (length bytes == 0)
+    && (not (slice_index bytes 0 == 48) || length bytes == 1)
 
 -- a number of at most `most`
 abbrev pub number_in : ℕ → List ℕ → Option ℕ
-number_in most bytes = if is_number bytes && nat_le (digits_value 10 bytes) most then Some (digits_value 10 bytes) else None
+number_in most bytes = if is_number bytes && nat_le (digits_value 10 bytes) most then Some (digits_value 10 bytes)
+    else None
 
 abbrev pub negative_of : ℕ → Option ℤ
 negative_of zero = None
@@ -73,7 +75,8 @@ negative_of (suc n) = Some (negsuc n)
 -- a number of at most `most`, or of at least its negative less one
 abbrev pub signed_in : ℕ → List ℕ → Option ℤ
 signed_in most [] = None
-signed_in most (byte ∷ bytes) = if byte == 45 then (number_in (most + 1) bytes >>= negative_of) else (number_in most (byte ∷ bytes) >>= λ n. Some (pos n))
+signed_in most (byte ∷ bytes) = if byte == 45 then (number_in (most + 1) bytes >>= negative_of)
+    else (number_in most (byte ∷ bytes) >>= λ n. Some (pos n))
 
 abbrev pub short_in : List ℕ → Option ℕ
 short_in = number_in 255
@@ -106,7 +109,8 @@ exception_in bytes = if bytes_eq bytes (codes "ok") || bytes_eq bytes (codes "re
 abbrev pub finished_in : List ℕ → Option Finished
 finished_in bytes =
     if bytes_eq bytes (codes "ok") then Some finished.Ok
-    else (if bytes_eq bytes (codes "requeue") then Some finished.Requeue else (name_in bytes >>= λ name. Some (finished.Raised name)))
+    else (if bytes_eq bytes (codes "requeue") then Some finished.Requeue
+    else (name_in bytes >>= λ name. Some (finished.Raised name)))
 
 -- the name behind a point
 abbrev pub part_in : List ℕ → Option (List ℕ)
@@ -114,11 +118,13 @@ part_in bytes = behind 46 bytes >>= name_in
 
 abbrev pub entry_in : List ℕ → Option EntryName
 entry_in bytes = part_in (rest_of 46 bytes) >>= λ name.
-    option_or (task_in (front_of 46 bytes) >>= λ task. Some (OfTask task name)) (object_in (front_of 46 bytes) >>= λ object. Some (OfObject object name))
+    option_or (task_in (front_of 46 bytes) >>= λ task. Some (OfTask task name)) (object_in (front_of 46 bytes)
+    >>= λ object. Some (OfObject object name))
 
 -- pN.NAME
 abbrev pub handler_in : List ℕ → Option (ObjectNo × List ℕ)
-handler_in bytes = part_in (rest_of 46 bytes) >>= λ name. object_in (front_of 46 bytes) >>= λ object. Some (object, name)
+handler_in bytes = part_in (rest_of 46 bytes) >>= λ name. object_in (front_of 46 bytes)
+    >>= λ object. Some (object, name)
 
 abbrev pub deadline_in : List ℕ → Option (Option ℤ)
 deadline_in [] = Some None

@@ -24,10 +24,14 @@ abbrev pub queue_end_in : List ℕ → Option QueueEnd
 queue_end_in = spelt_in queue_end_text (Head ∷ Tail ∷ [])
 
 abbrev pub waits_in : List ℕ → Option Waits
-waits_in = spelt_in waits_text (waits.Activation ∷ waits.Delay ∷ waits.Entry ∷ waits.Accept ∷ waits.Select ∷ waits.Dependents ∷ waits.Call ∷ waits.Release ∷ [])
+waits_in =
+    spelt_in waits_text (waits.Activation ∷ waits.Delay ∷ waits.Entry ∷ waits.Accept ∷ waits.Select
+    ∷ waits.Dependents ∷ waits.Call ∷ waits.Release ∷ [])
 
 abbrev pub mode_in : List ℕ → Option Mode
 mode_in = spelt_in mode_text (mode.Read ∷ mode.Write ∷ [])
 
 abbrev pub leaves_in : List ℕ → Option Leaves
-leaves_in = spelt_in leaves_text (leaves.End ∷ leaves.Return ∷ leaves.Exit ∷ leaves.Exception ∷ leaves.Abort ∷ leaves.Terminate ∷ [])
+leaves_in =
+    spelt_in leaves_text (leaves.End ∷ leaves.Return ∷ leaves.Exit ∷ leaves.Exception ∷ leaves.Abort
+    ∷ leaves.Terminate ∷ [])

@@ -12,9 +12,11 @@ use Rattle.trace_files.specs.declared.reporting.FileReport.TheVariants as told
 use Rattle.trace_files.specs.Texts.{IsLeft}
 
 -- with one text more
-abbrev pub lines_with : List TraceLine → Option TraceLine → (List TraceLine → Result (List TraceLine) ℕ) → Result (List TraceLine) ℕ
+abbrev pub lines_with : List TraceLine → Option TraceLine → (List TraceLine → Result (List TraceLine) ℕ)
+    → Result (List TraceLine) ℕ
 lines_with lines None later = Err (length lines + 1)
-lines_with lines (Some line) later = if follows_form (lines ++ line ∷ []) then later (lines ++ line ∷ []) else Err (length lines + 1)
+lines_with lines (Some line) later = if follows_form (lines ++ line ∷ []) then later (lines ++ line ∷ [])
+    else Err (length lines + 1)
 
 -- behind so many bytes, which were these lines
 abbrev pub lines_from : ℕ → List TraceLine → List (List ℕ) → Result (List TraceLine) ℕ
@@ -23,8 +25,8 @@ lines_from before lines (text ∷ texts) =
     if nat_lt TRACE_BYTES (before + length text) then Err (length lines + 1)
     else lines_with lines (line_in text) (λ more. lines_from (before + length text) more texts)
 
--- The lines of a trace, where they are formed; or the first line that is refused: it ends beyond the most bytes, is none, or
--- is one with which the list is not formed.
+-- The lines of a trace, where they are formed; or the first line that is refused: it ends beyond the most bytes, is
+-- none, or is one with which the list is not formed.
 abbrev pub formed_lines : List ℕ → Result (List TraceLine) ℕ
 formed_lines bytes = lines_from 0 [] (texts_in bytes)
 
@@ -40,7 +42,8 @@ pub record Reporting (file : List ℕ) (report : Reported) (trace : TraceFile) (
 
 -- what is answered of a file
 abbrev pub IsReported : List ℕ → FileReport → Type 0
-IsReported file (told.Formed report) = (lines : List TraceLine) × (formed_lines file ≡ Ok lines) × Formed lines × StandsFor report lines
+IsReported file (told.Formed report) = (lines : List TraceLine) × (formed_lines file ≡ Ok lines) × Formed lines
+    × StandsFor report lines
 IsReported file (told.Refused number) = formed_lines file ≡ Err number
 
 -- the texts are those of these lines, which are formed, and are within the most bytes

@@ -22,7 +22,8 @@ abbrev pub nothing_read : TraceFile → Type 0
 nothing_read trace = (trace.before ≡ 0) × (trace.count ≡ 0)
 
 -- a line was read behind so many bytes, and these bytes are left
-pub record HasLine (before : ℕ) (rest : List ℕ) (tick : ℕ) (event : Event) (trace : TraceFile) (left : Option (List ℕ)) : Type 0 where
+pub record HasLine (before : ℕ) (rest : List ℕ) (tick : ℕ) (event : Event) (trace : TraceFile)
+    (left : Option (List ℕ)) : Type 0 where
   pub text : List ℕ
   pub behind : List ℕ
   pub texts : texts_in rest ≡ text ∷ texts_in behind
@@ -52,7 +53,9 @@ Counted old new next.End = new.count ≡ old.count
 
 -- why the bytes that were read of a text are refused
 abbrev pub IsBad : ℕ → List ℕ → Type 0
-IsBad before text = (LINE_BYTES < length text) ⊎ ((TRACE_BYTES < before + length text) ⊎ ((length text ≤ LINE_BYTES) × (before + length text ≤ TRACE_BYTES) × (line_in text ≡ None)))
+IsBad before text = (LINE_BYTES < length text)
+    ⊎ ((TRACE_BYTES < before + length text)
+    ⊎ ((length text ≤ LINE_BYTES) × (before + length text ≤ TRACE_BYTES) × (line_in text ≡ None)))
 
 pub record IsTaken (old new : TraceFile) (tick : ℕ) (event : Event) : Type 0 where
   pub line : line_in old.text.items ≡ Some (tick, event)

@@ -10,7 +10,8 @@ abbrev pub is_of : ℕ → Who → Action → Bool
 is_of object who action = object == action.object && who_eq who action.who
 
 abbrev pub is_held_against : ℕ → Who → Mode → Action → Bool
-is_held_against object who m action = object == action.object && not (who_eq who action.who) && (is_write m || is_write action.mode)
+is_held_against object who m action = object == action.object && not (who_eq who action.who)
+    && (is_write m || is_write action.mode)
 
 -- the first place of a subject's actions on an object, or the length where there is none
 abbrev pub place_of : ℕ → Who → List Action → ℕ

@@ -1,4 +1,5 @@
--- What is answered of the bytes of a whole trace: the first line that is no line, does not keep the list formed or breaks a law.
+-- What is answered of the bytes of a whole trace: the first line that is no line, does not keep the list formed or
+-- breaks a law.
 use Rattle.std.specs.Prelude.{◌≡◌, ◌<◌, ◌≤◌, ◌⊎◌, ℕ, ◌+◌, ◌==◌, if◌then◌else◌, nat_lt, List, [], ◌∷◌, ◌++◌, Option, Some, None, Result, Ok, Err, length}
 use Rattle.trace_text.specs.Queue.{TraceLine}
 use Rattle.trace_text.specs.Laws.{Formed, KeepsLaws}
@@ -28,7 +29,8 @@ verdict_at number (Err (Broken law)) lines later = verdict.Broken number law
 
 abbrev pub verdict_with : List TraceLine → Option TraceLine → (List TraceLine → Verdict) → Verdict
 verdict_with lines None later = verdict.Refused (length lines + 1)
-verdict_with lines (Some line) later = verdict_at (length lines + 1) (answer_of (lines ++ line ∷ [])) (lines ++ line ∷ []) later
+verdict_with lines (Some line) later =
+    verdict_at (length lines + 1) (answer_of (lines ++ line ∷ [])) (lines ++ line ∷ []) later
 
 -- behind so many bytes, which were these lines
 abbrev pub verdict_from : ℕ → List TraceLine → List (List ℕ) → Verdict
@@ -60,8 +62,8 @@ pub record IsLawful (texts : List (List ℕ)) (count : ℕ) : Type 0 where
   pub lawful : KeepsLaws lines
   pub within : bytes_in texts ≤ TRACE_BYTES
 
--- The texts before this one are those of a formed list that keeps the laws, within the most bytes, and it is the text of
--- this number.
+-- The texts before this one are those of a formed list that keeps the laws, within the most bytes, and it is the text
+-- of this number.
 pub record Offends (texts : List (List ℕ)) (number : ℕ) : Type 0 where
   pub before : List (List ℕ)
   pub text : List ℕ
@@ -85,7 +87,9 @@ pub record IsBroken (texts : List (List ℕ)) (number : ℕ) (law : Law) : Type 
 -- It goes on beyond the most bytes, is no line, or is one with which the list does not stay formed.
 abbrev pub IsRefusable : List (List ℕ) → List ℕ → List TraceLine → Type 0
 IsRefusable before text lines =
-    (TRACE_BYTES < bytes_in before + length text) ⊎ ((line_in text ≡ None) ⊎ ((line : TraceLine) × (line_in text ≡ Some line) × (answer_of (lines ++ line ∷ []) ≡ Err Malformed)))
+    (TRACE_BYTES < bytes_in before + length text)
+    ⊎ ((line_in text ≡ None) ⊎ ((line : TraceLine) × (line_in text ≡ Some line)
+    × (answer_of (lines ++ line ∷ []) ≡ Err Malformed)))
 
 pub record IsRefused (texts : List (List ℕ)) (number : ℕ) : Type 0 where
   pub offends : Offends texts number

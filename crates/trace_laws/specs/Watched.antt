@@ -75,7 +75,8 @@ releases_in seen counts = record {
 }
 
 abbrev pub are_handlers_kept : Seen → Counts → ℕ → Event → Bool
-are_handlers_kept seen counts tick event = is_in_order (releases_in seen counts) event && (nat_le tick seen.tick || is_agent_right (releases_in seen counts))
+are_handlers_kept seen counts tick event = is_in_order (releases_in seen counts) event
+    && (nat_le tick seen.tick || is_agent_right (releases_in seen counts))
 
 -- the first law that a list with this line breaks
 abbrev pub broken_by : Watched → ℕ → Event → Option Law
@@ -91,7 +92,8 @@ fault_of None = Ok tt
 fault_of (Some law) = Err (Broken law)
 
 abbrev pub answer_after : Watched → ℕ → Event → Result (Unit {0}) LawFault
-answer_after watched tick event = if is_formed_after watched.seen tick event then fault_of (broken_by watched tick event) else Err Malformed
+answer_after watched tick event = if is_formed_after watched.seen tick event
+    then fault_of (broken_by watched tick event) else Err Malformed
 
 -- the first law that a list breaks
 abbrev pub first_broken : List TraceLine → Option Law

@@ -16,7 +16,8 @@ use trace_text::tests_tell;
 /// What is answered by the facts of a list that is formed and keeps the laws is what is to be answered of the list with the
 /// further line; where nothing is wrong, the longer list is formed and keeps the laws.
 pub fn answers_tell()
-    ensures answer { (lines : List TraceLine) (tick : ℕ) (event : Event) → Formed lines → KeepsLaws lines
+    ensures answer { (lines : List TraceLine) (tick : ℕ) (event : Event)
+        → Formed lines → KeepsLaws lines
         → answer_after (watched_of lines) tick event ≡ answer_of (with_line lines tick event) }
     ensures more { (lines : List TraceLine) (tick : ℕ) (event : Event)
         → watched_of (with_line lines tick event) ≡ watch_line (watched_of lines) (tick, event) }

@@ -23,15 +23,23 @@ place_of who (placed ∷ entries) = if who_eq who placed.1.who then Some placed.
 
 -- the order of ranks
 abbrev pub rank_cmp : Rank → Rank → Ordering
-rank_cmp = then_cmp (flip_args (on (λ r. r.level) nat_cmp)) (then_cmp (on (λ r. r.is_undated) bool_cmp) (then_cmp (on (λ r. r.deadline) int_cmp) (on (λ r. r.place) nat_cmp)))
+rank_cmp =
+    then_cmp (flip_args (on (λ r. r.level) nat_cmp))
+    (then_cmp (on (λ r. r.is_undated) bool_cmp) (then_cmp (on (λ r. r.deadline) int_cmp) (on (λ r. r.place) nat_cmp)))
 
 abbrev pub rank_of : ℕ → Entry → Rank
-rank_of place entry = record { level = entry.level; is_undated = not (is_some entry.deadline); deadline = unwrap_or entry.deadline (pos 0); place = place }
+rank_of place entry = record {
+  level = entry.level;
+  is_undated = not (is_some entry.deadline);
+  deadline = unwrap_or entry.deadline (pos 0);
+  place = place;
+}
 
 -- the entry of this rank
 abbrev pub ranked : Rank → List (ℕ × Entry) → Option Entry
 ranked rank [] = None
-ranked rank (placed ∷ entries) = if is_eq (rank_cmp (rank_of placed.0 placed.1) rank) then Some placed.1 else ranked rank entries
+ranked rank (placed ∷ entries) = if is_eq (rank_cmp (rank_of placed.0 placed.1) rank) then Some placed.1
+    else ranked rank entries
 
 -- what is at a place, if there is one
 abbrev pub entry_at : Option ℕ → List (ℕ × Entry) → Option Entry
@@ -60,7 +68,8 @@ IsEachOnce [] = Unit {0}
 IsEachOnce (placed ∷ entries) = (place_of placed.1.who entries ≡ None) × IsEachOnce entries
 
 -- what finds a place by a subject's number, and an entry by its rank, finds what the entries by their places say
-pub record IsKept (entries : List (ℕ × Entry)) (places : ℕ → Option ℕ) (ranks : Rank → Option Entry) (first next : ℕ) : Type 0 where
+pub record IsKept (entries : List (ℕ × Entry)) (places : ℕ → Option ℕ) (ranks : Rank
+    → Option Entry) (first next : ℕ) : Type 0 where
   pub rises : Rises first entries next
   pub once : IsEachOnce entries
   pub places_known : (who : Who) → places (subject_number who) ≡ place_of who entries

@@ -14,8 +14,8 @@ use Rattle.trace_text.specs.declared.events.Event.TheVariants.{New, Base, End}
 use Rattle.trace_text.specs.Queue.{TraceLine, queue_after, runner_after}
 use Rattle.trace_text.specs.Laws.{Shape, is_formed_next}
 
--- The last tick, whether an `end` line came, who runs, the ready queue, the last base of each task that has a `new` line
--- and the ceiling of each object that has one, in the order of their numbers.
+-- The last tick, whether an `end` line came, who runs, the ready queue, the last base of each task that has a `new`
+-- line and the ceiling of each object that has one, in the order of their numbers.
 pub record Seen : Type 0 where
   pub tick : ℕ
   pub is_ended : Bool
@@ -68,7 +68,12 @@ with_line lines tick event = lines ++ (tick, event) ∷ []
 
 -- what the form of a further line depends on
 abbrev pub shape_of : Seen → Shape
-shape_of seen = record { queue = seen.queue; tasks = keys_of seen.bases; objects = keys_of seen.ceilings; is_ended = seen.is_ended }
+shape_of seen = record {
+  queue = seen.queue;
+  tasks = keys_of seen.bases;
+  objects = keys_of seen.ceilings;
+  is_ended = seen.is_ended;
+}
 
 -- a formed list stays formed with this line
 abbrev pub is_formed_after : Seen → ℕ → Event → Bool

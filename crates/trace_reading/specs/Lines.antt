@@ -32,41 +32,53 @@ agent_in bytes = if bytes_eq bytes (codes "agent") then Some lead.Agent else Non
 -- the subject, or the word of a line that has none
 abbrev pub lead_in : List ℕ → Option Lead
 lead_in bytes =
-    option_or (agent_in bytes) (option_or (task_in bytes >>= λ task. Some (lead.Task task)) (option_or (object_in bytes >>= λ object. Some (lead.Object object)) (word_in bytes >>= λ word. Some (lead.Bare word))))
+    option_or (agent_in bytes) (option_or (task_in bytes
+    >>= λ task. Some (lead.Task task)) (option_or (object_in bytes
+    >>= λ object. Some (lead.Object object)) (word_in bytes >>= λ word. Some (lead.Bare word))))
 
 abbrev pub created_in : Created → List ℕ → Option Event
-created_in what bytes = field name_in bytes >>= λ name. last_field short_in name.1 >>= λ level. Some (New what name.0 level)
+created_in what bytes = field name_in bytes >>= λ name. last_field short_in name.1
+    >>= λ level. Some (New what name.0 level)
 
 abbrev pub ready_in : Who → List ℕ → Option Event
-ready_in who bytes = field short_in bytes >>= λ level. field queue_end_in level.1 >>= λ end. deadline_in end.1 >>= λ deadline. Some (Ready who level.0 end.0 deadline)
+ready_in who bytes = field short_in bytes >>= λ level. field queue_end_in level.1 >>= λ end. deadline_in end.1
+    >>= λ deadline. Some (Ready who level.0 end.0 deadline)
 
 abbrev pub call_in : TaskNo → List ℕ → Option Event
-call_in task bytes = field long_in bytes >>= λ call. field entry_in call.1 >>= λ entry. last_field short_in entry.1 >>= λ priority. Some (Call task (record { 0 = call.0 }) entry.0 priority)
+call_in task bytes = field long_in bytes >>= λ call. field entry_in call.1 >>= λ entry. last_field short_in entry.1
+    >>= λ priority. Some (Call task (record { 0 = call.0 }) entry.0 priority)
 
 abbrev pub finish_in : Who → List ℕ → Option Event
-finish_in who bytes = field long_in bytes >>= λ call. last_field finished_in call.1 >>= λ how. Some (Finish who (record { 0 = call.0 }) how)
+finish_in who bytes = field long_in bytes >>= λ call. last_field finished_in call.1
+    >>= λ how. Some (Finish who (record { 0 = call.0 }) how)
 
 abbrev pub enter_in : Who → List ℕ → Option Event
-enter_in who bytes = field object_in bytes >>= λ object. last_field mode_in object.1 >>= λ mode. Some (Enter who object.0 mode)
+enter_in who bytes = field object_in bytes >>= λ object. last_field mode_in object.1
+    >>= λ mode. Some (Enter who object.0 mode)
 
 abbrev pub held_in : Who → List ℕ → Option Event
-held_in who bytes = field object_in bytes >>= λ object. last_field mode_in object.1 >>= λ mode. Some (Held who object.0 mode)
+held_in who bytes = field object_in bytes >>= λ object. last_field mode_in object.1
+    >>= λ mode. Some (Held who object.0 mode)
 
 abbrev pub leave_in : Who → List ℕ → Option Event
-leave_in who bytes = field long_in bytes >>= λ region. last_field leaves_in region.1 >>= λ how. Some (Leave who (record { 0 = region.0 }) how)
+leave_in who bytes = field long_in bytes >>= λ region. last_field leaves_in region.1
+    >>= λ how. Some (Leave who (record { 0 = region.0 }) how)
 
 abbrev pub init_in : Who → List ℕ → Option Event
-init_in who bytes = field long_in bytes >>= λ object. field long_in object.1 >>= λ region. last_field name_in region.1 >>= λ name. Some (Init who object.0 (record { 0 = region.0 }) name)
+init_in who bytes = field long_in bytes >>= λ object. field long_in object.1
+    >>= λ region. last_field name_in region.1 >>= λ name. Some (Init who object.0 (record { 0 = region.0 }) name)
 
 abbrev pub release_in : List ℕ → Option Event
-release_in bytes = field long_in bytes >>= λ release. last_field handler_in release.1 >>= λ handler. Some (Release release.0 handler.0 handler.1)
+release_in bytes = field long_in bytes >>= λ release. last_field handler_in release.1
+    >>= λ handler. Some (Release release.0 handler.0 handler.1)
 
 abbrev pub port_in : List ℕ → Option Event
 port_in bytes = field short_in bytes >>= λ number. last_field value_in number.1 >>= λ value. Some (Port number.0 value)
 
 abbrev pub end_in : List ℕ → Option Event
 end_in bytes = field Some bytes >>= λ why.
-    if bytes_eq why.0 (codes "exception") then (last_field exception_in why.1 >>= λ name. Some (End (ended_variants.Exception name)))
+    if bytes_eq why.0 (codes "exception") then (last_field exception_in why.1
+    >>= λ name. Some (End (ended_variants.Exception name)))
     else (ended why.1 >>= λ _.
     if bytes_eq why.0 (codes "completed") then Some (End ended_variants.Completed)
     else (if bytes_eq why.0 (codes "stuck") then Some (End ended_variants.Stuck)
@@ -139,8 +151,10 @@ event_in bytes = field lead_in bytes >>= λ first. led_in first.0 first.1
 
 -- a line without its line feed
 abbrev pub moment_and_event_in : List ℕ → Option (ℕ × Event)
-moment_and_event_in bytes = number_in 18446744073709551615 (front_of 32 bytes) >>= λ tick. event_in (rest_of 32 bytes) >>= λ event. Some (tick, event)
+moment_and_event_in bytes = number_in 18446744073709551615 (front_of 32 bytes)
+    >>= λ tick. event_in (rest_of 32 bytes) >>= λ event. Some (tick, event)
 
 -- a line ends with a line feed
 abbrev pub line_in : List ℕ → Option (ℕ × Event)
-line_in line = if not (length line == 0) && slice_index line (length line - 1) == 10 then moment_and_event_in (take (length line - 1) line) else None
+line_in line = if not (length line == 0) && slice_index line (length line - 1) == 10
+    then moment_and_event_in (take (length line - 1) line) else None

@@ -45,7 +45,11 @@ bases_after bases (Base task level) = (task.0, level) ∷ bases
 bases_after bases _ = bases
 
 abbrev pub see_levels : Levels → Event → Levels
-see_levels sight event = record { entries = queue_after sight.entries event; ceilings = ceilings_after sight.ceilings event; bases = bases_after sight.bases event }
+see_levels sight event = record {
+  entries = queue_after sight.entries event;
+  ceilings = ceilings_after sight.ceilings event;
+  bases = bases_after sight.bases event;
+}
 
 abbrev pub is_at_most : Option ℕ → ℕ → Bool
 is_at_most None limit = false
@@ -63,10 +67,12 @@ is_base_below (Some deadline) base ceiling = is_at_most base ceiling
 abbrev pub is_entry_below : Option Entry → Option ℕ → Option ℕ → Bool
 is_entry_below None base ceiling = false
 is_entry_below (Some entry) base None = false
-is_entry_below (Some entry) base (Some ceiling) = nat_le entry.level ceiling && is_base_below entry.deadline base ceiling
+is_entry_below (Some entry) base (Some ceiling) = nat_le entry.level ceiling
+    && is_base_below entry.deadline base ceiling
 
 abbrev pub is_below_ceiling : Levels → Event → Bool
-is_below_ceiling sight (Enter who object m) = is_entry_below (entry_of who sight.entries) (base_of who sight.bases) (level_of object.0 sight.ceilings)
+is_below_ceiling sight (Enter who object m) =
+    is_entry_below (entry_of who sight.entries) (base_of who sight.bases) (level_of object.0 sight.ceilings)
 is_below_ceiling sight _ = true
 
 abbrev pub CeilingOk : List TraceLine → Type 0
@@ -76,7 +82,8 @@ abbrev pub follows_ceilings : List TraceLine → Bool
 follows_ceilings = follows_lines see_levels is_below_ceiling no_levels
 
 -- EXCLUSION. `enter` opens an action, `exit` closes one of the same subject that is open. No write is open beside
--- another action on its object. `held` stands only where another subject has the object open and one of both writes (9.5.1).
+-- another action on its object. `held` stands only where another subject has the object open and one of both writes
+-- (9.5.1).
 abbrev pub is_write : Mode → Bool
 is_write mode.Read = false
 is_write mode.Write = true
@@ -84,7 +91,8 @@ is_write mode.Write = true
 -- the action that was opened last of these of a subject is taken out
 abbrev pub closed : ℕ → Who → List Action → List Action
 closed object who [] = []
-closed object who (action ∷ actions) = if object == action.object && who_eq who action.who then actions else action ∷ closed object who actions
+closed object who (action ∷ actions) = if object == action.object && who_eq who action.who then actions
+    else action ∷ closed object who actions
 
 abbrev pub actions_after : List Action → Event → List Action
 actions_after actions (Enter who object m) = record { object = object.0; who = who; mode = m } ∷ actions
@@ -98,7 +106,9 @@ is_beside object m action = not (object == action.object) || not (is_write m || 
 abbrev pub is_exclusive : List Action → Event → Bool
 is_exclusive actions (Enter who object m) = list_all (is_beside object.0 m) actions
 is_exclusive actions (Exit who object) = list_any (λ action. object.0 == action.object && who_eq who action.who) actions
-is_exclusive actions (Held who object m) = list_any (λ action. object.0 == action.object && not (who_eq who action.who) && (is_write m || is_write action.mode)) actions
+is_exclusive actions (Held who object m) =
+    list_any (λ action. object.0 == action.object && not (who_eq who action.who)
+    && (is_write m || is_write action.mode)) actions
 is_exclusive actions _ = true
 
 abbrev pub ExclusiveOk : List TraceLine → Type 0
@@ -126,7 +136,10 @@ one_off number (other ∷ numbers) = if number == other then one_off number numb
 
 abbrev pub count_release : Releases → Event → Releases
 count_release state (Release number object handler) = record state { released = state.released + 1 }
-count_release state (Serve number) = record state { begun = state.begun + 1; serving = number ∷ one_off number state.serving }
+count_release state (Serve number) = record state {
+  begun = state.begun + 1;
+  serving = number ∷ one_off number state.serving;
+}
 count_release state (Served number) = record state { served = state.served + 1; serving = one_off number state.serving }
 count_release state _ = state
 
@@ -135,7 +148,8 @@ see_releases state event = record (count_release state event) { sight = see stat
 
 abbrev pub is_in_order : Releases → Event → Bool
 is_in_order state (Release number object handler) = number == state.released + 1
-is_in_order state (Serve number) = number == state.begun + 1 && nat_le number state.released && length state.serving == 0
+is_in_order state (Serve number) = number == state.begun + 1 && nat_le number state.released
+    && length state.serving == 0
 is_in_order state (Served number) = number == state.served + 1 && nat_le number state.released
 is_in_order state _ = true
 
@@ -153,12 +167,14 @@ pub record HandlersOk (lines : List TraceLine) : Type 0 where
   pub agent : AtEachTick see_releases no_releases (λ state. IsTrue (is_agent_right state)) lines
 
 abbrev pub follows_handlers : List TraceLine → Bool
-follows_handlers lines = follows_lines see_releases is_in_order no_releases lines && follows_ticks see_releases is_agent_right 0 no_releases lines
+follows_handlers lines = follows_lines see_releases is_in_order no_releases lines
+    && follows_ticks see_releases is_agent_right 0 no_releases lines
 
--- LEAVING. Each region has at most one `leave` and behind it at most one `left`. The `init` lines of a region stand before
--- its `leave`, the `final` lines of its objects between both; these name, in order, a front of the reverse of its `init`
--- lines, and the whole reverse where `left` stands. No other `final` line exists. A `replace` line stands behind the
--- `init` line of its object and before its `final` line (7.6.1). What is looked at are the events before, the last first.
+-- LEAVING. Each region has at most one `leave` and behind it at most one `left`. The `init` lines of a region stand
+-- before its `leave`, the `final` lines of its objects between both; these name, in order, a front of the reverse of
+-- its `init` lines, and the whole reverse where `left` stands. No other `final` line exists. A `replace` line stands
+-- behind the `init` line of its object and before its `final` line (7.6.1). What is looked at are the events before,
+-- the last first.
 abbrev pub is_left_before : ℕ → List Event → Bool
 is_left_before region [] = false
 is_left_before region (Left who r ∷ past) = region == r.0 || is_left_before region past
@@ -172,13 +188,15 @@ is_leaving region (_ ∷ past) = is_leaving region past
 -- the objects of a region, the last first
 abbrev pub inits_of : ℕ → List Event → List ℕ
 inits_of region [] = []
-inits_of region (Init who object r name ∷ past) = if region == r.0 then object ∷ inits_of region past else inits_of region past
+inits_of region (Init who object r name ∷ past) = if region == r.0 then object ∷ inits_of region past
+    else inits_of region past
 inits_of region (_ ∷ past) = inits_of region past
 
 -- the regions of an object
 abbrev pub regions_of : ℕ → List Event → List ℕ
 regions_of object [] = []
-regions_of object (Init who o region name ∷ past) = if object == o then region.0 ∷ regions_of object past else regions_of object past
+regions_of object (Init who o region name ∷ past) = if object == o then region.0 ∷ regions_of object past
+    else regions_of object past
 regions_of object (_ ∷ past) = regions_of object past
 
 abbrev pub has : ℕ → List ℕ → Bool
@@ -187,7 +205,8 @@ has number = list_any (λ other. number == other)
 -- the objects of these that were finalized, the first first
 abbrev pub finals_among : List ℕ → List Event → List ℕ
 finals_among objects [] = []
-finals_among objects (Final who object ∷ past) = if has object objects then finals_among objects past ++ object ∷ [] else finals_among objects past
+finals_among objects (Final who object ∷ past) = if has object objects
+    then finals_among objects past ++ object ∷ [] else finals_among objects past
 finals_among objects (_ ∷ past) = finals_among objects past
 
 abbrev pub is_final_before : ℕ → List Event → Bool
@@ -211,8 +230,10 @@ is_rightly_left past (Left who region) =
     is_leaving region.0 past && not (is_left_before region.0 past)
     && is_front_of (inits_of region.0 past) (finals_among (inits_of region.0 past) past)
 is_rightly_left past (Init who object region name) = not (is_leaving region.0 past) && not (is_final_before object past)
-is_rightly_left past (Final who object) = not (length (regions_of object past) == 0) && list_all (is_next_final object past) (regions_of object past)
-is_rightly_left past (Replace who object) = not (length (regions_of object past) == 0) && not (is_final_before object past)
+is_rightly_left past (Final who object) = not (length (regions_of object past) == 0)
+    && list_all (is_next_final object past) (regions_of object past)
+is_rightly_left past (Replace who object) = not (length (regions_of object past) == 0)
+    && not (is_final_before object past)
 is_rightly_left past _ = true
 
 abbrev pub remember : List Event → Event → List Event
@@ -224,9 +245,10 @@ LeftOk = AtEachLine remember [] (λ past event. IsTrue (is_rightly_left past eve
 abbrev pub follows_leaving : List TraceLine → Bool
 follows_leaving = follows_lines remember is_rightly_left []
 
--- WHAT A TRACE IS. Ticks do not fall and are at most 1,000,000,000. No subject has two `new` lines; every other line of a
--- task, and every `enter`, `exit` and `held` of an object, stands behind the `new` line of that task or object. The subject
--- of an `enter` is then in the queue. A `ready` line of the agent has no deadline. Nothing follows an `end` line.
+-- WHAT A TRACE IS. Ticks do not fall and are at most 1,000,000,000. No subject has two `new` lines; every other line of
+-- a task, and every `enter`, `exit` and `held` of an object, stands behind the `new` line of that task or object. The
+-- subject of an `enter` is then in the queue. A `ready` line of the agent has no deadline. Nothing follows an `end`
+-- line.
 pub record Shape : Type 0 where
   pub queue : List Entry
   pub tasks : List ℕ
@@ -272,7 +294,8 @@ is_subject_formed shape (Start who call) = is_known shape who
 is_subject_formed shape (Finish who call how) = is_known shape who
 is_subject_formed shape (Cancel task call) = has task.0 shape.tasks
 is_subject_formed shape (Gone task call) = has task.0 shape.tasks
-is_subject_formed shape (Enter who object m) = is_known shape who && has object.0 shape.objects && is_some (entry_of who shape.queue)
+is_subject_formed shape (Enter who object m) = is_known shape who && has object.0 shape.objects
+    && is_some (entry_of who shape.queue)
 is_subject_formed shape (Exit who object) = is_known shape who && has object.0 shape.objects
 is_subject_formed shape (Held who object m) = is_known shape who && has object.0 shape.objects
 is_subject_formed shape (Abort task victim) = has task.0 shape.tasks
@@ -321,4 +344,5 @@ pub record KeepsLaws (lines : List TraceLine) : Type 0 where
   pub leaving : LeftOk lines
 
 abbrev pub follows_laws : List TraceLine → Bool
-follows_laws lines = follows_dispatch lines && follows_ceilings lines && follows_exclusion lines && follows_handlers lines && follows_leaving lines
+follows_laws lines = follows_dispatch lines && follows_ceilings lines && follows_exclusion lines
+    && follows_handlers lines && follows_leaving lines

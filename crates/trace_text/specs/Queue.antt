@@ -1,4 +1,5 @@
--- What a list of lines tells of the ready queues, tick by tick and line by line. Nothing here knows how the lines came about.
+-- What a list of lines tells of the ready queues, tick by tick and line by line. Nothing here knows how the lines came
+-- about.
 use Rattle.std.specs.Prelude.{◌≡◌, ℕ, ℤ, pos, negsuc, ◌<◌, ◌≤◌, Bool, true, false, ◌&&◌, ◌||◌, ◌==◌, if◌then◌else◌, nat_lt, nat_le, List, [], ◌∷◌, ◌++◌, Option, Some, None}
 use Rattle.trace_text.specs.declared.events.Who.{Who}
 use Rattle.trace_text.specs.declared.events.Who.TheVariants as subject
@@ -38,12 +39,14 @@ AtEachTick see s Right lines = (tick : ℕ) → tick < last_from 0 lines → Rig
 
 -- at each line, with what the lines before it show
 abbrev pub AtEachLine : {S : Type 0} → (S → Event → S) → S → (S → Event → Type 0) → List TraceLine → Type 0
-AtEachLine see s Lawful lines = (front : List TraceLine) (line : TraceLine) (back : List TraceLine) → lines ≡ front ++ line ∷ back → Lawful (seen_from see s front) line.1
+AtEachLine see s Lawful lines = (front : List TraceLine) (line : TraceLine) (back : List TraceLine)
+    → lines ≡ front ++ line ∷ back → Lawful (seen_from see s front) line.1
 
 -- The same by a test that follows the lines, and asks whenever the tick changes.
 abbrev pub follows_ticks : {S : Type 0} → (S → Event → S) → (S → Bool) → ℕ → S → List TraceLine → Bool
 follows_ticks see right tick s [] = true
-follows_ticks see right tick s (line ∷ lines) = (nat_le line.0 tick || right s) && follows_ticks see right line.0 (see s line.1) lines
+follows_ticks see right tick s (line ∷ lines) = (nat_le line.0 tick || right s)
+    && follows_ticks see right line.0 (see s line.1) lines
 
 -- The same by a test that follows the lines, and asks at each.
 abbrev pub follows_lines : {S : Type 0} → (S → Event → S) → (S → Event → Bool) → S → List TraceLine → Bool
@@ -77,7 +80,8 @@ placed Head entry queue = entry ∷ without entry.who queue
 placed Tail entry queue = without entry.who queue ++ entry ∷ []
 
 abbrev pub queue_after : List Entry → Event → List Entry
-queue_after queue (Ready who level end deadline) = placed end (record { who = who; level = level; deadline = deadline }) queue
+queue_after queue (Ready who level end deadline) =
+    placed end (record { who = who; level = level; deadline = deadline }) queue
 queue_after queue (Block who why) = without who queue
 queue_after queue (Done task) = without (subject.Task task) queue
 queue_after queue _ = queue

@@ -93,7 +93,8 @@ deadline_words (Some deadline) = signed_decimal deadline ∷ []
 -- the words of a line behind its tick: the subject where there is one, the word, its arguments
 abbrev pub words_of : Event → List (List ℕ)
 words_of (New what name level) = created_text what ∷ codes "new" ∷ name ∷ decimal level ∷ []
-words_of (Ready who level end deadline) = who_text who ∷ codes "ready" ∷ decimal level ∷ queue_end_text end ∷ deadline_words deadline
+words_of (Ready who level end deadline) = who_text who ∷ codes "ready" ∷ decimal level ∷ queue_end_text end
+    ∷ deadline_words deadline
 words_of (Block who why) = who_text who ∷ codes "block" ∷ waits_text why ∷ []
 words_of (Run who) = who_text who ∷ codes "run" ∷ []
 words_of Idle = codes "idle" ∷ []
@@ -103,7 +104,8 @@ words_of (Quantum task) = task_text task ∷ codes "quantum" ∷ []
 words_of (Done task) = task_text task ∷ codes "done" ∷ []
 words_of (Raise who name) = who_text who ∷ codes "raise" ∷ name ∷ []
 words_of (Put who text) = who_text who ∷ codes "put" ∷ text ∷ []
-words_of (Call task call entry priority) = task_text task ∷ codes "call" ∷ decimal call.0 ∷ entry_text entry ∷ decimal priority ∷ []
+words_of (Call task call entry priority) = task_text task ∷ codes "call" ∷ decimal call.0 ∷ entry_text entry
+    ∷ decimal priority ∷ []
 words_of (Start who call) = who_text who ∷ codes "start" ∷ decimal call.0 ∷ []
 words_of (Finish who call how) = who_text who ∷ codes "finish" ∷ decimal call.0 ∷ finished_text how ∷ []
 words_of (Cancel task call) = task_text task ∷ codes "cancel" ∷ decimal call.0 ∷ []
@@ -118,7 +120,8 @@ words_of (Init who object region name) = who_text who ∷ codes "init" ∷ decim
 words_of (Final who object) = who_text who ∷ codes "final" ∷ decimal object ∷ []
 words_of (Left who region) = who_text who ∷ codes "left" ∷ decimal region.0 ∷ []
 words_of (Replace who object) = who_text who ∷ codes "replace" ∷ decimal object ∷ []
-words_of (Release release object handler) = codes "release" ∷ decimal release ∷ (object_text object ++ 46 ∷ handler) ∷ []
+words_of (Release release object handler) = codes "release" ∷ decimal release
+    ∷ (object_text object ++ 46 ∷ handler) ∷ []
 words_of (Serve release) = codes "agent" ∷ codes "serve" ∷ decimal release ∷ []
 words_of (Served release) = codes "agent" ∷ codes "served" ∷ decimal release ∷ []
 words_of (Interrupt number) = codes "interrupt" ∷ decimal number ∷ []
@@ -150,7 +153,8 @@ is_name_byte byte = (nat_le 97 byte && nat_le byte 122) || (nat_le 48 byte && na
 -- the word that it goes on with has a byte already.
 abbrev pub is_name_from : Bool → List ℕ → Bool
 is_name_from begun [] = begun
-is_name_from begun (byte ∷ bytes) = if is_name_byte byte then is_name_from true bytes else (byte == 46 && begun && is_name_from false bytes)
+is_name_from begun (byte ∷ bytes) = if is_name_byte byte then is_name_from true bytes
+    else (byte == 46 && begun && is_name_from false bytes)
 
 abbrev pub IsName : List ℕ → Type 0
 IsName name = IsTrue (is_name_from false name)
@@ -262,7 +266,8 @@ IsWithin (Quantum task) = task.0 < 2 ^ 32
 IsWithin (Done task) = task.0 < 2 ^ 32
 IsWithin (Raise who name) = IsWhoWithin who × (length name ≤ NAME_BYTES)
 IsWithin (Put who text) = IsWhoWithin who × (length text ≤ NAME_BYTES)
-IsWithin (Call task call entry priority) = (task.0 < 2 ^ 32) × (call.0 < 2 ^ 32) × IsEntryWithin entry × (priority < 2 ^ 8)
+IsWithin (Call task call entry priority) = (task.0 < 2 ^ 32) × (call.0 < 2 ^ 32) × IsEntryWithin entry
+    × (priority < 2 ^ 8)
 IsWithin (Start who call) = IsWhoWithin who × (call.0 < 2 ^ 32)
 IsWithin (Finish who call how) = IsWhoWithin who × (call.0 < 2 ^ 32) × IsFinishedWithin how
 IsWithin (Cancel task call) = (task.0 < 2 ^ 32) × (call.0 < 2 ^ 32)
@@ -273,7 +278,8 @@ IsWithin (Held who object mode) = IsWhoWithin who × (object.0 < 2 ^ 32)
 IsWithin (Abort task victim) = (task.0 < 2 ^ 32) × (victim.0 < 2 ^ 32)
 IsWithin (Trigger task) = task.0 < 2 ^ 32
 IsWithin (Leave who region how) = IsWhoWithin who × (region.0 < 2 ^ 32)
-IsWithin (Init who object region name) = IsWhoWithin who × (object < 2 ^ 32) × (region.0 < 2 ^ 32) × (length name ≤ NAME_BYTES)
+IsWithin (Init who object region name) = IsWhoWithin who × (object < 2 ^ 32) × (region.0 < 2 ^ 32)
+    × (length name ≤ NAME_BYTES)
 IsWithin (Final who object) = IsWhoWithin who × (object < 2 ^ 32)
 IsWithin (Left who region) = IsWhoWithin who × (region.0 < 2 ^ 32)
 IsWithin (Replace who object) = IsWhoWithin who × (object < 2 ^ 32)

@@ -41,4 +41,8 @@ word_text word.Masked = codes "masked"
 word_text word.End = codes "end"
 
 abbrev pub all_words : List Word
-all_words = word.New ∷ word.Ready ∷ word.Block ∷ word.Run ∷ word.Idle ∷ word.Base ∷ word.Deadline ∷ word.Quantum ∷ word.Done ∷ word.Raise ∷ word.Put ∷ word.Call ∷ word.Start ∷ word.Finish ∷ word.Cancel ∷ word.Gone ∷ word.Enter ∷ word.Exit ∷ word.Held ∷ word.Abort ∷ word.Trigger ∷ word.Leave ∷ word.Init ∷ word.Final ∷ word.Left ∷ word.Replace ∷ word.Release ∷ word.Serve ∷ word.Served ∷ word.Interrupt ∷ word.Port ∷ word.Mask ∷ word.Unmask ∷ word.Masked ∷ word.End ∷ []
+all_words = word.New ∷ word.Ready ∷ word.Block ∷ word.Run ∷ word.Idle ∷ word.Base ∷ word.Deadline ∷ word.Quantum
+    ∷ word.Done ∷ word.Raise ∷ word.Put ∷ word.Call ∷ word.Start ∷ word.Finish ∷ word.Cancel ∷ word.Gone
+    ∷ word.Enter ∷ word.Exit ∷ word.Held ∷ word.Abort ∷ word.Trigger ∷ word.Leave ∷ word.Init ∷ word.Final
+    ∷ word.Left ∷ word.Replace ∷ word.Release ∷ word.Serve ∷ word.Served ∷ word.Interrupt ∷ word.Port ∷ word.Mask
+    ∷ word.Unmask ∷ word.Masked ∷ word.End ∷ []

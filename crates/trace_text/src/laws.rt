@@ -7,7 +7,8 @@ ghost use Rattle.trace_text.specs.Laws.{DispatchOk, CeilingOk, ExclusiveOk, Hand
 pub fn tests_tell()
     ensures dispatch { (lines : List TraceLine) → RisesFrom 0 lines
         → (IsTrue (follows_dispatch lines) ↔ DispatchOk lines) }
-    ensures ceilings { (lines : List TraceLine) → (IsTrue (follows_ceilings lines) ↔ CeilingOk lines) }
+    ensures ceilings { (lines : List TraceLine)
+        → (IsTrue (follows_ceilings lines) ↔ CeilingOk lines) }
     ensures exclusion { (lines : List TraceLine)
         → (IsTrue (follows_exclusion lines) ↔ ExclusiveOk lines) }
     ensures handlers { (lines : List TraceLine) → RisesFrom 0 lines

@@ -8,4 +8,5 @@ use Rattle.profile_machine.specs.WellFormed.{actions_are_right}
 
 -- the open actions are those of the marks; whoever has one is ready and has at least the ceiling as its active priority
 abbrev pub ReachedActionsAreRight : Type 0
-ReachedActionsAreRight = (p : Image) (script : List (ℤ × Item)) (bound : ℕ) (w : World) → Reached p script bound w → IsTrue (actions_are_right p w)
+ReachedActionsAreRight = (p : Image) (script : List (ℤ × Item)) (bound : ℕ) (w : World) → Reached p script bound w
+    → IsTrue (actions_are_right p w)

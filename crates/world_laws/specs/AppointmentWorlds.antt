@@ -18,8 +18,11 @@ delay_is_awaited p w (due_for.Trigger t depth) = true
 
 -- appointments stand by moment, and none of them is before now
 abbrev pub ReachedAppointmentsAreInOrder : Type 0
-ReachedAppointmentsAreInOrder = (p : Image) (script : List (ℤ × Item)) (bound : ℕ) (w : World) → Reached p script bound w → IsTrue (all_adjacent (λ a b. int_le a.moment b.moment) w.appointments && list_all (λ a. int_le (pos w.time) a.moment) w.appointments)
+ReachedAppointmentsAreInOrder = (p : Image) (script : List (ℤ × Item)) (bound : ℕ) (w : World)
+    → Reached p script bound w → IsTrue (all_adjacent (λ a b. int_le a.moment b.moment) w.appointments
+    && list_all (λ a. int_le (pos w.time) a.moment) w.appointments)
 
 -- whose delay is appointed waits for that delay
 abbrev pub ReachedDelaysAreAwaited : Type 0
-ReachedDelaysAreAwaited = (p : Image) (script : List (ℤ × Item)) (bound : ℕ) (w : World) → Reached p script bound w → IsTrue (list_all (λ a. delay_is_awaited p w a.due) w.appointments)
+ReachedDelaysAreAwaited = (p : Image) (script : List (ℤ × Item)) (bound : ℕ) (w : World) → Reached p script bound w
+    → IsTrue (list_all (λ a. delay_is_awaited p w a.due) w.appointments)

@@ -8,4 +8,5 @@ use Rattle.profile_machine.specs.WellFormed.{cells_are_right}
 
 -- each scope in use has as many cells as its text says
 abbrev pub ReachedCellsAreRight : Type 0
-ReachedCellsAreRight = (p : Image) (script : List (ℤ × Item)) (bound : ℕ) (w : World) → Reached p script bound w → IsTrue (cells_are_right p w)
+ReachedCellsAreRight = (p : Image) (script : List (ℤ × Item)) (bound : ℕ) (w : World) → Reached p script bound w
+    → IsTrue (cells_are_right p w)

@@ -24,7 +24,8 @@ marks_are_struck_rightly w = list_all (λ t. frames_are_struck_rightly t t.frame
 
 -- a struck mark is the outermost one of an abnormal task, or an abortable part whose trigger has completed
 abbrev pub ReachedMarksAreStruckRightly : Type 0
-ReachedMarksAreStruckRightly = (p : Image) (script : List (ℤ × Item)) (bound : ℕ) (w : World) → Reached p script bound w → IsTrue (marks_are_struck_rightly w)
+ReachedMarksAreStruckRightly = (p : Image) (script : List (ℤ × Item)) (bound : ℕ) (w : World)
+    → Reached p script bound w → IsTrue (marks_are_struck_rightly w)
 
 -- ---- where a Finalize stands
 
@@ -62,14 +63,16 @@ finalizes_stand_rightly w = list_all (λ t. frames_stand_rightly w t.frames) (ev
 
 -- each Finalize stands where its end leads on
 abbrev pub ReachedFinalizesStandRightly : Type 0
-ReachedFinalizesStandRightly = (p : Image) (script : List (ℤ × Item)) (bound : ℕ) (w : World) → Reached p script bound w → IsTrue (finalizes_stand_rightly w)
+ReachedFinalizesStandRightly = (p : Image) (script : List (ℤ × Item)) (bound : ℕ) (w : World)
+    → Reached p script bound w → IsTrue (finalizes_stand_rightly w)
 
 -- ---- the whole
 
--- each mark is struck for a cause, and each Finalize stands where its end leads on: on the scope that is being left, or on the
--- assignment to its object, which is registered
+-- each mark is struck for a cause, and each Finalize stands where its end leads on: on the scope that is being left, or
+-- on the assignment to its object, which is registered
 abbrev pub ReachedMarksAreRight : Type 0
-ReachedMarksAreRight = (p : Image) (script : List (ℤ × Item)) (bound : ℕ) (w : World) → Reached p script bound w → IsTrue (marks_are_right w)
+ReachedMarksAreRight = (p : Image) (script : List (ℤ × Item)) (bound : ℕ) (w : World) → Reached p script bound w
+    → IsTrue (marks_are_right w)
 
 -- ---- what triggers are set for
 
@@ -82,4 +85,5 @@ trigger_is_awaited p w (due_for.Trigger t depth) = is_awaited p w (due_for.Trigg
 
 -- the task for which a trigger is appointed is there, and at its depth stands a part that awaits it
 abbrev pub ReachedTriggersAreAwaited : Type 0
-ReachedTriggersAreAwaited = (p : Image) (script : List (ℤ × Item)) (bound : ℕ) (w : World) → Reached p script bound w → IsTrue (list_all (λ a. trigger_is_awaited p w a.due) w.appointments)
+ReachedTriggersAreAwaited = (p : Image) (script : List (ℤ × Item)) (bound : ℕ) (w : World)
+    → Reached p script bound w → IsTrue (list_all (λ a. trigger_is_awaited p w a.due) w.appointments)

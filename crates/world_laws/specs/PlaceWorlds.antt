@@ -8,4 +8,5 @@ use Rattle.profile_machine.specs.WellFormed.{places_are_right}
 
 -- whoever is ready, each once, in order, at its active priority and with its deadline
 abbrev pub ReachedPlacesAreRight : Type 0
-ReachedPlacesAreRight = (p : Image) (script : List (ℤ × Item)) (bound : ℕ) (w : World) → Reached p script bound w → IsTrue (places_are_right p w)
+ReachedPlacesAreRight = (p : Image) (script : List (ℤ × Item)) (bound : ℕ) (w : World) → Reached p script bound w
+    → IsTrue (places_are_right p w)

@@ -1,4 +1,5 @@
--- The entry queues of every world that a run reaches (9.5.3, D.4), and the time-outs of calls that stand in them (9.7.2).
+-- The entry queues of every world that a run reaches (9.5.3, D.4), and the time-outs of calls that stand in them
+-- (9.7.2).
 use Rattle.std.specs.Prelude.{IsTrue, ℕ, ℤ, Bool, true, List}
 use Rattle.std.specs.List.{list_all}
 use Rattle.profile_machine.specs.declared.image.Image.{Image}
@@ -13,7 +14,8 @@ use Rattle.profile_machine.specs.WellFormed.{queues_are_right}
 
 -- each call that stands in a queue is there, has not begun, and is directed to that entry
 abbrev pub ReachedQueuesAreRight : Type 0
-ReachedQueuesAreRight = (p : Image) (script : List (ℤ × Item)) (bound : ℕ) (w : World) → Reached p script bound w → IsTrue (queues_are_right p w)
+ReachedQueuesAreRight = (p : Image) (script : List (ℤ × Item)) (bound : ℕ) (w : World) → Reached p script bound w
+    → IsTrue (queues_are_right p w)
 
 -- the call of an appointed time-out may time out
 abbrev pub is_timeout_awaited : Image → World → Due → Bool
@@ -26,4 +28,5 @@ abbrev pub timeouts_are_awaited : Image → World → Bool
 timeouts_are_awaited p w = list_all (λ a. is_timeout_awaited p w a.due) w.appointments
 
 abbrev pub ReachedTimeoutsAreAwaited : Type 0
-ReachedTimeoutsAreAwaited = (p : Image) (script : List (ℤ × Item)) (bound : ℕ) (w : World) → Reached p script bound w → IsTrue (timeouts_are_awaited p w)
+ReachedTimeoutsAreAwaited = (p : Image) (script : List (ℤ × Item)) (bound : ℕ) (w : World)
+    → Reached p script bound w → IsTrue (timeouts_are_awaited p w)

@@ -7,4 +7,5 @@ use Rattle.profile_machine.specs.Scopes.{outwards, first_outwards}
 
 -- the machine counts down from one more than there are scopes in use; counted from more, the same one is found, or none
 abbrev pub OutwardsEnd : Type 0
-OutwardsEnd = (w : World) (test : ScopeInUse → Bool) (id : Option ScopeId) (more : ℕ) → outwards (suc (length w.scopes) + more) w.scopes test id ≡ first_outwards w test id
+OutwardsEnd = (w : World) (test : ScopeInUse → Bool) (id : Option ScopeId) (more : ℕ)
+    → outwards (suc (length w.scopes) + more) w.scopes test id ≡ first_outwards w test id

@@ -8,4 +8,5 @@ use Rattle.profile_machine.specs.WellFormed.{scopes_are_right}
 
 -- the scopes in use are those of the marks that are open, each of the task whose mark it is, the newest first
 abbrev pub ReachedScopesAreRight : Type 0
-ReachedScopesAreRight = (p : Image) (script : List (ℤ × Item)) (bound : ℕ) (w : World) → Reached p script bound w → IsTrue (scopes_are_right w)
+ReachedScopesAreRight = (p : Image) (script : List (ℤ × Item)) (bound : ℕ) (w : World) → Reached p script bound w
+    → IsTrue (scopes_are_right w)

@@ -18,12 +18,13 @@ use Rattle.machine_laws.specs.Reached.{Reached}
 abbrev pub begins_plainly : Image → Option StatementNo → Bool
 begins_plainly p next = not (begins_sequence p next)
 
--- No sequence with handlers is the first statement of another, of an abortable part, or of a task that is created: the end of
--- the task's activation stands before it.
+-- No sequence with handlers is the first statement of another, of an abortable part, or of a task that is created: the
+-- end of the task's activation stands before it.
 abbrev pub form_fits : Image → StatementForm → Bool
 form_fits p (form.Handled handlers first) = begins_plainly p (Some first)
 form_fits p (form.AsynchronousSelect trigger abortable) = begins_plainly p (Some abortable)
-form_fits p (form.CreateTask object part) = begins_plainly p (scope_of p (task_unit_of p (unit_of_declaration p object)).scope).first
+form_fits p (form.CreateTask object part) =
+    begins_plainly p (scope_of p (task_unit_of p (unit_of_declaration p object)).scope).first
 form_fits p _ = true
 
 abbrev pub statement_fits : Image → Statement → Bool
@@ -37,4 +38,5 @@ sequences_fit p = list_all (statement_fits p) p.statements
 
 -- who is ready has opened the sequence with handlers to which it has come
 abbrev pub ReachedSequencesAreOpen : Type 0
-ReachedSequencesAreOpen = (p : Image) → IsTrue (sequences_fit p) → (script : List (ℤ × Item)) (bound : ℕ) (w : World) → Reached p script bound w → IsTrue (sequences_are_open p w)
+ReachedSequencesAreOpen = (p : Image) → IsTrue (sequences_fit p)
+    → (script : List (ℤ × Item)) (bound : ℕ) (w : World) → Reached p script bound w → IsTrue (sequences_are_open p w)

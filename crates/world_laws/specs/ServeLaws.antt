@@ -1,4 +1,5 @@
--- Calls that are queued at a protected object are served one after another, until the body of one opens or none is left (9.5.3).
+-- Calls that are queued at a protected object are served one after another, until the body of one opens or none is left
+-- (9.5.3).
 use Rattle.std.specs.Prelude.{◌≡◌, ℕ, suc, ◌+◌, Bool, IsTrue, List, Option, length}
 use Rattle.ann_base.specs.declared.identities.CallNo.{CallNo}
 use Rattle.ann_base.specs.declared.identities.ObjectNo.{ObjectNo}
@@ -18,9 +19,11 @@ queues_are_its_own p w o = queues_from p w (owned_by.Object o) 0 (queues_of (obj
 
 -- the machine counts down from one more than there are calls; counted from more, the same is done and said
 abbrev pub ServesEnd : Type 0
-ServesEnd = (p : Image) (name : Who) (m : ProtectedMark) (w : World) → IsTrue (queues_are_its_own p w m.object) → (sent : Option CallNo) (more : ℕ) (said : List Said)
+ServesEnd = (p : Image) (name : Who) (m : ProtectedMark) (w : World) → IsTrue (queues_are_its_own p w m.object)
+    → (sent : Option CallNo) (more : ℕ) (said : List Said)
     → serve_next (suc (length w.calls) + more) p name m sent w said ≡ serve_calls p name m sent w said
 
 -- where all queues are right, as they are in a world that is well formed, those of each object are its own
 abbrev pub RightQueuesAreOwn : Type 0
-RightQueuesAreOwn = (p : Image) (w : World) (o : ObjectNo) → IsTrue (queues_are_right p w) → IsTrue (queues_are_its_own p w o)
+RightQueuesAreOwn = (p : Image) (w : World) (o : ObjectNo) → IsTrue (queues_are_right p w)
+    → IsTrue (queues_are_its_own p w o)

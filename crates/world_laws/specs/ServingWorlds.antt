@@ -1,6 +1,6 @@
--- Serving the calls that are queued at a protected object with more turns to count down (9.5.3): by whom it comes about, and
--- that it makes no difference in any run. `serve_calls_more` begins its count higher; the others are the machine's definitions
--- of the same names, from `serve_calls` up to the run, with it in the place of `serve_calls`.
+-- Serving the calls that are queued at a protected object with more turns to count down (9.5.3): by whom it comes
+-- about, and that it makes no difference in any run. `serve_calls_more` begins its count higher; the others are the
+-- machine's definitions of the same names, from `serve_calls` up to the run, with it in the place of `serve_calls`.
 use Rattle.std.specs.Prelude.{◌≡◌, ℕ, zero, suc, ◌+◌, ℤ, true, false, List, [], Option, Some, None, ◌++◌, length}
 use Rattle.ann_base.specs.declared.identities.CallNo.{CallNo}
 use Rattle.ann_base.specs.declared.exceptions.Raised.{Raised}
@@ -125,14 +125,19 @@ effect_more more p name =
 abbrev pub effect_of_runner_more : ℕ → Image → Option Who → Move
 effect_of_runner_more more p None = rests
 effect_of_runner_more more p (Some name) =
-    watches (λ w. elim (is_over (task_of w name).ticks_left) [ true ↦ settles p (effect_more more p name) | false ↦ rests ])
+    watches (λ w. elim (is_over (task_of w name).ticks_left) [
+      | true ↦ settles p (effect_more more p name)
+      | false ↦
+          rests
+    ])
 
 abbrev pub finish_action_more : ℕ → Image → Move
 finish_action_more more p = watches (λ w. effect_of_runner_more more p w.ran)
 
 abbrev pub instant_more : ℕ → Image → Move
 instant_more more p =
-    finish_action_more more p ▶ script_items p ▶ events_due p ▶ moments_due p ▶ timers_due p ▶ budgets_due p ▶ quantum_spent p
+    finish_action_more more p ▶ script_items p ▶ events_due p ▶ moments_due p ▶ timers_due p ▶ budgets_due p ▶
+    quantum_spent p
 
 abbrev pub run_from_more : ℕ → ℕ → Image → ℕ → World → Ran
 run_from_more more zero p bound w = stopped w.time [] why.Bound
@@ -151,11 +156,14 @@ run_more more p script bound =
 
 -- ---- the laws
 
--- whoever acts in a world that a run reaches: with more to count down, its action leads to the same world and says the same
+-- whoever acts in a world that a run reaches: with more to count down, its action leads to the same world and says the
+-- same
 abbrev pub ReachedServingEnds : Type 0
-ReachedServingEnds = (p : Image) (script : List (ℤ × Item)) (bound : ℕ) (w : World) → Reached p script bound w → (name : Who) (more : ℕ) (said : List Said)
+ReachedServingEnds = (p : Image) (script : List (ℤ × Item)) (bound : ℕ) (w : World) → Reached p script bound w
+    → (name : Who) (more : ℕ) (said : List Said)
     → act_more more p name (acting name w) said ≡ act p name (acting name w) said
 
 -- so a run with more to count down is the same run: it has the same lines, and stops for the same reason
 abbrev pub RunsServeToTheEnd : Type 0
-RunsServeToTheEnd = (p : Image) (script : List (ℤ × Item)) (bound more : ℕ) → run_more more p script bound ≡ run p script bound
+RunsServeToTheEnd = (p : Image) (script : List (ℤ × Item)) (bound more : ℕ)
+    → run_more more p script bound ≡ run p script bound

@@ -35,4 +35,5 @@ operands_rise p = operands_rise_from 0 p.expressions
 
 -- the machine counts down from one more than there are expressions; counted from more, a value is the same
 abbrev pub ValuesEnd : Type 0
-ValuesEnd = (q : Seen) → IsTrue (operands_rise q.program) → (e : ExprNo) (more : ℕ) → value_by (suc (length q.program.expressions) + more) q.program.expressions q e ≡ value q e
+ValuesEnd = (q : Seen) → IsTrue (operands_rise q.program) → (e : ExprNo) (more : ℕ)
+    → value_by (suc (length q.program.expressions) + more) q.program.expressions q e ≡ value q e

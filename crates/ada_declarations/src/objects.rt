@@ -19,10 +19,7 @@ fn constant_value(names: &Names<'_>, object: &ObjectDeclaration) -> Option<Value
     ensures { result ≡ constant_value names.now object.now }
 {
     if object.constant {
-        match &object.initial {
-            Some(initial) => static_value(names, initial),
-            None => None,
-        }
+        static_value(names, object.initial.as_ref()?)
     } else {
         None
     }
@@ -51,13 +48,9 @@ fn number_of_object(names: &Names<'_>, denoted: Denoted) -> Option<u32>
 fn task_indicated(names: &Names<'_>, constraint: &Option<Indicated>) -> Option<u32>
     ensures { result ≡ task_indicated names.now constraint.now }
 {
-    match constraint {
-        None => None,
-        Some(Indicated::Access(name)) => match denoted_by(names, name) {
-            None => None,
-            Some(denoted) => number_of_object(names, denoted),
-        },
-        Some(Indicated::Range { .. }) => None,
+    match constraint.as_ref()? {
+        Indicated::Access(name) => number_of_object(names, denoted_by(names, name)?),
+        Indicated::Range { .. } => None,
     }
 }
 

@@ -29,10 +29,9 @@ fn owner_type(names: &Names<'_>) -> Option<AdaType>
 fn protected_unit_of(owner: Option<ComponentOwner>) -> Option<ProtectedUnitNo>
     ensures { result ≡ protected_unit_of owner }
 {
-    match owner {
-        None => None,
-        Some(ComponentOwner::Protected(unit)) => Some(unit),
-        Some(ComponentOwner::Controlled(_)) => None,
+    match owner? {
+        ComponentOwner::Protected(unit) => Some(unit),
+        ComponentOwner::Controlled(_) => None,
     }
 }
 

@@ -40,10 +40,7 @@ pub fn value_denoted(names: &Names<'_>, denoted: Denoted) -> Option<Value>
     ensures { result ≡ value_denoted names.now denoted }
 {
     match denoted {
-        Denoted::Entity(entity) => match kind_at(names, entity) {
-            Some(kind) => value_of_kind(kind),
-            None => None,
-        },
+        Denoted::Entity(entity) => value_of_kind(kind_at(names, entity)?),
         Denoted::Unit(_) => None,
         Denoted::Item { item, .. } => value_of_item(item),
     }
@@ -65,10 +62,7 @@ pub fn subtype_denoted(names: &Names<'_>, denoted: Denoted) -> Option<Subtype>
     ensures { result ≡ subtype_denoted names.now denoted }
 {
     match denoted {
-        Denoted::Entity(entity) => match kind_at(names, entity) {
-            Some(kind) => subtype_of_kind(kind),
-            None => None,
-        },
+        Denoted::Entity(entity) => subtype_of_kind(kind_at(names, entity)?),
         Denoted::Unit(_) => None,
         Denoted::Item { item, .. } => subtype_of_item(item),
     }
@@ -117,10 +111,7 @@ fn static_name(
     ensures { result ≡ static_name names.now name.now attribute.now }
 {
     match attribute {
-        None => match denoted_by(names, name) {
-            Some(denoted) => value_denoted(names, denoted),
-            None => None,
-        },
+        None => value_denoted(names, denoted_by(names, name)?),
         Some(designator) => attribute_value(names, name, designator.attribute),
     }
 }
@@ -140,10 +131,7 @@ fn signed_literal(sign: Sign, operand: &Expression) -> Option<Value>
 {
     match sign {
         Sign::Plus => None,
-        Sign::Minus => match literal_of(operand) {
-            Some(literal) => static_negative(literal),
-            None => None,
-        },
+        Sign::Minus => static_negative(literal_of(operand)?),
     }
 }
 

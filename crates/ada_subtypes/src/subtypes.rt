@@ -24,10 +24,7 @@ pub fn mark_denoted(names: &Names<'_>, denoted: Denoted) -> Option<Subtype>
     ensures { result ≡ mark_denoted names.now denoted }
 {
     match denoted {
-        Denoted::Entity(entity) => match kind_at(names, entity) {
-            Some(kind) => mark_of_kind(kind),
-            None => None,
-        },
+        Denoted::Entity(entity) => mark_of_kind(kind_at(names, entity)?),
         Denoted::Unit(_) => None,
         Denoted::Item { item, .. } => subtype_of_item(item),
     }

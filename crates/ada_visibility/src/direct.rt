@@ -39,10 +39,7 @@ pub fn in_standard(last: u8, name: &[u8]) -> Option<Denoted>
 {
     match item_of(last, PredefinedUnit::Standard, name) {
         Some(item) => Some(item),
-        None => match root_unit(name) {
-            Some(unit) => Some(Denoted::Unit(unit)),
-            None => None,
-        },
+        None => Some(Denoted::Unit(root_unit(name)?)),
     }
 }
 
@@ -50,10 +47,7 @@ pub fn in_standard(last: u8, name: &[u8]) -> Option<Denoted>
 pub fn bound(binding: &Binding) -> Option<Denoted>
     ensures { result ≡ bound binding.now }
 {
-    match binding.entity {
-        Some(entity) => Some(Denoted::Entity(entity)),
-        None => None,
-    }
+    Some(Denoted::Entity(binding.entity?))
 }
 
 /// Where a name has a declaration in the regions around it, or hides those outside: what it denotes, if it is visible.
@@ -63,9 +57,6 @@ pub(crate) fn directly(names: &Names<'_>, name: &[u8]) -> Option<Option<Denoted>
 {
     match innermost_binding(&names.bindings, name, &names.frames) {
         Some(binding) => Some(bound(binding)),
-        None => match in_standard(names.last_priority, name) {
-            Some(denoted) => Some(Some(denoted)),
-            None => None,
-        },
+        None => Some(Some(in_standard(names.last_priority, name)?)),
     }
 }

@@ -23,18 +23,9 @@ fn region_of_type(names: &Names<'_>, of_type: AdaType) -> Option<u32>
     ensures { result ≡ region_of_type names.now of_type }
 {
     match of_type {
-        AdaType::Derived(number) => match names.controlled_types.get(number.0 as usize) {
-            Some(controlled) => Some(controlled.region),
-            None => None,
-        },
-        AdaType::Task(number) => match names.task_units.get(number.0 as usize) {
-            Some(unit) => Some(unit.region),
-            None => None,
-        },
-        AdaType::Protected(number) => match names.protected_units.get(number.0 as usize) {
-            Some(unit) => Some(unit.region),
-            None => None,
-        },
+        AdaType::Derived(number) => Some(names.controlled_types.get(number.0 as usize)?.region),
+        AdaType::Task(number) => Some(names.task_units.get(number.0 as usize)?.region),
+        AdaType::Protected(number) => Some(names.protected_units.get(number.0 as usize)?.region),
         _ => None,
     }
 }
@@ -104,10 +95,7 @@ fn selected_from_entity(names: &Names<'_>, name: &[u8], entity: u32) -> Option<D
 {
     match frame_of(names, entity) {
         Some(frame) => declared_inside(names, name, frame),
-        None => match entity_at(names, entity) {
-            Some(entity) => exported_by(names, name, entity),
-            None => None,
-        },
+        None => exported_by(names, name, entity_at(names, entity)?),
     }
 }
 
@@ -118,10 +106,7 @@ fn selected_from_unit(last: u8, name: &[u8], unit: PredefinedUnit) -> Option<Den
 {
     match item_of(last, unit, name) {
         Some(item) => Some(item),
-        None => match child_unit(unit, name) {
-            Some(child) => Some(Denoted::Unit(child)),
-            None => None,
-        },
+        None => Some(Denoted::Unit(child_unit(unit, name)?)),
     }
 }
 

@@ -113,10 +113,7 @@ fn visible_in_unit(names: &Names<'_>, name: &[u8], unit: PredefinedUnit) -> Opti
 {
     match item_of(names.last_priority, unit, name) {
         Some(item) => Some(item),
-        None => match child_unit(unit, name) {
-            Some(child) => some_if_withed(&names.withs, child),
-            None => None,
-        },
+        None => some_if_withed(&names.withs, child_unit(unit, name)?),
     }
 }
 
@@ -126,10 +123,7 @@ fn visible_in(names: &Names<'_>, name: &[u8], used: Denoted) -> Option<Denoted>
     ensures { result ≡ visible_in names.now name.now used }
 {
     match used {
-        Denoted::Entity(entity) => match region_of_entity(names, entity) {
-            Some(region) => exported_from(names, name, region),
-            None => None,
-        },
+        Denoted::Entity(entity) => { exported_from(names, name, region_of_entity(names, entity)?) }
         Denoted::Unit(unit) => visible_in_unit(names, name, unit),
         Denoted::Item { .. } => None,
     }

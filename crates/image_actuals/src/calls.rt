@@ -135,10 +135,7 @@ fn call_of_name<'t>(
         ≡ call_of_name within.now name.now attribute.now arguments.now }
 {
     match attribute {
-        None => match kind_named(within, name) {
-            Some(kind) => call_of_kind(name, arguments, kind),
-            None => None,
-        },
+        None => call_of_kind(name, arguments, kind_named(within, name)?),
         Some(_) => None,
     }
 }

@@ -41,10 +41,7 @@ fn object_outside(within: &Within<'_, '_>, entity: u32) -> Option<DeclNo>
     if is_around(within, entity) {
         None
     } else {
-        match kind_at(within.names.get(), entity) {
-            Some(kind) => object_number(kind),
-            None => None,
-        }
+        object_number(kind_at(within.names.get(), entity)?)
     }
 }
 

@@ -83,14 +83,8 @@ fn bound_of(attribute: Attribute, name: &Name) -> Option<Value>
     ensures { result ≡ bound_of attribute name.now }
 {
     match attribute {
-        Attribute::First => match item_of_standard(name) {
-            None => None,
-            Some(item) => low_of_item(item),
-        },
-        Attribute::Last => match item_of_standard(name) {
-            None => None,
-            Some(item) => high_of_item(item),
-        },
+        Attribute::First => low_of_item(item_of_standard(name)?),
+        Attribute::Last => high_of_item(item_of_standard(name)?),
         _ => None,
     }
 }

@@ -82,10 +82,7 @@ fn first_action(firsts: &List<FirstAction>, scope: u32) -> Option<&FirstAction>
 fn outer_of(scope: &NumberedScope) -> Option<ScopeNo>
     ensures { result ≡ option_map scope_no scope.now.outer }
 {
-    match scope.outer {
-        None => None,
-        Some(outer) => Some(ScopeNo(outer)),
-    }
+    Some(ScopeNo(scope.outer?))
 }
 
 fn first_of(firsts: &List<FirstAction>, scope: u32) -> Option<StatementNo>

@@ -31,13 +31,7 @@ fn indexed(names: &Names<'_>, has_index: bool, subtype: Option<Subtype>) -> Opti
     ensures { result ≡ indexed names.now has_index subtype }
 {
     if has_index {
-        match subtype {
-            None => None,
-            Some(subtype) => match array_of(names, subtype.of_type) {
-                None => None,
-                Some(array) => type_of_subtype(array.component),
-            },
-        }
+        type_of_subtype(array_of(names, subtype?.of_type)?.component)
     } else {
         type_of_subtype(subtype)
     }
@@ -49,10 +43,7 @@ fn type_of_result(names: &Names<'_>, number: SubprogramNo) -> Option<AdaType>
     ensures { result ≡ type_of_result (slice_get names.now.subprograms number.0) }
 {
     let subprogram = names.subprograms.get(number.0 as usize)?;
-    match subprogram.result {
-        None => None,
-        Some(subtype) => type_of_subtype(subtype),
-    }
+    type_of_subtype(subprogram.result?)
 }
 
 /// The type of what an entity is, or of its element.
@@ -77,10 +68,7 @@ fn type_denoted(names: &Names<'_>, has_index: bool, denoted: Denoted) -> Option<
     ensures { result ≡ type_denoted names.now has_index denoted }
 {
     match denoted {
-        Denoted::Entity(entity) => match kind_at(names, entity) {
-            None => None,
-            Some(kind) => type_of_kind(names, has_index, kind),
-        },
+        Denoted::Entity(entity) => type_of_kind(names, has_index, kind_at(names, entity)?),
         Denoted::Unit(_) => None,
         Denoted::Item { item, .. } => type_of_item(item),
     }
@@ -169,10 +157,7 @@ fn type_of_named<E: Typed>(
     ensures { result ≡ type_of_named E.typing name.now attribute.now arguments.now names.now }
 {
     match attribute {
-        None => match denoted_by(names, name) {
-            None => None,
-            Some(denoted) => type_denoted(names, !arguments.is_empty(), denoted),
-        },
+        None => type_denoted(names, !arguments.is_empty(), denoted_by(names, name)?),
         Some(designator) => type_of_attribute(designator.attribute),
     }
 }

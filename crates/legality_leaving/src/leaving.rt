@@ -238,11 +238,7 @@ fn return_judged(
 fn result_expected(function: Option<SubprogramAround>) -> Option<AdaType>
     ensures { result ≡ result_expected function }
 {
-    let function = function?;
-    match function.result {
-        None => None,
-        Some(t) => t,
-    }
+    function?.result?
 }
 
 /// A return.

@@ -20,10 +20,7 @@ fn type_of_index(known: &Known<'_, '_>, t: AdaType) -> Option<AdaType>
     ensures { result ≡ type_of_index known.now t }
 {
     match t {
-        AdaType::Array(array) => match known.indexes.get().get(array as usize) {
-            None => None,
-            Some(index) => Some(*index),
-        },
+        AdaType::Array(array) => known.indexes.get().get(array as usize).copied(),
         _ => None,
     }
 }

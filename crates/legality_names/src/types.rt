@@ -98,10 +98,7 @@ fn subtype_with_index(
     ensures { result ≡ subtype_with_index names.now has_index subtype }
 {
     if has_index {
-        match subtype {
-            None => None,
-            Some(subtype) => component_subtype(names, subtype),
-        }
+        component_subtype(names, subtype?)
     } else {
         subtype
     }
@@ -172,13 +169,7 @@ fn result_of_kind(names: &Names<'_>, kind: &EntityKind) -> Option<Subtype>
 {
     match kind {
         EntityKind::Subprogram { number, .. } => {
-            match names.subprograms.get(number.0 as usize) {
-                None => None,
-                Some(subprogram) => match subprogram.result {
-                    None => None,
-                    Some(subtype) => subtype,
-                },
-            }
+            names.subprograms.get(number.0 as usize)?.result?
         }
         _ => None,
     }

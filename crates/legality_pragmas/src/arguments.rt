@@ -116,10 +116,7 @@ fn integer_named(word: &[u8]) -> Option<Subtype>
     ensures { result ≡ integer_named word.now }
 {
     if is_integer_name(word) {
-        match item_in(LAST_PRIORITY, PredefinedUnit::Standard, word) {
-            None => None,
-            Some(item) => subtype_of_item(item),
-        }
+        subtype_of_item(item_in(LAST_PRIORITY, PredefinedUnit::Standard, word)?)
     } else {
         None
     }
@@ -148,14 +145,8 @@ fn end_of_range(attribute: Attribute, range: Constraint) -> Option<i128>
     ensures { result ≡ end_of_range attribute range }
 {
     match attribute {
-        Attribute::First => match ends_of(range) {
-            None => None,
-            Some(ends) => Some(ends.low),
-        },
-        Attribute::Last => match ends_of(range) {
-            None => None,
-            Some(ends) => Some(ends.high),
-        },
+        Attribute::First => Some(ends_of(range)?.low),
+        Attribute::Last => Some(ends_of(range)?.high),
         _ => None,
     }
 }
@@ -182,10 +173,10 @@ fn number_of_name(
 {
     let designator = attribute.as_ref()?;
     match arguments {
-        [] => match integer_behind(&name.parts.first, name.parts.others.as_slice()) {
-            None => None,
-            Some(subtype) => end_of_range(designator.attribute, subtype.range),
-        },
+        [] => {
+            let subtype = integer_behind(&name.parts.first, name.parts.others.as_slice())?;
+            end_of_range(designator.attribute, subtype.range)
+        }
         _ => None,
     }
 }

@@ -208,10 +208,7 @@ fn is_possible_target(known: &Known<'_, '_>, name: &Name) -> bool
 fn type_of_formal(formal: &Formal) -> Option<AdaType>
     ensures { result ≡ type_of_formal formal.now }
 {
-    match formal.subtype {
-        None => None,
-        Some(subtype) => Some(subtype.of_type),
-    }
+    Some(formal.subtype?.of_type)
 }
 
 /// Two formals have one mode and one type.

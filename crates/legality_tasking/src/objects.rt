@@ -109,13 +109,9 @@ fn library_entity(known: &Known<'_, '_>, entity: u32) -> Option<u32>
 fn task_named(known: &Known<'_, '_>, constraint: &Option<Indicated>) -> Option<u32>
     ensures { result ≡ task_named known.now constraint.now }
 {
-    match constraint {
-        None => None,
-        Some(Indicated::Access(name)) => match entity_of_name(known, name) {
-            None => None,
-            Some(entity) => library_entity(known, entity),
-        },
-        Some(Indicated::Range { .. }) => None,
+    match constraint.as_ref()? {
+        Indicated::Access(name) => library_entity(known, entity_of_name(known, name)?),
+        Indicated::Range { .. } => None,
     }
 }
 

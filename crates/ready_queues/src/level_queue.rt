@@ -50,10 +50,7 @@ impl<K: Copy> LevelQueue<K> {
         ensures first { result ≡ head_of self.now }
         ensures distinct { IsDistinct self.now }
     {
-        match self.entries.first() {
-            Some(entry) => Some(entry.0),
-            None => None,
-        }
+        Some(self.entries.first()?.0)
     }
 
     /// The key of `t`.

@@ -115,10 +115,9 @@ fn settle_one(one: &mut Dated, clocks: &[Clock], last: u64)
 pub fn number_in(somebody: Option<Who>) -> Option<u32>
     ensures { result ≡ number_in somebody }
 {
-    match somebody {
-        None => None,
-        Some(Who::Task(task)) => Some(task.0),
-        Some(Who::Agent) => None,
+    match somebody? {
+        Who::Task(task) => Some(task.0),
+        Who::Agent => None,
     }
 }
 

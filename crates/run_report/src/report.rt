@@ -269,10 +269,9 @@ fn passing_in(lines: &Lines, now: u64) -> Passing
 fn runner_base(lines: &Lines, runner: Option<Who>) -> Option<Level>
     ensures { result ≡ runner_base runner lines.now.bases }
 {
-    match runner {
-        None => None,
-        Some(Who::Task(task)) => lines.base(task),
-        Some(Who::Agent) => None,
+    match runner? {
+        Who::Task(task) => lines.base(task),
+        Who::Agent => None,
     }
 }
 

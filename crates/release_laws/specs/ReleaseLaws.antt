@@ -2,7 +2,7 @@
 -- its instants lead from and to, and say. It keeps an account of what was asked for and has not come yet. What the
 -- machine itself keeps of settings, in its appointments, timers, budgets' handlers, script and flags, is not looked at:
 -- a machine that forgets one breaks the law.
-use Rattle.std.specs.Prelude.{◌≡◌, ℕ, zero, suc, ℤ, pos, int_le, int_lt, Bool, true, false, cond, ◌&&◌, List, [], ◌∷◌, ◌++◌, Some, None, eqb, ltb, length, filter, map, replicate, IsTrue}
+use Rattle.std.specs.Prelude.{◌≡◌, ℕ, zero, suc, ℤ, pos, int_le, int_lt, Bool, true, false, cond, ◌&&◌, List, [], ◌∷◌, ◌+◌, ◌++◌, Some, None, eqb, ltb, length, filter, map, replicate, IsTrue}
 use Rattle.ann_base.specs.declared.identities.TaskNo.{TaskNo}
 use Rattle.trace_text.specs.declared.events.Event.{Event}
 use Rattle.trace_text.specs.declared.events.Event.TheVariants as line
@@ -12,6 +12,7 @@ use Rattle.profile_machine.specs.declared.run_data.Item.{Item}
 use Rattle.profile_machine.specs.declared.world.World.{World}
 use Rattle.profile_machine.specs.declared.world.appointments.Budget.{Budget}
 use Rattle.profile_machine.specs.declared.world.appointments.HandlerOf.{HandlerOf}
+use Rattle.profile_machine.specs.declared.limits.TheConstants.{LAST_OUTSIDE_LINE}
 use Rattle.profile_machine.specs.Words.{without}
 use Rattle.profile_machine.specs.Steps.{Move}
 use Rattle.profile_machine.specs.Tasks.{task_of}
@@ -100,7 +101,10 @@ first_account script = record {
   budgets = [];
   left = [];
   ahead = script;
-  flags = record { masked = replicate 16 false; kept_interrupts = replicate 16 false };
+  flags = record {
+    masked = replicate (LAST_OUTSIDE_LINE + 1) false;
+    kept_interrupts = replicate (LAST_OUTSIDE_LINE + 1) false;
+  };
 }
 
 -- ---- events: a setting takes the place of the one before; it comes at its moment

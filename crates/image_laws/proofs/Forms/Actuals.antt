@@ -184,12 +184,12 @@ module _ {E : Type 0} (reading : E → Reading) (built : E → Built) (k : Known
           let v = fitted-values asking.ForActual (read_of e) t h (none-of _ _ (sym (ap (λ r. faults_in (actual_if k (one_formal name t omitted) r)) (read-from 0 name 0 xs ∙ ap (option_map read_of) q)) ∙ u)).0 well.typed in
           (λ o. well.built v, well.built v)
 
-  first-mapped : (name : List ℕ) (xs : List (Argument E)) → first_given same_built (actuals_for (name ∷ []) (map (argument_of built) xs)) ≡ option_map built (argument_from 0 name 0 xs)
+  first-mapped : (name : List ℕ) (xs : List (Argument E)) → first_given (actuals_for (name ∷ []) (map (argument_of built) xs)) ≡ option_map built (argument_from 0 name 0 xs)
   unfolding actuals_for arguments_from
-  first-mapped name xs = ap (first_given same_built) (actuals-mapped built (name ∷ []) xs)
+  first-mapped name xs = ap first_given (actuals-mapped built (name ∷ []) xs)
 
   abbrev first_built : List ℕ → List (Argument E) → Option Built
-  first_built name xs = first_given same_built (actuals_for (name ∷ []) (map (argument_of built) xs))
+  first_built name xs = first_given (actuals_for (name ∷ []) (map (argument_of built) xs))
 
   module _ (clear : E → Clear) (law : (e : E) → ReadLaw (reading e) (clear e) (built e)) (place : Place) (is_span : Bool) (xs : List (Argument E)) (w : ArgumentsWell reading clear built law xs k) where
     -- of an actual that has to be there, and of one that may be

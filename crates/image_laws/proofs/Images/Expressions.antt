@@ -209,7 +209,7 @@ module _ {E : Type 0} (image : E → ExpressionImage) (reading : Image → E →
   builts es = map (option_map built) es
 
   -- of an actual that has to be there
-  actual-step : (f : ExprNo → Valuation) (es : List (Option E)) (within : Within) → is_there same_built (first_given same_built (builts es)) within.names ≡ true
+  actual-step : (f : ExprNo → Valuation) (es : List (Option E)) (within : Within) → is_there same_built (first_given (builts es)) within.names ≡ true
       → Step (λ l. value_put (f (image_or_none (first_given (images es)) within l).1) (image_or_none (first_given (images es)) within l).0)
       (λ p e. (x : ExprNo) × IsAt (f x) p e × (actual_stands p (actual_read p es) within x ≡ true))
   unfolding image_or_none
@@ -218,7 +218,7 @@ module _ {E : Type 0} (image : E → ExpressionImage) (reading : Image → E →
   actual-step f (Some e ∷ es) within b = step-then ((image e).made within) (λ x. value_put (f x)) ((law e).stands within b) (λ x. step-so (λ p y h r. (x, h, r)) (value-step (f x)))
 
   -- of one that may be there
-  optional-step : (f : Option ExprNo → Valuation) (es : List (Option E)) (within : Within) → is_built_if_there same_built (first_given same_built (builts es)) within.names ≡ true
+  optional-step : (f : Option ExprNo → Valuation) (es : List (Option E)) (within : Within) → is_built_if_there same_built (first_given (builts es)) within.names ≡ true
       → Step (of_task_made f (first_given (images es)) within) (λ p e. (x : Option ExprNo) × IsAt (f x) p e × (optional_stands p (actual_read p es) within x ≡ true))
   unfolding of_task_made optional_made
   optional-step f [] within b = step-so (λ p y h. (None, h, refl)) (value-step (f None))
@@ -246,7 +246,7 @@ module _ {E : Type 0} (image : E → ExpressionImage) (reading : Image → E →
       (thing-function f es within)
 
   span-function : (o : Operation) (ticks : ℤ) → ((p : Image) (within : Within) (e : Option ExpressionReading) (x : ExprNo) → function_stands p o e within (valuation.Span ticks x) ≡ (same_number ticks ticks && actual_stands p e within x))
-      → (es : List (Option E)) (within : Within) → is_there same_built (first_given same_built (builts es)) within.names ≡ true
+      → (es : List (Option E)) (within : Within) → is_there same_built (first_given (builts es)) within.names ≡ true
       → Step (span_made ticks (first_given (images es)) within) (λ p e. function_stands p o (actual_read p es) within (at_number p e) ≡ true)
   unfolding span_made
   span-function o ticks same es within b =

@@ -32,7 +32,7 @@ use Rattle.ada_regions.specs.declared.table.Names.{Names}
 use Rattle.ada_image.specs.ImageOfStatements.{guard_of}
 use Rattle.ada_image.specs.BuiltExpressions.{Built, expression_built}
 use Rattle.ada_image.specs.BuiltStatements.{value_if_there}
-use Rattle.ada_image.specs.BuiltSequences.{sequence_if_built, elsifs_built, alternatives_built, handlers_built, alternative_built, select_alternatives_built, statement_built, statements_built, operations_built, declaration_built, declarations_built, parts_built, same_sequence_built, sequence_built_layer, sequence_built}
+use Rattle.ada_image.specs.BuiltSequences.{sequence_if_built, elsifs_built, alternatives_built, handlers_built, alternative_built, select_alternative_built, select_alternatives_built, statement_built, statements_built, operations_built, declaration_built, declarations_built, parts_built, same_sequence_built, sequence_built_layer, sequence_built}
 
 module _ (f : Sequence → Built) (n : Names) where
   -- ---- if and case
@@ -93,8 +93,8 @@ module _ (f : Sequence → Built) (n : Names) where
   select_alternatives_of_map : (xs : List (SelectAlternative Sequence)) → select_alternatives_built same_sequence_built (map (mapped_alternative f) xs) n ≡ select_alternatives_built f xs n
   select_alternatives_of_map [] = refl
   select_alternatives_of_map (x ∷ xs) =
-      ap (λ (b : Bool). value_if_there (guard_of x.guard) n && (b && select_alternatives_built same_sequence_built (map (mapped_alternative f) xs) n)) (alternative_of_map x x.alternative)
-      ∙ ap (λ (b : Bool). value_if_there (guard_of x.guard) n && (alternative_built f x.alternative n && b)) (select_alternatives_of_map xs)
+      ap (λ (b : Bool). (value_if_there (guard_of x.guard) n && b) && select_alternatives_built same_sequence_built (map (mapped_alternative f) xs) n) (alternative_of_map x x.alternative)
+      ∙ ap (λ (b : Bool). select_alternative_built f x n && b) (select_alternatives_of_map xs)
 
   abbrev selecting : Place → SelectForm Sequence → Statement Sequence
   selecting place form = statement.Select (record { place = place; form = form })

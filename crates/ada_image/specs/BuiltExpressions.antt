@@ -1,6 +1,7 @@
 -- Expressions that an image has: forms that are values, and names in them that denote what has a value. A text, `null`,
 -- an Image, an Access and the call of a function of the source among operators are none; legality refuses them there.
 use Rattle.std.specs.Prelude.{Bool, true, false, cond, ◌&&◌, List, [], ◌∷◌, Option, Some, None, option_map, unwrap_or, is_some}
+use Rattle.std.specs.List.{list_all}
 use Rattle.ada_tree.specs.declared.names.Name.{Name}
 use Rattle.ada_tree.specs.declared.operators.Attribute.{Attribute}
 use Rattle.ada_tree.specs.declared.operators.Attribute.TheVariants as attribute
@@ -127,16 +128,13 @@ module _ {E : Type 0} (built : E → Built) where
   named_built name (Some a) arguments n = attribute_built n name a.attribute
 
   abbrev pub operands_built : List (Operand E) → Built
-  operands_built [] n = true
-  operands_built (o ∷ os) n = built o.relation n && operands_built os n
+  operands_built os n = list_all (λ o. built o.relation n) os
 
   abbrev pub addends_built : List (Addend E) → Built
-  addends_built [] n = true
-  addends_built (a ∷ rest) n = built a.term n && addends_built rest n
+  addends_built addends n = list_all (λ a. built a.term n) addends
 
   abbrev pub factors_built : List (Multiplied E) → Built
-  factors_built [] n = true
-  factors_built (m ∷ rest) n = built m.factor n && factors_built rest n
+  factors_built factors n = list_all (λ m. built m.factor n) factors
 
   abbrev pub form_built : ExpressionForm E → Built
   form_built (form.Logical operator first others) n = built first n && operands_built (others.first ∷ others.others) n

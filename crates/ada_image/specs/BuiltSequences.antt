@@ -1,5 +1,6 @@
 -- Sequences of statements, declarations and bodies that an image has: each form in them is built.
 use Rattle.std.specs.Prelude.{true, ◌&&◌, List, [], ◌∷◌, Option, Some, None}
+use Rattle.std.specs.List.{list_all}
 use Rattle.ada_tree.specs.declared.expressions.Expression.{Expression}
 use Rattle.ada_tree.specs.declared.statements.Statement.{Statement}
 use Rattle.ada_tree.specs.declared.statements.Statement.TheVariants as statement
@@ -42,18 +43,20 @@ module _ {Q : Type 0} (sequence : Q → Built) where
   sequence_if_built None n = true
   sequence_if_built (Some q) n = sequence q n
 
+  abbrev pub elsif_built : Elsif Q → Built
+  elsif_built e n = expression_built e.condition n && sequence e.statements n
+
   abbrev pub elsifs_built : List (Elsif Q) → Built
-  elsifs_built [] n = true
-  elsifs_built (e ∷ es) n = expression_built e.condition n && (sequence e.statements n && elsifs_built es n)
+  elsifs_built es n = list_all (λ e. elsif_built e n) es
+
+  abbrev pub case_alternative_built : CaseAlternative Q → Built
+  case_alternative_built a n = choices_built (a.choices.first ∷ a.choices.others) n && sequence a.statements n
 
   abbrev pub alternatives_built : List (CaseAlternative Q) → Built
-  alternatives_built [] n = true
-  alternatives_built (a ∷ rest) n = choices_built (a.choices.first ∷ a.choices.others) n
-      && (sequence a.statements n && alternatives_built rest n)
+  alternatives_built alternatives n = list_all (λ a. case_alternative_built a n) alternatives
 
   abbrev pub handlers_built : List (Handler Q) → Built
-  handlers_built [] n = true
-  handlers_built (h ∷ hs) n = sequence h.statements n && handlers_built hs n
+  handlers_built hs n = list_all (λ h. sequence h.statements n) hs
 
   abbrev pub accept_body_built : Option (AcceptBody Q) → Built
   accept_body_built None n = true
@@ -64,10 +67,11 @@ module _ {Q : Type 0} (sequence : Q → Built) where
   alternative_built (alternative.Delay d statements) n = expression_built d.value n && sequence_if_built statements n
   alternative_built (alternative.Terminate place) n = true
 
+  abbrev pub select_alternative_built : SelectAlternative Q → Built
+  select_alternative_built a n = value_if_there (guard_of a.guard) n && alternative_built a.alternative n
+
   abbrev pub select_alternatives_built : List (SelectAlternative Q) → Built
-  select_alternatives_built [] n = true
-  select_alternatives_built (a ∷ rest) n = value_if_there (guard_of a.guard) n
-      && (alternative_built a.alternative n && select_alternatives_built rest n)
+  select_alternatives_built alternatives n = list_all (λ a. select_alternative_built a n) alternatives
 
   abbrev pub select_built : SelectForm Q → Built
   select_built (select.SelectiveAccept s) n =
@@ -100,15 +104,16 @@ module _ {Q : Type 0} (sequence : Q → Built) where
   statement_built (statement.Select s) n = select_built s.form n
 
   abbrev pub statements_built : List (Statement Q) → Built
-  statements_built [] n = true
-  statements_built (s ∷ ss) n = statement_built s n && statements_built ss n
+  statements_built ss n = list_all (λ s. statement_built s n) ss
 
   -- ---- declarations and bodies
 
+  abbrev pub operation_body_built : OperationBody Q → Built
+  operation_body_built (body_of.Subprogram s body) n = sequence body.sequence n
+  operation_body_built (body_of.Entry head body) n = sequence body.sequence n
+
   abbrev pub operations_built : List (OperationBody Q) → Built
-  operations_built [] n = true
-  operations_built (body_of.Subprogram s body ∷ os) n = sequence body.sequence n && operations_built os n
-  operations_built (body_of.Entry head body ∷ os) n = sequence body.sequence n && operations_built os n
+  operations_built os n = list_all (λ o. operation_body_built o n) os
 
   abbrev pub declaration_built : Declaration Q → Built
   declaration_built (declaration.Object o) n = initial_built o.initial n
@@ -124,8 +129,7 @@ module _ {Q : Type 0} (sequence : Q → Built) where
   declaration_built (declaration.Use place name) n = true
 
   abbrev pub declarations_built : List (Declaration Q) → Built
-  declarations_built [] n = true
-  declarations_built (d ∷ ds) n = declaration_built d n && declarations_built ds n
+  declarations_built ds n = list_all (λ d. declaration_built d n) ds
 
   abbrev pub parts_built : SequenceParts Q → Built
   parts_built s n = declarations_built s.declarations n

@@ -1,6 +1,7 @@
 -- Simple statements that an image has: calls of what can be called with an actual for each formal, and values and
 -- variables that are built.
 use Rattle.std.specs.Prelude.{Bool, true, false, cond, ◌&&◌, List, [], ◌∷◌, Option, Some, None, option_map, unwrap_or}
+use Rattle.std.specs.List.{list_all}
 use Rattle.ada_tree.specs.declared.expressions.Expression.{Expression}
 use Rattle.ada_tree.specs.declared.expressions.Expression.TheViews.{out-Expression}
 use Rattle.ada_tree.specs.declared.expressions.ExpressionForm.{ExpressionForm}
@@ -111,8 +112,7 @@ abbrev pub piece_built : Expression → Built
 piece_built e n = piece_form_built (out-Expression e).form n
 
 abbrev pub pieces_built : List (Addend Expression) → Built
-pieces_built [] n = true
-pieces_built (a ∷ rest) n = piece_built a.term n && pieces_built rest n
+pieces_built addends n = list_all (λ a. piece_built a.term n) addends
 
 abbrev pub text_form_built : ExpressionForm Expression → Built
 text_form_built (form.Adding first others) n = piece_built first n && pieces_built (others.first ∷ others.others) n
@@ -190,8 +190,7 @@ choice_built (choice.Range low high) n = choice_value_built (static_value n low)
 choice_built (choice.Others place) n = true
 
 abbrev pub choices_built : List Choice → Built
-choices_built [] n = true
-choices_built (c ∷ cs) n = choice_built c n && choices_built cs n
+choices_built cs n = list_all (λ c. choice_built c n) cs
 
 abbrev pub iteration_built : Iteration → Built
 iteration_built iteration.Forever n = true

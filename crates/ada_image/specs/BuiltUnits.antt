@@ -1,5 +1,6 @@
 -- Sources whose forms are those that an image has: all that is in their packages and their main procedure is built.
 use Rattle.std.specs.Prelude.{true, ◌&&◌, List, [], ◌∷◌, ◌++◌, unwrap_or}
+use Rattle.std.specs.List.{list_all}
 use Rattle.ada_tree.specs.declared.units.Unit.{Unit as Tree}
 use Rattle.ada_tree.specs.declared.units.LibraryPackage.{LibraryPackage}
 use Rattle.ada_tree.specs.declared.units.Package.{Package}
@@ -14,8 +15,7 @@ package_built (packages.Body x) n = declarations_built sequence_built x.declarat
     && sequence_if_built sequence_built x.sequence n
 
 abbrev pub packages_built : List LibraryPackage → Built
-packages_built [] n = true
-packages_built (l ∷ ls) n = package_built l.package n && packages_built ls n
+packages_built ls n = list_all (λ l. package_built l.package n) ls
 
 abbrev pub unit_built : Tree → Built
 unit_built unit n = packages_built unit.packages n && sequence_built unit.main.body.sequence n

@@ -1,5 +1,5 @@
 -- Names and expressions (clause 4): brackets leave no trace, and a minus before a literal is part of its value.
-use Rattle.std.specs.Prelude.{ℕ, suc, ◌+◌, ℤ, pos, Bool, true, false, cond, List, [], ◌∷◌, Option, Some, None, option_map, unwrap_or, eqb}
+use Rattle.std.specs.Prelude.{ℕ, suc, ◌+◌, ℤ, pos, Bool, true, false, cond, List, [], ◌∷◌, Option, Some, None, option_map, unwrap_or, eqb, map}
 use Rattle.std.specs.List.{list_any}
 use Rattle.std.specs.Str.{bytes_eq}
 use Rattle.ada_tree.specs.declared.names.Identifier.{Identifier}
@@ -386,8 +386,7 @@ module _ {E : Type 0} (expression : E → ExpressionImage) where
   image_for e = option_map expression e
 
   abbrev pub images_for : List (Option E) → List (Option ExpressionImage)
-  images_for [] = []
-  images_for (e ∷ es) = image_for e ∷ images_for es
+  images_for es = map image_for es
 
   unfoldable pub item_made : Predefined → List (Argument E) → Within → Making ExprNo
   item_made (items.Mark s) arguments within = no_value

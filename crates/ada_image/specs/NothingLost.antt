@@ -2,6 +2,7 @@
 -- text in order, each of its kind and with its parts; those of the environment are the packages, and then the call of
 -- the main procedure. This is said of the image alone, however it was made.
 use Rattle.std.specs.Prelude.{ℕ, zero, suc, length, Bool, true, false, cond, not, ◌&&◌, List, [], ◌∷◌, ◌++◌, Option, Some, None, unwrap_or, eqb}
+use Rattle.std.specs.List.{list_all}
 use Rattle.std.specs.Option.{option_flatten}
 use Rattle.std.specs.Bool.{then_some}
 use Rattle.ann_base.specs.declared.places.Place.{Place}
@@ -153,8 +154,7 @@ module _ (p : Image) where
     operation_reads within (body_of.Entry head body) = body_reads within head.place None false body.sequence
 
     abbrev pub operations_read : Within → List (OperationBody Q) → Bool
-    operations_read within [] = true
-    operations_read within (o ∷ os) = operation_reads within o && operations_read within os
+    operations_read within os = list_all (operation_reads within) os
 
     -- the scope of a body among declarations reads as its text
     abbrev pub inner_body_reads : Within → Declaration Q → Bool
@@ -174,8 +174,7 @@ module _ (p : Image) where
     inner_body_reads within (declaration.Use place name) = true
 
     abbrev pub inner_bodies_read : Within → List (Declaration Q) → Bool
-    inner_bodies_read within [] = true
-    inner_bodies_read within (d ∷ ds) = inner_body_reads within d && inner_bodies_read within ds
+    inner_bodies_read within ds = list_all (inner_body_reads within) ds
 
     abbrev pub unhandled_reads : Within → Option ℕ → SequenceParts Q → Reading
     unhandled_reads within part s from to =

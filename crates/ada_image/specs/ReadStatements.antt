@@ -162,8 +162,7 @@ is_literal_piece number (piece.Literal e n) = eqb number n.0
 is_literal_piece number _ = false
 
 abbrev pub terms_of : List (Addend Expression) → List Expression
-terms_of [] = []
-terms_of (a ∷ rest) = a.term ∷ terms_of rest
+terms_of addends = map (λ a. a.term) addends
 
 -- the texts that are joined
 abbrev pub joined : ExpressionForm Expression → Expression → List Expression

@@ -3,19 +3,22 @@ use crate::types::{AdaType, Subtype};
 use ann_base::{Level, Raised};
 use profile_machine::{INTEGER_LAST, TIME_LAST, Value};
 
-/// The last Integer, and the last value of Duration in ticks, as a literal has them; the first of each is one further below 0.
+/// The last Integer (3.5.4), as a literal has it; the first one is one further below 0.
 pub const LAST_INTEGER: u128 = INTEGER_LAST as u128;
 
+/// The last value of Duration in ticks (9.6), as a literal has it; the first one is one further below 0.
 pub const LAST_DURATION: u128 = TIME_LAST as u128;
 
-/// The last value of System.Priority (13.7, D.1), and of the wide range for which a pragma asks (docs/LANGUAGE.md).
+/// The last value of System.Priority (13.7, D.1).
 pub const LAST_PRIORITY: Level = 30;
 
+/// The same in the wide range for which a pragma asks (docs/LANGUAGE.md).
 pub const LAST_WIDE_PRIORITY: Level = 97;
 
-/// System.Default_Priority (13.7, D.1) of each.
+/// System.Default_Priority (13.7, D.1).
 pub const DEFAULT_PRIORITY: Level = 15;
 
+/// The same in the wide range.
 pub const DEFAULT_WIDE_PRIORITY: Level = 48;
 
 /// A predefined library unit of the profile.

@@ -48,50 +48,35 @@ pub enum AdaType {
 pub fn is_array_type(of_type: AdaType) -> bool
     ensures { result ≡ is_array_type of_type }
 {
-    match of_type {
-        AdaType::Array(_) => true,
-        _ => false,
-    }
+    matches!(of_type, AdaType::Array(_))
 }
 
 /// Time_Span (D.8).
 pub fn is_span_type(of_type: AdaType) -> bool
     ensures { result ≡ is_span_type of_type }
 {
-    match of_type {
-        AdaType::TimeSpan => true,
-        _ => false,
-    }
+    matches!(of_type, AdaType::TimeSpan)
 }
 
 /// A type of the source that is derived from Limited_Controlled or Controlled (7.6).
 pub fn is_controlled_type(of_type: AdaType) -> bool
     ensures { result ≡ is_controlled_type of_type }
 {
-    match of_type {
-        AdaType::Derived(_) => true,
-        _ => false,
-    }
+    matches!(of_type, AdaType::Derived(_))
 }
 
 /// A task type (9.1).
 pub fn is_task_type(of_type: AdaType) -> bool
     ensures { result ≡ is_task_type of_type }
 {
-    match of_type {
-        AdaType::Task(_) => true,
-        _ => false,
-    }
+    matches!(of_type, AdaType::Task(_))
 }
 
 /// A protected type (9.4).
 pub fn is_protected_type(of_type: AdaType) -> bool
     ensures { result ≡ is_protected_type of_type }
 {
-    match of_type {
-        AdaType::Protected(_) => true,
-        _ => false,
-    }
+    matches!(of_type, AdaType::Protected(_))
 }
 
 /// A type with a range of its values (3.2.2, 3.5).

@@ -68,53 +68,40 @@ fn named_built<E: HasForm>(
 fn operands_built<E: HasForm>(operands: &[Operand<E>], names: &Names<'_>) -> bool
     ensures { result ≡ operands_built E.built operands.now names.now }
 {
-    for operand in operands {
-        if !operand.relation.is_built(names) {
-            return false;
-        }
-    }
-    true
+    operands
+        .iter()
+        .all(|operand| operand.relation.is_built(names))
 }
 
-/// Terms behind an adding operator (4.5.3).
-fn addends_built<E: HasForm>(addends: &[Addend<E>], names: &Names<'_>) -> bool
-    ensures { result ≡ addends_built E.built addends.now names.now }
-{
-    for addend in addends {
-        if !addend.term.is_built(names) {
-            return false;
-        }
-    }
-    true
-}
-
-/// Factors behind a multiplying operator (4.5.5).
-fn factors_built<E: HasForm>(factors: &[Multiplied<E>], names: &Names<'_>) -> bool
-    ensures { result ≡ factors_built E.built factors.now names.now }
-{
-    for factor in factors {
-        if !factor.factor.is_built(names) {
-            return false;
-        }
-    }
-    true
-}
-
-/// All relations behind the first one.
+/// All behind the first one.
 fn other_operands_built<E: HasForm>(others: &OneOrMore<Operand<E>>, names: &Names<'_>) -> bool
     ensures { result ≡ operands_built E.built (others.now.first ∷ others.now.others) names.now }
 {
     others.first.relation.is_built(names) && operands_built(others.others.as_slice(), names)
 }
 
-/// All terms behind the first one.
+/// Terms behind an adding operator (4.5.3).
+fn addends_built<E: HasForm>(addends: &[Addend<E>], names: &Names<'_>) -> bool
+    ensures { result ≡ addends_built E.built addends.now names.now }
+{
+    addends.iter().all(|addend| addend.term.is_built(names))
+}
+
+/// All behind the first one.
 fn other_addends_built<E: HasForm>(others: &OneOrMore<Addend<E>>, names: &Names<'_>) -> bool
     ensures { result ≡ addends_built E.built (others.now.first ∷ others.now.others) names.now }
 {
     others.first.term.is_built(names) && addends_built(others.others.as_slice(), names)
 }
 
-/// All factors behind the first one.
+/// Factors behind a multiplying operator (4.5.5).
+fn factors_built<E: HasForm>(factors: &[Multiplied<E>], names: &Names<'_>) -> bool
+    ensures { result ≡ factors_built E.built factors.now names.now }
+{
+    factors.iter().all(|factor| factor.factor.is_built(names))
+}
+
+/// All behind the first one.
 fn other_factors_built<E: HasForm>(others: &OneOrMore<Multiplied<E>>, names: &Names<'_>) -> bool
     ensures { result ≡ factors_built E.built (others.now.first ∷ others.now.others) names.now }
 {

@@ -25,12 +25,9 @@ fn piece_built(expression: &Expression, names: &Names<'_>) -> bool
 fn pieces_built(addends: &[Addend<Expression>], names: &Names<'_>) -> bool
     ensures { result ≡ pieces_built addends.now names.now }
 {
-    for addend in addends {
-        if !piece_built(&addend.term, names) {
-            return false;
-        }
-    }
-    true
+    addends
+        .iter()
+        .all(|addend| piece_built(&addend.term, names))
 }
 
 /// All behind the first one.

@@ -7,19 +7,11 @@ use Rattle.ada_regions.specs.declared.table.Names.{Names}
 use Rattle.ada_image.specs.BuiltExpressions.{Built}
 use Rattle.ada_image.specs.BuiltSequences.{operations_built, declaration_built, declarations_built}
 
-pub alone : (b : Bool) → (b && true) ≡ b
-alone true = refl
-alone false = refl
-
 in_turn : (a b c : Bool) → (a && (b && c)) ≡ ((a && b) && c)
 in_turn true b c = refl
 in_turn false b c = refl
 
 module _ {Q : Type 0} (sequence : Q → Built) (n : Names) where
-  pub operations_more : (o : OperationBody Q) (os : List (OperationBody Q)) → operations_built sequence (o ∷ os) n ≡ (operations_built sequence (o ∷ []) n && operations_built sequence os n)
-  operations_more (body_of.Subprogram s body) os = ap (λ b. b && operations_built sequence os n) (sym (alone (sequence body.sequence n)))
-  operations_more (body_of.Entry head body) os = ap (λ b. b && operations_built sequence os n) (sym (alone (sequence body.sequence n)))
-
   pub declarations_joined : (ds es : List (Declaration Q)) → declarations_built sequence (ds ++ es) n ≡ (declarations_built sequence ds n && declarations_built sequence es n)
   declarations_joined [] es = refl
   declarations_joined (d ∷ ds) es =

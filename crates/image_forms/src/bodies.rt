@@ -1,6 +1,6 @@
 //! Declarations, and the bodies among them (ISO/IEC 8652:2012, 3.11, 6.3, 9.1, 9.4).
-ghost use Rattle.std.specs.Prelude.{◌≡◌, ◌∷◌, []};
-ghost use Rattle.ada_image.specs.BuiltSequences.{operations_built, declaration_built, declarations_built};
+ghost use Rattle.std.specs.Prelude.{◌≡◌};
+ghost use Rattle.ada_image.specs.BuiltSequences.{operation_body_built, operations_built, declaration_built, declarations_built};
 
 use crate::forms::SequenceHasForm;
 use ada_regions::Names;
@@ -8,9 +8,8 @@ use ada_tree::{Declaration, OperationBody};
 use expression_forms::initial_built;
 
 /// The body of an operation of a protected unit.
-#[tactic(auto, using(crate::proofs::DeclarationLists::alone))]
 fn operation_body_built<Q: SequenceHasForm>(operation: &OperationBody<Q>, names: &Names<'_>) -> bool
-    ensures { result ≡ operations_built Q.built (operation.now ∷ []) names.now }
+    ensures { result ≡ operation_body_built Q.built operation.now names.now }
 {
     match operation {
         OperationBody::Subprogram { body, .. } => body.sequence.is_built(names),
@@ -19,16 +18,12 @@ fn operation_body_built<Q: SequenceHasForm>(operation: &OperationBody<Q>, names:
 }
 
 /// The bodies of the operations of a protected unit (9.4).
-#[tactic(auto, using(crate::proofs::DeclarationLists::operations_more))]
 fn operations_built<Q: SequenceHasForm>(operations: &[OperationBody<Q>], names: &Names<'_>) -> bool
     ensures { result ≡ operations_built Q.built operations.now names.now }
 {
-    for operation in operations {
-        if !operation_body_built(operation, names) {
-            return false;
-        }
-    }
-    true
+    operations
+        .iter()
+        .all(|operation| operation_body_built(operation, names))
 }
 
 /// A declaration, or the body that it is.
@@ -53,10 +48,7 @@ pub(crate) fn declarations_built<Q: SequenceHasForm>(
 ) -> bool
     ensures { result ≡ declarations_built Q.built declarations.now names.now }
 {
-    for declaration in declarations {
-        if !declaration_built(declaration, names) {
-            return false;
-        }
-    }
-    true
+    declarations
+        .iter()
+        .all(|declaration| declaration_built(declaration, names))
 }

@@ -1,8 +1,6 @@
 //! The parts of if and case statements, handlers and accepts (ISO/IEC 8652:2012, 5.3, 5.4, 9.5.2, 11.2).
-ghost use Rattle.std.specs.Prelude.{◌≡◌, ◌∷◌, ◌&&◌};
-ghost use Rattle.ada_image.specs.BuiltExpressions.{expression_built};
-ghost use Rattle.ada_image.specs.BuiltStatements.{choices_built};
-ghost use Rattle.ada_image.specs.BuiltSequences.{sequence_if_built, elsifs_built, alternatives_built, handlers_built, accept_body_built};
+ghost use Rattle.std.specs.Prelude.{◌≡◌, ◌∷◌};
+ghost use Rattle.ada_image.specs.BuiltSequences.{sequence_if_built, elsif_built, elsifs_built, case_alternative_built, alternatives_built, handlers_built, accept_body_built};
 
 use crate::forms::SequenceHasForm;
 use crate::simple::choices_built;
@@ -22,9 +20,7 @@ pub(crate) fn sequence_if_built<Q: SequenceHasForm>(sequence: &Option<Q>, names:
 
 /// A further condition with the statements behind it.
 fn elsif_built<Q: SequenceHasForm>(elsif: &Elsif<Q>, names: &Names<'_>) -> bool
-    ensures { result
-        ≡ (expression_built elsif.now.condition names.now
-        && Q.built elsif.now.statements names.now) }
+    ensures { result ≡ elsif_built Q.built elsif.now names.now }
 {
     expression_built(&elsif.condition, names) && elsif.statements.is_built(names)
 }
@@ -33,22 +29,15 @@ fn elsif_built<Q: SequenceHasForm>(elsif: &Elsif<Q>, names: &Names<'_>) -> bool
 pub(crate) fn elsifs_built<Q: SequenceHasForm>(elsifs: &[Elsif<Q>], names: &Names<'_>) -> bool
     ensures { result ≡ elsifs_built Q.built elsifs.now names.now }
 {
-    for elsif in elsifs {
-        if !elsif_built(elsif, names) {
-            return false;
-        }
-    }
-    true
+    elsifs.iter().all(|elsif| elsif_built(elsif, names))
 }
 
 /// An alternative of a case statement.
-fn alternative_of_case_built<Q: SequenceHasForm>(
+fn case_alternative_built<Q: SequenceHasForm>(
     alternative: &CaseAlternative<Q>,
     names: &Names<'_>,
 ) -> bool
-    ensures { result
-        ≡ (choices_built (alternative.now.choices.first ∷ alternative.now.choices.others)
-        names.now && Q.built alternative.now.statements names.now) }
+    ensures { result ≡ case_alternative_built Q.built alternative.now names.now }
 {
     choices_built(&alternative.choices, names) && alternative.statements.is_built(names)
 }
@@ -60,12 +49,9 @@ fn other_alternatives_built<Q: SequenceHasForm>(
 ) -> bool
     ensures { result ≡ alternatives_built Q.built alternatives.now names.now }
 {
-    for alternative in alternatives {
-        if !alternative_of_case_built(alternative, names) {
-            return false;
-        }
-    }
-    true
+    alternatives
+        .iter()
+        .all(|alternative| case_alternative_built(alternative, names))
 }
 
 /// All alternatives of a case statement (5.4).
@@ -76,7 +62,7 @@ pub(crate) fn alternatives_built<Q: SequenceHasForm>(
     ensures { result
         ≡ alternatives_built Q.built (alternatives.now.first ∷ alternatives.now.others) names.now }
 {
-    alternative_of_case_built(&alternatives.first, names)
+    case_alternative_built(&alternatives.first, names)
         && other_alternatives_built(alternatives.others.as_slice(), names)
 }
 
@@ -84,12 +70,9 @@ pub(crate) fn alternatives_built<Q: SequenceHasForm>(
 pub(crate) fn handlers_built<Q: SequenceHasForm>(handlers: &[Handler<Q>], names: &Names<'_>) -> bool
     ensures { result ≡ handlers_built Q.built handlers.now names.now }
 {
-    for handler in handlers {
-        if !handler.statements.is_built(names) {
-            return false;
-        }
-    }
-    true
+    handlers
+        .iter()
+        .all(|handler| handler.statements.is_built(names))
 }
 
 /// What stands behind `do` of an accept (9.5.2).

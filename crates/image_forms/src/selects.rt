@@ -1,9 +1,9 @@
 //! Whether select statements have a form in an image (ISO/IEC 8652:2012, 9.7).
-ghost use Rattle.std.specs.Prelude.{◌≡◌, ◌∷◌, ◌&&◌};
+ghost use Rattle.std.specs.Prelude.{◌≡◌, ◌∷◌};
 ghost use Rattle.ada_tree.specs.declared.selects.SelectForm.TheVariants as selecting;
 ghost use Rattle.ada_image.specs.ImageOfStatements.{guard_of};
 ghost use Rattle.ada_image.specs.BuiltStatements.{value_if_there};
-ghost use Rattle.ada_image.specs.BuiltSequences.{alternative_built, select_alternatives_built, select_built};
+ghost use Rattle.ada_image.specs.BuiltSequences.{alternative_built, select_alternative_built, select_alternatives_built, select_built};
 
 use crate::branches::{accept_body_built, sequence_if_built};
 use crate::forms::SequenceHasForm;
@@ -45,9 +45,7 @@ fn select_alternative_built<Q: SequenceHasForm>(
     alternative: &SelectAlternative<Q>,
     names: &Names<'_>,
 ) -> bool
-    ensures { result
-        ≡ (value_if_there (guard_of alternative.now.guard) names.now
-        && alternative_built Q.built alternative.now.alternative names.now) }
+    ensures { result ≡ select_alternative_built Q.built alternative.now names.now }
 {
     guard_built(&alternative.guard, names) && alternative_built(&alternative.alternative, names)
 }
@@ -59,12 +57,9 @@ fn other_alternatives_built<Q: SequenceHasForm>(
 ) -> bool
     ensures { result ≡ select_alternatives_built Q.built alternatives.now names.now }
 {
-    for alternative in alternatives {
-        if !select_alternative_built(alternative, names) {
-            return false;
-        }
-    }
-    true
+    alternatives
+        .iter()
+        .all(|alternative| select_alternative_built(alternative, names))
 }
 
 /// All alternatives of a selective accept.

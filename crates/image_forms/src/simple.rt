@@ -63,12 +63,7 @@ fn choice_built(choice: &Choice, names: &Names<'_>) -> bool
 fn choices_in_list_built(choices: &[Choice], names: &Names<'_>) -> bool
     ensures { result ≡ choices_built choices.now names.now }
 {
-    for choice in choices {
-        if !choice_built(choice, names) {
-            return false;
-        }
-    }
-    true
+    choices.iter().all(|choice| choice_built(choice, names))
 }
 
 /// All choices of an alternative.

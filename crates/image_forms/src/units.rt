@@ -41,12 +41,9 @@ fn package_built(library_unit: &Package, names: &Names<'_>) -> bool
 fn packages_built(packages: &[LibraryPackage], names: &Names<'_>) -> bool
     ensures { result ≡ packages_built packages.now names.now }
 {
-    for library in packages {
-        if !package_built(&library.package, names) {
-            return false;
-        }
-    }
-    true
+    packages
+        .iter()
+        .all(|library| package_built(&library.package, names))
 }
 
 /// Whether each expression, call, assignment and other part of a source has a form in an image, given what its names

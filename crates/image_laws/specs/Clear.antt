@@ -1,6 +1,6 @@
 -- Expressions of clear names: each name has a type, each constant and each end of a range a value, and each index a
 -- type of values. Where the table of names lacks one of these, another rule is broken at the declaration.
-use Rattle.std.specs.List.{list_any}
+use Rattle.std.specs.List.{list_all, list_any}
 use Rattle.std.specs.Prelude.{ℕ, bytes_eq, is_some, Bool, true, false, not, ◌&&◌, List, [], ◌∷◌, Option, Some, None}
 use Rattle.ada_tree.specs.declared.names.Name.{Name}
 use Rattle.ada_tree.specs.declared.operators.Attribute.{Attribute}
@@ -82,20 +82,16 @@ Clear = Known → Bool
 
 module _ {E : Type 0} (clear : E → Clear) where
   abbrev pub operands_clear : List (Operand E) → Clear
-  operands_clear [] k = true
-  operands_clear (o ∷ os) k = clear o.relation k && operands_clear os k
+  operands_clear os k = list_all (λ o. clear o.relation k) os
 
   abbrev pub addends_clear : List (Addend E) → Clear
-  addends_clear [] k = true
-  addends_clear (a ∷ rest) k = clear a.term k && addends_clear rest k
+  addends_clear addends k = list_all (λ a. clear a.term k) addends
 
   abbrev pub factors_clear : List (Multiplied E) → Clear
-  factors_clear [] k = true
-  factors_clear (m ∷ rest) k = clear m.factor k && factors_clear rest k
+  factors_clear factors k = list_all (λ m. clear m.factor k) factors
 
   abbrev pub arguments_clear : List (Argument E) → Clear
-  arguments_clear [] k = true
-  arguments_clear (a ∷ rest) k = clear a.value k && arguments_clear rest k
+  arguments_clear arguments k = list_all (λ a. clear a.value k) arguments
 
   abbrev pub named_clear : Name → Option AttributeDesignator → List (Argument E) → Clear
   named_clear name None arguments k = name_clear k name (not (is_empty arguments)) && arguments_clear arguments k
@@ -131,8 +127,7 @@ names_clear [] = true
 names_clear (name ∷ names) = not (bytes_eq [] name) && (not (list_any (bytes_eq name) names) && names_clear names)
 
 abbrev pub types_clear : List Formal → Bool
-types_clear [] = true
-types_clear (f ∷ fs) = is_some f.subtype && types_clear fs
+types_clear formals = list_all (λ f. is_some f.subtype) formals
 
 abbrev pub formals_clear : List Formal → Bool
 formals_clear formals = names_clear (names_of formals) && types_clear formals

@@ -1,6 +1,6 @@
 -- The scopes that a source begins: of its bodies, its blocks and its accepts, and that of the environment, each by the
 -- place of its construct in the text. Their order does not matter.
-use Rattle.std.specs.Prelude.{ℕ, Bool, true, false, List, [], ◌∷◌, ◌++◌, Option, Some, None, unwrap_or}
+use Rattle.std.specs.Prelude.{ℕ, Bool, true, false, List, [], ◌∷◌, ◌++◌, Option, Some, None, unwrap_or, flat_map}
 use Rattle.ann_base.specs.declared.places.Place.{Place}
 use Rattle.ada_tree.specs.declared.statements.Statement.{Statement}
 use Rattle.ada_tree.specs.declared.statements.Statement.TheVariants as statement
@@ -48,8 +48,7 @@ module _ {Q : Type 0} (sequence : Q → Scopes) where
   -- ---- statements
 
   abbrev pub elsif_scopes : List (Elsif Q) → Names → List ℕ
-  elsif_scopes [] n = []
-  elsif_scopes (e ∷ es) n = inside_scopes e.statements n ++ elsif_scopes es n
+  elsif_scopes es n = flat_map (λ e. inside_scopes e.statements n) es
 
   abbrev pub case_scopes : List (CaseAlternative Q) → Names → List ℕ
   case_scopes [] n = []
@@ -101,8 +100,7 @@ module _ {Q : Type 0} (sequence : Q → Scopes) where
   statement_scopes (statement.Select s) n = select_scopes s.form n
 
   abbrev pub statements_scopes : List (Statement Q) → Names → List ℕ
-  statements_scopes [] n = []
-  statements_scopes (s ∷ ss) n = statement_scopes s n ++ statements_scopes ss n
+  statements_scopes ss n = flat_map (λ s. statement_scopes s n) ss
 
   -- ---- bodies among declarations
 
@@ -163,8 +161,7 @@ package_scopes (packages.Body x) n = package_statements_scopes x.sequence n
     ++ declarations_scopes sequence_scopes x.declarations n
 
 abbrev pub packages_scopes : List LibraryPackage → Names → List ℕ
-packages_scopes [] n = []
-packages_scopes (l ∷ ls) n = package_scopes l.package n ++ packages_scopes ls n
+packages_scopes ls n = flat_map (λ l. package_scopes l.package n) ls
 
 abbrev pub scopes_begun : Tree → Names → List ℕ
 scopes_begun unit n = 0 ∷ (packages_scopes unit.packages n

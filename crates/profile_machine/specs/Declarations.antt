@@ -1,5 +1,5 @@
 -- The declaration of an object (3.3.1, 7.6, 9.4, D.14, D.15).
-use Rattle.std.specs.Prelude.{ℕ, suc, not, List, [], ◌∷◌, ◌++◌, Option, Some, None, Ok, leb, length, take, drop}
+use Rattle.std.specs.Prelude.{ℕ, suc, not, List, [], ◌∷◌, ◌++◌, Option, Some, None, Ok, leb, length, take, drop, map}
 use Rattle.ann_base.specs.Results.{◌>>=◌}
 use Rattle.ann_base.specs.declared.identities.TaskNo.{TaskNo}
 use Rattle.ann_base.specs.declared.exceptions.Raised.TheVariants as exception
@@ -90,8 +90,7 @@ abbrev pub object_drawn : Drawn → Drawn
 object_drawn d = record d { objects = suc d.objects }
 
 abbrev pub no_calls : {X Y : Type 0} → List X → List (List Y)
-no_calls [] = []
-no_calls (x ∷ xs) = [] ∷ no_calls xs
+no_calls xs = map (λ _. []) xs
 
 abbrev pub new_object : Image → Located → ProtectedUnitNo → ℕ → Object
 new_object p l u n = record {

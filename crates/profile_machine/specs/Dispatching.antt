@@ -1,5 +1,6 @@
 -- Active priorities, places, and the choice of who runs (D.1, D.2).
-use Rattle.std.specs.Prelude.{ℕ, ℤ, Bool, true, cond, not, ◌&&◌, List, [], ◌∷◌, ◌++◌, Option, Some, None, eqb, ltb, leb, int_lt, filter, map, max, slice_index_or}
+use Rattle.std.specs.Prelude.{ℕ, ℤ, Bool, true, cond, not, ◌&&◌, List, [], ◌∷◌, ◌++◌, Option, Some, None, eqb, ltb, leb, int_lt, filter, map, max, slice_index_or, flat_map}
+use Rattle.std.specs.List.{list_all}
 use Rattle.std.specs.Bool.{then_some}
 use Rattle.profile_machine.specs.declared.world.tasks.Rival.{Rival}
 use Rattle.profile_machine.specs.declared.world.lines.Line.TheVariants as line
@@ -47,8 +48,7 @@ active_of p w name = active p (task_of w name)
 -- ---- the level of a task on an EDF range that is activated or released (D.2.6; own wording)
 
 abbrev pub all_later : ℤ → List Rival → Bool
-all_later deadline [] = true
-all_later deadline (r ∷ rs) = int_lt deadline r.deadline && all_later deadline rs
+all_later deadline rivals = list_all (λ r. int_lt deadline r.deadline) rivals
 
 abbrev pub of_level : ℕ → List Rival → List Rival
 of_level level = filter (λ r. eqb r.level level)
@@ -75,8 +75,7 @@ abbrev pub inside_object : World → ℕ → List Action → List Rival
 inside_object w ceiling = map (λ a. record { level = ceiling; deadline = (task_of w a.who).deadline })
 
 abbrev pub inside_objects : World → List Object → List Rival
-inside_objects w [] = []
-inside_objects w (o ∷ os) = inside_object w o.ceiling o.actions ++ inside_objects w os
+inside_objects w objects = flat_map (λ o. inside_object w o.ceiling o.actions) objects
 
 -- the other tasks that are ready, with their levels
 abbrev pub ready_rivals : Image → Who → List Task → List Rival

@@ -1,5 +1,5 @@
 -- Entry calls, plain, conditional, timed and triggering (9.5.3, 9.7.2 to 9.7.4).
-use Rattle.std.specs.Prelude.{ℕ, suc, ◌+◌, ℤ, pos, int_lt, Bool, true, false, ◌&&◌, ◌||◌, List, [], ◌∷◌, Option, Some, None, Ok, Err, length, option_and_then}
+use Rattle.std.specs.Prelude.{ℕ, suc, ◌+◌, ℤ, pos, int_lt, Bool, true, false, ◌&&◌, ◌||◌, List, [], ◌∷◌, Option, Some, None, Ok, Err, length, option_and_then, map}
 use Rattle.ann_base.specs.Results.{◌>>=◌}
 use Rattle.ann_base.specs.declared.identities.CallNo.{CallNo}
 use Rattle.ann_base.specs.declared.identities.ObjectNo.{ObjectNo}
@@ -97,12 +97,10 @@ entry_parameters q (f ∷ fs) (a ∷ as') = entry_parameter q f a >>= λ v. entr
     >>= λ rest. Ok (v ∷ rest)
 
 abbrev pub values_in : List (Value × Option Variable) → List Value
-values_in [] = []
-values_in (x ∷ xs) = x.0 ∷ values_in xs
+values_in parameters = map (λ x. x.0) parameters
 
 abbrev pub results_in : List (Value × Option Variable) → List (Option Variable)
-results_in [] = []
-results_in (x ∷ xs) = x.1 ∷ results_in xs
+results_in parameters = map (λ x. x.1) parameters
 
 -- ---- what a call names, and its moment
 

@@ -1,6 +1,6 @@
 -- Each handler is released at its tick (C.3, D.14, D.15): a law on the worlds of a run, since a setting prints no line.
 -- It looks at each instant behind its first step, when the effect of an action can set and cancel no more.
-use Rattle.std.specs.Prelude.{ℕ, zero, suc, ℤ, pos, int_le, Bool, true, false, cond, not, ◌&&◌, ◌||◌, List, [], ◌∷◌, ◌++◌, Option, Some, None, eqb, leb, length}
+use Rattle.std.specs.Prelude.{ℕ, zero, suc, ℤ, pos, int_le, Bool, true, false, cond, not, ◌&&◌, ◌||◌, List, [], ◌∷◌, ◌++◌, Option, Some, None, eqb, leb, length, flat_map}
 use Rattle.std.specs.List.{list_any, list_all}
 use Rattle.ann_base.specs.declared.identities.ObjectNo.{ObjectNo}
 use Rattle.trace_text.specs.declared.events.Event.{Event}
@@ -112,8 +112,7 @@ due_event p now a (due_for.Timeout c) = []
 due_event p now a (due_for.Trigger t depth) = []
 
 abbrev pub due_events : Image → ℕ → List Appointment → List NamedHandler
-due_events p now [] = []
-due_events p now (a ∷ rest) = due_event p now a a.due ++ due_events p now rest
+due_events p now appointments = flat_map (λ a. due_event p now a a.due) appointments
 
 -- a timer whose value its task's clock reached in the last tick, unless the effect has cancelled it or set it again
 abbrev pub handler_of_setting : Option TimerSetting → Option HandlerOf
@@ -121,8 +120,7 @@ handler_of_setting None = None
 handler_of_setting (Some s) = Some s.handler
 
 abbrev pub due_timers : Image → World → List ℕ → List NamedHandler
-due_timers p w [] = []
-due_timers p w (k ∷ ks) = handler_list p (handler_of_setting (timer_of w k).setting) ++ due_timers p w ks
+due_timers p w timers = flat_map (λ k. handler_list p (handler_of_setting (timer_of w k).setting)) timers
 
 -- the budget that the last tick brought to zero, while it has a handler
 abbrev pub due_budget : Image → World → Option ℕ → List NamedHandler

@@ -1,5 +1,5 @@
 -- The timed run: instants and tocks in turn from the opening world, up to the first instant at which it stops.
-use Rattle.std.specs.Prelude.{ℕ, zero, suc, ◌+◌, ◌-◌, ℤ, pos, false, cond, ◌&&◌, List, [], ◌∷◌, ◌++◌, Option, Some, None, eqb, replicate, unwrap_or}
+use Rattle.std.specs.Prelude.{ℕ, zero, suc, ◌+◌, ◌-◌, ℤ, pos, false, cond, ◌&&◌, List, [], ◌∷◌, ◌++◌, Option, Some, None, eqb, replicate, unwrap_or, map}
 use Rattle.std.specs.Option.{option_or}
 use Rattle.ann_base.specs.declared.exceptions.Raised.{Raised}
 use Rattle.trace_text.specs.declared.events.Event.{Event}
@@ -191,8 +191,7 @@ pub record Ran : Type 0 where
   pub stop : Ended
 
 abbrev pub at_tick : ℕ → List Event → List (ℕ × Event)
-at_tick now [] = []
-at_tick now (x ∷ xs) = (now, x) ∷ at_tick now xs
+at_tick now events = map (λ x. (now, x)) events
 
 abbrev pub stopped : ℕ → List Event → Ended → Ran
 stopped now lines reason = record { lines = at_tick now (lines ++ line.End reason ∷ []); stop = reason }

@@ -1,5 +1,6 @@
 -- Small words on numbers, options and lists that the definitions share.
 use Rattle.std.specs.Prelude.{ℕ, zero, suc, max, cond, ℤ, Bool, true, false, not, ◌&&◌, ◌||◌, List, [], ◌∷◌, Option, Some, None, eqb, int_le, filter, find, slice_index_or}
+use Rattle.std.specs.List.{list_any}
 use Rattle.ann_base.specs.declared.identities.TaskNo.{TaskNo}
 use Rattle.ann_base.specs.declared.identities.CallNo.{CallNo}
 use Rattle.ann_base.specs.declared.identities.ObjectNo.{ObjectNo}
@@ -63,8 +64,7 @@ is_the same None x = false
 is_the same (Some a) x = same a x
 
 abbrev pub has : {X : Type 0} → (X → X → Bool) → List X → X → Bool
-has same [] x = false
-has same (y ∷ ys) x = same y x || has same ys x
+has same ys x = list_any (λ y. same y x) ys
 
 -- ---- lists
 

@@ -1,5 +1,6 @@
 -- The level of a task that is activated or released under EDF_Across_Priorities (ISO/IEC 8652:2012, D.2.6).
 use Rattle.std.specs.Prelude.{◌≡◌, ◌<◌, ◌≤◌, ◌⊎◌, ℕ, ℤ, Bool, true, false, ◌==◌, ◌||◌, ◌&&◌, not, nat_le, nat_lt, int_lt, if◌then◌else◌, List, [], ◌∷◌, max}
+use Rattle.std.specs.List.{list_any, list_all}
 
 -- A deadline with a priority: of a task inside an object with that ceiling, or of a ready task at that level.
 abbrev pub Dated : Type 0
@@ -7,19 +8,16 @@ Dated = ℕ × ℤ
 
 -- some task is inside an object of ceiling p
 abbrev pub is_entered : ℕ → List Dated → Bool
-is_entered p [] = false
-is_entered p (e ∷ es) = (e.0 == p) || is_entered p es
+is_entered p inside = list_any (λ e. e.0 == p) inside
 
 -- the deadline is earlier than those of all tasks inside an object of ceiling p
 abbrev pub is_ahead_inside : ℤ → ℕ → List Dated → Bool
-is_ahead_inside deadline p [] = true
-is_ahead_inside deadline p (e ∷ es) = (not (e.0 == p) || int_lt deadline e.1) && is_ahead_inside deadline p es
+is_ahead_inside deadline p inside = list_all (λ e. not (e.0 == p) || int_lt deadline e.1) inside
 
 -- the deadline is earlier than those of all ready tasks at levels of the range below p
 abbrev pub is_ahead_ready : ℕ → ℤ → ℕ → List Dated → Bool
-is_ahead_ready low deadline p [] = true
-is_ahead_ready low deadline p (e ∷ es) = (not (nat_le low e.0 && nat_lt e.0 p) || int_lt deadline e.1)
-    && is_ahead_ready low deadline p es
+is_ahead_ready low deadline p ready =
+    list_all (λ e. not (nat_le low e.0 && nat_lt e.0 p) || int_lt deadline e.1) ready
 
 -- p may preempt: it is below the base priority, somebody is inside an object of that ceiling, and the deadline is
 -- earlier than all that stand in the way

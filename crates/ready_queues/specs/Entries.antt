@@ -1,5 +1,6 @@
 -- A level as a list of entries: who stands there, in order, each with a key. A key has a rank, a whole number.
 use Rattle.std.specs.Prelude.{◌≡◌, ◌≤ℤ◌, ◌+◌, ℕ, ℤ, Bool, true, false, ◌==◌, ◌||◌, if◌then◌else◌, List, [], ◌∷◌, Option, Some, None, int_lt}
+use Rattle.std.specs.List.{list_any}
 use Rattle.ann_base.specs.declared.identities.Slot.{Slot}
 use Rattle.ann_base.specs.Slots.{IsSlot}
 
@@ -8,8 +9,7 @@ Entry K = Slot × K
 
 -- whether t stands there
 abbrev pub holds : {K : Type 0} → Slot → List (Entry K) → Bool
-holds t [] = false
-holds t (e ∷ es) = (e.0.0 == t.0) || holds t es
+holds t es = list_any (λ e. e.0.0 == t.0) es
 
 -- the first, if there is one
 abbrev pub head_of : {K : Type 0} → List (Entry K) → Option Slot

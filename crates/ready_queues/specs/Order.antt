@@ -1,5 +1,5 @@
 -- Who stands before whom among all who are ready (ISO/IEC 8652:2012, D.2.1, D.2.3, D.2.6).
-use Rattle.std.specs.Prelude.{◌≡◌, ◌<◌, ◌+◌, ◌⊎◌, ◌<ℤ◌, ◌↔◌, ℕ, ℤ, ◌==◌, ◌||◌, ◌&&◌, nat_lt, int_lt, if◌then◌else◌, List, [], ◌∷◌, ◌++◌, Option, Some, None, zero, suc}
+use Rattle.std.specs.Prelude.{◌≡◌, ◌<◌, ◌+◌, ◌⊎◌, ◌<ℤ◌, ◌↔◌, ℕ, ℤ, ◌==◌, ◌||◌, ◌&&◌, nat_lt, int_lt, if◌then◌else◌, List, [], ◌∷◌, ◌++◌, Option, Some, None, zero, suc, map}
 use Rattle.ann_base.specs.declared.identities.Slot.{Slot}
 use Rattle.ready_queues.specs.Entries.{Entry}
 use Rattle.ready_queues.specs.Disciplines.{Discipline}
@@ -46,8 +46,7 @@ abbrev pub Standing : Type 0 → Type 0
 Standing K = ℕ × Entry K
 
 abbrev pub standing_at : {K : Type 0} → ℕ → List (Entry K) → List (Standing K)
-standing_at level [] = []
-standing_at level (e ∷ es) = (level, e) ∷ standing_at level es
+standing_at level es = map (λ e. (level, e)) es
 
 -- one line of all lists, the highest level first; the first of the lists is that of the given level
 abbrev pub line_from : {K : Type 0} → ℕ → List (List (Entry K)) → List (Standing K)

@@ -1,5 +1,6 @@
 -- The ready queues as lists: for each level, the lowest first, the entries that stand there (ISO/IEC 8652:2012, D.2.1).
-use Rattle.std.specs.Prelude.{◌≡◌, ◌+◌, ℕ, pos, Bool, false, ◌==◌, ◌||◌, if◌then◌else◌, List, [], ◌∷◌, Option, Some, None, length, slice_index_or, slice_set}
+use Rattle.std.specs.Prelude.{◌≡◌, ◌+◌, ℕ, pos, Bool, false, ◌==◌, ◌||◌, if◌then◌else◌, List, [], ◌∷◌, Option, Some, None, length, slice_index_or, slice_set, map}
+use Rattle.std.specs.List.{list_any}
 use Rattle.std.specs.Option.{option_or}
 use Rattle.ann_base.specs.declared.identities.Slot.{Slot}
 use Rattle.ann_base.specs.declared.identities.TheConstants.{SLOTS}
@@ -10,8 +11,7 @@ use Rattle.ready_queues.specs.Disciplines.{Discipline, is_spent_at}
 
 -- whether t is ready, at whatever level
 abbrev pub is_ready : {K : Type 0} → Slot → List (List (Entry K)) → Bool
-is_ready t [] = false
-is_ready t (es ∷ higher) = holds t es || is_ready t higher
+is_ready t lists = list_any (holds t) lists
 
 abbrev pub one_up : Option ℕ → Option ℕ
 one_up None = None
@@ -44,8 +44,7 @@ head_at disciplines level t key lists =
 
 -- t out of every list
 abbrev pub out_of_all : {K : Type 0} → Slot → List (List (Entry K)) → List (List (Entry K))
-out_of_all t [] = []
-out_of_all t (es ∷ higher) = removed t es ∷ out_of_all t higher
+out_of_all t lists = map (removed t) lists
 
 -- one tick charged to t where it stands
 abbrev pub charged_at : {K : Type 0} → List (Discipline K) → ℕ → Slot → List (List (Entry K)) → List (List (Entry K))

@@ -1,6 +1,6 @@
 -- What a list of lines shows of each task: its jobs, its running, its preemptions, and its waiting for tasks of lower
 -- base priority. Nothing here knows how the figures are kept.
-use Rattle.std.specs.Prelude.{ℕ, zero, suc, ◌+◌, ◌-◌, ◌==◌, Bool, true, false, not, ◌&&◌, nat_lt, max, if◌then◌else◌, List, [], ◌∷◌, ◌++◌, Option, Some, None, length, map, is_some}
+use Rattle.std.specs.Prelude.{ℕ, zero, suc, ◌+◌, ◌-◌, ◌==◌, Bool, true, false, not, ◌&&◌, nat_lt, max, if◌then◌else◌, List, [], ◌∷◌, ◌++◌, Option, Some, None, length, map, is_some, flat_map}
 use Rattle.ann_base.specs.declared.identities.TaskNo.{TaskNo}
 use Rattle.trace_text.specs.declared.events.Who.{Who}
 use Rattle.trace_text.specs.declared.events.Who.TheVariants as subject
@@ -149,8 +149,7 @@ created_by (New (created.Task task) name level) = (task, name) ∷ []
 created_by _ = []
 
 abbrev pub created_in : List TraceLine → List (TaskNo × List ℕ)
-created_in [] = []
-created_in (line ∷ lines) = created_by line.1 ++ created_in lines
+created_in lines = flat_map (λ line. created_by line.1) lines
 
 abbrev pub account_of : List TraceLine → TaskNo × List ℕ → Account
 account_of lines named = record {

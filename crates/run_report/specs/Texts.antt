@@ -1,5 +1,5 @@
 -- The text of a report: a line for each task, and three lines for the whole.
-use Rattle.std.specs.Prelude.{ℕ, List, [], ◌∷◌, ◌++◌, codes, decimal}
+use Rattle.std.specs.Prelude.{ℕ, List, [], ◌∷◌, ◌++◌, codes, decimal, flat_map}
 use Rattle.trace_text.specs.declared.events.Who.TheVariants as subject
 use Rattle.trace_text.specs.Queue.{TraceLine, last_from}
 use Rattle.run_report.specs.declared.accounts.Account.{Account}
@@ -19,8 +19,7 @@ account_text account =
     codes " longest " ++ (decimal account.longest ++ 10 ∷ []))))))))))))))))
 
 abbrev pub account_texts : List Account → List ℕ
-account_texts [] = []
-account_texts (account ∷ accounts) = account_text account ++ account_texts accounts
+account_texts accounts = flat_map account_text accounts
 
 -- `agent run R`, `idle I` and `ticks T`, each with a line feed
 abbrev pub totals_text : ℕ → ℕ → ℕ → List ℕ

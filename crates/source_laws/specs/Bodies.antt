@@ -1,5 +1,6 @@
 -- What a table knows of the bodies of task and protected units: the unit that each denotes.
 use Rattle.std.specs.Prelude.{ℕ, ◌+◌, Bool, true, false, ◌&&◌, leb, eqb, [], ◌∷◌, Option, Some, None}
+use Rattle.std.specs.List.{list_all}
 use Rattle.ada_tree.specs.declared.names.Identifier.{Identifier}
 use Rattle.ada_tree.specs.declared.units.Unit.{Unit as Tree}
 use Rattle.ada_regions.specs.declared.entities.UnitKind.{UnitKind}
@@ -53,8 +54,7 @@ is_known_body n all None = true
 is_known_body n all (Some b) = is_known_unit n all b.0 (entity_denoted n b.1.place)
 
 abbrev pub are_known_bodies : Names → Before → Before → Bool
-are_known_bodies n all [] = true
-are_known_bodies n all (o ∷ before) = is_known_body n all (body_named o) && are_known_bodies n all before
+are_known_bodies n all before = list_all (λ o. is_known_body n all (body_named o)) before
 
 -- by the table of the source each body denotes a unit of its kind, which has a body, and is the only one that does
 abbrev pub bodies_known : Tree → Bool

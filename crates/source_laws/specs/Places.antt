@@ -1,5 +1,5 @@
 -- At which places the names of a text stand for which the table keeps what they denote.
-use Rattle.std.specs.Prelude.{Bool, true, not, ◌&&◌, List, [], ◌∷◌, ◌++◌, map, Option, Some, None}
+use Rattle.std.specs.Prelude.{Bool, true, not, ◌&&◌, List, [], ◌∷◌, ◌++◌, map, Option, Some, None, flat_map}
 use Rattle.std.specs.List.{list_any}
 use Rattle.ann_base.specs.declared.places.Place.{Place}
 use Rattle.ada_tree.specs.declared.names.Identifier.{Identifier}
@@ -31,8 +31,7 @@ places_in (begins (protected_body i)) = i.place ∷ []
 places_in _ = []
 
 abbrev pub places_before : Before → List Place
-places_before [] = []
-places_before (o ∷ before) = places_in o ++ places_before before
+places_before before = flat_map places_in before
 
 abbrev pub is_among : Place → List Place → Bool
 is_among p ps = list_any (same_place p) ps

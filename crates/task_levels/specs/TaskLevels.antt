@@ -1,5 +1,6 @@
 -- The priorities of a task (ISO/IEC 8652:2012, D.1, D.2.6, D.5.1), and of all tasks by slot.
 use Rattle.std.specs.Prelude.{◌+◌, ℕ, Bool, true, false, ◌==◌, ◌||◌, if◌then◌else◌, max, List, [], ◌∷◌, ◌++◌, length, Option, Some, None, unwrap_or, slice_index_or, slice_set, is_some, option_map}
+use Rattle.std.specs.List.{list_any}
 use Rattle.ann_base.specs.declared.identities.Slot.{Slot}
 use Rattle.task_levels.specs.declared.causes.Cause.{Cause}
 use Rattle.task_levels.specs.declared.causes.Cause.TheVariants.{Activation, Meeting, Ceiling}
@@ -32,8 +33,7 @@ same_cause (Ceiling p) (Ceiling q) = p.0 == q.0
 
 -- whether something is inherited for the cause
 abbrev pub has_cause : Cause → List Inheritance → Bool
-has_cause cause [] = false
-has_cause cause (x ∷ xs) = same_cause x.0 cause || has_cause cause xs
+has_cause cause inherited = list_any (λ x. same_cause x.0 cause) inherited
 
 -- what is inherited for other causes
 abbrev pub without : Cause → List Inheritance → List Inheritance

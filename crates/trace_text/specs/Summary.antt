@@ -1,5 +1,5 @@
 -- The summary of a list of lines: how often each event word occurred, in the order of the words, then the last line.
-use Rattle.std.specs.Prelude.{ℕ, ◌==◌, if◌then◌else◌, List, [], ◌∷◌, ◌++◌, decimal, count_by}
+use Rattle.std.specs.Prelude.{ℕ, ◌==◌, if◌then◌else◌, List, [], ◌∷◌, ◌++◌, decimal, count_by, flat_map}
 use Rattle.std.specs.Str.{bytes_eq}
 use Rattle.trace_text.specs.declared.events.Event.{Event}
 use Rattle.trace_text.specs.declared.events.Event.TheVariants as event
@@ -54,8 +54,7 @@ abbrev pub count_line : Word → ℕ → List ℕ
 count_line w count = if count == 0 then [] else word_text w ++ 32 ∷ (decimal count ++ 10 ∷ [])
 
 abbrev pub count_lines : List Word → List (ℕ × Event) → List ℕ
-count_lines [] lines = []
-count_lines (w ∷ words) lines = count_line w (count_of w lines) ++ count_lines words lines
+count_lines words lines = flat_map (λ w. count_line w (count_of w lines)) words
 
 abbrev pub last_line : List (ℕ × Event) → List ℕ
 last_line [] = []

@@ -1,5 +1,5 @@
 -- The text of a line of a trace: its tick, its words with single spaces between, a line feed.
-use Rattle.std.specs.Prelude.{◌≢◌, ◌≤◌, ◌<◌, ◌^◌, ℕ, ℤ, FitsSigned, Bool, true, false, ◌&&◌, ◌||◌, ◌==◌, if◌then◌else◌, nat_le, IsTrue, List, [], ◌∷◌, ◌++◌, Option, Some, None, length, codes, decimal}
+use Rattle.std.specs.Prelude.{◌≢◌, ◌≤◌, ◌<◌, ◌^◌, ℕ, ℤ, FitsSigned, Bool, true, false, ◌&&◌, ◌||◌, ◌==◌, if◌then◌else◌, nat_le, IsTrue, List, [], ◌∷◌, ◌++◌, Option, Some, None, length, codes, decimal, flat_map}
 use Rattle.std.specs.List.{list_all}
 use Rattle.std.specs.Fmt.{signed_decimal}
 use Rattle.std.specs.Int.{w32, w64}
@@ -133,8 +133,7 @@ words_of (End why) = codes "end" ∷ ended_words why
 
 -- each word behind a space
 abbrev pub spaced : List (List ℕ) → List ℕ
-spaced [] = []
-spaced (word ∷ words) = (32 ∷ word) ++ spaced words
+spaced words = flat_map (λ word. 32 ∷ word) words
 
 -- the line of an event at a tick, with its line feed
 abbrev pub line_text : ℕ → Event → List ℕ
@@ -142,8 +141,7 @@ line_text tick event = decimal tick ++ (spaced (words_of event) ++ 10 ∷ [])
 
 -- the text of a list of lines
 abbrev pub text_of : List (ℕ × Event) → List ℕ
-text_of [] = []
-text_of (line ∷ lines) = line_text line.0 line.1 ++ text_of lines
+text_of lines = flat_map (λ line. line_text line.0 line.1) lines
 
 -- a lower-case letter, a digit or an underscore
 abbrev pub is_name_byte : ℕ → Bool

@@ -148,15 +148,15 @@ module _ {E : Type 0} (g : E → Sequence) (law : (e : E) → SequenceLaw (seque
   unfolding select_alternatives_put select_alternative_put
   select-alternatives-step [] next within b = step-pure [] _ (λ p. refl)
   select-alternatives-step (x ∷ xs) next within b =
-      let parts = and_parts _ _ b in let more = and_parts _ _ parts.1 in
+      let parts = and_parts _ _ b in let more = and_parts _ _ parts.0 in
       step-then (optional_value within (guard_of x.guard))
       (λ guard. alternative_put same_making within (alternative_made x).alternative next >>= (λ kind. select_alternatives_put same_making within (map (mapped_alternative sequence_put) (map (mapped_alternative g) xs)) next >>= (λ others. pure (record { guard = guard; kind = kind } ∷ others))))
-      (condition-step (guard_of x.guard) within parts.0)
+      (condition-step (guard_of x.guard) within more.0)
       (λ guard. step-then (alternative_put same_making within (alternative_made x).alternative next)
       (λ kind. select_alternatives_put same_making within (map (mapped_alternative sequence_put) (map (mapped_alternative g) xs)) next >>= (λ others. pure (record { guard = guard; kind = kind } ∷ others)))
-      (alternative-step x x.alternative next within more.0)
+      (alternative-step x x.alternative next within more.1)
       (λ kind. step-then (select_alternatives_put same_making within (map (mapped_alternative sequence_put) (map (mapped_alternative g) xs)) next) (λ others. pure (record { guard = guard; kind = kind } ∷ others))
-      (select-alternatives-step xs next within more.1)
+      (select-alternatives-step xs next within parts.1)
       (λ others. step-pure (record { guard = guard; kind = kind } ∷ others) _ (λ p h k l. and_from _ _ l (and_from _ _ k h)))))
 
   -- ---- all selects

@@ -85,11 +85,11 @@ module _ {E : Type 0} (g : E → Sequence) (law : (e : E) → SequenceLaw (seque
   unfolding elsifs_put
   elsifs-step [] o otherwise next within b = step-pure otherwise _ (λ p h. h)
   elsifs-step (e ∷ es) o otherwise next within b =
-      let parts = and_parts _ _ b in let more = and_parts _ _ parts.1 in
-      step-then (elsifs_put same_making within (elsifs_made es) otherwise next) (λ later. branch_put same_making within e.condition (m e.statements) later next) (elsifs-step es o otherwise next within more.1)
+      let parts = and_parts _ _ b in let more = and_parts _ _ parts.0 in
+      step-then (elsifs_put same_making within (elsifs_made es) otherwise next) (λ later. branch_put same_making within e.condition (m e.statements) later next) (elsifs-step es o otherwise next within parts.1)
       (λ later. step-so (λ p x h k l. let s = h (k l) in
       ap (λ y. elsifs_stand p same_sequence_reading within (elsifs_read p (e ∷ es)) (o p) next y) s.is ∙ and_from _ _ (ap (λ y. same_next y next) s.next ∙ same-next next) s.stands)
-      (branch-step e.condition e.statements later next (λ p. elsifs_stand p same_sequence_reading within (elsifs_read p es) (o p) next) within parts.0 more.0))
+      (branch-step e.condition e.statements later next (λ p. elsifs_stand p same_sequence_reading within (elsifs_read p es) (o p) next) within more.0 more.1))
 
   -- the parts of an if, with what stands behind else
   pub if-step : (c : Expression) (e : E) (es : List (Elsif E)) (o : Option E) (next : Option StatementNo) (within : Within)
@@ -110,14 +110,14 @@ module _ {E : Type 0} (g : E → Sequence) (law : (e : E) → SequenceLaw (seque
   unfolding alternatives_put
   alternatives-step [] next within b = step-pure [] _ (λ p. refl)
   alternatives-step (a ∷ rest) next within b =
-      let parts = and_parts _ _ b in let more = and_parts _ _ parts.1 in
+      let parts = and_parts _ _ b in let more = and_parts _ _ parts.0 in
       step-then (inside same_making (m a.statements) within next)
       (λ first. alternatives_put same_making within (map (case_of sequence_put) (map (case_of g) rest)) next >>= (λ others. pure (record { choices = choices_made within a.choices; first = the_action first } ∷ others)))
-      (inside-step a.statements within next more.0)
+      (inside-step a.statements within next more.1)
       (λ first. step-then (alternatives_put same_making within (map (case_of sequence_put) (map (case_of g) rest)) next) (λ others. pure (record { choices = choices_made within a.choices; first = the_action first } ∷ others))
-      (alternatives-step rest next within more.1)
+      (alternatives-step rest next within parts.1)
       (λ others. step-pure (record { choices = choices_made within a.choices; first = the_action first } ∷ others) _
-      (λ p k h. and_from _ _ (choices-same a.choices within parts.0) (and_from _ _ (stands-first a.statements within next p first h) k))))
+      (λ p k h. and_from _ _ (choices-same a.choices within more.0) (and_from _ _ (stands-first a.statements within next p first h) k))))
 
   -- ---- handlers
 

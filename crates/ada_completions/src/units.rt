@@ -122,12 +122,7 @@ fn body_of_unit(
 pub fn has_body(names: &Names<'_>, entity: u32) -> bool
     ensures { result ≡ has_body names.now entity }
 {
-    for body in names.bodies.iter() {
-        if entity == *body {
-            return true;
-        }
-    }
-    false
+    names.bodies.iter().any(|body| entity == *body)
 }
 
 /// A body in a region of its own, that sees what the unit declares.

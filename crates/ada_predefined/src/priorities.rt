@@ -17,12 +17,7 @@ fn is_wide(given: &Pragma) -> bool
 fn any_is_wide(pragmas: &[Pragma]) -> bool
     ensures { result ≡ list_any is_wide pragmas.now }
 {
-    for given in pragmas {
-        if is_wide(given) {
-            return true;
-        }
-    }
-    false
+    pragmas.iter().any(|given| is_wide(given))
 }
 
 /// The last value of System.Priority under these pragmas.

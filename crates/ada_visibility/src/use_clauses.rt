@@ -55,12 +55,7 @@ fn is_withed_by(unit: PredefinedUnit, clause: Denoted) -> bool
 pub fn is_withed(withs: &List<Denoted>, unit: PredefinedUnit) -> bool
     ensures { result ≡ list_any (is_withed_by unit) withs.now }
 {
-    for clause in withs.iter() {
-        if is_withed_by(unit, *clause) {
-            return true;
-        }
-    }
-    false
+    withs.iter().any(|clause| is_withed_by(unit, *clause))
 }
 
 /// A unit that is under a with clause.

@@ -32,12 +32,9 @@ fn is_body_of(name: &[u8], unit: &Package) -> bool
 pub fn has_body(packages: &[LibraryPackage], name: &[u8]) -> bool
     ensures { result ≡ has_body packages.now name.now }
 {
-    for library in packages {
-        if is_body_of(name, &library.package) {
-            return true;
-        }
-    }
-    false
+    packages
+        .iter()
+        .any(|library| is_body_of(name, &library.package))
 }
 
 /// Whether it is the declaration of a package.

@@ -25,12 +25,7 @@ pub fn object_number(kind: &EntityKind) -> Option<DeclNo>
 pub fn is_around(within: &Within<'_, '_>, entity: u32) -> bool
     ensures { result ≡ is_around within.now entity }
 {
-    for unit in within.units.get().iter() {
-        if entity == *unit {
-            return true;
-        }
-    }
-    false
+    within.units.get().iter().any(|unit| entity == *unit)
 }
 
 /// The number of the object with this entity, where it is none of the units around.

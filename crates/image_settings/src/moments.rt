@@ -31,12 +31,7 @@ fn is_called(name: &[u8], argument: &Argument<Expression>) -> bool
 fn any_is_called(name: &[u8], arguments: &[Argument<Expression>]) -> bool
     ensures { result ≡ list_any (is_called name.now) arguments.now }
 {
-    for argument in arguments {
-        if is_called(name, argument) {
-            return true;
-        }
-    }
-    false
+    arguments.iter().any(|argument| is_called(name, argument))
 }
 
 /// The moment or the span.

@@ -55,12 +55,9 @@ fn is_task_outside_library(known: &Known<'_, '_>, name: &Identifier) -> bool
 fn has_entry_of(entries: &List<NumberedEntry<'_>>, unit: EntryUnit) -> bool
     ensures { result ≡ list_any (λ e. same_entry_unit e.unit unit) entries.now }
 {
-    for entry in entries.iter() {
-        if same_entry_unit(entry.unit, unit) {
-            return true;
-        }
-    }
-    false
+    entries
+        .iter()
+        .any(|entry| same_entry_unit(entry.unit, unit))
 }
 
 /// A task unit has entries.

@@ -27,12 +27,7 @@ fn is_entity_of(entity: u32, clause: Denoted) -> bool
 fn is_entity_withed(withs: &List<Denoted>, entity: u32) -> bool
     ensures { result ≡ list_any (same_denoted (denotes.Entity entity)) withs.now }
 {
-    for clause in withs.iter() {
-        if is_entity_of(entity, *clause) {
-            return true;
-        }
-    }
-    false
+    withs.iter().any(|clause| is_entity_of(entity, *clause))
 }
 
 /// Whether a region is that of the entity.
@@ -49,12 +44,7 @@ fn frame_owned_by(entity: u32, frame: &Frame) -> bool
 fn is_open(frames: &List<Frame>, entity: u32) -> bool
     ensures { result ≡ list_any (frame_owned_by entity) frames.now }
 {
-    for frame in frames.iter() {
-        if frame_owned_by(entity, frame) {
-            return true;
-        }
-    }
-    false
+    frames.iter().any(|frame| frame_owned_by(entity, frame))
 }
 
 /// A unit may be used where these with clauses hold: a package in itself, and Standard, always.

@@ -9,11 +9,11 @@ use crate::accepting::{accept_call, first_accept};
 use crate::alternatives::{
     has_terminate, is_closed, least_delay, open_accepts, open_alternatives, open_delays,
 };
-use ann_base::{CallNo, Moment, NoMemory, OrMemory, Raised};
+use ann_base::{CallNo, Moment, NoMemory, Raised};
 use machine_appointments::{appoint, has_come};
 use machine_barriers::next_with;
 use machine_dispatching::block;
-use machine_frames::{Effect, goes, in_protected, raises, set_state};
+use machine_frames::{Effect, goes, in_protected, raises, refused, set_state};
 use machine_program::{Program, form_of, next_of, policies};
 use machine_queues::{call_of, place_of_entry, queue_of};
 use machine_values::seen_by;
@@ -286,11 +286,9 @@ pub fn selective_accept(
         match open_alternatives(alloc, &q, alternatives) {
             Ok(kinds) => match open_delays(alloc, &q, &kinds) {
                 Ok(delays) => select_open(alloc, p, effect, name, s, otherwise, &kinds, &delays),
-                Err(OrMemory::Fault(exception)) => raises(effect, Part::Own, name, exception),
-                Err(OrMemory::Memory) => Err(NoMemory),
+                Err(answer) => refused(effect, name, answer),
             },
-            Err(OrMemory::Fault(exception)) => raises(effect, Part::Own, name, exception),
-            Err(OrMemory::Memory) => Err(NoMemory),
+            Err(answer) => refused(effect, name, answer),
         }
     }
 }

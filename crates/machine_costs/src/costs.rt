@@ -21,12 +21,9 @@ pub fn of_region(region: RegionNo, registered: Registered) -> bool
 pub fn has_registered(objects: &List<Registered>, region: RegionNo) -> bool
     ensures { result ≡ has_registered objects.now region }
 {
-    for registered in objects.iter() {
-        if of_region(region, *registered) {
-            return true;
-        }
-    }
-    false
+    objects
+        .iter()
+        .any(|registered| of_region(region, *registered))
 }
 
 fn cost_of_leaving(objects: &List<Registered>, being_left: bool, region: Option<RegionNo>) -> u64

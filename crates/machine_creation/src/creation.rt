@@ -10,7 +10,7 @@ use ann_base::{Moment, NoMemory, OrMemory, Raised, TaskNo};
 use machine_controlled::top_region;
 use machine_declarations::{no_calls, set_thing};
 use machine_exclusion::base_of;
-use machine_frames::{Effect, bars_tasks, goes, new_task, raises, says};
+use machine_frames::{Effect, bars_tasks, goes, new_task, raises, refused, says};
 use machine_program::{Program, declaration_of, next_of, scope_of, task_unit_of};
 use machine_scopes::home;
 use machine_values::{Seen, moment, seen_by};
@@ -185,8 +185,7 @@ fn asks_span(
     let span = optional_span(&seen_by(p, &effect.world, name), relative_deadline);
     match span {
         Ok(span) => span_given(alloc, p, effect, name, s, d, declarative_part, span),
-        Err(OrMemory::Fault(exception)) => raises(effect, Part::Own, name, exception),
-        Err(OrMemory::Memory) => Err(NoMemory),
+        Err(answer) => refused(effect, name, answer),
     }
 }
 

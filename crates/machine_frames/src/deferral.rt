@@ -28,12 +28,7 @@ pub fn defers(mark: &Mark) -> bool
 pub fn any_defers(frames: &List<Frame>) -> bool
     ensures { result ≡ any_defers frames.now }
 {
-    for frame in frames.iter() {
-        if defers(&frame.mark) {
-            return true;
-        }
-    }
-    false
+    frames.iter().any(|frame| defers(&frame.mark))
 }
 
 /// Whether a mark is that of a protected action.
@@ -56,12 +51,7 @@ pub fn is_protected(mark: &Mark) -> bool
 pub fn any_protected(frames: &List<Frame>) -> bool
     ensures { result ≡ any_protected frames.now }
 {
-    for frame in frames.iter() {
-        if is_protected(&frame.mark) {
-            return true;
-        }
-    }
-    false
+    frames.iter().any(|frame| is_protected(&frame.mark))
 }
 
 /// Whether the one with this name is inside a protected action.

@@ -4,11 +4,11 @@ ghost use Rattle.profile_machine.specs.EntryCalls.{appoint_trigger, trigger_dela
 ghost use Rattle.machine_frames.specs.Did.{Did};
 
 use crate::task_calls::{entry_call, is_forbidden};
-use ann_base::{Moment, NoMemory, OrMemory, Raised};
+use ann_base::{Moment, NoMemory, Raised};
 use machine_accepts::delay_moment;
 use machine_appointments::appoint;
 use machine_dispatching::is_ahead;
-use machine_frames::{Effect, frame_count, goes, has_room, raises};
+use machine_frames::{Effect, frame_count, goes, has_room, raises, refused};
 use machine_program::{Program, form_of, next_of};
 use machine_sending::open_abortable;
 use machine_values::seen_by;
@@ -75,8 +75,7 @@ fn async_delay(
                 let is_ahead = is_ahead(effect.world.time, m);
                 trigger_delay(p, effect, name, s, trigger, m, is_ahead)
             }
-            Err(OrMemory::Fault(exception)) => raises(effect, Part::Own, name, exception),
-            Err(OrMemory::Memory) => Err(NoMemory),
+            Err(answer) => refused(effect, name, answer),
         }
     }
 }

@@ -15,7 +15,7 @@ use machine_dispatching::active_of;
 use machine_entry_calls::{
     call_object, end_at_once, has_room_if_queued, make_call, owner_of_entry,
 };
-use machine_frames::{Effect, in_protected, is_deferred, raises};
+use machine_frames::{Effect, in_protected, is_deferred, raises, refused};
 use machine_program::{Program, entry_of, form_of};
 use machine_queues::{enqueue, is_full};
 use machine_sending::{is_triggering, not_accepted};
@@ -252,11 +252,9 @@ fn call_named(
                         )?;
                         call_owner(alloc, p, effect, call, owner)
                     }
-                    Err(OrMemory::Fault(exception)) => raises(effect, Part::Own, name, exception),
-                    Err(OrMemory::Memory) => Err(NoMemory),
+                    Err(answer) => refused(effect, name, answer),
                 },
-                Err(OrMemory::Fault(exception)) => raises(effect, Part::Own, name, exception),
-                Err(OrMemory::Memory) => Err(NoMemory),
+                Err(answer) => refused(effect, name, answer),
             }
         }
         Err(exception) => raises(effect, Part::Own, name, exception),

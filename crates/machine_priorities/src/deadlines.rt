@@ -9,7 +9,9 @@ ghost use Rattle.machine_priorities.specs.Continued.{target_given, deadline_give
 
 use ann_base::{Moment, NoMemory, OrMemory, Raised};
 use machine_dispatching::{active_of, delay_to, part_of, placing_of, to_tail};
-use machine_frames::{Effect, goes, in_protected, is_runnable, raises, says, task_at, task_mut};
+use machine_frames::{
+    Effect, goes, in_protected, is_runnable, raises, refused, says, task_at, task_mut,
+};
 use machine_operators::held_moment;
 use machine_program::{Program, has_edf, is_edf_level, next_of};
 use machine_values::{Seen, live_task, moment, optional_task, or_raised, seen_by};
@@ -167,8 +169,7 @@ fn deadline_given(
             goes(effect, name, next_of(p, s));
             set_or_defer_deadline(p, effect, name, target, deadline)
         }
-        Err(OrMemory::Fault(exception)) => raises(effect, Part::Own, name, exception),
-        Err(OrMemory::Memory) => Err(NoMemory),
+        Err(answer) => refused(effect, name, answer),
     }
 }
 
@@ -190,8 +191,7 @@ pub fn set_deadline_of(
             let target = target.who;
             deadline_given(p, effect, name, s, e, target)
         }
-        Err(OrMemory::Fault(exception)) => raises(effect, Part::Own, name, exception),
-        Err(OrMemory::Memory) => Err(NoMemory),
+        Err(answer) => refused(effect, name, answer),
     }
 }
 
@@ -238,8 +238,7 @@ fn offset_given(
     let offset = moment(&seen_by(p, &effect.world, name), offset);
     match offset {
         Ok(offset) => delay_with_deadline(p, effect, name, s, until, offset),
-        Err(OrMemory::Fault(exception)) => raises(effect, Part::Own, name, exception),
-        Err(OrMemory::Memory) => Err(NoMemory),
+        Err(answer) => refused(effect, name, answer),
     }
 }
 
@@ -263,7 +262,6 @@ pub fn delay_and_set_deadline(
     let until = moment(&seen_by(p, &effect.world, name), until);
     match until {
         Ok(until) => offset_given(p, effect, name, s, until, offset),
-        Err(OrMemory::Fault(exception)) => raises(effect, Part::Own, name, exception),
-        Err(OrMemory::Memory) => Err(NoMemory),
+        Err(answer) => refused(effect, name, answer),
     }
 }

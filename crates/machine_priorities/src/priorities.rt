@@ -13,7 +13,9 @@ use crate::ranges::priority_in_range;
 use crate::reprioritizing::{call_waited_for, reprioritize_awaited};
 use ann_base::{Level, Moment, NoMemory, OrMemory, Raised, TaskNo};
 use machine_dispatching::{part_of, placing_of, to_tail};
-use machine_frames::{Effect, found_task, goes, in_protected, raises, says, task_at, task_mut};
+use machine_frames::{
+    Effect, found_task, goes, in_protected, raises, refused, says, task_at, task_mut,
+};
 use machine_program::{Program, edf_low, interrupt_priority, next_of};
 use machine_values::{Seen, optional_task, seen_by, value, whole_in};
 use profile_machine::world::{Line, Part, State, World};
@@ -239,8 +241,7 @@ fn level_given(
     let level = level_in_range(&seen_by(p, &effect.world, name), e);
     match level {
         Ok(level) => set_base_of(p, effect, name, s, level, number),
-        Err(OrMemory::Fault(exception)) => raises(effect, Part::Own, name, exception),
-        Err(OrMemory::Memory) => Err(NoMemory),
+        Err(answer) => refused(effect, name, answer),
     }
 }
 
@@ -259,7 +260,6 @@ pub fn set_priority(
     let number = task_given(&seen_by(p, &effect.world, name), task);
     match number {
         Ok(number) => level_given(p, effect, name, s, e, number),
-        Err(OrMemory::Fault(exception)) => raises(effect, Part::Own, name, exception),
-        Err(OrMemory::Memory) => Err(NoMemory),
+        Err(answer) => refused(effect, name, answer),
     }
 }

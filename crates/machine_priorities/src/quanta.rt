@@ -8,8 +8,8 @@ ghost use Rattle.machine_frames.specs.Did.{Did};
 ghost use Rattle.machine_priorities.specs.Continued.{quantum_given, ticks_given, quantum_set};
 
 use crate::ranges::priority_in_range;
-use ann_base::{Level, Moment, NoMemory, OrMemory, Raised};
-use machine_frames::{Effect, goes, raises};
+use ann_base::{Level, Moment, NoMemory, Raised};
+use machine_frames::{Effect, goes, raises, refused};
 use machine_program::{Program, is_robin_level, next_of, policies};
 use machine_values::{moment, seen_by, value, whole_in};
 use profile_machine::world::{Part, World};
@@ -79,8 +79,7 @@ fn level_given(
 {
     match priority_in_range(u32::from(policies(p).last_priority), whole_in(level)) {
         Ok(level) => ticks_given(p, effect, name, s, level, n),
-        Err(OrMemory::Fault(exception)) => raises(effect, Part::Own, name, exception),
-        Err(OrMemory::Memory) => Err(NoMemory),
+        Err(answer) => refused(effect, name, answer),
     }
 }
 
@@ -98,8 +97,7 @@ fn quantum_given(
     let n = moment(&seen_by(p, &effect.world, name), quantum);
     match n {
         Ok(n) => level_given(p, effect, name, s, level, n),
-        Err(OrMemory::Fault(exception)) => raises(effect, Part::Own, name, exception),
-        Err(OrMemory::Memory) => Err(NoMemory),
+        Err(answer) => refused(effect, name, answer),
     }
 }
 
@@ -118,7 +116,6 @@ pub fn set_quantum(
     let level = value(&seen_by(p, &effect.world, name), level);
     match level {
         Ok(level) => quantum_given(p, effect, name, s, level, quantum),
-        Err(OrMemory::Fault(exception)) => raises(effect, Part::Own, name, exception),
-        Err(OrMemory::Memory) => Err(NoMemory),
+        Err(answer) => refused(effect, name, answer),
     }
 }

@@ -75,12 +75,7 @@ pub fn edf_low(p: &Program, level: Level) -> Option<Level>
 fn has_edf_range(ranges: &[DispatchingRange]) -> bool
     ensures { result ≡ has_edf_range ranges.now }
 {
-    for range in ranges {
-        if is_edf_policy(range.policy) {
-            return true;
-        }
-    }
-    false
+    ranges.iter().any(|range| is_edf_policy(range.policy))
 }
 
 /// Whether any level is ordered by deadlines.

@@ -7,11 +7,11 @@ ghost use Rattle.profile_machine.specs.Protected.{mode_of, where_let_inside, beg
 ghost use Rattle.machine_frames.specs.Did.{Did};
 ghost use Rattle.machine_protected.specs.Operations.{own_operation};
 
-use ann_base::{NoMemory, ObjectNo, OrMemory, Raised};
+use ann_base::{NoMemory, ObjectNo, Raised};
 use machine_exclusion::{
     begin_action_on, body_of_object, entering, find_held, has_open, marks_of_action, outer_of_body,
 };
-use machine_frames::{Effect, goes, has_room, object_of, raises};
+use machine_frames::{Effect, goes, has_room, object_of, raises, refused};
 use machine_parameters::{begin_body, handed, result_to};
 use machine_program::{Program, marks_of, next_of, scope_of, subprogram_of};
 use machine_scopes::open_scope;
@@ -112,11 +112,9 @@ fn call_with_room(
     match result_to(&q, to) {
         Ok(r) => match handed(alloc, &q, subprogram_of(p, f).formals.as_slice(), actuals) {
             Ok(h) => let_inside(alloc, p, effect, name, s, f, o, h, r),
-            Err(OrMemory::Fault(exception)) => raises(effect, Part::Own, name, exception),
-            Err(OrMemory::Memory) => Err(NoMemory),
+            Err(answer) => refused(effect, name, answer),
         },
-        Err(OrMemory::Fault(exception)) => raises(effect, Part::Own, name, exception),
-        Err(OrMemory::Memory) => Err(NoMemory),
+        Err(answer) => refused(effect, name, answer),
     }
 }
 
@@ -251,11 +249,9 @@ fn call_own_with_room(
     match result_to(&q, to) {
         Ok(r) => match handed(alloc, &q, subprogram_of(p, f).formals.as_slice(), actuals) {
             Ok(h) => own_operation(alloc, p, effect, name, s, f, h, r),
-            Err(OrMemory::Fault(exception)) => raises(effect, Part::Own, name, exception),
-            Err(OrMemory::Memory) => Err(NoMemory),
+            Err(answer) => refused(effect, name, answer),
         },
-        Err(OrMemory::Fault(exception)) => raises(effect, Part::Own, name, exception),
-        Err(OrMemory::Memory) => Err(NoMemory),
+        Err(answer) => refused(effect, name, answer),
     }
 }
 

@@ -59,12 +59,7 @@ fn is_chosen(value: Value, choice: Choice) -> bool
 fn any_chosen(value: Value, choices: &[Choice]) -> bool
     ensures { result ≡ any_chosen value choices.now }
 {
-    for choice in choices {
-        if is_chosen(value, *choice) {
-            return true;
-        }
-    }
-    false
+    choices.iter().any(|choice| is_chosen(value, *choice))
 }
 
 fn chosen_alternative(value: Value, alternatives: &[CaseAlternative]) -> Option<StatementNo>

@@ -7,7 +7,7 @@ use Rattle.profile_machine.specs.Unwinding.{any_struck, is_being_left, may_leave
 use Rattle.machine_striking.specs.Struck.{may_leave_next, may_leave_from}
 
 -- where none is struck, none may be left
-none_struck : (struck outer defer may left : Bool) → (outer ≡ false → may ≡ false) → cond struck true outer ≡ false → cond outer (not defer && may) (struck && not left) ≡ false
+none_struck : (struck outer defer may left : Bool) → (outer ≡ false → may ≡ false) → (struck || outer) ≡ false → cond outer (not defer && may) (struck && not left) ≡ false
 none_struck true outer defer may left k e = cc
 none_struck false true defer may left k e = cc
 none_struck false false defer may left k e = refl
@@ -23,7 +23,7 @@ at_first false may k = sym (k refl)
 pub may_leave_from-first : (frames : List Frame) → may_leave_from false false frames ≡ may_leave_struck frames
 may_leave_from-first frames = at_first (any_struck frames) (may_leave_struck frames) (unstruck frames)
 
-next : (struck outer defer may left deferred before : Bool) → cond outer (not (deferred || defer) && may) (cond struck (not deferred && not left) before) ≡ cond (cond struck true outer) (not deferred && cond outer (not defer && may) (struck && not left)) before
+next : (struck outer defer may left deferred before : Bool) → cond outer (not (deferred || defer) && may) (cond struck (not deferred && not left) before) ≡ cond (struck || outer) (not deferred && cond outer (not defer && may) (struck && not left)) before
 next true true defer may left true before = refl
 next true true defer may left false before = refl
 next true false defer may left deferred before = refl

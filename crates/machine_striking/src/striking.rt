@@ -33,12 +33,7 @@ fn strike_last(frames: &mut List<Frame>)
 pub fn any_struck(frames: &List<Frame>) -> bool
     ensures { result ≡ any_struck frames.now }
 {
-    for frame in frames.iter() {
-        if frame.struck {
-            return true;
-        }
-    }
-    false
+    frames.iter().any(|frame| frame.struck)
 }
 
 // Whether a construct is being left from its own action on.

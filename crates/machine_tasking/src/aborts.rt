@@ -13,7 +13,7 @@ use crate::kept::{Kept, kept_of};
 use crate::leaving::end_made;
 use crate::settling::unwind_kept;
 use ann_base::{NoMemory, OrMemory, Raised, TaskNo};
-use machine_frames::{Effect, goes, in_protected, raises, same_who, says, task_mut};
+use machine_frames::{Effect, goes, in_protected, raises, refused, same_who, says, task_mut};
 use machine_masters::depends_on_task;
 use machine_program::{Program, next_of};
 use machine_striking::strike_outermost;
@@ -219,7 +219,6 @@ pub fn abort_statement(
             goes(effect, name, next_of(p, s));
             tasks_aborted(alloc, p, effect, name, &aborted)
         }
-        Err(OrMemory::Fault(exception)) => raises(effect, Part::Own, name, exception),
-        Err(OrMemory::Memory) => Err(NoMemory),
+        Err(answer) => refused(effect, name, answer),
     }
 }

@@ -1,5 +1,6 @@
 -- The cost of an action in ticks (this profile's choice).
-use Rattle.std.specs.Prelude.{ℕ, ◌+◌, Bool, true, false, cond, List, [], ◌∷◌, length, Option, Some, None}
+use Rattle.std.specs.Prelude.{ℕ, ◌+◌, Bool, true, false, cond, List, length, Option, Some, None}
+use Rattle.std.specs.List.{list_any}
 use Rattle.trace_text.specs.declared.events.Who.{Who}
 use Rattle.ann_base.specs.declared.identities.RegionNo.{RegionNo}
 use Rattle.profile_machine.specs.declared.image.Image.{Image}
@@ -76,8 +77,7 @@ abbrev pub of_region : RegionNo → Registered → Bool
 of_region region r = same_region r.region region
 
 abbrev pub has_registered : List Registered → RegionNo → Bool
-has_registered [] region = false
-has_registered (r ∷ rs) region = cond (of_region region r) true (has_registered rs region)
+has_registered objects region = list_any (of_region region) objects
 
 abbrev pub cost_of_leaving : List Registered → Bool → Option RegionNo → ℕ
 cost_of_leaving objects true (Some region) = cond (has_registered objects region) 2 1

@@ -1,5 +1,6 @@
 -- Open constructs: opening them, leaving them, and going on (clauses 5, 6, 7.6.1, 11).
-use Rattle.std.specs.Prelude.{ℕ, ◌+◌, Bool, true, false, cond, ◌&&◌, List, [], ◌∷◌, Option, Some, None, leb, length, option_and_then, sum_by, Result, Ok, Err, unwrap_or}
+use Rattle.std.specs.Prelude.{ℕ, ◌+◌, Bool, true, false, ◌&&◌, List, [], ◌∷◌, Option, Some, None, leb, length, option_and_then, sum_by, Result, Ok, Err, unwrap_or}
+use Rattle.std.specs.List.{list_any}
 use Rattle.ann_base.specs.declared.exceptions.Raised.{Raised}
 use Rattle.ann_base.specs.declared.exceptions.Raised.TheVariants as exception
 use Rattle.profile_machine.specs.declared.world.lines.Line.TheVariants as line
@@ -184,8 +185,7 @@ defers (InFinalize o) = true
 defers (InAssign m) = true
 
 abbrev pub any_defers : List Frame → Bool
-any_defers [] = false
-any_defers (f ∷ fs) = cond (defers f.mark) true (any_defers fs)
+any_defers frames = list_any (λ f. defers f.mark) frames
 
 abbrev pub is_protected : Mark → Bool
 is_protected (Scope m) = false
@@ -198,8 +198,7 @@ is_protected (InFinalize o) = false
 is_protected (InAssign m) = false
 
 abbrev pub any_protected : List Frame → Bool
-any_protected [] = false
-any_protected (f ∷ fs) = cond (is_protected f.mark) true (any_protected fs)
+any_protected frames = list_any (λ f. is_protected f.mark) frames
 
 -- inside a protected action (9.5.1)
 abbrev pub in_protected : World → Who → Bool

@@ -1,5 +1,6 @@
 -- The items of an image by their numbers. A number that names no item leads to one that does nothing.
-use Rattle.std.specs.Prelude.{ℕ, ◌+◌, leb, Bool, true, false, cond, ◌&&◌, List, [], ◌∷◌, Option, Some, None, slice_index_or, pos, replicate, ◌++◌, take, drop}
+use Rattle.std.specs.Prelude.{ℕ, ◌+◌, leb, Bool, true, false, cond, ◌&&◌, List, [], ◌∷◌, Option, Some, None, slice_index_or, pos, replicate, ◌++◌, take, drop, find}
+use Rattle.std.specs.List.{list_any}
 use Rattle.profile_machine.specs.declared.numbers.DeclNo.{DeclNo}
 use Rattle.profile_machine.specs.declared.numbers.ExprNo.{ExprNo}
 use Rattle.profile_machine.specs.declared.numbers.StatementNo.{StatementNo}
@@ -145,8 +146,7 @@ abbrev pub is_in_range : ℕ → DispatchingRange → Bool
 is_in_range level range = leb range.first level && leb level range.last
 
 abbrev pub range_of : List DispatchingRange → ℕ → Option DispatchingRange
-range_of [] level = None
-range_of (range ∷ ranges) level = cond (is_in_range level range) (Some range) (range_of ranges level)
+range_of ranges level = find (is_in_range level) ranges
 
 abbrev pub policy_of_range : Option DispatchingRange → Dispatching
 policy_of_range None = FifoWithinPriorities
@@ -180,8 +180,7 @@ abbrev pub edf_low : Image → ℕ → Option ℕ
 edf_low p level = edf_low_of (range_of p.policies.dispatching level)
 
 abbrev pub has_edf_range : List DispatchingRange → Bool
-has_edf_range [] = false
-has_edf_range (range ∷ ranges) = cond (is_edf_policy range.policy) true (has_edf_range ranges)
+has_edf_range ranges = list_any (λ range. is_edf_policy range.policy) ranges
 
 abbrev pub has_edf : Image → Bool
 has_edf p = has_edf_range p.policies.dispatching

@@ -1,5 +1,6 @@
 -- Simple and compound statements (clauses 5, 6.5, 9.6, 11.3, A.10.7).
 use Rattle.std.specs.Prelude.{ℕ, ◌+◌, ◌-◌, ℤ, pos, negsuc, ◌+ℤ◌, int_lt, Bool, true, false, cond, not, ◌&&◌, List, [], ◌∷◌, ◌++◌, Option, Some, None, Ok, take, drop}
+use Rattle.std.specs.List.{list_any}
 use Rattle.ann_base.specs.Results.{◌>>=◌}
 use Rattle.ann_base.specs.declared.exceptions.Raised.{Raised}
 use Rattle.ann_base.specs.declared.exceptions.Raised.TheVariants as exception
@@ -94,8 +95,7 @@ is_chosen v (choice.Range low high) = not (holds (is_less v low)) && not (holds 
 is_chosen v choice.Others = true
 
 abbrev pub any_chosen : Value → List Choice → Bool
-any_chosen v [] = false
-any_chosen v (c ∷ cs) = cond (is_chosen v c) true (any_chosen v cs)
+any_chosen v choices = list_any (is_chosen v) choices
 
 abbrev pub chosen_alternative : Value → List CaseAlternative → Option StatementNo
 chosen_alternative v [] = None

@@ -1,6 +1,7 @@
 -- Abort and completed triggers strike open constructs, which are left at the first instant outside an operation that
 -- defers abort (9.8, D.6).
 use Rattle.std.specs.Prelude.{Bool, true, false, cond, not, ◌&&◌, List, [], ◌∷◌, Option, Some, None}
+use Rattle.std.specs.List.{list_any}
 use Rattle.trace_text.specs.declared.events.Who.{Who}
 use Rattle.profile_machine.specs.declared.image.Image.{Image}
 use Rattle.profile_machine.specs.declared.run_data.Leaving.{Leaving}
@@ -38,8 +39,7 @@ strike_outermost name = edit_task name (λ t. with_frames (edit_last struck_fram
 -- ---- whether a struck construct may be left now
 
 abbrev pub any_struck : List Frame → Bool
-any_struck [] = false
-any_struck (f ∷ fs) = cond f.struck true (any_struck fs)
+any_struck frames = list_any (λ f. f.struck) frames
 
 -- it is being left from its own action on
 abbrev pub is_being_left : Mark → Bool

@@ -48,22 +48,14 @@ fn may_preempt(
 fn is_ahead_inside(deadline: Moment, ceiling: Level, inside: &[(Level, Moment)]) -> bool
     ensures { result ≡ is_ahead_inside deadline ceiling inside.now }
 {
-    for entered in inside {
-        if entered.0 == ceiling && entered.1 <= deadline {
-            return false;
-        }
-    }
-    true
+    inside
+        .iter()
+        .all(|entered| entered.0 != ceiling || deadline < entered.1)
 }
 
 // Whether the deadline is earlier than those of all ready tasks at levels of the range below this ceiling.
 fn is_ahead_ready(low: Level, deadline: Moment, ceiling: Level, ready: &[(Level, Moment)]) -> bool
     ensures { result ≡ is_ahead_ready low deadline ceiling ready.now }
 {
-    for task in ready {
-        if low <= task.0 && task.0 < ceiling && task.1 <= deadline {
-            return false;
-        }
-    }
-    true
+    ready.iter().all(|task| !(low <= task.0 && task.0 < ceiling) || deadline < task.1)
 }

@@ -123,16 +123,16 @@ no_low : (found : Option DispatchingRange) → is_edf_policy (policy_of_range fo
 no_low None e = refl
 no_low (Some range) e = ap (λ b. cond b (Some range.first) None) e
 
-either : (a b : Bool) → b ≡ true → cond a true b ≡ true
+either : (a b : Bool) → b ≡ true → (a || b) ≡ true
 either true b e = refl
 either false b e = e
 
 has-step : (b : Bool) (range : DispatchingRange) (rest : Option DispatchingRange) (others : Bool) → is_edf_policy (policy_of_range (cond b (Some range) rest)) ≡ true → (is_edf_policy (policy_of_range rest) ≡ true → others ≡ true)
-    → cond (is_edf_policy range.policy) true others ≡ true
-has-step true range rest others e onward = ap (λ t. cond t true others) e
+    → (is_edf_policy range.policy || others) ≡ true
+has-step true range rest others e onward = ap (λ t. t || others) e
 has-step false range rest others e onward = either (is_edf_policy range.policy) others (onward e)
 
-has_range : (level : ℕ) (ranges : List DispatchingRange) → is_edf_policy (policy_of_range (range_of ranges level)) ≡ true → has_edf_range ranges ≡ true
+pub has_range : (level : ℕ) (ranges : List DispatchingRange) → is_edf_policy (policy_of_range (range_of ranges level)) ≡ true → has_edf_range ranges ≡ true
 has_range level [] e = absurd cc
 has_range level (range ∷ ranges) e = has-step (is_in_range level range) range (range_of ranges level) (has_edf_range ranges) e (λ k. has_range level ranges k)
 
@@ -145,7 +145,7 @@ least (x ∷ xs) n =
     let above : greatest_of xs n ≤ max x (greatest_of xs n) = le-max_right x (greatest_of xs n) in
     omega arith
 
-agent_has_no_deadline : (p : Image) (t : Task) → edf_is_below_interrupts p ≡ true → t.base ≡ interrupt_priority p → is_edf_level p (active p t) ≡ false
+pub agent_has_no_deadline : (p : Image) (t : Task) → edf_is_below_interrupts p ≡ true → t.base ≡ interrupt_priority p → is_edf_level p (active p t) ≡ false
 agent_has_no_deadline p t low is =
     let off : is_edf_level p t.base ≡ false = interrupts_have_no_deadline p t.base low (omega arith) in
     let own : own_level p t ≡ t.base = ap (λ first. kept_level_or_base first t.kept_level t.base) (no_low (range_of p.policies.dispatching t.base) off) in

@@ -1,6 +1,7 @@
 -- A deadline is told only of tasks, where no level of interrupts is dispatched by deadlines, so the agent has none.
 use Rattle.ann_base.specs.declared.identities.TaskNo.{TaskNo}
-use Rattle.ceiling_laws.specs.CeilingLaws.{edf_is_below_interrupts, is_below_interrupts}
+use Rattle.ceiling_laws.specs.CeilingLaws.{edf_is_below_interrupts}
+use Rattle.ceiling_laws.proofs.Ceilings.CeilingLemmas.{agent_has_no_deadline, has_range}
 use Rattle.ceiling_laws.proofs.Runs.AgentLemmas.{AgentKeeps, KeepsAgent, agent_base, agent_quiet, plainly_alters, see_nothing, task_alters}
 use Rattle.ceiling_laws.proofs.Runs.BaseLemmas.{bases_are_told}
 use Rattle.ceiling_laws.proofs.Runs.FreeMoves.{EveryPart, FreeBase, FreeMoves, anywhere, late_base, to_tail-free}
@@ -17,18 +18,16 @@ use Rattle.machine_laws.proofs.LineLemmas.{AllAre-append, tocks_say_ticks}
 use Rattle.machine_laws.specs.LineKinds.{AllAre, is_of_tock}
 use Rattle.profile_machine.specs.Appointments.{appoint}
 use Rattle.profile_machine.specs.Declarations.{says_object, with_object}
-use Rattle.profile_machine.specs.Dispatching.{active, deadline_shown, kept_level_or_base, levels_inherited, own_level, says_ready}
+use Rattle.profile_machine.specs.Dispatching.{active, deadline_shown, says_ready}
 use Rattle.profile_machine.specs.Instant.{instant}
 use Rattle.profile_machine.specs.Lines.{event_of}
 use Rattle.profile_machine.specs.Masters.{forget_task, part_of}
-use Rattle.profile_machine.specs.Program.{edf_low_of, has_edf, has_edf_range, interrupt_priority, is_edf_level, is_edf_policy, is_in_range, next_of, policy_of_range, protected_unit_of, range_of}
+use Rattle.profile_machine.specs.Program.{has_edf, interrupt_priority, is_edf_level, next_of, protected_unit_of}
 use Rattle.profile_machine.specs.Run.{blank_world, environment, opening, opens, tock}
 use Rattle.profile_machine.specs.Scopes.{plainly}
 use Rattle.profile_machine.specs.Steps.{Step, changes, in_order, is_part_before, put_in_order, says, ◌▷◌}
 use Rattle.profile_machine.specs.Tasking.{add_task, create_task, says_created}
 use Rattle.profile_machine.specs.Tasks.{edit_task, task_at, task_of}
-use Rattle.profile_machine.specs.Words.{greatest_of}
-use Rattle.profile_machine.specs.declared.image.DispatchingRange.{DispatchingRange}
 use Rattle.profile_machine.specs.declared.image.Image.{Image}
 use Rattle.profile_machine.specs.declared.numbers.DeclNo.{DeclNo}
 use Rattle.profile_machine.specs.declared.numbers.ProtectedUnitNo.{ProtectedUnitNo}
@@ -46,12 +45,10 @@ use Rattle.profile_machine.specs.declared.world.marks.Purpose.TheVariants as ope
 use Rattle.profile_machine.specs.declared.world.scopes.Located.{Located}
 use Rattle.profile_machine.specs.declared.world.scopes.ScopeId.{ScopeId}
 use Rattle.profile_machine.specs.declared.world.tasks.Task.{Task}
-use Rattle.std.proofs.Common.{ap, arith, map, refl, subst, sym, ◌∙◌, ◌≡◌, ◌≤◌}
+use Rattle.std.proofs.Common.{ap, map, refl, subst, sym, ◌∙◌, ◌≡◌}
 use Rattle.std.specs.Bool.{then_some}
-use Rattle.std.proofs.Math.Nat.{le-max_right}
-use Rattle.std.proofs.lemmas.Bool.{eqb-true, leb-true}
-use Rattle.std.specs.List.{list_all}
-use Rattle.std.specs.Prelude.{Bool, List, None, Option, Some, [], cond, false, if◌then◌else◌, leb, max, not, true, ℕ, ℤ, ◌&&◌, ◌++◌, ◌+◌, ◌-◌, ◌||◌, ◌∷◌}
+use Rattle.std.proofs.lemmas.Bool.{eqb-true}
+use Rattle.std.specs.Prelude.{Bool, List, None, Option, Some, [], cond, false, if◌then◌else◌, true, ℕ, ℤ, ◌++◌, ◌+◌, ◌-◌, ◌∷◌}
 use Rattle.line_laws.proofs.Ticks.LineByLine.{Follow}
 use Rattle.trace_text.specs.Laws.{Levels, base_of, no_levels, see_levels}
 use Rattle.trace_text.specs.Queue.{entry_of, placed, queue_after, who_eq, without}
@@ -63,62 +60,6 @@ use Rattle.trace_text.specs.declared.events.QueueEnd.{QueueEnd}
 use Rattle.trace_text.specs.declared.events.QueueEnd.TheVariants.{Head, Tail}
 use Rattle.trace_text.specs.declared.events.Who.{Who}
 use Rattle.trace_text.specs.declared.events.Who.TheVariants as who
-
--- ---- levels that are dispatched by deadlines
-
-halves : (a b : Bool) → (a && b) ≡ true → (a ≡ true) × (b ≡ true)
-halves true b e = (refl, e)
-halves false b e = absurd cc
-
-past_none : (edf within : Bool) → (not edf || within) ≡ true → within ≡ false → edf ≡ false
-past_none true within e f = absurd cc
-past_none false within e f = refl
-
-range-step : (last level : ℕ) (b : Bool) (range : DispatchingRange) (rest : Option DispatchingRange) → is_in_range level range ≡ b → is_below_interrupts last range ≡ true → last + 1 ≤ level
-    → is_edf_policy (policy_of_range rest) ≡ false → is_edf_policy (policy_of_range (cond b (Some range) rest)) ≡ false
-range-step last level false range rest is low high onward = onward
-range-step last level true range rest is low high onward =
-    let inside = halves (leb range.first level) (leb level range.last) is in
-    let most : level ≤ range.last = leb-true level range.last inside.1 in
-    let past : leb range.last last ≡ false = grind arith in
-    past_none (is_edf_policy range.policy) (leb range.last last) low past
-
-no_deadline : (last level : ℕ) (ranges : List DispatchingRange) → list_all (is_below_interrupts last) ranges ≡ true → last + 1 ≤ level → is_edf_policy (policy_of_range (range_of ranges level)) ≡ false
-no_deadline last level [] low high = refl
-no_deadline last level (range ∷ ranges) low high =
-    let parts = halves (is_below_interrupts last range) (list_all (is_below_interrupts last) ranges) low in
-    range-step last level (is_in_range level range) range (range_of ranges level) refl parts.0 high (no_deadline last level ranges parts.1 high)
-
-either : (a b : Bool) → b ≡ true → cond a true b ≡ true
-either true b e = refl
-either false b e = e
-
-has-step : (b : Bool) (range : DispatchingRange) (rest : Option DispatchingRange) (others : Bool) → is_edf_policy (policy_of_range (cond b (Some range) rest)) ≡ true → (is_edf_policy (policy_of_range rest) ≡ true → others ≡ true)
-    → cond (is_edf_policy range.policy) true others ≡ true
-has-step true range rest others e onward = ap (λ t. cond t true others) e
-has-step false range rest others e onward = either (is_edf_policy range.policy) others (onward e)
-
-has_range : (level : ℕ) (ranges : List DispatchingRange) → is_edf_policy (policy_of_range (range_of ranges level)) ≡ true → has_edf_range ranges ≡ true
-has_range level [] e = absurd cc
-has_range level (range ∷ ranges) e = has-step (is_in_range level range) range (range_of ranges level) (has_edf_range ranges) e (λ k. has_range level ranges k)
-
-no_low : (found : Option DispatchingRange) → is_edf_policy (policy_of_range found) ≡ false → edf_low_of found ≡ None
-no_low None e = refl
-no_low (Some range) e = ap (λ b. cond b (Some range.first) None) e
-
-least : (xs : List ℕ) (n : ℕ) → n ≤ greatest_of xs n
-least [] n = omega arith
-least (x ∷ xs) n =
-    let below : n ≤ greatest_of xs n = least xs n in
-    let above : greatest_of xs n ≤ max x (greatest_of xs n) = le-max_right x (greatest_of xs n) in
-    omega arith
-
-agent_has_no_deadline : (p : Image) (t : Task) → edf_is_below_interrupts p ≡ true → t.base ≡ interrupt_priority p → is_edf_level p (active p t) ≡ false
-agent_has_no_deadline p t low is =
-    let off : is_edf_level p t.base ≡ false = no_deadline p.policies.last_priority t.base p.policies.dispatching low (omega arith) in
-    let own : own_level p t ≡ t.base = ap (λ first. kept_level_or_base first t.kept_level t.base) (no_low (range_of p.policies.dispatching t.base) off) in
-    let above : own_level p t ≤ active p t = least (levels_inherited t) (own_level p t) in
-    no_deadline p.policies.last_priority (active p t) p.policies.dispatching low (omega arith)
 
 -- ---- lines
 

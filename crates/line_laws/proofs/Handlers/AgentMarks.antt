@@ -1,6 +1,6 @@
 -- The agent's marks: the lowest is the protected action of its release, no other ends one, and none is an abortable part. So
 -- while it has any it is inside a protected action. A region that it opens is coloured.
-use Rattle.std.proofs.Common.{◌≡◌, ℕ, suc, ◌≤◌, Bool, true, false, cond, ◌||◌, eqb, eq-eqb, List, [], ◌∷◌, Option, Some, None, is_some, refl, sym, ap, ◌∙◌, arith}
+use Rattle.std.proofs.Common.{◌≡◌, ℕ, suc, ◌≤◌, Bool, true, false, ◌||◌, eqb, eq-eqb, List, [], ◌∷◌, Option, Some, None, is_some, refl, sym, ap, ◌∙◌, arith}
 use Rattle.std.specs.List.{list_any}
 use Rattle.std.proofs.lemmas.Bool.{false≢true, eqb-true}
 use Rattle.ann_base.specs.declared.identities.RegionNo.{RegionNo}
@@ -58,11 +58,11 @@ lowest_alone n (m ∷ ns) k e h = absurd (false≢true (sym (ap is_some h.0) ∙
 
 -- ---- inside a protected action
 
-inside-test : (b : Bool) (rest : Bool) → rest ≡ true → cond b true rest ≡ true
+inside-test : (b : Bool) (rest : Bool) → rest ≡ true → (b || rest) ≡ true
 inside-test true rest e = refl
 inside-test false rest e = e
 
-inside-action : (b : Bool) (rest : Bool) → b ≡ true → cond b true rest ≡ true
+inside-action : (b : Bool) (rest : Bool) → b ≡ true → (b || rest) ≡ true
 inside-action true rest e = refl
 inside-action false rest e = absurd (false≢true e)
 

@@ -1,5 +1,5 @@
 -- What a mark is for protected actions, whatever else is edited in it.
-use Rattle.std.proofs.Common.{◌≡◌, ℕ, Bool, true, false, cond, ◌||◌, List, [], ◌∷◌, Option, Some, None, refl, ap, sym, ◌∙◌}
+use Rattle.std.proofs.Common.{◌≡◌, ℕ, Bool, true, false, ◌||◌, List, [], ◌∷◌, Option, Some, None, refl, ap, sym, ◌∙◌}
 use Rattle.std.specs.Prelude.{is_some}
 use Rattle.std.specs.List.{list_any}
 use Rattle.std.proofs.lemmas.Bool.{false≢true}
@@ -41,8 +41,7 @@ natures (f ∷ fs) = nature f.mark ∷ natures fs
 
 -- whether an action is open
 abbrev pub guards : List Nature → Bool
-guards [] = false
-guards (n ∷ ns) = cond (is_some n.action) true (guards ns)
+guards ns = list_any (λ n. is_some n.action) ns
 
 -- whether one is open on an object
 abbrev pub is_on : ObjectNo → Option ObjectNo → Bool
@@ -72,7 +71,7 @@ is_protected-is (InAssign m) = refl
 
 pub any_protected-is : (fs : List Frame) → any_protected fs ≡ guards (natures fs)
 any_protected-is [] = refl
-any_protected-is (f ∷ fs) = ap (λ b. cond b true (any_protected fs)) (is_protected-is f.mark) ∙ ap (λ b. cond (is_some (nature f.mark).action) true b) (any_protected-is fs)
+any_protected-is (f ∷ fs) = ap (λ b. b || any_protected fs) (is_protected-is f.mark) ∙ ap (λ b. is_some (nature f.mark).action || b) (any_protected-is fs)
 
 -- a mark that is no action
 pub no_action : (m : Mark) → is_protected m ≡ false → (nature m).action ≡ None
@@ -101,7 +100,7 @@ action_mark-is o (f ∷ fs) = ap (λ b. b || list_any (λ g. is_mark_of o g.mark
 
 -- ---- where none is open
 
-none-step : (o : ObjectNo) (a : Option ObjectNo) (g m : Bool) → cond (is_some a) true g ≡ false → (g ≡ false → m ≡ false) → (is_on o a || m) ≡ false
+none-step : (o : ObjectNo) (a : Option ObjectNo) (g m : Bool) → (is_some a || g) ≡ false → (g ≡ false → m ≡ false) → (is_on o a || m) ≡ false
 none-step o None g m e k = k e
 none-step o (Some x) g m e k = absurd (false≢true (sym e))
 
@@ -111,7 +110,7 @@ marks-none o (n ∷ ns) e = none-step o n.action (guards ns) (marks o ns) e (mar
 
 -- one that is no action on top
 pub guards-plain : (n : Nature) (ns : List Nature) → n.action ≡ None → guards (n ∷ ns) ≡ guards ns
-guards-plain n ns e = ap (λ a. cond (is_some a) true (guards ns)) e
+guards-plain n ns e = ap (λ a. is_some a || guards ns) e
 
 pub marks-plain : (o : ObjectNo) (n : Nature) (ns : List Nature) → n.action ≡ None → marks o (n ∷ ns) ≡ marks o ns
 marks-plain o n ns e = ap (λ a. is_on o a || marks o ns) e

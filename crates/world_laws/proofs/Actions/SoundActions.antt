@@ -164,7 +164,7 @@ some-nature a b e = cc
 guards-tail : (n : Nature) (ns : List Nature) → guards (n ∷ ns) ≡ false → guards ns ≡ false
 guards-tail n ns e = step n.action e
   where
-    step : (a : Option ObjectNo) → cond (is_some a) true (guards ns) ≡ false → guards ns ≡ false
+    step : (a : Option ObjectNo) → (is_some a || guards ns) ≡ false → guards ns ≡ false
     step None k = k
     step (Some o) k = absurd (false≢true (sym k))
 
@@ -192,7 +192,7 @@ module _ (name : Who) (m : ProtectedMark) (w : World) (top : top_nature (marks_o
       let once : marks m.object (natures fs) ≡ false = (subst (λ a. ActionSound w.drawn.objects a (natures fs)) action h.0.0.1).1 in
       let is : n ≡ name = same_who-path n name same in (
         h.0.1,
-        λ x. h.1 (ap (λ a. cond (is_some a) true (guards (natures fs))) action),
+        λ x. h.1 (ap (λ a. is_some a || guards (natures fs)) action),
         each-one m.object (Hold n (natures (f ∷ fs)) t.inherited) (Hold n (natures fs) t.inherited)
             (λ x apart g. (g.0 ∙ ap (λ a. is_on x.number a || marks x.number (natures fs)) action ∙ ap (λ b. b || marks x.number (natures fs)) (eqb-turned m.object.0 x.number.0 apart), g.1))
             (suc w.drawn.objects) closes w.objects

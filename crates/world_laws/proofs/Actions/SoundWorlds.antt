@@ -112,7 +112,7 @@ clean-free : (r : RegionNo) (ns : List Nature) → guards ns ≡ false → Clean
 clean-free r [] e = tt
 clean-free r (n ∷ ns) e = step n.action e (λ k. clean-free r ns k)
   where
-    step : (a : Option ObjectNo) → cond (is_some a) true (guards ns) ≡ false → (guards ns ≡ false → Clean r ns) → Clean r (n ∷ ns)
+    step : (a : Option ObjectNo) → (is_some a || guards ns) ≡ false → (guards ns ≡ false → Clean r ns) → Clean r (n ∷ ns)
     step None k onward = ((λ x. k), onward k)
     step (Some o) k onward = absurd (false≢true (sym k))
 

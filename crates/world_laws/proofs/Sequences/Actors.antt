@@ -1,5 +1,5 @@
 -- What holds of whom between instants, and while somebody acts.
-use Rattle.std.proofs.Common.{◌≡◌, ℕ, Bool, true, false, cond, List, [], ◌∷◌, Some, None, is_some, refl, sym, ap, subst, ◌∙◌, ◌⊎◌, inl, inr}
+use Rattle.std.proofs.Common.{◌≡◌, ℕ, Bool, true, false, ◌||◌, List, [], ◌∷◌, Some, None, is_some, refl, sym, ap, subst, ◌∙◌, ◌⊎◌, inl, inr}
 use Rattle.std.proofs.lemmas.Bool.{false≢true}
 use Rattle.ann_base.specs.declared.identities.RegionNo.{RegionNo}
 use Rattle.ann_base.specs.declared.identities.TaskNo.{TaskNo}
@@ -104,13 +104,13 @@ rooted-popped n (m ∷ ns) action h = h.2
 pub rooted_stacks : (May : Naming) → Stacks Rooted May
 rooted_stacks May = record { pushed = λ may n ns release abortable h. rooted-pushed n ns release abortable h; popped = λ may n ns action h. rooted-popped n ns action h }
 
-any-rest : (b c : Bool) → cond b true c ≡ false → c ≡ false
+any-rest : (b c : Bool) → (b || c) ≡ false → c ≡ false
 any-rest true c e = absurd (false≢true (sym e))
 any-rest false c e = e
 
 pub rooted-inside : (fs : List Frame) → Rooted (natures fs) → any_protected fs ≡ false → ⊥
 rooted-inside [] h e = h
-rooted-inside (x ∷ []) h e = false≢true (sym e ∙ ap (λ b. cond b true false) h.0)
+rooted-inside (x ∷ []) h e = false≢true (sym e ∙ ap (λ b. b || false) h.0)
 rooted-inside (x ∷ y ∷ zs) h e = rooted-inside (y ∷ zs) h.2 (any-rest (is_protected x.mark) (any_protected (y ∷ zs)) e)
 
 rooted-first : (n : Nature) (ns : List Nature) → Rooted (n ∷ ns) → n.abortable ≡ false

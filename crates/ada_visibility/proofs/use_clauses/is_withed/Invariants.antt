@@ -1,9 +1,0 @@
-use Rattle.std.proofs.Common.{◌≡◌}
-use Rattle.std.specs.List.{list_any}
-use Rattle.std.specs.VecDeque.Iter.{deque_iter_rest}
-use Rattle.ada_regions.specs.Visibility.{is_withed_by}
-use Rattle.ada_visibility.proofs.use_clauses.is_withed.Given as goal
-
--- the clauses that are to come give what all of them give
-abbrev pub invariant-loop-clause : goal.invariant-loop-clause
-invariant-loop-clause l = list_any (is_withed_by l.unit) (deque_iter_rest l.clause-iterator) ≡ list_any (is_withed_by l.unit) l.withs

@@ -21,6 +21,8 @@ BLOCK = re.compile(r"(?:pub )?(?:module|record|data) ")    # what stands deeper 
 
 # Of a list by itself: the clause of the empty list and the last operator of the other one, and the library's word.
 BY_HAND = {("true", "&&"): "list_all", ("false", "||"): "list_any", ("[]", "++"): "flat_map", ("[]", "∷"): "map"}
+# The same by a choice: what the empty list gives, what is chosen at an item x, and the word; the rest is gone through otherwise.
+BY_CHOICE = {("false", "true"): "list_any", ("None", "Some x"): "find", ("None", "(Some x)"): "find"}
 EMPTY = re.compile(r"(\S+) (.*)\[\](.*) = (\S+)$")
 
 
@@ -78,11 +80,15 @@ def word_for(name, clauses):
     more = re.match(rf"{re.escape(name)} {re.escape(before)} ?\((.+) ∷ (\w+)\) ?{re.escape(behind)} = (.+)$", clauses[1])
     if not more:
         return None
-    rest, clause = more[2], more[3]
+    item, rest, clause = more.groups()
     again = " ".join([name, *before.split(), rest, *behind.split()])
     for (left, operator), word in BY_HAND.items():
         ending = re.search(rf"{re.escape(operator)} {re.escape(again)}\)*$", clause)
         if base == left and ending and not re.search(rf"\b(?:{rest}|cond|if|{re.escape(name)})\b", clause[:ending.start()]):
+            return word
+    for (left, chosen), word in BY_CHOICE.items():
+        chosen = re.escape(chosen.replace("x", item))
+        if base == left and re.match(rf"(?:cond .+ {chosen} \({re.escape(again)}\)|if .+ then {chosen} else {re.escape(again)})$", clause):
             return word
     return None
 

@@ -1,6 +1,6 @@
 -- How long each task waited: told by a clock for each base priority, and by when a line last told of the task. Beside
 -- it how a task is found by its number.
-use Rattle.std.specs.Prelude.{◌≡◌, ◌≤◌, ◌<◌, ℕ, zero, suc, ◌+◌, ◌-◌, ◌==◌, Bool, true, false, ◌||◌, max, if◌then◌else◌, List, [], ◌∷◌, ◌++◌, Option, Some, None, map, is_some, length, slice_get, cond}
+use Rattle.std.specs.Prelude.{◌≡◌, ◌≤◌, ◌<◌, ℕ, zero, suc, ◌+◌, ◌-◌, ◌==◌, Bool, true, false, ◌||◌, max, if◌then◌else◌, List, [], ◌∷◌, ◌++◌, Option, Some, None, map, is_some, length, slice_get, cond, find}
 use Rattle.std.specs.List.{AllByRecursion, list_all}
 use Rattle.std.specs.Option.{option_map}
 use Rattle.std.specs.Ordering.{nat_cmp}
@@ -28,8 +28,7 @@ use Rattle.run_report.specs.Kept.{fresh, ticks_if, streak_after, tally_after}
 
 -- the clock of a base priority
 abbrev pub clock_of : ℕ → List Clock → Option Clock
-clock_of level [] = None
-clock_of level (clock ∷ clocks) = if clock.level == level then Some clock else clock_of level clocks
+clock_of level clocks = find (λ clock. clock.level == level) clocks
 
 abbrev pub clock_at : Option ℕ → List Clock → Option Clock
 clock_at None clocks = None

@@ -1,6 +1,6 @@
 -- What a list of lines tells of the ready queues, tick by tick and line by line. Nothing here knows how the lines came
 -- about.
-use Rattle.std.specs.Prelude.{◌≡◌, ℕ, ℤ, pos, negsuc, ◌<◌, ◌≤◌, Bool, true, false, ◌&&◌, ◌||◌, ◌==◌, if◌then◌else◌, nat_lt, nat_le, List, [], ◌∷◌, ◌++◌, Option, Some, None}
+use Rattle.std.specs.Prelude.{◌≡◌, ℕ, ℤ, pos, negsuc, ◌<◌, ◌≤◌, Bool, true, false, ◌&&◌, ◌||◌, ◌==◌, if◌then◌else◌, nat_lt, nat_le, List, [], ◌∷◌, ◌++◌, Option, Some, None, find}
 use Rattle.trace_text.specs.declared.events.Who.{Who}
 use Rattle.trace_text.specs.declared.events.Who.TheVariants as subject
 use Rattle.trace_text.specs.declared.events.Entry.{Entry}
@@ -71,8 +71,7 @@ without who [] = []
 without who (entry ∷ queue) = if who_eq who entry.who then without who queue else entry ∷ without who queue
 
 abbrev pub entry_of : Who → List Entry → Option Entry
-entry_of who [] = None
-entry_of who (entry ∷ queue) = if who_eq who entry.who then Some entry else entry_of who queue
+entry_of who queue = find (λ entry. who_eq who entry.who) queue
 
 -- `head` places before all, `tail` behind all (D.2.1)
 abbrev pub placed : QueueEnd → Entry → List Entry → List Entry

@@ -1,6 +1,6 @@
 -- Masters, dependents, completion and termination (9.3, 7.6.1).
 use Rattle.std.specs.Prelude.{ℕ, zero, suc, Bool, true, false, cond, not, ◌&&◌, ◌||◌, List, [], ◌∷◌, Option, Some, None, eqb, ltb, length, filter, find, map}
-use Rattle.std.specs.List.{list_any, list_all, flat_map}
+use Rattle.std.specs.List.{list_any, list_all, flat_map, filter_map}
 use Rattle.ann_base.specs.declared.identities.CallNo.{CallNo}
 use Rattle.ann_base.specs.declared.identities.RegionNo.{RegionNo}
 use Rattle.ann_base.specs.declared.exceptions.Raised.TheVariants as exception
@@ -111,8 +111,7 @@ calls_in_order [] = []
 calls_in_order (c ∷ cs) = put_call_in_order c (calls_in_order cs)
 
 abbrev pub calls_there : World → List CallNo → List Call
-calls_there w [] = []
-calls_there w (c ∷ cs) = elim (call_of w c) [ None ↦ calls_there w cs | Some d ↦ d ∷ calls_there w cs ]
+calls_there w cs = filter_map (call_of w) cs
 
 abbrev pub queued_calls : World → Task → List Call
 queued_calls w t = calls_in_order (calls_there w (flat_map (λ q. q) t.queues))

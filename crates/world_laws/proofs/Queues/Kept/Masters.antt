@@ -1,7 +1,7 @@
 -- A task is completed: each call in its queues ends, its activation ends, and it is there no more (9.2, 9.3).
 use Rattle.std.proofs.Common.{◌≡◌, ℕ, zero, suc, ◌≤◌, arith, Bool, true, false, cond, not, ◌&&◌, ◌||◌, ◌⊎◌, inl, inr, ◌++◌, List, [], ◌∷◌, Option, Some, None, refl, sym, subst, ap, ◌∙◌, map}
 use Rattle.std.specs.Prelude.{find, is_some}
-use Rattle.std.specs.List.{flat_map, list_any}
+use Rattle.std.specs.List.{cons_option, flat_map, list_any}
 use Rattle.std.proofs.lemmas.Bool.{eq-eqb, or_left, or_right, true≢false}
 use Rattle.ann_base.specs.declared.identities.CallNo.{CallNo}
 use Rattle.ann_base.specs.declared.identities.RegionNo.{RegionNo}
@@ -203,7 +203,7 @@ order-all P (c ∷ cs) all = put-all P c (calls_in_order cs) all.0 (order-all P 
 there-all : (P : Call → Type 0) (w : World) (cs : List CallNo) → ((c : CallNo) (d : Call) → has same_call cs c ≡ true → call_of w c ≡ Some d → P d) → AllOf P (calls_there w cs)
 there-all P w [] each = tt
 there-all P w (c ∷ cs) each = step (call_of w c) refl (there-all P w cs (λ x d h e. each x d (or_right (same_call c x) (has same_call cs x) h) e)) where
-  step : (found : Option Call) → call_of w c ≡ found → AllOf P (calls_there w cs) → AllOf P (elim found as (λ _. List Call) [ None ↦ calls_there w cs | Some d ↦ d ∷ calls_there w cs ])
+  step : (found : Option Call) → call_of w c ≡ found → AllOf P (calls_there w cs) → AllOf P (cons_option found (calls_there w cs))
   step None e rest = rest
   step (Some d) e rest = (each c d (or_left (same_call c c) (has same_call cs c) (self c)) e, rest)
 
@@ -330,11 +330,11 @@ there-in w [] c there h = absurd (true≢false (sym h))
 there-in w (x ∷ xs) c there h = by_test (same_call x c)
     (λ is. this (call_of w x) refl (subst (λ n. is_some (call_of w n) ≡ true) (sym (same-call x c is)) there) is)
     (λ apart. others (call_of w x) (there-in w xs c there (first-or (same_call x c) (has same_call xs c) h apart))) where
-      this : (found : Option Call) → call_of w x ≡ found → is_some found ≡ true → same_call x c ≡ true → in_calls (elim found as (λ _. List Call) [ None ↦ calls_there w xs | Some d ↦ d ∷ calls_there w xs ]) c ≡ true
+      this : (found : Option Call) → call_of w x ≡ found → is_some found ≡ true → same_call x c ≡ true → in_calls (cons_option found (calls_there w xs)) c ≡ true
       this None e f is = absurd (true≢false (sym f))
       this (Some d) e f is = or_left (same_call d.number c) (in_calls (calls_there w xs) c) (subst (λ n. same_call n c ≡ true) (sym (found-number x w d e)) is)
 
-      others : (found : Option Call) → in_calls (calls_there w xs) c ≡ true → in_calls (elim found as (λ _. List Call) [ None ↦ calls_there w xs | Some d ↦ d ∷ calls_there w xs ]) c ≡ true
+      others : (found : Option Call) → in_calls (calls_there w xs) c ≡ true → in_calls (cons_option found (calls_there w xs)) c ≡ true
       others None k = k
       others (Some d) k = or_right (same_call d.number c) (in_calls (calls_there w xs) c) k
 

@@ -186,7 +186,7 @@ B = {
  "unwrap_or": (2, lambda o, x: x if o.n == "None" else o.a[0]), "option_or": (2, lambda o, p: p if o.n == "None" else o),
  "option_map": (2, lambda f, o: o if o.n == "None" else SOME(ap(f, o.a[0]))),
  "option_and_then": (2, lambda f, o: o if o.n == "None" else ap(f, o.a[0])), "then_some": (2, lambda c, x: SOME(x) if c else NONE),
- "cons_option": (2, lambda o, l: o.a + l), "option_flatten": (1, lambda o: o if o.n == "None" else o.a[0]),
+ "cons_option": (2, lambda o, l: o.a + l), "filter_map": (2, lambda f, l: tuple(y for x in l for y in ap(f, x).a)), "option_flatten": (1, lambda o: o if o.n == "None" else o.a[0]),
  "cond": (3, lambda c, a, b: a if c else b), "bytes_eq": (2, lambda a, b: a == b),
  "decimal": (1, lambda n: tuple(str(n).encode())), "signed_decimal": (1, lambda n: tuple(str(n).encode())),
  "is_ascii_digit": (1, _digit), "is_ascii_lowercase": (1, lambda b: 97 <= b <= 122), "is_ascii_uppercase": (1, lambda b: 65 <= b <= 90), "is_ascii_alphabetic": (1, _letter), "is_ascii_alphanumeric": (1, lambda b: _letter(b) or _digit(b)),

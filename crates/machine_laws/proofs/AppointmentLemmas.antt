@@ -2,11 +2,11 @@
 use Rattle.std.proofs.Common.{◌≡◌, ℤ, ◌≤ℤ◌, Bool, true, false, cond, not, List, [], ◌∷◌, refl, arith}
 use Rattle.std.specs.Prelude.{int_le, int_lt}
 use Rattle.std.proofs.lemmas.Int.{ints}
+use Rattle.std.proofs.lemmas.Bool.{and_from}
 use Rattle.profile_machine.specs.declared.world.appointments.Appointment.{Appointment}
 use Rattle.profile_machine.specs.Words.{without}
 use Rattle.profile_machine.specs.Appointments.{put_appointment}
 use Rattle.profile_machine.specs.WellFormed.{all_adjacent}
-use Rattle.machine_laws.proofs.ListLemmas.{both}
 
 -- none is before a moment, and none before the one that it follows
 abbrev pub Above : ℤ → List Appointment → Type 0
@@ -73,4 +73,4 @@ pub InOrder-adjacent : (xs : List Appointment) → InOrder xs → all_adjacent (
 InOrder-adjacent [] h = refl
 InOrder-adjacent (x ∷ []) h = refl
 InOrder-adjacent (x ∷ y ∷ rest) h =
-    both (int_le x.moment y.moment) (all_adjacent (λ a b. int_le a.moment b.moment) (y ∷ rest)) (above-test x.moment y.moment h.0) (InOrder-adjacent (y ∷ rest) h.1)
+    and_from (int_le x.moment y.moment) (all_adjacent (λ a b. int_le a.moment b.moment) (y ∷ rest)) (above-test x.moment y.moment h.0) (InOrder-adjacent (y ∷ rest) h.1)

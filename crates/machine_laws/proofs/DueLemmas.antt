@@ -4,7 +4,7 @@ use Rattle.std.proofs.Common.{◌≡◌, ℕ, zero, suc, ℤ, ◌≤◌, ◌<◌
 use Rattle.std.specs.Prelude.{int_lt, int_le, pos}
 use Rattle.std.specs.List.{list_all}
 use Rattle.std.proofs.lemmas.Int.{ints}
-use Rattle.std.proofs.lemmas.Bool.{false≢true}
+use Rattle.std.proofs.lemmas.Bool.{and_from, and_left, and_parts, false≢true}
 use Rattle.trace_text.specs.declared.events.Who.{Who}
 use Rattle.trace_text.specs.declared.events.Who.TheVariants as who
 use Rattle.profile_machine.specs.declared.image.Image.{Image}
@@ -27,7 +27,6 @@ use Rattle.machine_laws.specs.Reached.{Comes, opened, ticked, Reached, before, b
 use Rattle.machine_laws.proofs.Kept.Handlers.{releasing}
 use Rattle.machine_laws.proofs.FineMoves.{AnyWorld}
 use Rattle.machine_laws.proofs.FinestMoves.{all_of, tocks_of}
-use Rattle.machine_laws.proofs.ListLemmas.{both}
 use Rattle.machine_laws.proofs.Moves.{Moves, TockMoves}
 use Rattle.machine_laws.proofs.Kept.Combinators.{Keeps, Leads, then-leads, settles-leads, world_behind, kept-world}
 use Rattle.machine_laws.proofs.Kept.Appointments.{is_later}
@@ -66,15 +65,11 @@ count_due-length events now (a ∷ rest) = counted-most (is_due events now a) (c
 
 -- ---- one that is set is later than now, so it is not due
 
-not_both : (a b : Bool) → a ≡ false → (a && b) ≡ false
-not_both true b h = absurd (false≢true (sym h))
-not_both false b h = refl
-
 past : (now : ℕ) (moment : ℤ) → int_lt (pos now) moment ≡ true → int_le moment (pos now) ≡ false
 past now moment h = grind (arith, ints)
 
 later-is_due : (events : Bool) (now : ℕ) (a : Appointment) → int_lt (pos now) a.moment ≡ true → is_due events now a ≡ false
-later-is_due events now a h = not_both (int_le a.moment (pos now)) (same_bool (is_an_event a.due) events) (past now a.moment h)
+later-is_due events now a h = and_left (int_le a.moment (pos now)) (same_bool (is_an_event a.due) events) (past now a.moment h)
 
 -- whichever list a test picks
 either_count : (events : Bool) (now n : ℕ) (b : Bool) (xs ys : List Appointment) → count_due events now xs ≡ n → count_due events now ys ≡ n → count_due events now (cond b xs ys) ≡ n
@@ -202,7 +197,7 @@ is_itself : (due : Due) → is_the_same_due due due ≡ true
 is_itself (due_for.Event n h) = same_number n
 is_itself (due_for.Delay t) = same_number t.0
 is_itself (due_for.Timeout c) = same_number c.0
-is_itself (due_for.Trigger t depth) = both (eqb t.0 t.0) (eqb depth depth) (same_number t.0) (same_number depth)
+is_itself (due_for.Trigger t depth) = and_from (eqb t.0 t.0) (eqb depth depth) (same_number t.0) (same_number depth)
 
 counted-one : (b : Bool) (n : ℕ) → b ≡ true → cond b (suc n) n ≡ suc n
 counted-one true n h = refl
@@ -301,24 +296,16 @@ all_are_later : (now : ℕ) (xs : List Appointment) → count_due true now xs �
 all_are_later now [] h k = refl
 all_are_later now (a ∷ rest) h k =
     let parts = not_due (int_le a.moment (pos now)) (is_an_event a.due) (count_due true now rest) (count_due false now rest) h k in
-    both (int_lt (pos now) a.moment) (list_all (λ b. int_lt (pos now) b.moment) rest) (is_later now a.moment parts.0) (all_are_later now rest parts.1 parts.2)
+    and_from (int_lt (pos now) a.moment) (list_all (λ b. int_lt (pos now) b.moment) rest) (is_later now a.moment parts.0) (all_are_later now rest parts.1 parts.2)
 
 pub instants_leave_none_due : (p : Image) (w : World) → all_later (instant p w).0 ≡ true
 instants_leave_none_due p w = all_are_later (instant p w).0.time (instant p w).0.appointments (instant-none true p w) (instant-none false p w)
 
 -- ---- what is later than now is not before it, nor before the next tick
 
-first_part : (a b : Bool) → (a && b) ≡ true → a ≡ true
-first_part true b h = refl
-first_part false b h = h
-
-second_part : (a b : Bool) → (a && b) ≡ true → b ≡ true
-second_part true b h = h
-second_part false b h = absurd (false≢true h)
-
 all_too : (f g : Appointment → Bool) → ((a : Appointment) → f a ≡ true → g a ≡ true) → (xs : List Appointment) → list_all f xs ≡ true → list_all g xs ≡ true
 all_too f g k [] h = refl
-all_too f g k (x ∷ xs) h = both (g x) (list_all g xs) (k x (first_part (f x) (list_all f xs) h)) (all_too f g k xs (second_part (f x) (list_all f xs) h))
+all_too f g k (x ∷ xs) h = and_from (g x) (list_all g xs) (k x ((and_parts (f x) (list_all f xs) h).0)) (all_too f g k xs ((and_parts (f x) (list_all f xs) h).1))
 
 not_before : (now : ℕ) (moment : ℤ) → int_lt (pos now) moment ≡ true → int_le (pos now) moment ≡ true
 not_before now moment h = grind (arith, ints)

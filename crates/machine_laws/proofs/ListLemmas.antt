@@ -1,7 +1,8 @@
 -- Lists whose numbers fall, rise or follow one another, under the changes that the machine makes of its lists.
-use Rattle.std.proofs.Common.{◌≡◌, ℕ, suc, ◌<◌, ◌≤◌, Bool, true, false, cond, not, eqb, ltb, leb, ◌&&◌, List, [], ◌∷◌, ◌++◌, refl, sym, subst, arith, Option, Some, None, ap, ◌∙◌}
+use Rattle.std.proofs.Common.{◌≡◌, ℕ, suc, ◌<◌, ◌≤◌, Bool, true, false, cond, not, eqb, ltb, leb, List, [], ◌∷◌, ◌++◌, refl, sym, subst, arith, Option, Some, None, ap, ◌∙◌}
 use Rattle.std.specs.Prelude.{find}
 use Rattle.std.specs.List.{list_all}
+use Rattle.std.proofs.lemmas.Bool.{and_from}
 use Rattle.profile_machine.specs.Words.{edit_where, without, edit_found, set_where}
 use Rattle.profile_machine.specs.WellFormed.{all_adjacent}
 
@@ -47,20 +48,16 @@ Falls-edit_found key test f k top xs (Some x) is h = Falls-set_where key test x 
 pub Falls-edit_where : {X : Type 0} (key : X → ℕ) (test : X → Bool) (f : X → X) → ((x : X) → key (f x) ≡ key x) → (top : ℕ) (xs : List X) → Falls key top xs → Falls key top (edit_where test f xs)
 Falls-edit_where key test f k top xs h = Falls-edit_found key test f k top xs (find test xs) refl h
 
-pub both : (a b : Bool) → a ≡ true → b ≡ true → (a && b) ≡ true
-both true b p q = q
-both false b p q = p
-
 pub Falls-adjacent : {X : Type 0} (key : X → ℕ) (top : ℕ) (xs : List X) → Falls key top xs → all_adjacent (λ a b. ltb (key b) (key a)) xs ≡ true
 Falls-adjacent key top [] h = refl
 Falls-adjacent key top (x ∷ []) h = refl
 Falls-adjacent key top (x ∷ y ∷ rest) h =
-    both (ltb (key y) (key x)) (all_adjacent (λ a b. ltb (key b) (key a)) (y ∷ rest)) (grind (arith, h.1.0)) (Falls-adjacent key (key x) (y ∷ rest) h.1)
+    and_from (ltb (key y) (key x)) (all_adjacent (λ a b. ltb (key b) (key a)) (y ∷ rest)) (grind (arith, h.1.0)) (Falls-adjacent key (key x) (y ∷ rest) h.1)
 
 pub Falls-all : {X : Type 0} (key : X → ℕ) (top n : ℕ) (xs : List X) → top ≤ suc n → Falls key top xs → list_all (λ x. leb (key x) n) xs ≡ true
 Falls-all key top n [] a h = refl
 Falls-all key top n (x ∷ xs) a h =
-    both (leb (key x) n) (list_all (λ x. leb (key x) n) xs) (grind (arith, h.0)) (Falls-all key (key x) n xs (omega (arith, h.0)) h.1)
+    and_from (leb (key x) n) (list_all (λ x. leb (key x) n) xs) (grind (arith, h.0)) (Falls-all key (key x) n xs (omega (arith, h.0)) h.1)
 
 -- ---- numbers that rise, from a low one on, all below a top
 
@@ -105,13 +102,13 @@ pub Rises-adjacent : {X : Type 0} (key : X → ℕ) (low top : ℕ) (xs : List X
 Rises-adjacent key low top [] h = refl
 Rises-adjacent key low top (x ∷ []) h = refl
 Rises-adjacent key low top (x ∷ y ∷ rest) h =
-    both (ltb (key x) (key y)) (all_adjacent (λ a b. ltb (key a) (key b)) (y ∷ rest)) (grind (arith, h.1.0)) (Rises-adjacent key (suc (key x)) top (y ∷ rest) h.1)
+    and_from (ltb (key x) (key y)) (all_adjacent (λ a b. ltb (key a) (key b)) (y ∷ rest)) (grind (arith, h.1.0)) (Rises-adjacent key (suc (key x)) top (y ∷ rest) h.1)
 
 pub Rises-all : {X : Type 0} (key : X → ℕ) (low top : ℕ) (xs : List X) → Rises key low top xs → list_all (λ x. ltb (key x) top) xs ≡ true
 Rises-all key low top [] h = refl
 Rises-all key low top (x ∷ xs) h =
     let rest : suc (key x) ≤ top = Rises-within key (suc (key x)) top xs h.1 in
-    both (ltb (key x) top) (list_all (λ x. ltb (key x) top) xs) (grind arith) (Rises-all key (suc (key x)) top xs h.1)
+    and_from (ltb (key x) top) (list_all (λ x. ltb (key x) top) xs) (grind arith) (Rises-all key (suc (key x)) top xs h.1)
 
 -- ---- numbers that follow one another, from behind one up to a last
 
@@ -127,4 +124,4 @@ pub Follows-adjacent : {X : Type 0} (key : X → ℕ) (from last : ℕ) (xs : Li
 Follows-adjacent key from last [] h = refl
 Follows-adjacent key from last (x ∷ []) h = refl
 Follows-adjacent key from last (x ∷ y ∷ rest) h =
-    both (eqb (suc (key x)) (key y)) (all_adjacent (λ a b. eqb (suc (key a)) (key b)) (y ∷ rest)) (grind (arith, h.1.0)) (Follows-adjacent key (key x) last (y ∷ rest) h.1)
+    and_from (eqb (suc (key x)) (key y)) (all_adjacent (λ a b. eqb (suc (key a)) (key b)) (y ∷ rest)) (grind (arith, h.1.0)) (Follows-adjacent key (key x) last (y ∷ rest) h.1)

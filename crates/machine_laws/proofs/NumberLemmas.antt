@@ -2,6 +2,7 @@
 -- use, protected objects, releases and appointments.
 use Rattle.std.proofs.Common.{◌≡◌, ℕ, ℤ, suc, Option, Some, None, List, [], ◌∷◌, true, ltb, leb, ◌&&◌, refl, ap, subst, sym, ◌∙◌, arith}
 use Rattle.std.specs.List.{list_all}
+use Rattle.std.proofs.lemmas.Bool.{and_from}
 use Rattle.trace_text.specs.declared.events.Who.{Who}
 use Rattle.trace_text.specs.declared.events.Who.TheVariants as who
 use Rattle.profile_machine.specs.declared.image.Image.{Image}
@@ -27,7 +28,7 @@ use Rattle.profile_machine.specs.WellFormed.{all_adjacent, number_in, is_older, 
 use Rattle.machine_laws.specs.NumberLaws.{calls_fall, scopes_fall, objects_fall, appointments_rise}
 use Rattle.machine_laws.specs.Reached.{Reached}
 use Rattle.machine_laws.proofs.FinestMoves.{all_of, tocks_of}
-use Rattle.machine_laws.proofs.ListLemmas.{both, Falls, Falls-without, Falls-edit_where, Falls-adjacent, Falls-all, Rises, Rises-without, Rises-set_where, Rises-behind, Rises-adjacent, Rises-all, Follows, Follows-behind, Follows-adjacent}
+use Rattle.machine_laws.proofs.ListLemmas.{Falls, Falls-without, Falls-edit_where, Falls-adjacent, Falls-all, Rises, Rises-without, Rises-set_where, Rises-behind, Rises-adjacent, Rises-all, Follows, Follows-behind, Follows-adjacent}
 use Rattle.machine_laws.proofs.AppointmentLemmas.{InOrder, InOrder-put, InOrder-without, InOrder-adjacent}
 use Rattle.machine_laws.proofs.ReachedLemmas.{Lasts, reached-lasts}
 use Rattle.machine_laws.proofs.Moves.{Moves, TockMoves}
@@ -166,13 +167,13 @@ older-is (x ∷ []) = refl
 older-is (x ∷ y ∷ rest) = rw (older-test y.id x.id) (ap (λ b. ltb (scope_number y) (scope_number x) && b) (older-is (y ∷ rest)))
 
 pub reached_tasks : (p : Image) (script : List (ℤ × Item)) (bound : ℕ) (w : World) → Reached p script bound w → tasks_are_numbered w ≡ true
-reached_tasks p script bound w r = let h : Numbered w = reached-lasts numbered-lasts p script bound w r in both (all_adjacent (λ a b. ltb (task_number a) (task_number b)) w.tasks) (list_all (λ t. ltb (task_number t) w.drawn.tasks) w.tasks) (Rises-adjacent task_number 0 w.drawn.tasks w.tasks h.0) (Rises-all task_number 0 w.drawn.tasks w.tasks h.0)
+reached_tasks p script bound w r = let h : Numbered w = reached-lasts numbered-lasts p script bound w r in and_from (all_adjacent (λ a b. ltb (task_number a) (task_number b)) w.tasks) (list_all (λ t. ltb (task_number t) w.drawn.tasks) w.tasks) (Rises-adjacent task_number 0 w.drawn.tasks w.tasks h.0) (Rises-all task_number 0 w.drawn.tasks w.tasks h.0)
 
 pub reached_calls : (p : Image) (script : List (ℤ × Item)) (bound : ℕ) (w : World) → Reached p script bound w → calls_fall w ≡ true
 reached_calls p script bound w r = let h : Numbered w = reached-lasts numbered-lasts p script bound w r in Falls-adjacent call_number (suc w.drawn.calls) w.calls h.1
 
 pub reached_registered : (p : Image) (script : List (ℤ × Item)) (bound : ℕ) (w : World) → Reached p script bound w → registered_are_numbered w ≡ true
-reached_registered p script bound w r = let h : Numbered w = reached-lasts numbered-lasts p script bound w r in both (all_adjacent (λ a b. ltb (registered_number b) (registered_number a)) w.registered) (list_all (λ r. leb (registered_number r) w.drawn.controlled) w.registered) (Falls-adjacent registered_number (suc w.drawn.controlled) w.registered h.2) (Falls-all registered_number (suc w.drawn.controlled) w.drawn.controlled w.registered (omega arith) h.2)
+reached_registered p script bound w r = let h : Numbered w = reached-lasts numbered-lasts p script bound w r in and_from (all_adjacent (λ a b. ltb (registered_number b) (registered_number a)) w.registered) (list_all (λ r. leb (registered_number r) w.drawn.controlled) w.registered) (Falls-adjacent registered_number (suc w.drawn.controlled) w.registered h.2) (Falls-all registered_number (suc w.drawn.controlled) w.drawn.controlled w.registered (omega arith) h.2)
 
 pub reached_scopes : (p : Image) (script : List (ℤ × Item)) (bound : ℕ) (w : World) → Reached p script bound w → scopes_fall w ≡ true
 reached_scopes p script bound w r = let h : Numbered w = reached-lasts numbered-lasts p script bound w r in sym (older-is w.scopes) ∙ Falls-adjacent scope_number w.drawn.scopes w.scopes h.3

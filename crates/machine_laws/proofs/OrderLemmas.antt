@@ -2,6 +2,7 @@
 use Rattle.std.proofs.Common.{◌≡◌, ℕ, ℤ, Bool, true, false, cond, not, eqb, ltb, ◌&&◌, ◌||◌, List, [], ◌∷◌, Option, Some, None, refl, ap, ◌∙◌, arith}
 use Rattle.std.specs.List.{list_any}
 use Rattle.std.proofs.lemmas.Int.{ints}
+use Rattle.std.proofs.lemmas.Bool.{and_from, not-true, not_from_false}
 use Rattle.trace_text.specs.declared.events.Event.{Event}
 use Rattle.trace_text.specs.declared.events.Event.TheVariants as line
 use Rattle.trace_text.specs.declared.events.QueueEnd.{QueueEnd}
@@ -12,7 +13,6 @@ use Rattle.profile_machine.specs.declared.world.tasks.Placed.{Placed}
 use Rattle.profile_machine.specs.Words.{same_who}
 use Rattle.profile_machine.specs.Steps.{is_deadline_before, is_above, put_at_tail, put_at_head, put_at, take_out, places_after, places_after_all}
 use Rattle.profile_machine.specs.WellFormed.{all_adjacent, all_differ}
-use Rattle.machine_laws.proofs.ListLemmas.{both}
 
 pub either : {X : Type 0} (P : X → Type 0) (b : Bool) (x y : X) → (b ≡ true → P x) → (b ≡ false → P y) → P (cond b x y)
 either P true x y p q = p refl
@@ -136,15 +136,11 @@ pub Descends-after_all : (lines : List Event) (places : List Placed) → Descend
 Descends-after_all [] places h = h
 Descends-after_all (x ∷ xs) places h = Descends-after_all xs (places_after x places) (Descends-after x places h)
 
-not-true : (b : Bool) → b ≡ false → not b ≡ true
-not-true true e = cc
-not-true false e = refl
-
 pub Descends-adjacent : (xs : List Placed) → Descends xs → all_adjacent (λ x y. not (is_above y x)) xs ≡ true
 Descends-adjacent [] h = refl
 Descends-adjacent (x ∷ []) h = refl
 Descends-adjacent (x ∷ y ∷ rest) h =
-    both (not (is_above y x)) (all_adjacent (λ a b. not (is_above b a)) (y ∷ rest)) (not-true (is_above y x) h.0) (Descends-adjacent (y ∷ rest) h.1)
+    and_from (not (is_above y x)) (all_adjacent (λ a b. not (is_above b a)) (y ∷ rest)) (not_from_false (is_above y x) h.0) (Descends-adjacent (y ∷ rest) h.1)
 
 -- ---- nobody twice
 
@@ -162,15 +158,11 @@ abbrev pub Differ : List Placed → Type 0
 Differ [] = Unit {0}
 Differ (x ∷ xs) = Absent x.who xs × Differ xs
 
-not-false : (b : Bool) → not b ≡ true → b ≡ false
-not-false true e = cc
-not-false false e = refl
-
 Absent-out : (name : Who) (xs : List Placed) → Absent name (take_out name xs)
 Absent-out name [] = tt
 Absent-out name (x ∷ xs) =
     either (Absent name) (not (same_who name x.who)) (x ∷ take_out name xs) (take_out name xs)
-    (λ t. (not-false (same_who name x.who) t, Absent-out name xs))
+    (λ t. (not-true (same_who name x.who) t, Absent-out name xs))
     (λ _. Absent-out name xs)
 
 Absent-still : (other name : Who) (xs : List Placed) → Absent name xs → Absent name (take_out other xs)
@@ -233,5 +225,5 @@ absent-any x (y ∷ ys) h = ap (λ b. b || list_any (λ z. same_who x.who z.who)
 pub Differ-all : (xs : List Placed) → Differ xs → all_differ (λ x y. same_who x.who y.who) xs ≡ true
 Differ-all [] h = refl
 Differ-all (x ∷ xs) h =
-    both (not (list_any (λ y. same_who x.who y.who) xs)) (all_differ (λ a b. same_who a.who b.who) xs)
-    (not-true (list_any (λ y. same_who x.who y.who) xs) (absent-any x xs h.0)) (Differ-all xs h.1)
+    and_from (not (list_any (λ y. same_who x.who y.who) xs)) (all_differ (λ a b. same_who a.who b.who) xs)
+    (not_from_false (list_any (λ y. same_who x.who y.who) xs) (absent-any x xs h.0)) (Differ-all xs h.1)

@@ -1,6 +1,7 @@
 -- What a source without faults of legality has: pragmas of the profile, and ranges dispatched by deadlines that lie in Priority.
 use Rattle.std.proofs.Common.{◌≡◌, ℕ, suc, Bool, true, false, not, ◌||◌, List, [], ◌∷◌, ◌++◌, None, leb, take, refl}
 use Rattle.std.specs.List.{flat_map, list_all}
+use Rattle.std.proofs.lemmas.Bool.{not-false}
 use Rattle.ann_base.specs.declared.places.Place.{Place}
 use Rattle.ada_tree.specs.declared.units.Pragma.{Pragma}
 use Rattle.ada_tree.specs.declared.units.Unit.{Unit as Tree}
@@ -47,17 +48,13 @@ all-of-profile last pragmas at (p ∷ ps) e =
 abbrev pub ends_by : ℕ → DeadlineRange → Bool
 ends_by last r = leb r.high last
 
-lies-in : (t : Bool) → not t ≡ false → t ≡ true
-lies-in true e = refl
-lies-in false e = cc
-
 all-end : (last : ℕ) (found : Found) (rs : List DeadlineRange) → faults_in (flat_map (range_judged last found) rs) ≡ [] → list_all (ends_by last) rs ≡ true
 unfolding range_judged
 all-end last found [] e = refl
 all-end last found (r ∷ rs) e =
     let h = none-of (range_judged last found r) (flat_map (range_judged last found) rs) e in
     let g = none-of (broken_unless rule.DeadlineScheduling (leb r.high last) r.place) (flat_map (in_deadline_range last found r) found) h.0 in
-    rw (lies-in (leb r.high last) (not-broken rule.DeadlineScheduling (not (leb r.high last)) r.place g.0), all-end last found rs h.1) refl
+    rw (not-false (leb r.high last) (not-broken rule.DeadlineScheduling (not (leb r.high last)) r.place g.0), all-end last found rs h.1) refl
 
 -- ---- a source
 

@@ -2,7 +2,7 @@
 use Rattle.std.proofs.Common.{◌≡◌, ℕ, ℤ, ◌≤◌, Bool, true, false, cond, not, ◌&&◌, eqb, filter, List, [], ◌∷◌, ◌++◌, map, Option, Some, None, refl, sym, ap, subst, ◌∙◌, append-nil, eq-eqb, arith}
 use Rattle.std.specs.Prelude.{int_lt, int_le, pos}
 use Rattle.std.proofs.lemmas.Int.{ints}
-use Rattle.std.proofs.lemmas.Bool.{false≢true}
+use Rattle.std.proofs.lemmas.Bool.{and_parts, eqb-true}
 use Rattle.ann_base.specs.declared.identities.TaskNo.{TaskNo}
 use Rattle.profile_machine.specs.declared.world.World.{World}
 use Rattle.profile_machine.specs.declared.world.appointments.Budget.{Budget}
@@ -100,12 +100,8 @@ module _ (test : TimerSet → Bool) where
 not_reached : (clock : ℕ) (value : ℤ) → int_lt (pos clock) value ≡ true → int_le value (pos clock) ≡ false
 not_reached clock value h = grind (arith, ints)
 
-second_of : (a b : Bool) → (a && b) ≡ true → b ≡ true
-second_of true b h = h
-second_of false b h = absurd (false≢true h)
-
 set-due : (w : World) (s : TimerSet) (ts : List TimerSet) (b : Bool) → (is_number_of w.timers s.timer && int_lt (pos (clock_of w s.task)) s.value) ≡ b → filter (is_reached w) ts ≡ filter (is_reached w) (cond b (ts ++ s ∷ []) ts)
-set-due w s ts true e = sym (last-out (is_reached w) s ts (not_reached (clock_of w s.task) s.value (second_of (is_number_of w.timers s.timer) (int_lt (pos (clock_of w s.task)) s.value) e)))
+set-due w s ts true e = sym (last-out (is_reached w) s ts (not_reached (clock_of w s.task) s.value ((and_parts (is_number_of w.timers s.timer) (int_lt (pos (clock_of w s.task)) s.value) e).1)))
 set-due w s ts false e = refl
 
 pub due-asked : (w : World) (r : Request) (ts : List TimerSet) → due_asked r (map number_of_timer (filter (is_reached w) ts)) ≡ map number_of_timer (filter (is_reached w) (timers_asked w r ts))
@@ -136,9 +132,6 @@ handler_of_budget s = s.handler
 
 abbrev pub handlers_for : ℕ → List BudgetSet → List HandlerOf
 handlers_for k bs = map handler_of_budget (filter (λ s. eqb k s.budget) bs)
-
-same_number : (a b : ℕ) → eqb a b ≡ true → a ≡ b
-same_number a b h = grind arith
 
 both_are : (n k m : ℕ) → eqb n m ≡ true → eqb n k ≡ false → eqb k m ≡ false
 both_are n k m h e = grind arith
@@ -199,11 +192,11 @@ module _ (w : World) (bs : List BudgetSet) where
   set-other n k h false e = but-other n k bs e
 
   cleared-where : (n k : ℕ) (same : Bool) → eqb n k ≡ same → handlers_for k bs ≡ one_or_none (before k) → handlers_for k (but_budget n bs) ≡ one_or_none (cond (same && is_number_of w.budgets n) None (before k))
-  cleared-where n k true e h = subst (λ m. handlers_for m (but_budget n bs) ≡ one_or_none (cond (is_number_of w.budgets n) None (before m))) (same_number n k e) (cleared-own n (is_number_of w.budgets n) refl)
+  cleared-where n k true e h = subst (λ m. handlers_for m (but_budget n bs) ≡ one_or_none (cond (is_number_of w.budgets n) None (before m))) (eqb-true n k e) (cleared-own n (is_number_of w.budgets n) refl)
   cleared-where n k false e h = but-other n k bs e ∙ h
 
   set-where : (n k : ℕ) (x : HandlerOf) (same : Bool) → eqb n k ≡ same → handlers_for k bs ≡ one_or_none (before k) → handlers_for k (budgets_asked w (OfBudget n (Some x)) bs) ≡ one_or_none (cond (same && is_number_of w.budgets n) (Some x) (before k))
-  set-where n k x true e h = subst (λ m. handlers_for m (budgets_asked w (OfBudget n (Some x)) bs) ≡ one_or_none (cond (is_number_of w.budgets n) (Some x) (before m))) (same_number n k e) (set-own n x (is_number_of w.budgets n) refl)
+  set-where n k x true e h = subst (λ m. handlers_for m (budgets_asked w (OfBudget n (Some x)) bs) ≡ one_or_none (cond (is_number_of w.budgets n) (Some x) (before m))) (eqb-true n k e) (set-own n x (is_number_of w.budgets n) refl)
   set-where n k x false e h = set-other n k x (is_number_of w.budgets n) e ∙ h
 
   pub handlers-asked : (r : Request) (k : ℕ) → handlers_for k bs ≡ one_or_none (before k) → handlers_for k (budgets_asked w r bs) ≡ one_or_none (handler_asked w r k (before k))

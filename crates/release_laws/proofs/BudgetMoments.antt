@@ -1,6 +1,6 @@
 -- The handler that a budget got stays in the account, and is released where the budget runs out.
 use Rattle.std.proofs.Common.{◌≡◌, ℕ, zero, suc, ◌+◌, true, cond, eqb, ltb, filter, length, slice_index_or, List, [], ◌∷◌, ◌++◌, Some, None, refl, sym, subst, arith}
-use Rattle.std.proofs.lemmas.Bool.{false≢true}
+use Rattle.std.proofs.lemmas.Bool.{false≢true, not-true}
 use Rattle.profile_machine.specs.declared.image.Image.{Image}
 use Rattle.profile_machine.specs.declared.world.World.{World}
 use Rattle.profile_machine.specs.declared.world.appointments.Budget.{Budget}
@@ -12,7 +12,7 @@ use Rattle.release_laws.specs.ReleaseLaws.{Passage, BudgetSet, Account, first_ac
 use Rattle.release_laws.specs.MomentLaws.{IsAmong, leaves_budget, LeaveBudget, last_of, BudgetsCome}
 use Rattle.release_laws.proofs.RunReleases.{runs_release}
 use Rattle.release_laws.proofs.CauseLemmas.{budgets-stand}
-use Rattle.release_laws.proofs.MomentLemmas.{among-front, among-behind, among-map, among-filter, among-without, among-one, either-among, behind-front, was_false, last-itself}
+use Rattle.release_laws.proofs.MomentLemmas.{among-front, among-behind, among-map, among-filter, among-without, among-one, either-among, behind-front, last-itself}
 
 -- ---- the budget that runs out is found by its number
 
@@ -41,9 +41,9 @@ run_out-among k (suc n) (x ∷ xs) (y ∷ ys) bs s out there e h =
 -- ---- the account
 
 stays-asked : (w : World) (r : Request) (s : BudgetSet) (bs : List BudgetSet) → leaves_budget s.budget r ≡ true → IsAmong s bs → IsAmong s (budgets_asked w r bs)
-stays-asked w (OfBudget k None) s bs e h = among-without (λ x. eqb k x.budget) s bs (was_false (eqb k s.budget) e) h
+stays-asked w (OfBudget k None) s bs e h = among-without (λ x. eqb k x.budget) s bs (not-true (eqb k s.budget) e) h
 stays-asked w (OfBudget k (Some g)) s bs e h =
-    let kept = among-without (λ x. eqb k x.budget) s bs (was_false (eqb k s.budget) e) h in
+    let kept = among-without (λ x. eqb k x.budget) s bs (not-true (eqb k s.budget) e) h in
     let one : BudgetSet = record { budget = k; handler = g } in
     either-among s (is_number_of w.budgets k) (but_budget k bs ++ one ∷ []) (but_budget k bs) (among-front s (but_budget k bs) (one ∷ []) kept) kept
 stays-asked w (OfTimer k t g v) s bs e h = h

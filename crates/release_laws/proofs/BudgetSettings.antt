@@ -1,6 +1,7 @@
 -- Each statement that sets or cancels a budget's handler does what it asks for.
-use Rattle.std.proofs.Common.{◌≡◌, ℕ, Bool, true, false, cond, not, ◌&&◌, eqb, ltb, List, [], Option, None, refl, sym, ap, subst, ◌∙◌, append-nil, arith}
+use Rattle.std.proofs.Common.{◌≡◌, ℕ, Bool, true, false, cond, not, ◌&&◌, eqb, ltb, List, [], Option, None, refl, sym, ap, subst, ◌∙◌, append-nil}
 use Rattle.std.specs.Prelude.{Ok, is_some}
+use Rattle.std.proofs.lemmas.Bool.{eqb-true}
 use Rattle.ann_base.specs.declared.exceptions.Raised.TheVariants as exception
 use Rattle.trace_text.specs.declared.events.Who.{Who}
 use Rattle.profile_machine.specs.declared.image.Image.{Image}
@@ -30,9 +31,6 @@ use Rattle.release_laws.proofs.Untouched.{Sight, budget_in}
 use Rattle.release_laws.proofs.Effects.{Effect, Does, Alike, alike-clocks, alike-outside, given-does, with_room-does, raise_if-does, gone-does}
 use Rattle.release_laws.proofs.Settings.{Onward, sees-does, answered-from}
 
-same_number : (a b : ℕ) → eqb a b ≡ true → a ≡ b
-same_number a b h = grind arith
-
 module _ (n : ℕ) (h : Option HandlerOf) (budgets : List Budget) where
   abbrev set_budgets : List Budget
   set_budgets = edit_at n (with_handler h) budgets
@@ -43,7 +41,7 @@ module _ (n : ℕ) (h : Option HandlerOf) (budgets : List Budget) where
       ap (λ (x : Budget). x.handler) (read-past no_budget set_budgets n (ap (λ k. ltb n k) (edited-length (with_handler h) budgets n) ∙ is) ∙ sym (read-past no_budget budgets n is))
 
   handler-where : (k : ℕ) (b : Bool) → eqb n k ≡ b → (budget_in set_budgets k).handler ≡ cond (b && is_number_of budgets n) h (budget_in budgets k).handler
-  handler-where k true is = subst (λ i. (budget_in set_budgets i).handler ≡ cond (is_number_of budgets n) h (budget_in budgets i).handler) (same_number n k is) (there-where (is_number_of budgets n) refl)
+  handler-where k true is = subst (λ i. (budget_in set_budgets i).handler ≡ cond (is_number_of budgets n) h (budget_in budgets i).handler) (eqb-true n k is) (there-where (is_number_of budgets n) refl)
   handler-where k false is = ap (λ (x : Budget). x.handler) (edited-other (with_handler h) no_budget budgets n k is)
 
 -- only a budget's handler has changed since

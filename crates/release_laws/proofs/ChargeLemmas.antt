@@ -1,5 +1,6 @@
 -- A tock charges the task that runs, and nobody else.
 use Rattle.std.proofs.Common.{◌≡◌, ℕ, suc, Bool, true, false, cond, ◌&&◌, eqb, List, [], ◌∷◌, Option, Some, None, is_some, option_map, refl, sym, ap, subst, ◌∙◌, arith, unwrap_or}
+use Rattle.std.proofs.lemmas.Bool.{eqb-true}
 use Rattle.ann_base.specs.declared.identities.TaskNo.{TaskNo}
 use Rattle.trace_text.specs.declared.events.Event.{Event}
 use Rattle.trace_text.specs.declared.events.Who.{Who}
@@ -95,12 +96,9 @@ risen-own : (t : TaskNo) (w : World) (found : Option Task) → found_task (who.T
 risen-own t w None e = ap shown e
 risen-own t w (Some y) e = ap shown (set-itself t (clock_risen y) y refl w.tasks e)
 
-same_number : (a b : ℕ) → eqb a b ≡ true → a ≡ b
-same_number a b h = grind arith
-
 risen-where : (t u : TaskNo) (w : World) (same : Bool) → same_task t u ≡ same → clock_in (risen t w).tasks u ≡ cond (same && is_there w u) (suc (clock_in w.tasks u)) (clock_in w.tasks u)
 risen-where t u w true e =
-    subst (λ (v : TaskNo). clock_in (risen t w).tasks v ≡ cond (is_there w v) (suc (clock_in w.tasks v)) (clock_in w.tasks v)) (ap (λ n. record { 0 = n }) (same_number t.0 u.0 e)) (risen-own t w (found_task (who.Task t) w.tasks) refl)
+    subst (λ (v : TaskNo). clock_in (risen t w).tasks v ≡ cond (is_there w v) (suc (clock_in w.tasks v)) (clock_in w.tasks v)) (ap (λ n. record { 0 = n }) (eqb-true t.0 u.0 e)) (risen-own t w (found_task (who.Task t) w.tasks) refl)
 risen-where t u w false e = other-clock u t clock_risen w (found_task (who.Task t) w.tasks) (flipped t.0 u.0 e) refl (λ y. refl)
   where
     flipped : (a b : ℕ) → eqb a b ≡ false → eqb b a ≡ false

@@ -1,6 +1,6 @@
 -- The clocks of tasks in a list of tasks, where one is edited, comes or goes.
 use Rattle.std.proofs.Common.{◌≡◌, ℕ, ◌≤◌, Bool, true, false, cond, not, eqb, List, [], ◌∷◌, ◌++◌, Option, Some, None, refl, sym, ap, subst, ◌∙◌, le_refl, arith, unwrap_or}
-use Rattle.std.proofs.lemmas.Bool.{false≢true}
+use Rattle.std.proofs.lemmas.Bool.{eqb-true, false≢true}
 use Rattle.ann_base.specs.declared.identities.TaskNo.{TaskNo}
 use Rattle.trace_text.specs.declared.events.Who.{Who}
 use Rattle.trace_text.specs.declared.events.Who.TheVariants as who
@@ -60,11 +60,8 @@ added-clock x (z ∷ zs) t e = shown-low (is_who (who.Task t) z) z (found_task (
 
 -- ---- those of a name go
 
-same_number : (a b : ℕ) → eqb a b ≡ true → a ≡ b
-same_number a b h = grind arith
-
 eqb-on : (a b c : ℕ) → eqb a b ≡ true → eqb a c ≡ eqb b c
-eqb-on a b c h = ap (λ n. eqb n c) (same_number a b h)
+eqb-on a b c h = ap (λ n. eqb n c) (eqb-true a b h)
 
 same_who-on : (t : TaskNo) (name other : Who) → same_who (who.Task t) name ≡ true → same_who (who.Task t) other ≡ same_who name other
 same_who-on t (who.Task n) (who.Task m) h = eqb-on t.0 n.0 m.0 h
@@ -72,7 +69,7 @@ same_who-on t (who.Task n) who.Agent h = refl
 same_who-on t who.Agent other h = absurd (false≢true h)
 
 not_both : (t : TaskNo) (name other : Who) → same_who (who.Task t) name ≡ false → same_who name other ≡ true → same_who (who.Task t) other ≡ false
-not_both t (who.Task n) (who.Task m) h k = let e : n.0 ≡ m.0 = same_number n.0 m.0 k in subst (λ i. eqb t.0 i ≡ false) e h
+not_both t (who.Task n) (who.Task m) h k = let e : n.0 ≡ m.0 = eqb-true n.0 m.0 k in subst (λ i. eqb t.0 i ≡ false) e h
 not_both t (who.Task n) who.Agent h k = refl
 not_both t who.Agent (who.Task m) h k = absurd (false≢true k)
 not_both t who.Agent who.Agent h k = refl

@@ -2,7 +2,7 @@
 use Rattle.std.proofs.Common.{◌≡◌, ℕ, ℤ, Bool, true, false, cond, not, ◌&&◌, ◌⊎◌, inl, inr, eqb, filter, List, [], ◌∷◌, ◌++◌, map, Some, None, refl, sym, ap, subst, ◌∙◌, arith}
 use Rattle.std.specs.Prelude.{int_lt, int_le, pos}
 use Rattle.std.proofs.lemmas.Int.{ints}
-use Rattle.std.proofs.lemmas.Bool.{false≢true}
+use Rattle.std.proofs.lemmas.Bool.{and_from, false≢true, not-true}
 use Rattle.profile_machine.specs.declared.image.Image.{Image}
 use Rattle.profile_machine.specs.declared.world.World.{World}
 use Rattle.profile_machine.specs.Words.{without}
@@ -58,10 +58,6 @@ behind-front p Is a (x ∷ xs) rest h = behind-front p Is (account_behind p a x)
 pub not_yet : (time : ℕ) (moment : ℤ) → int_lt (pos time) moment ≡ true → int_le moment (pos time) ≡ false
 not_yet time moment h = grind (arith, ints)
 
-pub was_false : (b : Bool) → not b ≡ true → b ≡ false
-was_false true h = absurd (false≢true h)
-was_false false h = refl
-
 -- ---- events
 
 put-itself : (s : EventSet) (es : List EventSet) → IsAmong s (put_event s es)
@@ -74,9 +70,9 @@ put-others s x (y ∷ ys) (inl e) = either-among x (int_lt s.moment y.moment) (s
 put-others s x (y ∷ ys) (inr h) = either-among x (int_lt s.moment y.moment) (s ∷ y ∷ ys) (y ∷ put_event s ys) (inr (inr h)) (inr (put-others s x ys h))
 
 stays-asked : (time : ℕ) (r : Request) (s : EventSet) (es : List EventSet) → leaves_event s.event r ≡ true → IsAmong s es → IsAmong s (events_asked time r es)
-stays-asked time (OfEvent k None m) s es e h = among-without (λ x. eqb k x.event) s es (was_false (eqb k s.event) e) h
+stays-asked time (OfEvent k None m) s es e h = among-without (λ x. eqb k x.event) s es (not-true (eqb k s.event) e) h
 stays-asked time (OfEvent k (Some g) m) s es e h =
-    let kept = among-without (λ x. eqb k x.event) s es (was_false (eqb k s.event) e) h in
+    let kept = among-without (λ x. eqb k x.event) s es (not-true (eqb k s.event) e) h in
     let one : EventSet = record { event = k; handler = g; moment = m } in
     either-among s (int_lt (pos time) m) (put_event one (but_event k es)) (but_event k es) (put-others one s (but_event k es) kept) kept
 stays-asked time (OfTimer k t g v) s es e h = h
@@ -112,25 +108,21 @@ pub last-itself : {X : Type 0} (x : X) (xs : List X) → IsAmong x (xs ++ x ∷ 
 last-itself x xs = among-behind x xs (x ∷ []) (inl refl)
 
 timer-stays : (w : World) (r : Request) (s : TimerSet) (ts : List TimerSet) → leaves_timer s.timer r ≡ true → IsAmong s ts → IsAmong s (timers_asked w r ts)
-timer-stays w (OfTimer k t None v) s ts e h = among-without (λ x. eqb k x.timer) s ts (was_false (eqb k s.timer) e) h
+timer-stays w (OfTimer k t None v) s ts e h = among-without (λ x. eqb k x.timer) s ts (not-true (eqb k s.timer) e) h
 timer-stays w (OfTimer k t (Some g) v) s ts e h =
-    let kept = among-without (λ x. eqb k x.timer) s ts (was_false (eqb k s.timer) e) h in
+    let kept = among-without (λ x. eqb k x.timer) s ts (not-true (eqb k s.timer) e) h in
     let one : TimerSet = record { timer = k; task = t; handler = g; value = v } in
     either-among s (is_number_of w.timers k && int_lt (pos (clock_of w t)) v) (but_timer k ts ++ one ∷ []) (but_timer k ts) (among-front s (but_timer k ts) (one ∷ []) kept) kept
 timer-stays w (OfEvent k g m) s ts e h = h
 timer-stays w (OfBudget k g) s ts e h = h
 timer-stays w OfNothing s ts e h = h
 
-both : (a b : Bool) → a ≡ true → b ≡ true → (a && b) ≡ true
-both true b h k = k
-both false b h k = h
-
 module _ (p : Image) (s : TimerSet) where
   timer-asked : (x : Passage) (a : Account) → is_number_of x.before.timers s.timer ≡ true → asked p x.before ≡ OfTimer s.timer s.task (Some s.handler) s.value → int_lt (pos (clock_of x.before s.task)) s.value ≡ true → IsAmong s (account_behind p a x).timers
   timer-asked x a there e later =
       among-without (is_reached x.before) s (timers_asked x.before (asked p x.before) a.timers) (not_yet (clock_of x.before s.task) s.value later)
       (subst (λ r. IsAmong s (timers_asked x.before r a.timers)) (sym e)
-      (subst (λ b. IsAmong s (cond b (but_timer s.timer a.timers ++ s ∷ []) (but_timer s.timer a.timers))) (sym (both (is_number_of x.before.timers s.timer) (int_lt (pos (clock_of x.before s.task)) s.value) there later)) (last-itself s (but_timer s.timer a.timers))))
+      (subst (λ b. IsAmong s (cond b (but_timer s.timer a.timers ++ s ∷ []) (but_timer s.timer a.timers))) (sym (and_from (is_number_of x.before.timers s.timer) (int_lt (pos (clock_of x.before s.task)) s.value) there later)) (last-itself s (but_timer s.timer a.timers))))
 
   timer-waits : (between : List Passage) (y : Passage) (back : List Passage) (a : Account) → BelowValue p s.timer s.task s.value between → leaves_timer s.timer (asked p y.before) ≡ true → int_le s.value (pos (clock_of y.before s.task)) ≡ true
       → IsAmong s a.timers → HistoryOk p a (between ++ (y ∷ back)) → IsAmong (named_handler p s.handler) (released y.lines)

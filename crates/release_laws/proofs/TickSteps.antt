@@ -2,6 +2,7 @@
 -- all else of what is released later as it is.
 use Rattle.std.proofs.Common.{◌≡◌, ℕ, zero, suc, ◌+◌, Bool, true, false, cond, not, ◌&&◌, eqb, filter, List, [], ◌∷◌, ◌++◌, map, Option, Some, None, refl, sym, ap, subst, ◌∙◌, append-nil, arith}
 use Rattle.std.specs.Prelude.{int_le, pos}
+use Rattle.std.proofs.lemmas.Bool.{eqb-true}
 use Rattle.ann_base.specs.declared.identities.TaskNo.{TaskNo}
 use Rattle.trace_text.specs.declared.events.Who.{Who}
 use Rattle.trace_text.specs.declared.events.Who.TheVariants as who
@@ -22,11 +23,8 @@ use Rattle.release_laws.proofs.TimerSteps.{number_of_timer}
 
 -- ---- the clock of one task alone goes on
 
-same_number : (a b : ℕ) → eqb a b ≡ true → a ≡ b
-same_number a b h = grind arith
-
 apart : (u t : TaskNo) (other : Who) → same_task u t ≡ false → same_who (who.Task t) other ≡ true → same_who (who.Task u) other ≡ false
-apart u t (who.Task n) h k = let e : t.0 ≡ n.0 = same_number t.0 n.0 k in subst (λ i. eqb u.0 i ≡ false) e h
+apart u t (who.Task n) h k = let e : t.0 ≡ n.0 = eqb-true t.0 n.0 k in subst (λ i. eqb u.0 i ≡ false) e h
 apart u t who.Agent h k = refl
 
 or_that : {X : Type 0} → X → Option X → X
@@ -72,7 +70,7 @@ same_task-sym t u h = flipped t.0 u.0 h
     flipped a b h = grind arith
 
 one_task : (t u : TaskNo) → same_task t u ≡ true → u ≡ t
-one_task t u h = ap (λ n. record { 0 = n }) (sym (same_number t.0 u.0 h))
+one_task t u h = ap (λ n. record { 0 = n }) (sym (eqb-true t.0 u.0 h))
 
 module _ (t : TaskNo) (clock : ℕ) (a b : World) (ran : OneRan t clock a b) (timers : List Timer) where
   reached-test : (task : TaskNo) (s : TimerSetting) (k : ℕ) (same : Bool) → same_task t task ≡ same → is_reached a (record { timer = k; task = task; handler = s.handler; value = s.value }) ≡ false

@@ -1,7 +1,7 @@
 -- Each statement that sets or cancels a timer does what it asks for.
 use Rattle.std.proofs.Common.{◌≡◌, ℕ, ℤ, Bool, true, false, cond, ◌&&◌, List, [], ◌∷◌, ◌++◌, ◌≤◌, Option, Some, None, refl, sym, ap, subst, ◌∙◌, append-nil}
 use Rattle.std.specs.Prelude.{int_lt, pos, Ok, Err}
-use Rattle.std.proofs.lemmas.Bool.{false≢true}
+use Rattle.std.proofs.lemmas.Bool.{and_right, false≢true}
 use Rattle.ann_base.specs.Results.{◌>>=◌}
 use Rattle.ann_base.specs.declared.identities.TaskNo.{TaskNo}
 use Rattle.ann_base.specs.declared.exceptions.Raised.TheVariants as exception
@@ -65,10 +65,6 @@ and_true : (a b : Bool) → b ≡ true → (a && b) ≡ a
 and_true true b e = e
 and_true false b e = refl
 
-and_false : (a b : Bool) → b ≡ false → (a && b) ≡ false
-and_false true b e = e
-and_false false b e = refl
-
 module _ (p : Image) (n : ℕ) (h : HandlerOf) (value : ℤ) (w v : World) (k : Alike w v) where
   abbrev the_task : TaskNo
   the_task = (timer_of w n).task
@@ -89,7 +85,7 @@ module _ (p : Image) (n : ℕ) (h : HandlerOf) (value : ℤ) (w v : World) (k : 
   now-effect : int_lt (pos (clock_of w the_task)) value ≡ false → Effect (OfTimer n the_task (Some h) value) w (clear_timer n v)
   now-effect is =
       timers-effect n (Some h) value w v k (clear_timer n v) refl
-      (cleared n (Some h) value w v k ∙ sym (ap (λ b. cond b (others ++ new ∷ []) others) (and_false (is_number_of w.timers n) (int_lt (pos (clock_of w the_task)) value) is)))
+      (cleared n (Some h) value w v k ∙ sym (ap (λ b. cond b (others ++ new ∷ []) others) (and_right (is_number_of w.timers n) (int_lt (pos (clock_of w the_task)) value) is)))
 
   beyond-from : (b : Bool) → int_lt (pos (clock_of w the_task)) value ≡ b → From (Onward (OfTimer n the_task (Some h) value) w) (clear_timer n v) (timer_set_beyond p n h value b)
   unfolding From Kept timer_set_beyond

@@ -2,7 +2,7 @@
 use Rattle.std.proofs.Common.{◌≡◌, ◌≤◌, ◌+◌, ◌-◌, ◌&&◌, ◌||◌, ◌==◌, ℕ, Bool, true, false, if◌then◌else◌, List, [], ◌∷◌, ◌++◌, Option, Some, None, is_some, map, refl, ap, sym, subst, ◌∙◌, arith, inl, inr}
 use Rattle.std.specs.List.{AllByRecursion, list_all}
 use Rattle.std.specs.Option.{option_map}
-use Rattle.std.proofs.lemmas.Bool.{cases_eq, eqb-true, eq-eqb, ne_eqb}
+use Rattle.std.proofs.lemmas.Bool.{and_parts, cases_eq, eq-eqb, eqb-true, ne_eqb}
 use Rattle.ann_base.specs.declared.identities.TaskNo.{TaskNo}
 use Rattle.trace_text.specs.declared.events.Created.TheVariants as created
 use Rattle.trace_text.specs.declared.events.Event.{Event}
@@ -205,10 +205,6 @@ quiet_clock (Some clock) passing tick one timed less on = λ some ends.
     let none = eqb-true clock.streak 0 (quiet_by (passing.elapsed == 0) (is_lower passing.base (Some clock.level)) (clock.streak == 0) (on clock refl) (ne_eqb passing.elapsed 0 (λ e. omega (arith, some, e))) ends) in
     small_streak (clock.waited - one.waited) (tick - one.tick) one.kept.tally.streak clock.streak one.kept.tally.longest timed.grown timed.unbroken none less
 
-both : (a b : Bool) → (a && b) ≡ true → (a ≡ true) × (b ≡ true)
-both true b e = (refl, e)
-both false b e = cc
-
 on_of_by : (b : Bool) (passing : Passing) (first clock : Clock) (rest : Option Clock) → goes_on passing first ≡ true → (rest ≡ Some clock → goes_on passing clock ≡ true) → (if b then Some first else rest) ≡ Some clock → goes_on passing clock ≡ true
 on_of_by true passing first clock rest on more e = let same : first ≡ clock = cc in subst (λ c. goes_on passing c ≡ true) same on
 on_of_by false passing first clock rest on more e = more e
@@ -216,7 +212,7 @@ on_of_by false passing first clock rest on more e = more e
 on_of : (level : ℕ) (passing : Passing) (clocks : List Clock) → list_all (goes_on passing) clocks ≡ true → (clock : Clock) → clock_of level clocks ≡ Some clock → goes_on passing clock ≡ true
 on_of level passing [] all clock e = cc
 on_of level passing (first ∷ clocks) all clock e =
-    let parts = both (goes_on passing first) (list_all (goes_on passing) clocks) all in
+    let parts = and_parts (goes_on passing first) (list_all (goes_on passing) clocks) all in
     on_of_by (first.level == level) passing first clock (clock_of level clocks) parts.0 (on_of level passing clocks parts.1 clock) e
 
 on_at : (level : Option ℕ) (passing : Passing) (clocks : List Clock) → list_all (goes_on passing) clocks ≡ true → (clock : Clock) → clock_at level clocks ≡ Some clock → goes_on passing clock ≡ true

@@ -5,7 +5,7 @@ use Rattle.std.specs.List.{AllByRecursion, list_all}
 use Rattle.std.specs.Ordering.{nat_cmp}
 use Rattle.std.specs.BTreeMap.{insert_entry}
 use Rattle.std.specs.Map.{keys_of}
-use Rattle.std.proofs.lemmas.Bool.{eq-eqb, leb-true, and_parts}
+use Rattle.std.proofs.lemmas.Bool.{and_parts, eq-eqb, leb-true, not-true, or_right}
 use Rattle.std.proofs.lemmas.List.{map-append}
 use Rattle.ann_base.specs.declared.identities.TaskNo.{TaskNo}
 use Rattle.trace_text.specs.declared.lines.TheConstants.{LAST_TICK}
@@ -217,10 +217,6 @@ ready_quiet event passing last items clocks places places' fit noted_is = quiet_
 
 -- ---- what finds a task behind a line
 
-not_true : (b : Bool) → not b ≡ true → b ≡ false
-not_true true e = cc
-not_true false e = refl
-
 -- a task that a line creates is not there before
 new_by : (items : List Dated) (places : ℕ → Option ℕ) (bases : List (ℕ × ℕ)) (number : ℕ) (o : Option ℕ) → place_in number items ≡ o → IsFound items places bases → has number (keys_of bases) ≡ false → o ≡ None
 new_by items places bases number None e found none = refl
@@ -229,7 +225,7 @@ new_by items places bases number (Some place) e found none = let wrong : true �
 created_absent : (seen : Seen) (event : Event) (number : ℕ) → is_subject_formed (shape_of seen) event ≡ true → created_number event ≡ Some number → has number (keys_of seen.bases) ≡ false
 created_absent seen (New (created.Task task) name level) number formed e =
     let same : task.0 ≡ number = cc in
-    subst (λ n. has n (keys_of seen.bases) ≡ false) same (not_true (has task.0 (keys_of seen.bases)) formed)
+    subst (λ n. has n (keys_of seen.bases) ≡ false) same (not-true (has task.0 (keys_of seen.bases)) formed)
 created_absent seen (New (created.Object object) name level) number formed e = cc
 created_absent seen event number formed e = cc
 
@@ -248,12 +244,8 @@ pub created_new : (seen : Seen) (tick : ℕ) (event : Event) (items : List Dated
 created_new seen tick event items places formed found number e =
     new_by items places seen.bases number (place_in number items) refl found (created_absent seen event number (subject_formed seen tick event formed) e)
 
-or_right_true : (a b : Bool) → b ≡ true → (a || b) ≡ true
-or_right_true true b e = refl
-or_right_true false b e = e
-
 has_more : (number key level : ℕ) (bases : List (ℕ × ℕ)) → has number (keys_of bases) ≡ true → has number (keys_of (insert_entry nat_cmp bases key level)) ≡ true
-has_more number key level bases known = has-insert_entry number bases key level ∙ or_right_true (number == key) (has number (keys_of bases)) known
+has_more number key level bases known = has-insert_entry number bases key level ∙ or_right (number == key) (has number (keys_of bases)) known
 
 has_stays : (number : ℕ) (bases : List (ℕ × ℕ)) (event : Event) → has number (keys_of bases) ≡ true → has number (keys_of (kept_bases bases event)) ≡ true
 has_stays number bases (New (created.Task task) name level) known = has_more number task.0 level bases known

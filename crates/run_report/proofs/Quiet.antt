@@ -1,7 +1,7 @@
 -- A task that is not created yet has a fresh tally.
-use Rattle.std.proofs.Common.{◌≡◌, ℕ, ◌+◌, ◌&&◌, ◌||◌, Bool, true, false, not, if◌then◌else◌, ◌==◌, List, [], ◌∷◌, Option, Some, None, refl, ap, sym, subst, ◌∙◌}
+use Rattle.std.proofs.Common.{◌≡◌, ℕ, ◌+◌, ◌&&◌, Bool, true, false, not, if◌then◌else◌, ◌==◌, List, [], ◌∷◌, Option, Some, None, refl, ap, sym, subst, ◌∙◌}
 use Rattle.std.specs.List.{list_all}
-use Rattle.std.proofs.lemmas.Bool.{eqb-true, false_from_ne_true}
+use Rattle.std.proofs.lemmas.Bool.{and_parts, eqb-true, false_from_ne_true, not-true, not_from_false, or_parts}
 use Rattle.ann_base.specs.declared.identities.TaskNo.{TaskNo}
 use Rattle.trace_text.specs.declared.events.Who.{Who}
 use Rattle.trace_text.specs.declared.events.Who.TheVariants as subject
@@ -25,14 +25,6 @@ is_quiet task (Ready who level end deadline) = not (who_eq who (subject.Task tas
 is_quiet task (Run who) = not (who_eq who (subject.Task task))
 is_quiet task (Base other level) = not (task.0 == other.0)
 is_quiet task _ = true
-
-off : (b : Bool) → not b ≡ true → b ≡ false
-off true e = cc
-off false e = refl
-
-both : (a b : Bool) → (a && b) ≡ true → (a ≡ true) × (b ≡ true)
-both true b e = (refl, e)
-both false b e = cc
 
 -- ---- a fresh tally stays so
 
@@ -91,17 +83,17 @@ leaves task passing tick event b idle move base =
     ∙ ap (λ b. record fresh { base = b }) base
 
 pub fresh_quiet : (task : TaskNo) (passing : Passing) (tick : ℕ) (event : Event) → somebody_eq passing.runner (Some (subject.Task task)) ≡ false → is_quiet task event ≡ true → tally_after task passing tick event fresh ≡ fresh
-fresh_quiet task passing tick (New (created.Task other) name level) idle quiet = stays task passing tick (New (created.Task other) name level) idle refl (ap (λ b. level_if b level None) (off (task.0 == other.0) quiet))
+fresh_quiet task passing tick (New (created.Task other) name level) idle quiet = stays task passing tick (New (created.Task other) name level) idle refl (ap (λ b. level_if b level None) (not-true (task.0 == other.0) quiet))
 fresh_quiet task passing tick (Ready who level end deadline) idle quiet =
-    stays task passing tick (Ready who level end deadline) idle (ap (λ b. if b then Enters end else Stays) (off (who_eq who (subject.Task task)) quiet)) refl
-fresh_quiet task passing tick (Base other level) idle quiet = stays task passing tick (Base other level) idle refl (ap (λ b. level_if b level None) (off (task.0 == other.0) quiet))
+    stays task passing tick (Ready who level end deadline) idle (ap (λ b. if b then Enters end else Stays) (not-true (who_eq who (subject.Task task)) quiet)) refl
+fresh_quiet task passing tick (Base other level) idle quiet = stays task passing tick (Base other level) idle refl (ap (λ b. level_if b level None) (not-true (task.0 == other.0) quiet))
 fresh_quiet task passing tick (Block who why) idle quiet = leaves task passing tick (Block who why) (who_eq who (subject.Task task)) idle refl refl
 fresh_quiet task passing tick (Done other) idle quiet = leaves task passing tick (Done other) (other.0 == task.0) idle refl refl
 fresh_quiet task passing tick event idle quiet = stays task passing tick event idle refl refl
 
 -- and it does not run
 idle_quiet : (task : TaskNo) (runner : Option Who) (event : Event) → somebody_eq runner (Some (subject.Task task)) ≡ false → is_quiet task event ≡ true → somebody_eq (runner_after runner event) (Some (subject.Task task)) ≡ false
-idle_quiet task runner (Run who) idle quiet = off (who_eq who (subject.Task task)) quiet
+idle_quiet task runner (Run who) idle quiet = not-true (who_eq who (subject.Task task)) quiet
 idle_quiet task runner Idle idle quiet = refl
 idle_quiet task runner event idle quiet = idle
 
@@ -112,27 +104,19 @@ pub record IsFresh (task : TaskNo) (seen : Seen) (tally : Tally) : Type 0 where
 pub quiet_along : (task : TaskNo) (seen : Seen) (lines : List TraceLine) → list_all (λ line. is_quiet task line.1) lines ≡ true → somebody_eq seen.runner (Some (subject.Task task)) ≡ false → IsFresh task (seen_after seen lines) (tally_from task seen fresh lines)
 quiet_along task seen [] quiet idle = record { tally_is = refl; idle = idle }
 quiet_along task seen (line ∷ lines) quiet idle =
-    let parts = both (is_quiet task line.1) (list_all (λ line. is_quiet task line.1) lines) quiet in
+    let parts = and_parts (is_quiet task line.1) (list_all (λ line. is_quiet task line.1) lines) quiet in
     let rest = quiet_along task (see_line seen line) lines parts.1 (idle_quiet task seen.runner line.1 idle parts.0) in
     subst (λ tally. IsFresh task (seen_after (see_line seen line) lines) (tally_from task (see_line seen line) tally lines)) (sym (fresh_quiet task (passing_in seen line.0) line.0 line.1 idle parts.0)) rest
 
 -- ---- in a formed list nothing is said of a task before it is created
 
-either : (a b : Bool) → (a || b) ≡ false → (a ≡ false) × (b ≡ false)
-either true b e = cc
-either false b e = (refl, e)
-
 named_less : (number : ℕ) (shape : Shape) (event : Event) → has number (see_shape shape event).tasks ≡ false → has number shape.tasks ≡ false
-named_less number shape (New (created.Task task) name level) none = (either (number == task.0) (has number shape.tasks) none).1
+named_less number shape (New (created.Task task) name level) none = (or_parts (number == task.0) (has number shape.tasks) none).1
 named_less number shape event none = none
 
 pub named_before : (number : ℕ) (shape : Shape) (lines : List TraceLine) → has number (seen_from see_shape shape lines).tasks ≡ false → has number shape.tasks ≡ false
 named_before number shape [] none = none
 named_before number shape (line ∷ lines) none = named_less number shape line.1 (named_before number (see_shape shape line.1) lines none)
-
-on : (b : Bool) → b ≡ false → not b ≡ true
-on true e = cc
-on false e = refl
 
 never : (b : Bool) → b ≡ true → b ≡ false → ⊥
 never b t f = cc
@@ -142,16 +126,16 @@ other_who task shape (subject.Task other) known none = false_from_ne_true (other
 other_who task shape subject.Agent known none = refl
 
 quiet_here : (task : TaskNo) (shape : Shape) (event : Event) → is_subject_formed shape event ≡ true → has task.0 (see_shape shape event).tasks ≡ false → is_quiet task event ≡ true
-quiet_here task shape (New (created.Task other) name level) formed none = on (task.0 == other.0) (either (task.0 == other.0) (has task.0 shape.tasks) none).0
-quiet_here task shape (Ready who level end deadline) formed none = on (who_eq who (subject.Task task)) (other_who task shape who (both (is_known shape who) (is_ready_formed who deadline) formed).0 none)
-quiet_here task shape (Run who) formed none = on (who_eq who (subject.Task task)) (other_who task shape who formed none)
-quiet_here task shape (Base other level) formed none = on (task.0 == other.0) (false_from_ne_true (task.0 == other.0) (λ same. never (has other.0 shape.tasks) formed (ap (λ n. has n shape.tasks) (sym (eqb-true task.0 other.0 same)) ∙ none)))
+quiet_here task shape (New (created.Task other) name level) formed none = not_from_false (task.0 == other.0) (or_parts (task.0 == other.0) (has task.0 shape.tasks) none).0
+quiet_here task shape (Ready who level end deadline) formed none = not_from_false (who_eq who (subject.Task task)) (other_who task shape who (and_parts (is_known shape who) (is_ready_formed who deadline) formed).0 none)
+quiet_here task shape (Run who) formed none = not_from_false (who_eq who (subject.Task task)) (other_who task shape who formed none)
+quiet_here task shape (Base other level) formed none = not_from_false (task.0 == other.0) (false_from_ne_true (task.0 == other.0) (λ same. never (has other.0 shape.tasks) formed (ap (λ n. has n shape.tasks) (sym (eqb-true task.0 other.0 same)) ∙ none)))
 quiet_here task shape event formed none = refl
 
 pub quiet_before : (task : TaskNo) (shape : Shape) (lines : List TraceLine) → follows_lines see_shape is_formed_next shape lines ≡ true → has task.0 (seen_from see_shape shape lines).tasks ≡ false → list_all (λ line. is_quiet task line.1) lines ≡ true
 quiet_before task shape [] formed none = refl
 quiet_before task shape (line ∷ lines) formed none =
-    let parts = both (is_formed_next shape line.1) (follows_lines see_shape is_formed_next (see_shape shape line.1) lines) formed in
-    let subject_formed = (both (not shape.is_ended) (is_subject_formed shape line.1) parts.0).1 in
+    let parts = and_parts (is_formed_next shape line.1) (follows_lines see_shape is_formed_next (see_shape shape line.1) lines) formed in
+    let subject_formed = (and_parts (not shape.is_ended) (is_subject_formed shape line.1) parts.0).1 in
     let here = quiet_here task shape line.1 subject_formed (named_before task.0 (see_shape shape line.1) lines none) in
     ap (λ b. b && list_all (λ line. is_quiet task line.1) lines) here ∙ quiet_before task (see_shape shape line.1) lines parts.1 none

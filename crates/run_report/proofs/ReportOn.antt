@@ -1,6 +1,6 @@
 -- What is kept of a formed list are the accounts of its tasks.
 use Rattle.std.proofs.Common.{◌≡◌, ◌≤◌, ℕ, ◌+◌, ◌-◌, ◌&&◌, Bool, true, false, not, eqb, List, [], ◌∷◌, ◌++◌, Some, None, map, refl, ap, sym, subst, ◌∙◌, append_assoc, append-nil}
-use Rattle.std.proofs.lemmas.Bool.{eq-eqb}
+use Rattle.std.proofs.lemmas.Bool.{and_parts, eq-eqb, not-true}
 use Rattle.std.proofs.lemmas.List.{map-append}
 use Rattle.ann_base.specs.declared.identities.TaskNo.{TaskNo}
 use Rattle.trace_text.specs.declared.events.Who.TheVariants as subject
@@ -85,24 +85,16 @@ created_fresh task name level tick lines h =
     ∙ fresh_after task (passing_in (seen_of lines) tick) tick (New (created.Task task) name level) h.idle refl refl refl refl
     ∙ ap (λ b. record fresh { base = b }) (level_here task level)
 
-off : (b : Bool) → not b ≡ true → b ≡ false
-off true e = cc
-off false e = refl
-
-both : (a b : Bool) → (a && b) ≡ true → (a ≡ true) × (b ≡ true)
-both true b e = (refl, e)
-both false b e = cc
-
 newly_named : (lines : List TraceLine) (line : TraceLine) → ((task : TaskNo) → is_subject_formed (seen_from see_shape no_shape lines) line.1 ≡ true → has task.0 (seen_from see_shape no_shape lines).tasks ≡ false → IsFresh task (seen_of lines) (tally_of task lines)) →
     is_subject_formed (seen_from see_shape no_shape lines) line.1 ≡ true → newly_kept line.1 ≡ map (named (lines ++ line ∷ [])) (created_by line.1)
 newly_named lines (tick, New (created.Task task) name level) new formed =
-    ap (λ (t : Tally). record { task = task; name = name; tally = t } ∷ []) (sym (created_fresh task name level tick lines (new task formed (off (has task.0 (seen_from see_shape no_shape lines).tasks) formed))))
+    ap (λ (t : Tally). record { task = task; name = name; tally = t } ∷ []) (sym (created_fresh task name level tick lines (new task formed (not-true (has task.0 (seen_from see_shape no_shape lines).tasks) formed))))
 newly_named lines (tick, event) new formed = refl
 
 kept_on : (lines : List TraceLine) (line : TraceLine) → follows_lines see_shape is_formed_next no_shape lines ≡ true → is_formed_next (seen_from see_shape no_shape lines) line.1 ≡ true → (reported : Reported) → reported.seen ≡ seen_of lines →
     reported.kept ≡ map (named lines) (created_in lines) → (report_line reported line).kept ≡ map (named (lines ++ line ∷ [])) (created_in (lines ++ line ∷ []))
 kept_on lines line formed next reported seen h =
-    let here = (both (not (seen_from see_shape no_shape lines).is_ended) (is_subject_formed (seen_from see_shape no_shape lines) line.1) next).1 in
+    let here = (and_parts (not (seen_from see_shape no_shape lines).is_ended) (is_subject_formed (seen_from see_shape no_shape lines) line.1) next).1 in
     ap (λ (s : Seen). map (kept_after (passing_in s line.0) line.0 line.1) reported.kept ++ newly_kept line.1) seen
     ∙ ap (λ ks. map (kept_after (passing_in (seen_of lines) line.0) line.0 line.1) ks ++ newly_kept line.1) h
     ∙ ap (λ ks. ks ++ newly_kept line.1) (all_go_on lines line (created_in lines))
@@ -113,9 +105,9 @@ kept_on lines line formed next reported seen h =
 
 parts_from : (shape : Shape) (front : List TraceLine) (line : TraceLine) (lines : List TraceLine) → follows_lines see_shape is_formed_next shape (front ++ line ∷ lines) ≡ true →
     (follows_lines see_shape is_formed_next shape front ≡ true) × (is_formed_next (seen_from see_shape shape front) line.1 ≡ true)
-parts_from shape [] line lines formed = (refl, (both (is_formed_next shape line.1) (follows_lines see_shape is_formed_next (see_shape shape line.1) lines) formed).0)
+parts_from shape [] line lines formed = (refl, (and_parts (is_formed_next shape line.1) (follows_lines see_shape is_formed_next (see_shape shape line.1) lines) formed).0)
 parts_from shape (first ∷ front) line lines formed =
-    let parts = both (is_formed_next shape first.1) (follows_lines see_shape is_formed_next (see_shape shape first.1) (front ++ line ∷ lines)) formed in
+    let parts = and_parts (is_formed_next shape first.1) (follows_lines see_shape is_formed_next (see_shape shape first.1) (front ++ line ∷ lines)) formed in
     let rest = parts_from (see_shape shape first.1) front line lines parts.1 in
     (ap (λ b. b && follows_lines see_shape is_formed_next (see_shape shape first.1) front) parts.0 ∙ rest.0, rest.1)
 
@@ -147,4 +139,4 @@ pub accounts_told : (lines : List TraceLine) → RisesFrom 0 lines → follows_l
 accounts_told lines rises formed = ap (map account_in) (kept_told lines formed) ∙ all_told lines rises (created_in lines)
 
 pub form_of : (lines : List TraceLine) → follows_form lines ≡ true → follows_lines see_shape is_formed_next no_shape lines ≡ true
-form_of lines e = (both (follows_order 0 lines) (follows_lines see_shape is_formed_next no_shape lines) e).1
+form_of lines e = (and_parts (follows_order 0 lines) (follows_lines see_shape is_formed_next no_shape lines) e).1

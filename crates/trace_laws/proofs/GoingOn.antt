@@ -1,7 +1,7 @@
 -- What a list with one line more answers, by the facts of the list.
 use Rattle.std.proofs.Common.{◌≡◌, ℕ, ◌+◌, Bool, true, false, cond, not, ◌&&◌, ◌||◌, eqb, leb, List, [], ◌∷◌, ◌++◌, length, Option, Some, None, Result, Ok, Err, refl, ap, sym, ◌∙◌}
 use Rattle.std.specs.Option.{option_to_list}
-use Rattle.std.proofs.lemmas.Bool.{eqb-true}
+use Rattle.std.proofs.lemmas.Bool.{and_parts, eqb-true}
 use Rattle.std.specs.Result.{OnOk}
 use Rattle.ann_base.specs.declared.faults.OrMemory.{OrMemory}
 use Rattle.ann_base.specs.Answers.{Answers}
@@ -21,9 +21,6 @@ use Rattle.trace_laws.specs.Watched.{Watched, nothing_watched, other_than, count
 use Rattle.trace_laws.proofs.RegionsKept.{leavings_of, left_rightly_kept}
 
 -- tests of two parts
-both : (a b : Bool) → (a && b) ≡ true → (a ≡ true) × (b ≡ true)
-both true b e = (refl, e)
-both false b e = cc
 
 and_true : (a : Bool) → (a && true) ≡ a
 and_true true = refl
@@ -86,11 +83,11 @@ releases_step : (seen : Seen) (counts : Counts) (tick : ℕ) (event : Event) →
     → see_releases (releases_in seen counts) event ≡ releases_in (see_line seen (tick, event)) (counts_after counts event)
 releases_step seen counts tick (Release release object handler) e = rw (eqb-true release (counts.released + 1) e) refl
 releases_step seen counts tick (Serve release) e =
-    let parts = both (eqb release (counts.begun + 1) && leb release counts.released) (eqb (length (option_to_list counts.serving)) 0) e in
-    let number = both (eqb release (counts.begun + 1)) (leb release counts.released) parts.0 in
+    let parts = and_parts (eqb release (counts.begun + 1) && leb release counts.released) (eqb (length (option_to_list counts.serving)) 0) e in
+    let number = and_parts (eqb release (counts.begun + 1)) (leb release counts.released) parts.0 in
     rw (eqb-true release (counts.begun + 1) number.0, no_number counts.serving parts.1) refl
 releases_step seen counts tick (Served release) e =
-    let parts = both (eqb release (counts.served + 1)) (leb release counts.released) e in
+    let parts = and_parts (eqb release (counts.served + 1)) (leb release counts.released) e in
     rw (one_off-other release counts.serving, eqb-true release (counts.served + 1) parts.0) refl
 releases_step seen counts tick _ e = refl
 
@@ -98,7 +95,7 @@ releases_kept : (watched : Watched) (lines : List TraceLine) → follows_lines s
     → seen_from see_releases (releases_in watched.seen watched.counts) lines ≡ releases_in (watched_after watched lines).seen (watched_after watched lines).counts
 releases_kept watched [] e = refl
 releases_kept watched (line ∷ lines) e =
-    let parts = both (is_in_order (releases_in watched.seen watched.counts) line.1) (follows_lines see_releases is_in_order (see_releases (releases_in watched.seen watched.counts) line.1) lines) e in
+    let parts = and_parts (is_in_order (releases_in watched.seen watched.counts) line.1) (follows_lines see_releases is_in_order (see_releases (releases_in watched.seen watched.counts) line.1) lines) e in
     let step = releases_step watched.seen watched.counts line.0 line.1 parts.0 in
     ap (λ r. seen_from see_releases r lines) step ∙ releases_kept (watch_line watched line) lines (ap (λ r. follows_lines see_releases is_in_order r lines) (sym step) ∙ parts.1)
 
@@ -142,7 +139,7 @@ leaving_next lines tick event e =
 handlers_next : (lines : List TraceLine) (tick : ℕ) (event : Event) → Told lines → follows_handlers lines ≡ true
     → follows_handlers (with_line lines tick event) ≡ are_handlers_kept (watched_of lines).seen (watched_of lines).counts tick event
 handlers_next lines tick event told e =
-    let parts = both (follows_lines see_releases is_in_order no_releases lines) (follows_ticks see_releases is_agent_right 0 no_releases lines) e in
+    let parts = and_parts (follows_lines see_releases is_in_order no_releases lines) (follows_ticks see_releases is_agent_right 0 no_releases lines) e in
     let kept : seen_from see_releases no_releases lines ≡ releases_in (watched_of lines).seen (watched_of lines).counts = releases_kept nothing_watched lines parts.0 in
     let order : follows_lines see_releases is_in_order no_releases (with_line lines tick event) ≡ is_in_order (seen_from see_releases no_releases lines) event =
     lines-append see_releases is_in_order no_releases lines (tick, event) ∙ ap (λ b. b && is_in_order (seen_from see_releases no_releases lines) event) parts.0 in

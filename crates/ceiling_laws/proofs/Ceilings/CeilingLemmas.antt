@@ -2,7 +2,7 @@
 use Rattle.std.proofs.Common.{◌≡◌, ℕ, ℤ, ◌+◌, ◌≤◌, Bool, true, false, cond, not, ◌&&◌, ◌||◌, leb, ltb, nat_le, max, List, [], ◌∷◌, Option, Some, None, refl, sym, ap, ◌∙◌, arith}
 use Rattle.std.specs.Bool.{then_some}
 use Rattle.std.specs.List.{list_all}
-use Rattle.std.proofs.lemmas.Bool.{le-leb, leb-true}
+use Rattle.std.proofs.lemmas.Bool.{and_from, and_parts, le-leb, leb-true, or_parts, or_right}
 use Rattle.std.proofs.Math.Nat.{le-max_right}
 use Rattle.ann_base.specs.declared.identities.ObjectNo.{ObjectNo}
 use Rattle.ann_base.specs.declared.exceptions.Raised.TheVariants as exception
@@ -34,21 +34,9 @@ use Rattle.ceiling_laws.specs.CeilingLaws.{IsBelow, LetsInBelow, RaisesAbove, Se
 
 -- ---- tests
 
-or-false : (a b : Bool) → (a || b) ≡ false → (a ≡ false) × (b ≡ false)
-or-false true b e = absurd cc
-or-false false b e = (refl, e)
-
 second_false : (a b : Bool) → (a && b) ≡ false → a ≡ true → b ≡ false
 second_false true b e is = e
 second_false false b e is = absurd cc
-
-halves : (a b : Bool) → (a && b) ≡ true → (a ≡ true) × (b ≡ true)
-halves true b e = (refl, e)
-halves false b e = absurd cc
-
-both : (a b : Bool) → a ≡ true → b ≡ true → (a && b) ≡ true
-both true b p q = q
-both false b p q = absurd cc
 
 not_less : (a c : ℕ) → ltb c a ≡ false → a ≤ c
 not_less a c e = grind arith
@@ -64,7 +52,7 @@ inside-below : (p : Image) (w : World) (name : Who) (o : ObjectNo) (mode : Mode)
 inside-below p w name o mode None is e = absurd cc
 inside-below p w name o mode (Some x) is e =
     let test : is_above_ceiling p w name x.ceiling ≡ false = not_above (has_open name x.actions) (is_above_ceiling p w name x.ceiling) (excludes mode (without (is_action_of name) x.actions)) e in
-    let parts = or-false (ltb x.ceiling (active_of p w name)) (has_edf p && ltb x.ceiling (task_of w name).base) test in
+    let parts = or_parts (ltb x.ceiling (active_of p w name)) (has_edf p && ltb x.ceiling (task_of w name).base) test in
     record {
       object = x;
       found = is;
@@ -105,7 +93,7 @@ range-step : (last level : ℕ) (b : Bool) (range : DispatchingRange) (rest : Op
     → is_edf_policy (policy_of_range rest) ≡ false → is_edf_policy (policy_of_range (cond b (Some range) rest)) ≡ false
 range-step last level false range rest is low high onward = onward
 range-step last level true range rest is low high onward =
-    let inside = halves (leb range.first level) (leb level range.last) is in
+    let inside = and_parts (leb range.first level) (leb level range.last) is in
     let most : level ≤ range.last = leb-true level range.last inside.1 in
     let past : leb range.last last ≡ false = grind arith in
     past_none (is_edf_policy range.policy) (leb range.last last) low past
@@ -113,7 +101,7 @@ range-step last level true range rest is low high onward =
 no_deadline : (last level : ℕ) (ranges : List DispatchingRange) → list_all (is_below_interrupts last) ranges ≡ true → last + 1 ≤ level → is_edf_policy (policy_of_range (range_of ranges level)) ≡ false
 no_deadline last level [] low high = refl
 no_deadline last level (range ∷ ranges) low high =
-    let parts = halves (is_below_interrupts last range) (list_all (is_below_interrupts last) ranges) low in
+    let parts = and_parts (is_below_interrupts last range) (list_all (is_below_interrupts last) ranges) low in
     range-step last level (is_in_range level range) range (range_of ranges level) refl parts.0 high (no_deadline last level ranges parts.1 high)
 
 pub interrupts_have_no_deadline : InterruptsHaveNoDeadline
@@ -123,14 +111,10 @@ no_low : (found : Option DispatchingRange) → is_edf_policy (policy_of_range fo
 no_low None e = refl
 no_low (Some range) e = ap (λ b. cond b (Some range.first) None) e
 
-either : (a b : Bool) → b ≡ true → (a || b) ≡ true
-either true b e = refl
-either false b e = e
-
 has-step : (b : Bool) (range : DispatchingRange) (rest : Option DispatchingRange) (others : Bool) → is_edf_policy (policy_of_range (cond b (Some range) rest)) ≡ true → (is_edf_policy (policy_of_range rest) ≡ true → others ≡ true)
     → (is_edf_policy range.policy || others) ≡ true
 has-step true range rest others e onward = ap (λ t. t || others) e
-has-step false range rest others e onward = either (is_edf_policy range.policy) others (onward e)
+has-step false range rest others e onward = or_right (is_edf_policy range.policy) others (onward e)
 
 pub has_range : (level : ℕ) (ranges : List DispatchingRange) → is_edf_policy (policy_of_range (range_of ranges level)) ≡ true → has_edf_range ranges ≡ true
 has_range level [] e = absurd cc
@@ -158,8 +142,8 @@ at_most : (level ceiling : ℕ) → level ≤ ceiling → nat_le level ceiling �
 at_most level ceiling h = le-leb level ceiling h
 
 entry-below : (b : Bool) (level ceiling : ℕ) (deadline : ℤ) (base : Option ℕ) → nat_le level ceiling ≡ true → (b ≡ true → is_at_most base ceiling ≡ true) → (nat_le level ceiling && is_base_below (then_some b deadline) base ceiling) ≡ true
-entry-below true level ceiling deadline base h k = both (nat_le level ceiling) (is_at_most base ceiling) h (k refl)
-entry-below false level ceiling deadline base h k = both (nat_le level ceiling) true h refl
+entry-below true level ceiling deadline base h k = and_from (nat_le level ceiling) (is_at_most base ceiling) h (k refl)
+entry-below false level ceiling deadline base h k = and_from (nat_le level ceiling) true h refl
 
 base-below : (p : Image) (w : World) (name : Who) (o : ObjectNo) (sight : Levels) → edf_is_below_interrupts p ≡ true → w.agent.base ≡ interrupt_priority p → Shows p w name o sight → (below : IsBelow p w name o)
     → is_edf_level p (active p (task_of w name)) ≡ true → is_at_most (base_of name sight.bases) below.object.ceiling ≡ true

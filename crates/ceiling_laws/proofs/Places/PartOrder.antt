@@ -1,6 +1,7 @@
 -- The lines of an effect in order: what they say last of somebody's place.
 use Rattle.std.proofs.Common.{◌≡◌, ℕ, ◌<◌, ◌≤◌, ◌&&◌, Bool, true, false, cond, ltb, List, [], ◌∷◌, ◌++◌, Option, Some, None, refl, sym, ap, subst, ◌∙◌, arith}
 use Rattle.std.specs.Prelude.{unwrap_or}
+use Rattle.std.proofs.lemmas.Bool.{and_left, and_parts, and_right, le-ltb, lt-ltb, ltb-false, ltb-true}
 use Rattle.trace_text.specs.declared.events.Who.{Who}
 use Rattle.trace_text.specs.declared.events.Who.TheVariants.{Task, Agent}
 use Rattle.profile_machine.specs.declared.world.lines.Part.{Part}
@@ -61,42 +62,18 @@ other-rank Own e = absurd cc
 other-rank ThePlacing e = absurd cc
 other-rank TheBlock e = absurd cc
 
-less : (m n : ℕ) → ltb m n ≡ true → m < n
-less m n e = grind arith
-
-not_less : (m n : ℕ) → ltb m n ≡ false → n ≤ m
-not_less m n e = grind arith
-
-is_less : (m n : ℕ) → m < n → ltb m n ≡ true
-is_less m n h = grind arith
-
-is_no_less : (m n : ℕ) → n ≤ m → ltb m n ≡ false
-is_no_less m n h = grind arith
-
-and-true : (a b : Bool) → (a && b) ≡ true → (a ≡ true) × (b ≡ true)
-and-true true b e = (refl, e)
-and-true false b e = absurd cc
-
 -- whose part stands before that of another has no higher rank
 rank-before : (a b : Part) → is_part_before a b ≡ true → rank_of a ≤ rank_of b
 rank-before a b e =
     by_test (is_other a && is_other b)
-    (λ o. let both = and-true (is_other a) (is_other b) o in omega (arith, other-rank a both.0, other-rank b both.1))
-    (λ o. let h : rank_of a < rank_of b = less (rank_of a) (rank_of b) (sym (neither a b o) ∙ e) in omega (arith, h))
+    (λ o. let both = and_parts (is_other a) (is_other b) o in omega (arith, other-rank a both.0, other-rank b both.1))
+    (λ o. let h : rank_of a < rank_of b = ltb-true (rank_of a) (rank_of b) (sym (neither a b o) ∙ e) in omega (arith, h))
 
 rank-behind : (a b : Part) → is_part_before a b ≡ false → rank_of b ≤ rank_of a
 rank-behind a b e =
     by_test (is_other a && is_other b)
-    (λ o. let both = and-true (is_other a) (is_other b) o in omega (arith, other-rank a both.0, other-rank b both.1))
-    (λ o. not_less (rank_of a) (rank_of b) (sym (neither a b o) ∙ e))
-
-and-false : (a b : Bool) → a ≡ false → (a && b) ≡ false
-and-false true b e = absurd cc
-and-false false b e = refl
-
-and-false_right : (a b : Bool) → b ≡ false → (a && b) ≡ false
-and-false_right true b e = e
-and-false_right false b e = refl
+    (λ o. let both = and_parts (is_other a) (is_other b) o in omega (arith, other-rank a both.0, other-rank b both.1))
+    (λ o. ltb-false (rank_of a) (rank_of b) (sym (neither a b o) ∙ e))
 
 others-trans : (a b c : Part) → is_other a ≡ true → is_other c ≡ true → is_part_before a b ≡ true → is_part_before b c ≡ true → is_part_before a c ≡ true
 others-trans (OfOther a) (OfOther b) (OfOther c) f g p q = numbered-trans a b c p q
@@ -138,16 +115,16 @@ pub before-trans : (a b c : Part) → is_part_before a b ≡ true → is_part_be
 before-trans a b c p q =
     by_test (is_other a)
     (λ f. by_test (is_other c) (λ g. others-trans a b c f g p q)
-    (λ g. neither a c (and-false_right (is_other a) (is_other c) g) ∙ is_less (rank_of a) (rank_of c)
-    (let h : rank_of b < rank_of c = less (rank_of b) (rank_of c) (sym (neither b c (and-false_right (is_other b) (is_other c) g)) ∙ q) in omega (arith, h, rank-before a b p))))
-    (λ f. neither a c (and-false (is_other a) (is_other c) f) ∙ is_less (rank_of a) (rank_of c)
-    (let h : rank_of a < rank_of b = less (rank_of a) (rank_of b) (sym (neither a b (and-false (is_other a) (is_other b) f)) ∙ p) in omega (arith, h, rank-before b c q)))
+    (λ g. neither a c (and_right (is_other a) (is_other c) g) ∙ lt-ltb (rank_of a) (rank_of c)
+    (let h : rank_of b < rank_of c = ltb-true (rank_of b) (rank_of c) (sym (neither b c (and_right (is_other b) (is_other c) g)) ∙ q) in omega (arith, h, rank-before a b p))))
+    (λ f. neither a c (and_left (is_other a) (is_other c) f) ∙ lt-ltb (rank_of a) (rank_of c)
+    (let h : rank_of a < rank_of b = ltb-true (rank_of a) (rank_of b) (sym (neither a b (and_left (is_other a) (is_other b) f)) ∙ p) in omega (arith, h, rank-before b c q)))
 
 pub behind-trans : (a b c : Part) → is_part_before a b ≡ false → is_part_before b c ≡ false → is_part_before a c ≡ false
 behind-trans a b c p q =
     by_test (is_other a && is_other c)
-    (λ o. let both = and-true (is_other a) (is_other c) o in others-behind a b c both.0 both.1 p q)
-    (λ o. neither a c o ∙ is_no_less (rank_of a) (rank_of c) (omega (arith, rank-behind a b p, rank-behind b c q)))
+    (λ o. let both = and_parts (is_other a) (is_other c) o in others-behind a b c both.0 both.1 p q)
+    (λ o. neither a c o ∙ le-ltb (rank_of a) (rank_of c) (omega (arith, rank-behind a b p, rank-behind b c q)))
 
 irreflexive_number : (a : ℕ) → ltb a a ≡ false
 irreflexive_number a = grind arith

@@ -20,7 +20,7 @@ use Rattle.profile_machine.specs.declared.world.tasks.Cause.TheVariants as inher
 use Rattle.profile_machine.specs.declared.world.tasks.Inherited.{Inherited}
 use Rattle.profile_machine.specs.declared.world.tasks.Task.{Task}
 use Rattle.std.proofs.Common.{ap, arith, cond, inl, inr, le_refl, le_trans, map, refl, subst, sym, ◌++◌, ◌||◌, ◌∙◌, ◌∷◌, ◌≡◌, ◌≤◌, ◌⊎◌}
-use Rattle.std.proofs.lemmas.Bool.{le-leb}
+use Rattle.std.proofs.lemmas.Bool.{le-leb, or_cases}
 use Rattle.std.specs.List.{list_any}
 use Rattle.std.specs.Prelude.{Bool, List, None, Option, Some, [], eqb, false, find, int_lt, leb, not, suc, true, ℕ, ℤ, unwrap_or}
 use Rattle.trace_text.specs.declared.events.Who.{Who}
@@ -117,9 +117,6 @@ drawn-number low drawn (who.Agent ∷ ns) h = never h
 pub not-yet : (k drawn : ℕ) → suc k ≤ drawn → leb drawn k ≡ false
 not-yet k drawn h = grind arith
 
-pub from-low : (low k : ℕ) → low ≤ k → leb low k ≡ true
-from-low low k h = le-leb low k h
-
 pub earlier-low : (low k : ℕ) (m : Who) → low ≤ k → is_fresh (suc k) m ≡ true → is_fresh low m ≡ true
 earlier-low low k (who.Task j) l late = earlier_number low k j.0 l late
 earlier-low low k who.Agent l late = late
@@ -128,7 +125,7 @@ head-known : (n : Who) (low drawn : ℕ) (t : Task) (ts : List Task) (ns : List 
 head-known (who.Task k) low drawn t ts ns is h = record {
   found = ap (λ b. cond b (Some t) (find (is_who t.who) ts)) (same-self t.who);
   drawn_before = ap (is_fresh drawn) is ∙ not-yet k.0 drawn (drawn-number (suc k.0) drawn ns h.1);
-  behind_it = ap (is_fresh low) is ∙ from-low low k.0 h.0;
+  behind_it = ap (is_fresh low) is ∙ le-leb low k.0 h.0;
   no_agent = ap is_agent is;
 }
 head-known who.Agent low drawn t ts ns is h = never h
@@ -226,20 +223,17 @@ sound-add t w numbered h = record {
 }
 
 -- a moment is appointed for a task
-first_or : (a b : Bool) → (a || b) ≡ true → (a ≡ true) ⊎ (b ≡ true)
-first_or true b e = inl refl
-first_or false b e = inr e
 
 later_or : {P : Type 0} (a b c : Bool) → (a || b) ≡ true → (b ≡ true → P ⊎ (c ≡ true)) → P ⊎ ((a || c) ≡ true)
 later_or true b c e onward = inr refl
 later_or false b c e onward = onward e
 
 put_if : (test : Appointment → Bool) (y a : Appointment) (rest put : List Appointment) (b : Bool) → list_any test (cond b (y ∷ a ∷ rest) (a ∷ put)) ≡ true → (list_any test put ≡ true → (test y ≡ true) ⊎ (list_any test rest ≡ true)) → (test y ≡ true) ⊎ (list_any test (a ∷ rest) ≡ true)
-put_if test y a rest put true e onward = first_or (test y) (list_any test (a ∷ rest)) e
+put_if test y a rest put true e onward = or_cases (test y) (list_any test (a ∷ rest)) e
 put_if test y a rest put false e onward = later_or (test a) (list_any test put) (list_any test rest) e onward
 
 pub put-either : (test : Appointment → Bool) (y : Appointment) (xs : List Appointment) → list_any test (put_appointment y xs) ≡ true → (test y ≡ true) ⊎ (list_any test xs ≡ true)
-put-either test y [] e = first_or (test y) false e
+put-either test y [] e = or_cases (test y) false e
 put-either test y (a ∷ rest) e = put_if test y a rest (put_appointment y rest) (int_lt y.moment a.moment) e (put-either test y rest)
 
 appointed-fresh : (drawn : ℕ) (t u : TaskNo) (w : World) → is_fresh drawn (who.Task t) ≡ false → (is_delayed u w ≡ true → is_fresh drawn (who.Task u) ≡ false) → (same_task u t ≡ true) ⊎ (is_delayed u w ≡ true) → is_fresh drawn (who.Task u) ≡ false

@@ -48,8 +48,8 @@ use Rattle.profile_machine.specs.declared.world.objects.Object.{Object}
 use Rattle.profile_machine.specs.declared.world.scopes.Located.{Located}
 use Rattle.profile_machine.specs.declared.world.scopes.ScopeId.{ScopeId}
 use Rattle.profile_machine.specs.declared.world.tasks.Task.{Task}
-use Rattle.std.proofs.Common.{Bool, List, None, Option, Some, [], ap, arith, cond, false, inl, inr, le_trans, ltb, map, nat_le, refl, subst, sym, true, ◌&&◌, ◌||◌, ◌∙◌, ◌∷◌, ◌≡◌, ◌≤◌}
-use Rattle.std.proofs.lemmas.Bool.{le-leb}
+use Rattle.std.proofs.Common.{Bool, List, None, Option, Some, [], ap, arith, cond, false, inl, inr, le_trans, ltb, map, nat_le, refl, subst, sym, true, ◌&&◌, ◌∙◌, ◌∷◌, ◌≡◌, ◌≤◌}
+use Rattle.std.proofs.lemmas.Bool.{and_from, le-leb, or_parts}
 use Rattle.std.specs.Prelude.{not, ℕ, ℤ, ◌-◌, unwrap_or}
 use Rattle.line_laws.proofs.Ticks.LineByLine.{Follow-all, Follow-append, seen_behind}
 use Rattle.trace_text.specs.Laws.{Levels, base_of, is_at_most, is_base_below, is_below_ceiling, is_entry_below, level_of, see_levels}
@@ -61,15 +61,7 @@ use Rattle.trace_text.specs.declared.events.Mode.{Mode}
 use Rattle.trace_text.specs.declared.events.Who.{Who}
 use Rattle.trace_text.specs.declared.events.Who.TheVariants as who
 
-both : (a b : Bool) → a ≡ true → b ≡ true → (a && b) ≡ true
-both true b p q = q
-both false b p q = absurd cc
-
 -- ---- who is let in
-
-or-false : (a b : Bool) → (a || b) ≡ false → (a ≡ false) × (b ≡ false)
-or-false true b e = absurd cc
-or-false false b e = (refl, e)
 
 second_false : (a b : Bool) → (a && b) ≡ false → a ≡ true → b ≡ false
 second_false true b e is = e
@@ -92,7 +84,7 @@ unfolding MayEnter
 inside-may p name w o mode None is e = absurd cc
 inside-may p name w o mode (Some x) is e =
     let test : is_above_ceiling p w name x.ceiling ≡ false = not_above (has_open name x.actions) (is_above_ceiling p w name x.ceiling) (excludes mode (without (is_action_of name) x.actions)) e in
-    let parts = or-false (ltb x.ceiling (active_of p w name)) (has_edf p && ltb x.ceiling (task_of w name).base) test in (
+    let parts = or_parts (ltb x.ceiling (active_of p w name)) (has_edf p && ltb x.ceiling (task_of w name).base) test in (
       x.ceiling,
       ceiling-found o w.objects x is,
       not_less (active_of p w name) x.ceiling parts.0,
@@ -125,7 +117,7 @@ unfolding MayEnter
 below_shown p w name sight o mode place shown may =
     ap (λ e. is_entry_below e (base_of name sight.bases) (level_of o.0 sight.ceilings)) place.found
     ∙ ap (λ c. is_entry_below (Some place.entry) (base_of name sight.bases) c) (shown-at sight.ceilings o w.objects may.0 shown may.1)
-    ∙ both (nat_le place.entry.level may.0) (is_base_below place.entry.deadline (base_of name sight.bases) may.0)
+    ∙ and_from (nat_le place.entry.level may.0) (is_base_below place.entry.deadline (base_of name sight.bases) may.0)
     (le-leb place.entry.level may.0 (le_trans place.level may.2)) (base-below p w name sight place.entry may.0 place.entry.deadline place.base may.3)
 
 -- ---- the states
@@ -299,7 +291,7 @@ beside p sight = (None_enter, any_world, any_task, free_others (none_base p), (�
 
 follow-test : (sight : Levels) (lines : List Event) → Lawful sight lines → keep_ceilings sight lines ≡ true
 follow-test sight [] h = refl
-follow-test sight (x ∷ xs) h = both (is_below_ceiling sight x) (keep_ceilings (see_levels sight x) xs) h.0 (follow-test (see_levels sight x) xs h.1)
+follow-test sight (x ∷ xs) h = and_from (is_below_ceiling sight x) (keep_ceilings (see_levels sight x) xs) h.0 (follow-test (see_levels sight x) xs h.1)
 
 pub instants_keep_ceilings : InstantsKeepCeilings
 unfolding AnySight

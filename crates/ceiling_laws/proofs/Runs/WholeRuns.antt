@@ -5,7 +5,6 @@ use Rattle.ceiling_laws.proofs.Runs.DeadlineLemmas.{deadlines_are_of_tasks}
 use Rattle.ceiling_laws.proofs.Runs.EnterMoves.{instants_keep_ceilings, opening_keeps_ceilings, tocks_keep_ceilings}
 use Rattle.ceiling_laws.proofs.Runs.ShownPlaces.{who_acts_is_shown}
 use Rattle.ceiling_laws.specs.RunLaws.{AreCeilingsShown, ArePlaced, PlacesKeepCeilings, ShowsPlace, ShowsRunner, Tells, ceilings_told, keep_ceilings, levels_told, told_first, told_on}
-use Rattle.machine_laws.proofs.ListLemmas.{both}
 use Rattle.profile_machine.specs.Dispatching.{active_of}
 use Rattle.profile_machine.specs.Instant.{instant, is_over}
 use Rattle.profile_machine.specs.Run.{Ran, at_tick, opening, run_from, run_of, stop, stopped, then_runs, tock}
@@ -15,7 +14,8 @@ use Rattle.profile_machine.specs.declared.run_data.Item.{Item}
 use Rattle.profile_machine.specs.declared.world.World.{World}
 use Rattle.profile_machine.specs.declared.world.tasks.Task.{Task}
 use Rattle.std.proofs.Common.{ap, refl, subst, sym, ◌∙◌, ◌≡◌}
-use Rattle.std.specs.Prelude.{Bool, List, None, Option, Some, [], false, suc, true, zero, ℕ, ℤ, ◌&&◌, ◌++◌, ◌∷◌, ◌≤◌, unwrap_or}
+use Rattle.std.specs.Prelude.{List, None, Option, Some, [], suc, true, zero, ℕ, ℤ, ◌++◌, ◌∷◌, ◌≤◌, unwrap_or}
+use Rattle.std.proofs.lemmas.Bool.{and_from, and_parts}
 use Rattle.trace_text.proofs.LawsFollowed.{lines_hold}
 use Rattle.trace_text.specs.Laws.{Levels, is_below_ceiling, no_levels, see_levels}
 use Rattle.trace_text.specs.Queue.{entry_of, follows_lines}
@@ -35,33 +35,29 @@ ceilings-levels : (sight : Levels) (lines : List Event) → (levels_told sight l
 ceilings-levels sight [] = refl
 ceilings-levels sight (x ∷ xs) = ceilings-levels (see_levels sight x) xs
 
-halves : (a b : Bool) → (a && b) ≡ true → (a ≡ true) × (b ≡ true)
-halves true b e = (refl, e)
-halves false b e = absurd cc
-
 keep-end : (sight : Levels) (xs : List Event) (reason : Ended) → keep_ceilings sight xs ≡ true → keep_ceilings sight (xs ++ written.End reason ∷ []) ≡ true
 keep-end sight [] reason h = refl
 keep-end sight (x ∷ xs) reason h =
-    let parts = halves (is_below_ceiling sight x) (keep_ceilings (see_levels sight x) xs) h in
-    both (is_below_ceiling sight x) (keep_ceilings (see_levels sight x) (xs ++ written.End reason ∷ [])) parts.0 (keep-end (see_levels sight x) xs reason parts.1)
+    let parts = and_parts (is_below_ceiling sight x) (keep_ceilings (see_levels sight x) xs) h in
+    and_from (is_below_ceiling sight x) (keep_ceilings (see_levels sight x) (xs ++ written.End reason ∷ [])) parts.0 (keep-end (see_levels sight x) xs reason parts.1)
 
 keep-append : (sight : Levels) (xs ys : List Event) → keep_ceilings sight xs ≡ true → keep_ceilings (levels_told sight xs) ys ≡ true → keep_ceilings sight (xs ++ ys) ≡ true
 keep-append sight [] ys h k = k
 keep-append sight (x ∷ xs) ys h k =
-    let parts = halves (is_below_ceiling sight x) (keep_ceilings (see_levels sight x) xs) h in
-    both (is_below_ceiling sight x) (keep_ceilings (see_levels sight x) (xs ++ ys)) parts.0 (keep-append (see_levels sight x) xs ys parts.1 k)
+    let parts = and_parts (is_below_ceiling sight x) (keep_ceilings (see_levels sight x) xs) h in
+    and_from (is_below_ceiling sight x) (keep_ceilings (see_levels sight x) (xs ++ ys)) parts.0 (keep-append (see_levels sight x) xs ys parts.1 k)
 
 kept-alone : (n : ℕ) (sight : Levels) (xs : List Event) → keep_ceilings sight xs ≡ true → follows_lines see_levels is_below_ceiling sight (at_tick n xs) ≡ true
 kept-alone n sight [] h = refl
 kept-alone n sight (x ∷ xs) h =
-    let parts = halves (is_below_ceiling sight x) (keep_ceilings (see_levels sight x) xs) h in
-    both (is_below_ceiling sight x) (follows_lines see_levels is_below_ceiling (see_levels sight x) (at_tick n xs)) parts.0 (kept-alone n (see_levels sight x) xs parts.1)
+    let parts = and_parts (is_below_ceiling sight x) (keep_ceilings (see_levels sight x) xs) h in
+    and_from (is_below_ceiling sight x) (follows_lines see_levels is_below_ceiling (see_levels sight x) (at_tick n xs)) parts.0 (kept-alone n (see_levels sight x) xs parts.1)
 
 kept-then : (n : ℕ) (sight : Levels) (xs : List Event) (rest : List (ℕ × Event)) → keep_ceilings sight xs ≡ true → follows_lines see_levels is_below_ceiling (levels_told sight xs) rest ≡ true → follows_lines see_levels is_below_ceiling sight (at_tick n xs ++ rest) ≡ true
 kept-then n sight [] rest h k = k
 kept-then n sight (x ∷ xs) rest h k =
-    let parts = halves (is_below_ceiling sight x) (keep_ceilings (see_levels sight x) xs) h in
-    both (is_below_ceiling sight x) (follows_lines see_levels is_below_ceiling (see_levels sight x) (at_tick n xs ++ rest)) parts.0 (kept-then n (see_levels sight x) xs rest parts.1 k)
+    let parts = and_parts (is_below_ceiling sight x) (keep_ceilings (see_levels sight x) xs) h in
+    and_from (is_below_ceiling sight x) (follows_lines see_levels is_below_ceiling (see_levels sight x) (at_tick n xs ++ rest)) parts.0 (kept-then n (see_levels sight x) xs rest parts.1 k)
 
 -- ---- who acts
 

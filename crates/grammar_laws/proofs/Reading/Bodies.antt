@@ -2,6 +2,7 @@
 use Rattle.std.proofs.Common.{◌≡◌, ℕ, zero, suc, Bool, true, false, cond, ◌&&◌, List, ◌∷◌, ◌++◌, refl, subst, codes}
 use Rattle.std.specs.Prelude.{flat_map}
 use Rattle.std.specs.List.{list_all}
+use Rattle.std.proofs.lemmas.Bool.{not-true}
 use Rattle.ann_base.specs.declared.places.Place.{Place}
 use Rattle.ada_lex.specs.Reserved.{is_reserved}
 use Rattle.ada_tree.specs.declared.names.Identifier.{Identifier}
@@ -27,7 +28,7 @@ use Rattle.ada_grammar.specs.ReadingBodies.{body_of, subprogram_operation_of, en
 use Rattle.grammar_laws.specs.Leads.{Leads}
 use Rattle.grammar_laws.proofs.Reading.Leading.{leads_through}
 use Rattle.grammar_laws.proofs.Reading.Exact.{done, Rest, Any, itself, Exact, field, closing, first_is, listed}
-use Rattle.grammar_laws.proofs.Reading.Tokens.{always, shapeless, not_true, not_word, word_then}
+use Rattle.grammar_laws.proofs.Reading.Tokens.{always, shapeless, not_word, word_then}
 use Rattle.grammar_laws.proofs.Reading.Choices.{Sound, either, one_form}
 use Rattle.grammar_laws.proofs.Reading.Ends.{ends_expression, ends_sequence}
 use Rattle.grammar_laws.proofs.Reading.Selects.{ReadsDeeper}
@@ -178,4 +179,4 @@ pub operation_bodies_exact : (left : ℕ) (sequence : SequenceRole → Parser Se
 unfolding starts
 operation_bodies_exact left sequence known =
     listed begins_operation (operation_body_written sequence_written) (operation_body_fits sequence_fits left) always ends_operations (operation_body_of left sequence) (operation_body_exact left sequence known) operation_body_begins refl
-    (λ r e. refl) (λ r e. refl) (λ r e. not_true (begins_operation r) e)
+    (λ r e. refl) (λ r e. refl) (λ r e. not-true (begins_operation r) e)

@@ -1,6 +1,7 @@
 -- Objects, components, exceptions and uses (3.3.1, 3.8, 11.1, 8.4).
 use Rattle.std.proofs.Common.{◌≡◌, ℕ, Bool, true, false, List, [], ◌∷◌, ◌++◌, refl, codes}
 use Rattle.std.specs.Prelude.{Option, Some}
+use Rattle.std.proofs.lemmas.Bool.{not-true}
 use Rattle.ann_base.specs.declared.places.Place.{Place}
 use Rattle.ada_tree.specs.declared.names.Identifier.{Identifier}
 use Rattle.ada_tree.specs.declared.names.Name.{Name}
@@ -25,7 +26,7 @@ use Rattle.ada_grammar.specs.ReadingSimple.{subtype_indication_of}
 use Rattle.ada_grammar.specs.ReadingDeclarations.{initial_of, object_of, exception_of, named_declaration_of, component_of, use_of}
 use Rattle.grammar_laws.specs.Leads.{Leads}
 use Rattle.grammar_laws.proofs.Reading.Exact.{done, Rest, Any, itself, Exact, first_true, second_true, field, plain, narrower, closing, first_is, first_optional, optionally}
-use Rattle.grammar_laws.proofs.Reading.Tokens.{always, shapeless, not_true, not_word, word_then, delimiter_then, flag_exact, sees_delimiter_first, sees_word_first}
+use Rattle.grammar_laws.proofs.Reading.Tokens.{always, shapeless, not_word, word_then, delimiter_then, flag_exact, sees_delimiter_first, sees_word_first}
 use Rattle.grammar_laws.proofs.Reading.Names.{not_delimiter, name_exact, identifiers_exact}
 use Rattle.grammar_laws.proofs.Reading.Choices.{Sound, one_form}
 use Rattle.grammar_laws.proofs.Reading.Ends.{ends_expression}
@@ -44,7 +45,7 @@ initial_exact left =
     (narrower itself Any expression_written (value_fits left) ends_expression ends_initial (expression_of left) (expression_exact left) (λ r e. first_true (ends_expression r) (not_delimiter (codes ":=") r) e))
     (λ e. tt) (λ e. refl) (λ e i p q. q)))
     (λ e ls r l. sees_delimiter_first (codes ":=") (expression_written e) ls r l)
-    (λ r e. not_true (sees_delimiter (codes ":=") r) (second_true (ends_expression r) (not_delimiter (codes ":=") r) e))
+    (λ r e. not-true (sees_delimiter (codes ":=") r) (second_true (ends_expression r) (not_delimiter (codes ":=") r) e))
 
 abbrev initial_written : Option Expression → List Written
 initial_written initial = optional becomes_written initial ++ semicolon
@@ -142,7 +143,7 @@ exception_seen : (names : OneOrMore Identifier) (m : List Lexeme) (x : Declarati
 exception_seen names m x r e = let f = (exception_exact names).sound m x r e in sees_word_first (codes "exception") semicolon m r f.leads
 
 object_seen : (left : ℕ) (names : OneOrMore Identifier) (m : List Lexeme) (x : Declaration Sequence) (r : List Lexeme) → object_of left names m ≡ done x r → sees_word (codes "exception") m ≡ false
-object_seen left names m x r e = let f = (object_exact left names).sound m x r e in not_true (sees_word (codes "exception") m) (not_exception f.item m r f.leads)
+object_seen left names m x r e = let f = (object_exact left names).sound m x r e in not-true (sees_word (codes "exception") m) (not_exception f.item m r f.leads)
 
 pub exception_complete : (left : ℕ) (names : OneOrMore Identifier) (ls r : List Lexeme) → Leads (identifiers_written names ++ delimiter (codes ":") ∷ word (codes "exception") ∷ semicolon) ls r
     → named_declaration_of {Q = Sequence} left ls ≡ done (declarations.Exception names) r

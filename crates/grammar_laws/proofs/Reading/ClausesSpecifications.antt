@@ -2,6 +2,7 @@
 use Rattle.std.proofs.Common.{◌≡◌, ℕ, Bool, true, false, ◌&&◌, List, [], ◌∷◌, ◌++◌, refl, sym, subst, codes}
 use Rattle.std.specs.Prelude.{Option, Some, None, flat_map}
 use Rattle.std.specs.List.{list_all}
+use Rattle.std.proofs.lemmas.Bool.{not-true}
 use Rattle.ann_base.specs.declared.places.Place.{Place}
 use Rattle.ada_tree.specs.declared.names.Identifier.{Identifier}
 use Rattle.ada_tree.specs.declared.expressions.Expression.{Expression}
@@ -25,7 +26,7 @@ use Rattle.ada_grammar.specs.ReadingDeclarations.{aspect_value_of, aspect_of, gi
 use Rattle.grammar_laws.specs.Leads.{Leads}
 use Rattle.grammar_laws.proofs.Reading.Leading.{as_written}
 use Rattle.grammar_laws.proofs.Reading.Exact.{done, Rest, Any, itself, Exact, first_true, second_true, field, plain, narrower, respelt, closing, first_is, optionally}
-use Rattle.grammar_laws.proofs.Reading.Tokens.{always, shapeless, not_true, not_word, word_then, delimiter_then, word_exact, sees_delimiter_first, sees_word_first, sees_word_at_first, seen_delimiter}
+use Rattle.grammar_laws.proofs.Reading.Tokens.{always, shapeless, not_word, word_then, delimiter_then, word_exact, sees_delimiter_first, sees_word_first, sees_word_at_first, seen_delimiter}
 use Rattle.grammar_laws.proofs.Reading.Names.{not_delimiter}
 use Rattle.grammar_laws.proofs.Reading.Choices.{Sound, one_form}
 use Rattle.grammar_laws.proofs.Reading.Ends.{ends_expression}
@@ -45,7 +46,7 @@ aspect_value_exact left =
     (narrower itself Any expression_written (value_fits left) ends_expression ends_aspect (expression_of left) (expression_exact left) (λ r e. first_true (ends_expression r) (not_delimiter (codes "=>") r) e))
     (λ e. tt) (λ e. refl) (λ e i p q. q)))
     (λ e ls r l. sees_delimiter_first (codes "=>") (expression_written e) ls r l)
-    (λ r e. not_true (sees_delimiter (codes "=>") r) (second_true (ends_expression r) (not_delimiter (codes "=>") r) e))
+    (λ r e. not-true (sees_delimiter (codes "=>") r) (second_true (ends_expression r) (not_delimiter (codes "=>") r) e))
 
 pub aspect_exact : (left : ℕ) → Exact aspect_written (aspect_fits left) ends_aspect (aspect_of left)
 unfolding aspect_of
@@ -88,7 +89,7 @@ pub aspects_exact : (left : ℕ) → Exact aspects_written (aspects_fit left) en
 unfolding aspects_of
 aspects_exact left =
     enclosed_exact (sees_word (codes "with")) (word (codes "with")) (delimiter (codes ",")) [] aspect_written (aspects_fit left) ends_aspects (given_aspects_of left) (given_exact left) refl
-    (λ ws ls r l. sees_word_first (codes "with") ws ls r l) (λ r e. not_true (sees_word (codes "with") r) (aspects_no_with r e))
+    (λ ws ls r l. sees_word_first (codes "with") ws ls r l) (λ r e. not-true (sees_word (codes "with") r) (aspects_no_with r e))
 
 -- aspects, and what stands behind
 pub stop_aspects : (test : List Lexeme → Bool) → ((l : Lexeme) (ls : List Lexeme) → test (as_written (word (codes "with")) l ∷ ls) ≡ true)
@@ -104,7 +105,7 @@ overriding_exact =
     optionally (sees_word (codes "overriding")) overriding_written shapeless (not_word (codes "overriding")) _
     (closing (λ (p : Place). Some p) Any (not_word (codes "overriding")) itself overriding_written shapeless (the_word (codes "overriding")) itself
     (narrower itself Any overriding_written shapeless always (not_word (codes "overriding")) (the_word (codes "overriding")) (word_exact (codes "overriding")) (λ r e. refl)) (λ p. tt) (λ p. refl) (λ p i q e. e))
-    (λ p ls r l. sees_word_at_first (codes "overriding") p [] ls r l) (λ r e. not_true (sees_word (codes "overriding") r) e)
+    (λ p ls r l. sees_word_at_first (codes "overriding") p [] ls r l) (λ r e. not-true (sees_word (codes "overriding") r) e)
 
 abbrev pub Procedure : Type 0
 Procedure = Option Place × (Place × (Identifier × (List Parameter × List Aspect)))

@@ -1,6 +1,7 @@
 -- Statements without others in them, choices, iterations, handled exceptions (clauses 5, 6.5, 9.5.4, 9.8, 11).
 use Rattle.std.proofs.Common.{◌≡◌, ℕ, Bool, true, false, ◌&&◌, List, [], ◌∷◌, ◌++◌, refl, sym, subst, codes}
 use Rattle.std.specs.Prelude.{Option, Some, None, flat_map}
+use Rattle.std.proofs.lemmas.Bool.{not-true}
 use Rattle.ann_base.specs.declared.places.Place.{Place}
 use Rattle.ada_lex.specs.Reserved.{is_reserved}
 use Rattle.ada_tree.specs.declared.names.Identifier.{Identifier}
@@ -27,7 +28,7 @@ use Rattle.ada_grammar.specs.ReadingExpressions.{expression_of}
 use Rattle.ada_grammar.specs.ReadingSimple.{bounds_of, value_choice_of, choice_of, while_of, for_of, iteration_of, loop_name_of, when_of, exit_of, null_of, result_value_of, return_of, exception_name_of, raise_of, abort_of, with_abort_of, requeue_of, exceptions_of}
 use Rattle.grammar_laws.specs.Leads.{Leads}
 use Rattle.grammar_laws.proofs.Reading.Exact.{done, pair_of, Rest, Any, itself, Exact, first_true, second_true, ready, plain, narrower, closing, first_is, first_optional, optionally}
-use Rattle.grammar_laws.proofs.Reading.Tokens.{always, shapeless, not_true, not_word, word_then, delimiter_then, word_exact, identifier_exact, flag_exact, sees_delimiter_first, sees_word_first, sees_word_at_first, sees_identifier_first, seen_delimiter}
+use Rattle.grammar_laws.proofs.Reading.Tokens.{always, shapeless, not_word, word_then, delimiter_then, word_exact, identifier_exact, flag_exact, sees_delimiter_first, sees_word_first, sees_word_at_first, sees_identifier_first, seen_delimiter}
 use Rattle.grammar_laws.proofs.Reading.Names.{not_delimiter, name_exact, names_exact, ends_names}
 use Rattle.grammar_laws.proofs.Reading.Choices.{Sound, either, one_form}
 use Rattle.grammar_laws.proofs.Reading.Ends.{ends_expression}
@@ -92,13 +93,13 @@ no_dots low m x r end e = subst (λ (z : List Lexeme). sees_delimiter (codes "..
 choice_complete : (left : ℕ) (c : Choice) (ls r : List Lexeme) → choice_fits left c ≡ true → Leads (choice_written c) ls r → ends_choice r ≡ true → choice_of left ls ≡ done c r
 unfolding choice_of value_choice_of
 choice_complete left (choices.Value e) ls r okay l end =
-    rw (not_true (sees_word (codes "others") ls) (value_is_no_others e ls r l))
+    rw (not-true (sees_word (codes "others") ls) (value_is_no_others e ls r l))
     (carried (expression_of left) low_alone _ ls (choices.Value e) r
     (λ low m q. passed_by (sees_delimiter (codes "..")) (high_of left low) (low_alone low) m (choices.Value e) r
-    (no_dots low m (choices.Value e) r (not_true (sees_delimiter (codes "..") r) (second_true (ends_expression r) (not_delimiter (codes "..") r) end))) q)
+    (no_dots low m (choices.Value e) r (not-true (sees_delimiter (codes "..") r) (second_true (ends_expression r) (not_delimiter (codes "..") r) end))) q)
     ((value_choice_exact left).complete e ls r tt okay l (first_true (ends_expression r) (not_delimiter (codes "..") r) end)))
 choice_complete left (choices.Range low high) ls r okay l end =
-    rw (not_true (sees_word (codes "others") ls) (value_no_others low (delimiter (codes "..") ∷ expression_written high) ls r l))
+    rw (not-true (sees_word (codes "others") ls) (value_no_others low (delimiter (codes "..") ∷ expression_written high) ls r l))
     (carried (expression_of left) (high_of left) _ ls (choices.Range low high) r
     (λ first m q. chosen_by (sees_delimiter (codes "..")) (high_of left first) (low_alone first) m (choices.Range low high) r (dots_seen left first m (choices.Range low high) r) q)
     ((range_choice_exact left).complete (low, high) ls r tt okay l (first_true (ends_expression r) (not_delimiter (codes "..") r) end)))
@@ -161,8 +162,8 @@ unfolding iteration_of starts
 iteration_complete left iterations.Forever ls r okay l end =
     rw (
       l,
-      not_true (sees_word (codes "while") r) (first_true (not_word (codes "while") r) (not_word (codes "for") r) (second_true (ends_expression r) (no_loop r) end)),
-      not_true (sees_word (codes "for") r) (second_true (not_word (codes "while") r) (not_word (codes "for") r) (second_true (ends_expression r) (no_loop r) end)),
+      not-true (sees_word (codes "while") r) (first_true (not_word (codes "while") r) (not_word (codes "for") r) (second_true (ends_expression r) (no_loop r) end)),
+      not-true (sees_word (codes "for") r) (second_true (not_word (codes "while") r) (not_word (codes "for") r) (second_true (ends_expression r) (no_loop r) end)),
     ) refl
 iteration_complete left (iterations.While place condition) ls r okay l end =
     rw (sees_word_at_first (codes "while") place (expression_written condition) ls r l)
@@ -201,7 +202,7 @@ exceptions_sound =
 exceptions_complete : (x : HandledExceptions) (ls r : List Lexeme) → Leads (exceptions_written x) ls r → ends_exceptions r ≡ true → exceptions_of ls ≡ done x r
 unfolding exceptions_of
 exceptions_complete (exceptions.Named names) ls r l end =
-    rw (not_true (sees_word (codes "others") ls) (identifier_no_others ls (name_begins names.first (flat_map (behind (delimiter (codes "|")) name_written) names.others) ls r l)))
+    rw (not-true (sees_word (codes "others") ls) (identifier_no_others ls (name_begins names.first (flat_map (behind (delimiter (codes "|")) name_written) names.others) ls r l)))
     (named_exceptions_exact.complete names ls r tt refl l end)
 exceptions_complete (exceptions.Others p) ls r l end = rw (sees_word_at_first (codes "others") p [] ls r l) (other_exceptions_exact.complete p ls r tt refl l refl)
 
@@ -216,7 +217,7 @@ loop_name_exact =
     optionally sees_identifier one_identifier shapeless not_identifier _
     (closing (λ (n : Identifier). Some n) Any not_identifier itself one_identifier shapeless an_identifier itself
     (narrower itself Any one_identifier shapeless always not_identifier an_identifier identifier_exact (λ r e. refl)) (λ n. tt) (λ n. refl) (λ n i p e. e))
-    (λ n ls r l. sees_identifier_first n [] ls r l) (λ r e. not_true (sees_identifier r) e)
+    (λ n ls r l. sees_identifier_first n [] ls r l) (λ r e. not-true (sees_identifier r) e)
 
 pub when_exact : (left : ℕ) → Exact (optional when_written) (optional_fits (value_fits left)) ends_when (when_of left)
 unfolding when_of
@@ -227,7 +228,7 @@ when_exact left =
     (narrower itself Any expression_written (value_fits left) ends_expression ends_when (expression_of left) (expression_exact left) (λ r e. first_true (ends_expression r) (not_word (codes "when") r) e))
     (λ e. tt) (λ e. refl) (λ e i p q. q)))
     (λ e ls r l. sees_word_first (codes "when") (expression_written e) ls r l)
-    (λ r e. not_true (sees_word (codes "when") r) (second_true (ends_expression r) (not_word (codes "when") r) e))
+    (λ r e. not-true (sees_word (codes "when") r) (second_true (ends_expression r) (not_word (codes "when") r) e))
 
 no_loop_name : (condition : Option Expression) (ls r : List Lexeme) → Leads (optional when_written condition ++ semicolon) ls r → not_identifier ls ≡ true
 unfolding starts is_reserved
@@ -275,7 +276,7 @@ result_complete : (left : ℕ) (o : Option Expression) (ls r : List Lexeme) → 
 unfolding result_value_of starts
 result_complete left None ls r okay l end = rw (l, end) refl
 result_complete left (Some e) ls r okay l end =
-    rw (not_true (sees_delimiter (codes ";") ls) (value_is_no_semicolon e ls r l))
+    rw (not-true (sees_delimiter (codes ";") ls) (value_is_no_semicolon e ls r l))
     ((result_exact left).complete e ls r tt okay l (seen_delimiter ends_expression true (codes ";") (λ p ls. refl) r end))
 
 pub result_value_exact : (left : ℕ) → Exact (optional expression_written) (optional_fits (value_fits left)) ends_result (result_value_of left)
@@ -297,7 +298,7 @@ exception_name_exact =
     (narrower itself Any name_written shapeless (not_delimiter (codes ".")) ends_name name_of name_exact (λ r e. first_true (not_delimiter (codes ".") r) (not_identifier r) e))
     (λ n. tt) (λ n. refl) (λ n i p q. q))
     (λ n ls r l. sees_identifier_first n.parts.first (flat_map (behind (delimiter (codes ".")) one_identifier) n.parts.others) ls r l)
-    (λ r e. not_true (sees_identifier r) (second_true (not_delimiter (codes ".") r) (not_identifier r) e))
+    (λ r e. not-true (sees_identifier r) (second_true (not_delimiter (codes ".") r) (not_identifier r) e))
 
 pub raise_exact : Rest {X = Statement Sequence} (λ (x : Place × Option Name). statements.Raise x.0 x.1) Any (λ x. word_at x.0 (codes "raise") ∷ (optional name_written x.1 ++ semicolon)) shapeless always raise_of
 unfolding raise_of starts
@@ -336,7 +337,7 @@ with_abort_sound = either (sees_word (codes "with")) (one_form with_it with_exac
 with_abort_complete : (b : Bool) (ls r : List Lexeme) → Leads (with_abort_written b) ls r → not_word (codes "with") r ≡ true → with_abort_of ls ≡ done b r
 unfolding with_abort_of
 with_abort_complete true ls r l end = rw (sees_word_first (codes "with") (word (codes "abort") ∷ []) ls r l) (with_exact.complete tt ls r tt refl l refl)
-with_abort_complete false ls r l end = rw (l, not_true (sees_word (codes "with") r) end) refl
+with_abort_complete false ls r l end = rw (l, not-true (sees_word (codes "with") r) end) refl
 
 pub with_abort_exact : Exact with_abort_written shapeless (not_word (codes "with")) with_abort_of
 with_abort_exact = record { sound = with_abort_sound.by; complete = λ b ls r q okay l end. with_abort_complete b ls r l end }

@@ -2,6 +2,7 @@
 use Rattle.std.proofs.Common.{◌≡◌, ℕ, Bool, true, false, cond, ◌&&◌, List, [], ◌∷◌, ◌++◌, refl, sym, ap, subst}
 use Rattle.std.specs.Prelude.{Option, Some, None, flat_map}
 use Rattle.std.specs.List.{list_all}
+use Rattle.std.proofs.lemmas.Bool.{not-true}
 use Rattle.ann_base.specs.declared.places.Place.{Place}
 use Rattle.ada_tree.specs.declared.names.Identifier.{Identifier}
 use Rattle.ada_tree.specs.Written.{Written, Lexeme, word, word_at, delimiter, identifier_written, behind, enclosed, end_name_written}
@@ -10,7 +11,7 @@ use Rattle.ada_grammar.specs.Reading.{Read, Parser, ◌>>=◌, ◌>>◌, pure, c
 use Rattle.grammar_laws.specs.Leads.{Leads}
 use Rattle.grammar_laws.proofs.Reading.Leading.{as_written}
 use Rattle.grammar_laws.proofs.Reading.Exact.{done, pair_of, parts, Found, Rest, Any, itself, Exact, first_true, second_true, ready, field, plain, last, listed, first_is}
-use Rattle.grammar_laws.proofs.Reading.Tokens.{always, shapeless, not_true, not_word, word_then, delimiter_then, word_exact, identifier_exact, flag_exact, sees_delimiter_first}
+use Rattle.grammar_laws.proofs.Reading.Tokens.{always, shapeless, not_word, word_then, delimiter_then, word_exact, identifier_exact, flag_exact, sees_delimiter_first}
 use Rattle.grammar_laws.proofs.Reading.Names.{not_delimiter}
 use Rattle.grammar_laws.proofs.Reading.Choices.{Sound}
 
@@ -66,7 +67,7 @@ items_behind separator w ok ends_item item one apart =
     listed (sees_delimiter separator) (behind (delimiter separator) w) ok ends_item (ends_list separator ends_item) (the_delimiter separator >> item)
     (delimiter_then itself Any w ok ends_item separator item one) (λ a ls r l. sees_delimiter_first separator (w a) ls r l) refl apart
     (λ r e. first_true (ends_item r) (not_delimiter separator r) e)
-    (λ r e. not_true (sees_delimiter separator r) (second_true (ends_item r) (not_delimiter separator r) e))
+    (λ r e. not-true (sees_delimiter separator r) (second_true (ends_item r) (not_delimiter separator r) e))
 
 -- one item, and more
 abbrev pub first_and : {A : Type 0} → A × List A → List A

@@ -2,6 +2,7 @@
 use Rattle.std.proofs.Common.{◌≡◌, ℕ, Bool, true, false, ◌&&◌, List, [], ◌∷◌, ◌++◌, refl, sym, subst, codes}
 use Rattle.std.specs.Prelude.{Option, Some, None, flat_map}
 use Rattle.std.specs.List.{list_all}
+use Rattle.std.proofs.lemmas.Bool.{not-true}
 use Rattle.ada_tree.specs.declared.names.Identifier.{Identifier}
 use Rattle.ada_tree.specs.declared.names.Name.{Name}
 use Rattle.ada_tree.specs.declared.names.OneOrMore.{OneOrMore}
@@ -21,7 +22,7 @@ use Rattle.ada_grammar.specs.ReadingSimple.{access_of, bounds_of, range_of, cons
 use Rattle.grammar_laws.specs.Leads.{Leads}
 use Rattle.grammar_laws.proofs.Reading.Leading.{leads_through}
 use Rattle.grammar_laws.proofs.Reading.Exact.{done, Rest, Any, itself, Exact, ready, field, plain, narrower, closing, first_is, first_each}
-use Rattle.grammar_laws.proofs.Reading.Tokens.{always, shapeless, not_true, not_word, word_then, delimiter_then, flag_exact, sees_delimiter_first, sees_word_first, sees_identifier_first, seen_delimiter}
+use Rattle.grammar_laws.proofs.Reading.Tokens.{always, shapeless, not_word, word_then, delimiter_then, flag_exact, sees_delimiter_first, sees_word_first, sees_identifier_first, seen_delimiter}
 use Rattle.grammar_laws.proofs.Reading.Names.{not_delimiter, name_exact, identifiers_exact}
 use Rattle.grammar_laws.proofs.Reading.Choices.{Sound, either, one_form, opened_plain}
 use Rattle.grammar_laws.proofs.Reading.Ends.{ends_expression}
@@ -84,7 +85,7 @@ constraint_complete : (left : ℕ) (o : Option Constraint) (ls r : List Lexeme) 
     → constraint_of left ls ≡ done o r
 unfolding constraint_of starts
 constraint_complete left None ls r okay l end =
-    rw (l, not_true (sees_delimiter (codes "(") r) (expression_no_bracket r (subtype_expression r end)), not_true (sees_word (codes "range") r) (subtype_no_range r end)) refl
+    rw (l, not-true (sees_delimiter (codes "(") r) (expression_no_bracket r (subtype_expression r end)), not-true (sees_word (codes "range") r) (subtype_no_range r end)) refl
 constraint_complete left (Some (constraints.Access n)) ls r okay l end =
     rw (sees_delimiter_first (codes "(") (name_written n ++ delimiter (codes "'") ∷ word (codes "access") ∷ delimiter (codes ")") ∷ []) ls r l)
     ((access_exact left).complete n ls r tt okay l refl)
@@ -181,4 +182,4 @@ unfolding parameters_of
 parameters_exact left =
     enclosed_exact (sees_delimiter (codes "(")) (delimiter (codes "(")) (delimiter (codes ";")) (delimiter (codes ")") ∷ []) parameter_written (parameters_fit left) (not_delimiter (codes "(")) (given_parameters_of left)
     (narrower first_and Any _ _ always (not_delimiter (codes "(")) (given_parameters_of left) (given_exact left) (λ r e. refl)) refl
-    (λ ws ls r l. sees_delimiter_first (codes "(") ws ls r l) (λ r e. not_true (sees_delimiter (codes "(") r) e)
+    (λ ws ls r l. sees_delimiter_first (codes "(") ws ls r l) (λ r e. not-true (sees_delimiter (codes "(") r) e)

@@ -2,6 +2,7 @@
 use Rattle.std.proofs.Common.{◌≡◌, ℕ, Bool, true, false, ◌&&◌, List, [], ◌∷◌, ◌++◌, refl, codes}
 use Rattle.std.specs.Prelude.{Option, Some, flat_map}
 use Rattle.std.specs.List.{list_all}
+use Rattle.std.proofs.lemmas.Bool.{not-true}
 use Rattle.ann_base.specs.declared.places.Place.{Place}
 use Rattle.ada_lex.specs.Reserved.{is_reserved}
 use Rattle.ada_tree.specs.declared.names.Identifier.{Identifier}
@@ -26,7 +27,7 @@ use Rattle.ada_grammar.specs.ReadingDeclarations.{component_of, aspects_of, spec
 use Rattle.grammar_laws.specs.Leads.{Leads}
 use Rattle.grammar_laws.proofs.Reading.Leading.{as_written, leads_through}
 use Rattle.grammar_laws.proofs.Reading.Exact.{done, Rest, Any, itself, Exact, first_true, second_true, field, plain, narrower, closing, first_is, first_optional, optionally, listed}
-use Rattle.grammar_laws.proofs.Reading.Tokens.{always, shapeless, not_true, not_word, word_then, flag_exact, sees_word_first, sees_identifier_first}
+use Rattle.grammar_laws.proofs.Reading.Tokens.{always, shapeless, not_word, word_then, flag_exact, sees_word_first, sees_identifier_first}
 use Rattle.grammar_laws.proofs.Reading.Choices.{Sound, either, one_form}
 use Rattle.grammar_laws.proofs.Reading.ClausesEnds.{ends_operations, ends_specification, ends_aspects, ends_task_definition, ends_private, not_identifier, identifier_no_type}
 use Rattle.grammar_laws.proofs.Reading.ClausesSteps.{delimiter_ends, field_before, last_before, plain_before, identifier_kept, end_name_exact, respelt_by}
@@ -42,7 +43,7 @@ entries_exact : (left : ℕ) → Exact (flat_map entry_written) (list_all (entry
 unfolding starts
 entries_exact left =
     listed (sees_word (codes "entry")) entry_written (entry_fits left) always not_entry (entry_of left) (entry_exact left) entry_begins refl
-    (λ r e. refl) (λ r e. refl) (λ r e. not_true (sees_word (codes "entry") r) e)
+    (λ r e. refl) (λ r e. refl) (λ r e. not-true (sees_word (codes "entry") r) e)
 
 abbrev some_definition : TaskDefinition → Option TaskDefinition
 some_definition d = Some d
@@ -59,7 +60,7 @@ task_definition_exact left name =
     (narrower itself Any (λ b. end_name_written b name) shapeless (not_word name.text) (ends_task_definition name) (end_name_of name.text) (end_name_exact name) (λ r e. second_true (not_word (codes "is") r) (not_word name.text r) e))
     (λ b. (tt, refl)) (λ b. refl) (λ b d p e. rw (p.1, e) refl)))))
     (λ d ls r l. sees_word_first (codes "is") (flat_map entry_written d.entries ++ word (codes "end") ∷ end_name_written d.named_at_end name) ls r l)
-    (λ r e. not_true (sees_word (codes "is") r) (first_true (not_word (codes "is") r) (not_word name.text r) e))
+    (λ r e. not-true (sees_word (codes "is") r) (first_true (not_word (codes "is") r) (not_word name.text r) e))
 
 abbrev task_made : TaskDeclaration → Declaration Sequence
 task_made t = declarations.Task t
@@ -150,7 +151,7 @@ pub operations_exact : (left : ℕ) → Exact (flat_map operation_written) (list
 unfolding starts
 operations_exact left =
     listed begins_operation operation_written (operation_fits left) always ends_operations (operation_of left) (operation_exact left) operation_begins refl
-    (λ r e. refl) (λ r e. refl) (λ r e. not_true (begins_operation r) e)
+    (λ r e. refl) (λ r e. refl) (λ r e. not-true (begins_operation r) e)
 
 -- ---- protected units
 
@@ -166,7 +167,7 @@ private_exact left =
     (narrower itself Any (flat_map component_written) (private_fits left) not_identifier ends_private (items_of sees_identifier (component_of left)) (components_exact left) (λ r e. second_true (not_word (codes "private") r) (not_identifier r) e))
     (λ xs. tt) (λ xs. refl) (λ xs i p e. e)))
     (λ xs ls r l. sees_word_first (codes "private") (flat_map component_written xs) ls r l)
-    (λ r e. not_true (sees_word (codes "private") r) (first_true (not_word (codes "private") r) (not_identifier r) e))
+    (λ r e. not-true (sees_word (codes "private") r) (first_true (not_word (codes "private") r) (not_identifier r) e))
 
 abbrev protected_made : ProtectedDeclaration → Declaration Sequence
 protected_made p = declarations.Protected p

@@ -2,6 +2,7 @@
 use Rattle.std.proofs.Common.{◌≡◌, ℕ, zero, suc, Bool, true, false, ◌&&◌, List, [], ◌∷◌, ◌++◌, refl, sym, ap, subst, codes, append_assoc}
 use Rattle.std.specs.Prelude.{Option, Some, None, flat_map}
 use Rattle.std.specs.List.{list_all}
+use Rattle.std.proofs.lemmas.Bool.{not-true}
 use Rattle.ada_lex.specs.Reserved.{is_reserved}
 use Rattle.ada_tree.specs.declared.names.Identifier.{Identifier}
 use Rattle.ada_tree.specs.declared.names.Name.{Name}
@@ -23,12 +24,12 @@ use Rattle.ada_tree.specs.SpellingDeclarations.{component_written, extension_wri
 use Rattle.ada_tree.specs.ShapeExpressions.{within, optional_fits}
 use Rattle.ada_tree.specs.ShapeStatements.{nothing_in_it, indication_fits}
 use Rattle.ada_tree.specs.ShapeDeclarations.{component_fits, components_fit, bounds_fit, definition_fits}
-use Rattle.ada_grammar.specs.Reading.{Parser, ◌>>=◌, ◌>>◌, pure, starts, sees_delimiter, sees_word, sees_identifier, the_word, the_delimiter, below, items_of, identifiers_of, name_of}
+use Rattle.ada_grammar.specs.Reading.{Parser, pure, starts, sees_delimiter, sees_word, sees_identifier, the_word, the_delimiter, below, items_of, identifiers_of, name_of, ◌>>=◌, ◌>>◌}
 use Rattle.ada_grammar.specs.ReadingSimple.{bounds_of, subtype_indication_of}
 use Rattle.ada_grammar.specs.ReadingDeclarations.{component_of, enumeration_of, array_of, null_record_of, components_record_of, extension_of, derived_of, definition_of, type_of, subtype_of}
 use Rattle.grammar_laws.specs.Leads.{Leads}
 use Rattle.grammar_laws.proofs.Reading.Exact.{done, Rest, Any, itself, Exact, field, respelt, reshaped, closing, first_is, listed}
-use Rattle.grammar_laws.proofs.Reading.Tokens.{always, shapeless, not_true, word_then, delimiter_then, sees_delimiter_first, sees_word_first}
+use Rattle.grammar_laws.proofs.Reading.Tokens.{always, shapeless, word_then, delimiter_then, sees_delimiter_first, sees_word_first}
 use Rattle.grammar_laws.proofs.Reading.Names.{not_delimiter, name_exact, identifiers_exact}
 use Rattle.grammar_laws.proofs.Reading.Choices.{Sound, either, one_form, opened_plain}
 use Rattle.grammar_laws.proofs.Reading.Ends.{ends_expression}
@@ -115,7 +116,7 @@ pub components_exact : (left : ℕ) → Exact (flat_map component_written) (list
 unfolding starts
 components_exact left =
     listed sees_identifier component_written (component_fits left) always not_identifier (component_of left) (component_exact left) component_begins refl
-    (λ r e. refl) (λ r e. refl) (λ r e. not_true (sees_identifier r) e)
+    (λ r e. refl) (λ r e. refl) (λ r e. not-true (sees_identifier r) e)
 
 abbrev record_end : List Written
 record_end = word (codes "end") ∷ word (codes "record") ∷ []

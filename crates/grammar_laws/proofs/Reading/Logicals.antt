@@ -1,7 +1,7 @@
 -- Expressions (4.4): what is read is what is written.
 use Rattle.std.proofs.Common.{cond, append_assoc, ◌≡◌, ℕ, Bool, true, false, not, ◌&&◌, ◌||◌, List, [], ◌∷◌, ◌++◌, refl, sym, ap, subst, ◌∙◌, codes}
 use Rattle.std.specs.Prelude.{flat_map}
-use Rattle.std.proofs.lemmas.Bool.{false≢true}
+use Rattle.std.proofs.lemmas.Bool.{false≢true, not-true, or_right}
 use Rattle.std.specs.List.{list_all}
 use Rattle.ann_base.specs.declared.places.Place.{Place}
 use Rattle.ada_tree.specs.declared.names.OneOrMore.{OneOrMore}
@@ -25,7 +25,7 @@ use Rattle.ada_grammar.specs.ReadingExpressions.{formed, joins, relation_of, aga
 use Rattle.grammar_laws.specs.Leads.{Leads}
 use Rattle.grammar_laws.proofs.Reading.Leading.{leads_through, as_written}
 use Rattle.grammar_laws.proofs.Reading.Exact.{done, Found, Rest, Any, itself, Exact, first_true, second_true, both, parts, ready, field, plain, plain_before, respelt, respelt_where, closing, neither, first_is, listed}
-use Rattle.grammar_laws.proofs.Reading.Tokens.{always, shapeless, not_true, word_exact, word_then, sees_word_first, sees_word_at_first, identifier_no_word, not_word, seen_word}
+use Rattle.grammar_laws.proofs.Reading.Tokens.{always, shapeless, word_exact, word_then, sees_word_first, sees_word_at_first, identifier_no_word, not_word, seen_word}
 use Rattle.grammar_laws.proofs.Reading.ReservedWords.{reserved_then, reserved_else}
 use Rattle.grammar_laws.proofs.Reading.Choices.{Sound, either, one_form}
 use Rattle.grammar_laws.proofs.Reading.Ends.{ends_relation, ends_expression}
@@ -178,11 +178,11 @@ operator_sound =
 operator_complete : (operator : LogicalOperator) (p : Place) (ls r : List Lexeme) → Leads (logical_written operator p) ls r → ends_operator r ≡ true → logical_operator_of ls ≡ done (p, operator) r
 unfolding logical_operator_of conjunction_of disjunction_of starts
 operator_complete logical.And p ls r l end =
-    rw (sees_word_at_first (codes "and") p [] ls r l) (single_complete (codes "and") (codes "then") logical.And logical.AndThen p ls r l (not_true (sees_word (codes "then") r) (first_true (not_word (codes "then") r) (not_word (codes "else") r) end)))
+    rw (sees_word_at_first (codes "and") p [] ls r l) (single_complete (codes "and") (codes "then") logical.And logical.AndThen p ls r l (not-true (sees_word (codes "then") r) (first_true (not_word (codes "then") r) (not_word (codes "else") r) end)))
 operator_complete logical.AndThen p ls r l end = rw (sees_word_at_first (codes "and") p (word (codes "then") ∷ []) ls r l) (double_complete (codes "and") (codes "then") logical.And logical.AndThen p ls r l)
 operator_complete logical.Or p ls r l end =
     rw (first_is (sees_word (codes "and")) false (word_at p (codes "or")) (λ k ks. refl) [] ls r l, sees_word_at_first (codes "or") p [] ls r l)
-    (single_complete (codes "or") (codes "else") logical.Or logical.OrElse p ls r l (not_true (sees_word (codes "else") r) (second_true (not_word (codes "then") r) (not_word (codes "else") r) end)))
+    (single_complete (codes "or") (codes "else") logical.Or logical.OrElse p ls r l (not-true (sees_word (codes "else") r) (second_true (not_word (codes "then") r) (not_word (codes "else") r) end)))
 operator_complete logical.OrElse p ls r l end =
     rw (first_is (sees_word (codes "and")) false (word_at p (codes "or")) (λ k ks. refl) (word (codes "else") ∷ []) ls r l, sees_word_at_first (codes "or") p (word (codes "else") ∷ []) ls r l)
     (double_complete (codes "or") (codes "else") logical.Or logical.OrElse p ls r l)
@@ -246,16 +246,12 @@ no_operand operator r end =
     by_operator logical.AndThen a b = a
     by_operator logical.OrElse a b = b.0
 
-or_true : (p q : Bool) → q ≡ true → (p || q) ≡ true
-or_true true q e = refl
-or_true false q e = e
-
 module _ (left : ℕ) (inner : Parser Expression) (inside : ReadsInside left inner) where
   ends_operand : (r : List Lexeme) → ends_expression r ≡ true → ends_relation r ≡ true
   ends_operand r end = first_true (ends_relation r) (not (joins r)) end
 
   no_joined : (r : List Lexeme) → ends_expression r ≡ true → joins r ≡ false
-  no_joined r end = not_true (joins r) (second_true (ends_relation r) (not (joins r)) end)
+  no_joined r end = not-true (joins r) (second_true (ends_relation r) (not (joins r)) end)
 
   operand_exact : (operator : LogicalOperator) → Exact (operand_written expression_written operator) (operand_fits expression_fits left) ends_relation (operand_of left inner operator)
   unfolding operand_of
@@ -339,10 +335,10 @@ module _ (left : ℕ) (inner : Parser Expression) (inside : ReadsInside left inn
     where
       by_text : (operator : LogicalOperator) (ls : List Lexeme) → sees_word (logical_text operator) ls ≡ true → joins ls ≡ true
       by_text logical.And ls e = rw e refl
-      by_text logical.Or ls e = or_true (sees_word (codes "and") ls) (sees_word (codes "or") ls || sees_word (codes "xor") ls) (rw e refl)
-      by_text logical.Xor ls e = or_true (sees_word (codes "and") ls) (sees_word (codes "or") ls || sees_word (codes "xor") ls) (or_true (sees_word (codes "or") ls) (sees_word (codes "xor") ls) e)
+      by_text logical.Or ls e = or_right (sees_word (codes "and") ls) (sees_word (codes "or") ls || sees_word (codes "xor") ls) (rw e refl)
+      by_text logical.Xor ls e = or_right (sees_word (codes "and") ls) (sees_word (codes "or") ls || sees_word (codes "xor") ls) (or_right (sees_word (codes "or") ls) (sees_word (codes "xor") ls) e)
       by_text logical.AndThen ls e = rw e refl
-      by_text logical.OrElse ls e = or_true (sees_word (codes "and") ls) (sees_word (codes "or") ls || sees_word (codes "xor") ls) (rw e refl)
+      by_text logical.OrElse ls e = or_right (sees_word (codes "and") ls) (sees_word (codes "or") ls || sees_word (codes "xor") ls) (rw e refl)
 
   pub logical_exact : Exact expression_written (λ e. expression_fits e precedence.Logical left) ends_expression (logical_of left inner)
   unfolding logical_of

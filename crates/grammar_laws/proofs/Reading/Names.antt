@@ -2,12 +2,13 @@
 use Rattle.std.proofs.Common.{◌≡◌, ℕ, Bool, true, false, not, ◌&&◌, List, [], ◌∷◌, ◌++◌, refl, sym, subst, codes}
 use Rattle.std.specs.Prelude.{flat_map}
 use Rattle.std.specs.List.{list_all}
+use Rattle.std.proofs.lemmas.Bool.{not-true}
 use Rattle.ada_tree.specs.Written.{Written, Lexeme, delimiter, behind, separated, one_identifier, identifiers_written, name_written}
 use Rattle.ada_tree.specs.ShapeExpressions.{all_fit}
 use Rattle.ada_grammar.specs.Reading.{Parser, ◌>>◌, starts, the_delimiter, sees_delimiter, an_identifier, items_of, behind_delimiter_of, separated_of, identifiers_of, name_of, names_of}
 use Rattle.grammar_laws.specs.Leads.{Leads}
 use Rattle.grammar_laws.proofs.Reading.Exact.{Any, itself, Exact, field, closing, reshaped, first_true, second_true, listed}
-use Rattle.grammar_laws.proofs.Reading.Tokens.{always, shapeless, delimiter_then, identifier_exact, all_shapeless, not_true, sees_delimiter_first}
+use Rattle.grammar_laws.proofs.Reading.Tokens.{always, shapeless, delimiter_then, identifier_exact, all_shapeless, sees_delimiter_first}
 
 -- what may not stand behind a list with this delimiter between its items
 abbrev pub not_delimiter : List ℕ → List Lexeme → Bool
@@ -52,7 +53,7 @@ pub identifiers_exact : Exact identifiers_written shapeless (not_delimiter (code
 unfolding identifiers_of
 identifiers_exact =
     separated_plain (codes ",") one_identifier always (not_delimiter (codes ",")) an_identifier identifier_exact (λ r e. refl) (λ r e. refl)
-    (λ r e. not_true (sees_delimiter (codes ",") r) e)
+    (λ r e. not-true (sees_delimiter (codes ",") r) e)
 
 -- NAME {"." NAME}
 pub name_exact : Exact name_written shapeless (not_delimiter (codes ".")) name_of
@@ -60,7 +61,7 @@ unfolding name_of
 name_exact =
     closing itself Any (not_delimiter (codes ".")) (λ name. name.parts) (separated (delimiter (codes ".")) one_identifier) shapeless (separated_of (codes ".") an_identifier)
     (λ parts. record { parts = parts })
-    (separated_plain (codes ".") one_identifier always (not_delimiter (codes ".")) an_identifier identifier_exact (λ r e. refl) (λ r e. refl) (λ r e. not_true (sees_delimiter (codes ".") r) e))
+    (separated_plain (codes ".") one_identifier always (not_delimiter (codes ".")) an_identifier identifier_exact (λ r e. refl) (λ r e. refl) (λ r e. not-true (sees_delimiter (codes ".") r) e))
     (λ parts. tt) (λ parts. refl) (λ parts name p e. rw e refl)
 
 -- name {separator name}
@@ -73,4 +74,4 @@ unfolding names_of
 names_exact separator apart =
     separated_plain separator name_written (not_delimiter (codes ".")) (ends_names separator) name_of name_exact apart
     (λ r e. first_true (not_delimiter (codes ".") r) (not_delimiter separator r) e)
-    (λ r e. not_true (sees_delimiter separator r) (second_true (not_delimiter (codes ".") r) (not_delimiter separator r) e))
+    (λ r e. not-true (sees_delimiter separator r) (second_true (not_delimiter (codes ".") r) (not_delimiter separator r) e))

@@ -1,6 +1,6 @@
 -- Primaries (4.4): attributes, arguments, brackets.
 use Rattle.std.proofs.Common.{◌≡◌, ℕ, zero, suc, Bool, true, false, ◌&&◌, List, [], ◌∷◌, ◌++◌, refl, sym, ap, subst, ◌∙◌, codes, arith}
-use Rattle.std.proofs.lemmas.Bool.{false≢true}
+use Rattle.std.proofs.lemmas.Bool.{false≢true, not-true}
 use Rattle.std.specs.Prelude.{Option, Some, None, flat_map}
 use Rattle.std.specs.List.{list_all}
 use Rattle.ann_base.specs.declared.places.Place.{Place}
@@ -24,7 +24,7 @@ use Rattle.ada_grammar.specs.ReadingExpressions.{formed, this_attribute_of, attr
 use Rattle.grammar_laws.specs.Leads.{Leads}
 use Rattle.grammar_laws.proofs.Reading.Leading.{spelt_is}
 use Rattle.grammar_laws.proofs.Reading.Exact.{done, pair_of, Rest, Any, itself, Exact, first_true, second_true, both, ready, field, last, plain, narrower, closing, optionally, listed}
-use Rattle.grammar_laws.proofs.Reading.Tokens.{always, shapeless, not_true, word_exact, delimiter_then, identifier_exact, identifier_spelt, identifier_seen, delimiter_seen, sees_delimiter_first, seen_delimiter}
+use Rattle.grammar_laws.proofs.Reading.Tokens.{always, shapeless, word_exact, delimiter_then, identifier_exact, identifier_spelt, identifier_seen, delimiter_seen, sees_delimiter_first, seen_delimiter}
 use Rattle.grammar_laws.proofs.Reading.Names.{not_delimiter}
 use Rattle.grammar_laws.proofs.Reading.Choices.{Sound, either, one_form, opened_plain, enclosed_exact}
 use Rattle.grammar_laws.proofs.Reading.Ends.{ends_expression, ends_arguments}
@@ -94,7 +94,7 @@ designator_exact =
     (closing (λ (d : AttributeDesignator). Some d) Any (not_delimiter (codes "'")) itself word_written shapeless attribute_word_of itself
     (narrower itself Any word_written shapeless always (not_delimiter (codes "'")) attribute_word_of attribute_exact (λ r e. refl)) (λ d. tt) (λ d. refl) (λ d i q e. e)))
     (λ d ls r l. sees_delimiter_first (codes "'") (word_written d) ls r l)
-    (λ r e. not_true (sees_delimiter (codes "'") r) e)
+    (λ r e. not-true (sees_delimiter (codes "'") r) e)
 
 -- ---- arguments, given that the expressions in brackets are read as they are written
 
@@ -157,7 +157,7 @@ module _ (m : ℕ) (inner : Parser Expression) (inside : Exact expression_writte
           let whole = inside.complete value (l ∷ k ∷ ls) r tt o s (first_true (ends_expression r) (not_delimiter (codes "=>") r) end) in
           let is = pair_of (named_first l) value (k ∷ ls) r (sym (read_up_to_arrow l k ls e f) ∙ whole) in
           let none : not_delimiter (codes "=>") r ≡ true = second_true (ends_expression r) (not_delimiter (codes "=>") r) end in
-          absurd (false≢true (sym (not_true (is_this_delimiter (codes "=>") k) (subst (λ (z : List Lexeme). not_delimiter (codes "=>") z ≡ true) (sym is.1) none)) ∙ f))
+          absurd (false≢true (sym (not-true (is_this_delimiter (codes "=>") k) (subst (λ (z : List Lexeme). not_delimiter (codes "=>") z ≡ true) (sym is.1) none)) ∙ f))
 
   arrow_first : (name : Identifier) (ws : List Written) (ls r : List Lexeme) → Leads (identifier_written name ∷ delimiter (codes "=>") ∷ ws) ls r → names_formal ls ≡ true
   unfolding starts_both starts
@@ -253,4 +253,4 @@ arguments_read left inner inside =
     enclosed_exact (sees_delimiter (codes "(")) (delimiter (codes "(")) (delimiter (codes ",")) (delimiter (codes ")") ∷ []) (argument_written expression_written) (arguments_fit expression_fits left) ends_arguments (given_arguments_of left inner)
     (narrower (λ (xs : OneOrMore (Argument Expression)). xs.first ∷ xs.others) Any (λ xs. arguments_written expression_written (xs.first ∷ xs.others)) (λ xs. arguments_fit expression_fits left (xs.first ∷ xs.others)) always ends_arguments (given_arguments_of left inner)
     (given_exact left inner inside) (λ r e. refl))
-    refl (λ ws ls r l. sees_delimiter_first (codes "(") ws ls r l) (λ r e. not_true (sees_delimiter (codes "(") r) e)
+    refl (λ ws ls r l. sees_delimiter_first (codes "(") ws ls r l) (λ r e. not-true (sees_delimiter (codes "(") r) e)

@@ -2,6 +2,7 @@
 use Rattle.std.proofs.Common.{◌≡◌, ℕ, zero, suc, Bool, true, false, cond, ◌&&◌, List, [], ◌∷◌, ◌++◌, refl, sym, subst, ◌∙◌, codes, append_assoc}
 use Rattle.std.specs.Prelude.{Option, Some, None, flat_map}
 use Rattle.std.specs.List.{list_all}
+use Rattle.std.proofs.lemmas.Bool.{not-true}
 use Rattle.ann_base.specs.declared.places.Place.{Place}
 use Rattle.ada_lex.specs.Reserved.{is_reserved}
 use Rattle.ada_tree.specs.declared.statements.Call.{Call}
@@ -36,7 +37,7 @@ use Rattle.ada_grammar.specs.ReadingStatements.{begins_statement, call_opened_of
 use Rattle.grammar_laws.specs.Leads.{Leads}
 use Rattle.grammar_laws.proofs.Reading.Leading.{leads_through}
 use Rattle.grammar_laws.proofs.Reading.Exact.{done, Rest, Any, itself, Exact, closing, ready, narrower, first_is, first_true, second_true, optionally, listed}
-use Rattle.grammar_laws.proofs.Reading.Tokens.{always, shapeless, not_true, not_word, seen_word, sees_word_first, sees_word_at_first}
+use Rattle.grammar_laws.proofs.Reading.Tokens.{always, shapeless, not_word, seen_word, sees_word_first, sees_word_at_first}
 use Rattle.grammar_laws.proofs.Reading.Ends.{ends_expression, ends_statements, ends_sequence}
 use Rattle.grammar_laws.proofs.Reading.Expressions.{expression_exact}
 use Rattle.grammar_laws.proofs.Reading.StatementsSteps.{placed, worded, delimited, part, last_part, through, Came, decided, Side}
@@ -196,7 +197,7 @@ module _ (left : ℕ) (sequence : SequenceRole → Parser Sequence) (deeper : Se
       delimited (codes "=>") (
       ready _ _ (not_word (codes "when")) (record { place = place; condition = condition }) ((tt, refl), refl) (λ j p. rw (p.0.1, p.1) refl)))))
       (λ g ls r l. sees_word_at_first (codes "when") g.place _ ls r l)
-      (λ r e. not_true (sees_word (codes "when") r) e)
+      (λ r e. not-true (sees_word (codes "when") r) e)
 
   no_guard : (a : Alternative Sequence) (ls r : List Lexeme) → Leads (alternative_written sequence_written a) ls r → not_word (codes "when") ls ≡ true
   unfolding starts
@@ -223,7 +224,7 @@ module _ (left : ℕ) (sequence : SequenceRole → Parser Sequence) (deeper : Se
       next_alternative_exact (λ a ls r l. sees_word_first (codes "or") _ ls r l) refl
       (λ r e. seen_word ends_statements true (codes "or") (λ p ls. refl) r e)
       (λ r e. first_true (ends_statements r) (not_word (codes "or") r) e)
-      (λ r e. not_true (sees_word (codes "or") r) (second_true (ends_statements r) (not_word (codes "or") r) e))
+      (λ r e. not-true (sees_word (codes "or") r) (second_true (ends_statements r) (not_word (codes "or") r) e))
 
   -- {"or" alternative} ["else" statements], behind the first alternative
   abbrev behind_first : SelectiveAccept Sequence → List Written
@@ -252,7 +253,7 @@ module _ (left : ℕ) (sequence : SequenceRole → Parser Sequence) (deeper : Se
   not_then : (s : SelectiveAccept Sequence) (ls r : List Lexeme) → Leads (behind_first s) ls r → before_end r ≡ true → sees_word (codes "then") ls ≡ false
   unfolding starts
   not_then s ls r l end =
-      not_true (sees_word (codes "then") ls)
+      not-true (sees_word (codes "then") ls)
       (or_or_else (not_word (codes "then")) (λ l ls. refl) (λ l ls. refl) (λ r e. seen_word (not_word (codes "then")) true (codes "end") (λ p ls. refl) r e) s.alternatives.others s.otherwise ls r l end)
 
   selective_exact : (first : SelectAlternative Sequence)

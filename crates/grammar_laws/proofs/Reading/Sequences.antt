@@ -1,7 +1,7 @@
 -- Sequences: statements, their handlers, and the declarations before them (11.2, 3.11).
 use Rattle.std.proofs.Common.{◌≡◌, ℕ, zero, suc, Bool, true, false, not, ◌&&◌, List, [], ◌∷◌, ◌++◌, Ok, Err, refl, sym, ap, subst, ◌∙◌, codes}
 use Rattle.std.specs.Prelude.{flat_map}
-use Rattle.std.proofs.lemmas.Bool.{false≢true}
+use Rattle.std.proofs.lemmas.Bool.{false≢true, not-true}
 use Rattle.std.specs.List.{list_all}
 use Rattle.ann_base.specs.declared.places.Place.{Place}
 use Rattle.ada_lex.specs.Reserved.{is_reserved}
@@ -25,7 +25,7 @@ use Rattle.ada_tree.specs.ShapeDeclarations.{declaration_fits}
 use Rattle.ada_tree.specs.Shape.{sequence_fits_by, sequence_fits}
 use Rattle.ada_tree.proofs.SequenceFolds.{sequence_is_written}
 use Rattle.ada_tree.proofs.SequenceFits.{sequence_is_fit}
-use Rattle.ada_grammar.specs.Reading.{Read, Parser, and_then, ◌>>=◌, pure, choose, starts, sees_word, below, items_of}
+use Rattle.ada_grammar.specs.Reading.{Read, Parser, and_then, pure, choose, starts, sees_word, below, items_of, ◌>>=◌}
 use Rattle.ada_grammar.specs.ReadingSimple.{exceptions_of}
 use Rattle.ada_grammar.specs.ReadingStatements.{begins_statement}
 use Rattle.ada_grammar.specs.ReadingBodies.{begins_declaration, declaration_of}
@@ -33,7 +33,7 @@ use Rattle.ada_grammar.specs.ReadingSequences.{made, statement_at, statement_of,
 use Rattle.grammar_laws.specs.Leads.{Leads}
 use Rattle.grammar_laws.proofs.Reading.Leading.{leads_through}
 use Rattle.grammar_laws.proofs.Reading.Exact.{done, Rest, Any, itself, Exact, first_true, second_true, ready, field, plain, closing, first_is, listed}
-use Rattle.grammar_laws.proofs.Reading.Tokens.{always, shapeless, not_true, not_word, word_then, sees_word_first, sees_word_at_first, seen_word}
+use Rattle.grammar_laws.proofs.Reading.Tokens.{always, shapeless, not_word, word_then, sees_word_first, sees_word_at_first, seen_word}
 use Rattle.grammar_laws.proofs.Reading.Choices.{Sound, either, one_form}
 use Rattle.grammar_laws.proofs.Reading.Ends.{ends_statements, ends_sequence}
 use Rattle.grammar_laws.proofs.Reading.ClausesEnds.{ends_exceptions}
@@ -89,7 +89,7 @@ same_reader : {X I : Type 0} {make : I → X} {P : I → Type 0} {w : I → List
 same_reader same law = record { sound = λ ls x r e. law.sound ls x r (same ls ∙ e); complete = λ i ls r known o l end. sym (same ls) ∙ law.complete i ls r known o l end }
 
 no_statement : (r : List Lexeme) → ends_statements r ≡ true → begins_statement r ≡ false
-no_statement r end = not_true (begins_statement r) end
+no_statement r end = not-true (begins_statement r) end
 
 abbrev pub ends_declarations : List Lexeme → Bool
 ends_declarations r = not (begins_declaration r)
@@ -179,10 +179,10 @@ module _ (left : ℕ) (inner : SequenceRole → Parser Sequence) (deeper : Seque
   handled_ends r end = first_true (ends_statements r) (not_word (codes "exception") r && not_word (codes "when") r) end
 
   no_exception : (r : List Lexeme) → ends_sequence role.Handled r ≡ true → sees_word (codes "exception") r ≡ false
-  no_exception r end = not_true (sees_word (codes "exception") r) (first_true (not_word (codes "exception") r) (not_word (codes "when") r) (second_true (ends_statements r) (not_word (codes "exception") r && not_word (codes "when") r) end))
+  no_exception r end = not-true (sees_word (codes "exception") r) (first_true (not_word (codes "exception") r) (not_word (codes "when") r) (second_true (ends_statements r) (not_word (codes "exception") r && not_word (codes "when") r) end))
 
   no_when : (r : List Lexeme) → ends_sequence role.Handled r ≡ true → sees_word (codes "when") r ≡ false
-  no_when r end = not_true (sees_word (codes "when") r) (second_true (not_word (codes "exception") r) (not_word (codes "when") r) (second_true (ends_statements r) (not_word (codes "exception") r && not_word (codes "when") r) end))
+  no_when r end = not-true (sees_word (codes "when") r) (second_true (not_word (codes "exception") r) (not_word (codes "when") r) (second_true (ends_statements r) (not_word (codes "exception") r && not_word (codes "when") r) end))
 
   abbrev Handlers : Type 0
   Handlers = OneOrMore (Handler Sequence)
@@ -267,7 +267,7 @@ module _ (left : ℕ) (inner : SequenceRole → Parser Sequence) (deeper : Seque
   fd d = declaration_fits sequence_fits left d
 
   no_declaration : (r : List Lexeme) → ends_declarations r ≡ true → begins_declaration r ≡ false
-  no_declaration r end = not_true (begins_declaration r) end
+  no_declaration r end = not-true (begins_declaration r) end
 
   pub declarations_exact : Exact (flat_map wd) (list_all fd) ends_declarations (declarations_of left inner deeper)
   unfolding declarations_of starts begins_declaration

@@ -1,6 +1,6 @@
 -- All statements (5.1), given that the sequences in them are read as they are written.
-use Rattle.std.proofs.Common.{◌≡◌, ℕ, Bool, true, false, ◌&&◌, List, [], ◌∷◌, ◌++◌, refl, sym, ap, subst, ◌∙◌, codes}
-use Rattle.std.proofs.lemmas.Bool.{false≢true}
+use Rattle.std.proofs.Common.{◌≡◌, ℕ, Bool, true, false, List, [], ◌∷◌, ◌++◌, refl, sym, ap, subst, ◌∙◌, codes}
+use Rattle.std.proofs.lemmas.Bool.{and_right, false≢true}
 use Rattle.std.proofs.lemmas.Slice.Eq.{bytes_eq-Decides}
 use Rattle.std.specs.Prelude.{Option, Some, None, flat_map}
 use Rattle.std.specs.Str.{bytes_eq}
@@ -52,14 +52,10 @@ no_text : (text other : List ℕ) → is_reserved text ≡ true → is_reserved 
 no_text text other reserved free true e = absurd (false≢true (sym free ∙ (ap is_reserved ((bytes_eq-Decides other text).0 e) ∙ reserved)))
 no_text text other reserved free false e = refl
 
-and_false : (p q : Bool) → q ≡ false → (p && q) ≡ false
-and_false true q e = e
-and_false false q e = refl
-
 unreserved : (text : List ℕ) → is_reserved text ≡ true → (i : Identifier) (ws : List Written) (ls r : List Lexeme) → Leads (identifier_written i ∷ ws) ls r → sees_word text ls ≡ false
 unfolding starts
 unreserved text reserved i ws [] r l = absurd l
-unreserved text reserved i ws (l ∷ ls) r s = and_false (is_word l.kind) (bytes_eq l.text text) (no_text text l.text reserved s.0.identifier (bytes_eq l.text text) refl)
+unreserved text reserved i ws (l ∷ ls) r s = and_right (is_word l.kind) (bytes_eq l.text text) (no_text text l.text reserved s.0.identifier (bytes_eq l.text text) refl)
 
 -- ---- whether a name and a colon stand there
 
@@ -67,7 +63,7 @@ no_colon : (name : Name) (ws : List Written) → ((ls r : List Lexeme) → Leads
 unfolding starts_both starts
 no_colon name ws rest [] r l = absurd l
 no_colon name ws rest (l ∷ ls) r s =
-    and_false (is_identifier l) (sees_delimiter (codes ":") ls)
+    and_right (is_identifier l) (sees_delimiter (codes ":") ls)
     (first_each (sees_delimiter (codes ":")) false (behind (delimiter (codes ".")) one_identifier) ws (λ i ls m l. first_is (sees_delimiter (codes ":")) false (delimiter (codes ".")) (λ l ls. refl) (one_identifier i) ls m l) rest name.parts.others ls r s.1)
 
 call_no_label : (c : Call) (ls r : List Lexeme) → Leads (call_written c) ls r → sees_label ls ≡ false

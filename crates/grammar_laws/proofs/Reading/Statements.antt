@@ -2,6 +2,7 @@
 use Rattle.std.proofs.Common.{◌≡◌, ℕ, Bool, true, false, ◌&&◌, List, [], ◌∷◌, ◌++◌, refl, sym, subst, codes}
 use Rattle.std.specs.Prelude.{Option, Some, flat_map}
 use Rattle.std.specs.List.{list_all}
+use Rattle.std.proofs.lemmas.Bool.{not-true}
 use Rattle.ada_lex.specs.Reserved.{is_reserved}
 use Rattle.ada_tree.specs.declared.names.Identifier.{Identifier}
 use Rattle.ada_tree.specs.declared.statements.Statement.TheVariants as statements
@@ -24,7 +25,7 @@ use Rattle.ada_grammar.specs.ReadingStatements.{begins_statement, elsif_of, else
 use Rattle.ada_grammar.specs.ReadingSimple.{choice_of}
 use Rattle.grammar_laws.specs.Leads.{Leads}
 use Rattle.grammar_laws.proofs.Reading.Exact.{Rest, Any, itself, Exact, closing, ready, narrower, first_is, first_optional, first_each, optionally, listed, first_true, second_true}
-use Rattle.grammar_laws.proofs.Reading.Tokens.{always, shapeless, not_true, sees_word_first, sees_word_at_first, seen_word, seen_delimiter, not_word, flag_exact}
+use Rattle.grammar_laws.proofs.Reading.Tokens.{always, shapeless, sees_word_first, sees_word_at_first, seen_word, seen_delimiter, not_word, flag_exact}
 use Rattle.grammar_laws.proofs.Reading.Ends.{ends_statements, ends_sequence}
 use Rattle.grammar_laws.proofs.Reading.StatementsSteps.{placed, named, worded, delimited, part, last_part, valued, rewritten}
 use Rattle.grammar_laws.proofs.Reading.StatementsBegin.{statements_begin}
@@ -75,7 +76,7 @@ module _ (left : ℕ) (sequence : SequenceRole → Parser Sequence)
       elsif_exact (λ e ls r l. sees_word_at_first (codes "elsif") e.place _ ls r l) refl
       (λ r e. seen_word ends_statements true (codes "elsif") (λ p ls. refl) r e)
       (λ r e. first_true (ends_statements r) (not_word (codes "elsif") r) e)
-      (λ r e. not_true (sees_word (codes "elsif") r) (second_true (ends_statements r) (not_word (codes "elsif") r) e))
+      (λ r e. not-true (sees_word (codes "elsif") r) (second_true (ends_statements r) (not_word (codes "elsif") r) e))
 
   -- ["else" statements]
   pub else_exact : Exact (optional (else_written sequence_written)) (optional_fits (statements_fit sequence_fits left)) ends_else (else_of left sequence)
@@ -87,7 +88,7 @@ module _ (left : ℕ) (sequence : SequenceRole → Parser Sequence)
       (narrower itself Any _ _ ends_statements ends_else (sequence role.Statements) (exact role.Statements) (λ r e. first_true (ends_statements r) (not_word (codes "else") r) e))
       (λ q. tt) (λ q. refl) (λ q i p e. e)))
       (λ q ls r l. sees_word_first (codes "else") _ ls r l)
-      (λ r e. not_true (sees_word (codes "else") r) (second_true (ends_statements r) (not_word (codes "else") r) e))
+      (λ r e. not-true (sees_word (codes "else") r) (second_true (ends_statements r) (not_word (codes "else") r) e))
 
   -- ---- if (5.3)
 
@@ -126,7 +127,7 @@ module _ (left : ℕ) (sequence : SequenceRole → Parser Sequence)
       separated_exact (codes "|") choice_written (choice_fits left) ends_choice ends_choices (choice_of left) (choice_exact left)
       (λ r e. seen_delimiter ends_choice true (codes "|") (λ p ls. refl) r e)
       (λ r e. first_true (ends_choice r) (not_delimiter (codes "|") r) e)
-      (λ r e. not_true (sees_delimiter (codes "|") r) (second_true (ends_choice r) (not_delimiter (codes "|") r) e))
+      (λ r e. not-true (sees_delimiter (codes "|") r) (second_true (ends_choice r) (not_delimiter (codes "|") r) e))
 
   pub case_alternative_exact : Exact (case_alternative_written sequence_written) (case_alternative_fits sequence_fits left) ends_statements (case_alternative_of left sequence)
   unfolding case_alternative_of starts
@@ -146,7 +147,7 @@ module _ (left : ℕ) (sequence : SequenceRole → Parser Sequence)
       case_alternative_exact (λ a ls r l. sees_word_at_first (codes "when") a.place _ ls r l) refl
       (λ r e. seen_word ends_statements true (codes "when") (λ p ls. refl) r e)
       (λ r e. first_true (ends_statements r) (not_word (codes "when") r) e)
-      (λ r e. not_true (sees_word (codes "when") r) (second_true (ends_statements r) (not_word (codes "when") r) e))
+      (λ r e. not-true (sees_word (codes "when") r) (second_true (ends_statements r) (not_word (codes "when") r) e))
 
   when_or_over : (xs : List (CaseAlternative Sequence)) (ls r : List Lexeme) → Leads (flat_map (case_alternative_written sequence_written) xs) ls r → ends_alternatives r ≡ true → ends_statements ls ≡ true
   unfolding starts begins_statement is_reserved
@@ -211,4 +212,4 @@ module _ (left : ℕ) (sequence : SequenceRole → Parser Sequence)
       (closing (λ q. Some q) Any ends_statements itself (λ q. sequence_written q role.Statements) (λ q. sequence_fits q role.Statements left) (sequence role.Statements) itself
       (exact role.Statements) (λ q. tt) (λ q. refl) (λ q i p e. e))
       statements_begin
-      (λ r e. not_true (begins_statement r) e)
+      (λ r e. not-true (begins_statement r) e)

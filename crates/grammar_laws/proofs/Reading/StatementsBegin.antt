@@ -1,6 +1,7 @@
 -- What begins a statement (5.1): its first token.
-use Rattle.std.proofs.Common.{◌≡◌, Bool, true, false, ◌||◌, List, [], ◌∷◌, ◌++◌, refl, subst, codes}
+use Rattle.std.proofs.Common.{◌≡◌, Bool, true, false, List, [], ◌∷◌, ◌++◌, refl, subst, codes}
 use Rattle.std.specs.Prelude.{Option, flat_map}
+use Rattle.std.proofs.lemmas.Bool.{or_right}
 use Rattle.ann_base.specs.declared.places.Place.{Place}
 use Rattle.ada_tree.specs.declared.names.Name.{Name}
 use Rattle.ada_tree.specs.declared.statements.Statement.{Statement}
@@ -22,21 +23,17 @@ use Rattle.grammar_laws.proofs.Reading.Leading.{leads_through}
 use Rattle.grammar_laws.proofs.Reading.Exact.{first_is, first_optional}
 use Rattle.grammar_laws.proofs.Reading.Tokens.{sees_identifier_first}
 
-or_else : (p q : Bool) → q ≡ true → (p || q) ≡ true
-or_else true q e = refl
-or_else false q e = e
-
 pub identifier_begins : (ls : List Lexeme) → sees_identifier ls ≡ true → begins_statement ls ≡ true
 unfolding begins_statement
 identifier_begins ls e =
-    or_else (begins_compound ls) (begins_simple ls)
-    (or_else (sees_word (codes "null") ls) _
-    (or_else (sees_word (codes "delay") ls) _
-    (or_else (sees_word (codes "exit") ls) _
-    (or_else (sees_word (codes "return") ls) _
-    (or_else (sees_word (codes "raise") ls) _
-    (or_else (sees_word (codes "abort") ls) _
-    (or_else (sees_word (codes "requeue") ls) _
+    or_right (begins_compound ls) (begins_simple ls)
+    (or_right (sees_word (codes "null") ls) _
+    (or_right (sees_word (codes "delay") ls) _
+    (or_right (sees_word (codes "exit") ls) _
+    (or_right (sees_word (codes "return") ls) _
+    (or_right (sees_word (codes "raise") ls) _
+    (or_right (sees_word (codes "abort") ls) _
+    (or_right (sees_word (codes "requeue") ls) _
     e)))))))
 
 -- a name begins with an identifier

@@ -1,7 +1,7 @@
 -- Sums and relations (4.4).
 use Rattle.std.proofs.Common.{◌≡◌, ℕ, Bool, true, false, not, List, [], ◌∷◌, refl, sym, ap, subst, ◌∙◌, codes}
 use Rattle.std.specs.Prelude.{flat_map}
-use Rattle.std.proofs.lemmas.Bool.{false≢true}
+use Rattle.std.proofs.lemmas.Bool.{false≢true, not-true}
 use Rattle.std.specs.List.{list_all}
 use Rattle.ann_base.specs.declared.places.Place.{Place}
 use Rattle.ada_tree.specs.declared.names.OneOrMore.{OneOrMore}
@@ -26,7 +26,7 @@ use Rattle.ada_grammar.specs.ReadingExpressions.{formed, compares, adds, relatio
 use Rattle.grammar_laws.specs.Leads.{Leads}
 use Rattle.grammar_laws.proofs.Reading.Leading.{leads_through, as_written}
 use Rattle.grammar_laws.proofs.Reading.Exact.{done, Found, Rest, Any, itself, Exact, first_true, second_true, field, plain, narrower, closing, first_is, listed}
-use Rattle.grammar_laws.proofs.Reading.Tokens.{always, shapeless, not_true, delimiter_exact, sees_delimiter_at_first, seen_delimiter}
+use Rattle.grammar_laws.proofs.Reading.Tokens.{always, shapeless, delimiter_exact, sees_delimiter_at_first, seen_delimiter}
 use Rattle.grammar_laws.proofs.Reading.Choices.{Sound, either, one_form}
 use Rattle.grammar_laws.proofs.Reading.Ends.{ends_term, ends_sum, ends_relation}
 use Rattle.grammar_laws.proofs.Reading.Primaries.{ReadsInside, formed_is_written, formed_is_fit, formed_again}
@@ -264,7 +264,7 @@ module _ (left : ℕ) (inner : Parser Expression) (inside : ReadsInside left inn
   ends_addend r end = first_true (ends_term r) (not (adds r)) end
 
   no_addend : (r : List Lexeme) → ends_sum r ≡ true → adds r ≡ false
-  no_addend r end = not_true (adds r) (second_true (ends_term r) (not (adds r)) end)
+  no_addend r end = not-true (adds r) (second_true (ends_term r) (not (adds r)) end)
 
   behind_addend : (others : List (Addend Expression)) (ls r : List Lexeme) → Leads (flat_map (addend_written expression_written) others) ls r → ends_sum r ≡ true → ends_term ls ≡ true
   behind_addend [] ls r l end = subst (λ (z : List Lexeme). ends_term z ≡ true) (sym l) (ends_addend r end)
@@ -321,7 +321,7 @@ module _ (left : ℕ) (inner : Parser Expression) (inside : ReadsInside left inn
   ends_compared r end = first_true (ends_sum r) (not (compares r)) end
 
   no_comparison : (r : List Lexeme) → ends_relation r ≡ true → compares r ≡ false
-  no_comparison r end = not_true (compares r) (second_true (ends_sum r) (not (compares r)) end)
+  no_comparison r end = not-true (compares r) (second_true (ends_sum r) (not (compares r)) end)
 
   compared_exact : (first : Expression) → Rest (λ (x : Compared). formed (form.Relational first x.0.0 x.0.1 x.1)) Any compared_written (λ x. expression_fits x.1 precedence.Adding left) ends_relation (compared_of left inner first)
   unfolding compared_of

@@ -1,6 +1,6 @@
 -- Factors and terms (4.4).
 use Rattle.std.proofs.Common.{◌≡◌, ℕ, Bool, true, false, not, ◌||◌, List, [], ◌∷◌, ◌++◌, refl, sym, subst, codes, arith}
-use Rattle.std.proofs.lemmas.Bool.{false≢true}
+use Rattle.std.proofs.lemmas.Bool.{false≢true, not-true}
 use Rattle.std.proofs.lemmas.Bool.Decides.{nat_tests}
 use Rattle.std.specs.Prelude.{nat_le, flat_map}
 use Rattle.std.specs.List.{list_all}
@@ -25,7 +25,7 @@ use Rattle.ada_grammar.specs.ReadingExpressions.{formed, multiplies, multiplying
 use Rattle.grammar_laws.specs.Leads.{Leads}
 use Rattle.grammar_laws.proofs.Reading.Leading.{leads_through, as_written}
 use Rattle.grammar_laws.proofs.Reading.Exact.{done, Rest, Any, itself, Exact, first_true, second_true, both, field, plain, closing, first_is, listed}
-use Rattle.grammar_laws.proofs.Reading.Tokens.{always, shapeless, not_true, word_exact, delimiter_exact, sees_delimiter_at_first, sees_word_at_first, identifier_no_word, seen_delimiter, seen_word}
+use Rattle.grammar_laws.proofs.Reading.Tokens.{always, shapeless, word_exact, delimiter_exact, sees_delimiter_at_first, sees_word_at_first, identifier_no_word, seen_delimiter, seen_word}
 use Rattle.grammar_laws.proofs.Reading.ReservedWords.{reserved_abs, reserved_not}
 use Rattle.grammar_laws.proofs.Reading.Choices.{Sound, either, one_form}
 use Rattle.grammar_laws.proofs.Reading.Ends.{ends_designated, ends_term}
@@ -236,7 +236,7 @@ module _ (left : ℕ) (inner : Parser Expression) (inside : ReadsInside left inn
   ends_factor r end = first_true (ends_designated r) (not (multiplies r)) end
 
   no_product : (r : List Lexeme) → ends_term r ≡ true → multiplies r ≡ false
-  no_product r end = not_true (multiplies r) (second_true (ends_designated r) (not (multiplies r)) end)
+  no_product r end = not-true (multiplies r) (second_true (ends_designated r) (not (multiplies r)) end)
 
   behind_product : (others : List (Multiplied Expression)) (ls r : List Lexeme) → Leads (flat_map (multiplied_written expression_written) others) ls r → ends_term r ≡ true → ends_designated ls ≡ true
   behind_product [] ls r l end = subst (λ (z : List Lexeme). ends_designated z ≡ true) (sym l) (ends_factor r end)

@@ -1,6 +1,6 @@
 -- Single tokens: what is read so spells so, and what spells so is read.
 use Rattle.std.proofs.Common.{◌≡◌, ℕ, Bool, true, false, cond, not, ◌&&◌, List, [], ◌∷◌, length, Ok, Err, refl, sym, ap, subst, ◌∙◌}
-use Rattle.std.proofs.lemmas.Bool.{false≢true}
+use Rattle.std.proofs.lemmas.Bool.{false≢true, not-true}
 use Rattle.std.proofs.lemmas.Slice.Eq.{bytes_eq-Decides}
 use Rattle.std.specs.List.{list_all}
 use Rattle.std.specs.Str.{bytes_eq}
@@ -41,10 +41,6 @@ delimiter_kind kinds.Word e = absurd (false≢true e)
 delimiter_kind kinds.Number e = absurd (false≢true e)
 delimiter_kind kinds.Text e = absurd (false≢true e)
 delimiter_kind kinds.Delimiter e = refl
-
-pub not_true : (p : Bool) → not p ≡ true → p ≡ false
-not_true true e = absurd (false≢true e)
-not_true false e = refl
 
 same_text : (a b : List ℕ) → bytes_eq a b ≡ true → a ≡ b
 same_text a b e = (bytes_eq-Decides a b).0 e
@@ -174,7 +170,7 @@ pub identifier_spelt : (l : Lexeme) → is_identifier l ≡ true → Spells (ide
 identifier_spelt l e = record {
   kind = sym (word_kind l.kind (first_true (is_word l.kind) (not (is_reserved l.text)) e));
   text = refl;
-  identifier = not_true (is_reserved l.text) (second_true (is_word l.kind) (not (is_reserved l.text)) e);
+  identifier = not-true (is_reserved l.text) (second_true (is_word l.kind) (not (is_reserved l.text)) e);
   place = refl;
 }
 
@@ -283,7 +279,7 @@ sees_it text [] r l = absurd l
 sees_it text (l ∷ ls) r s = rw (← s.0.kind, ← s.0.text) (text_same text)
 
 unflagged : (text : List ℕ) (b : Bool) (ls r : List Lexeme) → Leads (flag b (word text ∷ [])) ls r → not_word text r ≡ true → choose (sees_word text) (the_word text >>= λ a. pure true) (pure false) ls ≡ done b r
-unflagged text false ls r l end = rw (l, not_true (sees_word text r) end) refl
+unflagged text false ls r l end = rw (l, not-true (sees_word text r) end) refl
 unflagged text true [] r l end = absurd l
 unflagged text true (l ∷ ls) r s end = let t = word_there text l ls s.0 in rw (sees_it text (l ∷ ls) ls (s.0, refl), t.1, s.1) refl
 

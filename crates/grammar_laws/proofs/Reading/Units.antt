@@ -2,6 +2,7 @@
 use Rattle.std.proofs.Common.{◌≡◌, ℕ, zero, suc, ◌<◌, ◌≤◌, Bool, true, false, cond, not, ◌&&◌, ◌||◌, List, [], ◌∷◌, ◌++◌, length, refl, sym, ap, subst, ◌∙◌, codes, arith, append_assoc}
 use Rattle.std.specs.Prelude.{Some, flat_map}
 use Rattle.std.specs.List.{list_all}
+use Rattle.std.proofs.lemmas.Bool.{not-true}
 use Rattle.ann_base.specs.declared.places.Place.{Place}
 use Rattle.ada_lex.specs.Reserved.{is_reserved}
 use Rattle.ada_tree.specs.declared.names.Identifier.{Identifier}
@@ -39,7 +40,7 @@ use Rattle.ada_grammar.specs.ReadingUnits.{declarations_at, pragma_of, with_of, 
 use Rattle.grammar_laws.specs.Leads.{Leads}
 use Rattle.grammar_laws.proofs.Reading.Leading.{leads_both, leads_through, leads_length}
 use Rattle.grammar_laws.proofs.Reading.Exact.{done, pair_of, parts, Rest, Any, itself, Exact, first_true, second_true, both, ready, field, plain, last, narrower, reshaped, respelt_where, closing, first_is, first_optional, first_each, optionally, listed}
-use Rattle.grammar_laws.proofs.Reading.Tokens.{always, shapeless, all_shapeless, not_true, not_word, word_exact, word_then, sees_delimiter_first, sees_word_first, sees_word_at_first, identifier_no_word, seen_delimiter, seen_word}
+use Rattle.grammar_laws.proofs.Reading.Tokens.{always, shapeless, all_shapeless, not_word, word_exact, word_then, sees_delimiter_first, sees_word_first, sees_word_at_first, identifier_no_word, seen_delimiter, seen_word}
 use Rattle.grammar_laws.proofs.Reading.ReservedWords.{reserved_body}
 use Rattle.grammar_laws.proofs.Reading.Names.{not_delimiter, separated_exact, names_exact, ends_names}
 use Rattle.grammar_laws.proofs.Reading.Choices.{Sound, either, one_form, opened_plain}
@@ -99,7 +100,7 @@ pub pragmas_exact : (left : ℕ) → Exact (flat_map pragma_written) (list_all (
 unfolding starts
 pragmas_exact left =
     listed (sees_word (codes "pragma")) pragma_written (pragma_fits left) always (not_word (codes "pragma")) (pragma_of left) (pragma_exact left) pragma_begins refl (λ r e. refl) (λ r e. refl)
-    (λ r e. not_true (sees_word (codes "pragma") r) e)
+    (λ r e. not-true (sees_word (codes "pragma") r) e)
 
 -- ---- context clauses (10.1.2, 8.4)
 
@@ -166,7 +167,7 @@ pub context_exact : Exact (flat_map clause_written) shapeless ends_context conte
 unfolding context_of starts
 context_exact =
     reshaped itself Any (flat_map clause_written) (list_all shapeless) shapeless ends_context context_of
-    (listed begins_clause clause_written shapeless always ends_context clause_of clause_exact clause_begins refl (λ r e. refl) (λ r e. refl) (λ r e. not_true (begins_clause r) e))
+    (listed begins_clause clause_written shapeless always ends_context clause_of clause_exact clause_begins refl (λ r e. refl) (λ r e. refl) (λ r e. not-true (begins_clause r) e))
     all_shapeless
 
 -- ---- declarations at a level
@@ -208,7 +209,7 @@ private_part_exact left =
     (narrower itself Any declarations_written (declarations_fit left) ends_declarations ends_private (declarations_at left) (declarations_at_exact left) (λ r e. first_true (ends_declarations r) (not_word (codes "private") r) e))
     (λ d. tt) (λ d. refl) (λ d i p e. e)))
     (λ d ls r l. sees_word_first (codes "private") (declarations_written d) ls r l)
-    (λ r e. not_true (sees_word (codes "private") r) (second_true (ends_declarations r) (not_word (codes "private") r) e))
+    (λ r e. not-true (sees_word (codes "private") r) (second_true (ends_declarations r) (not_word (codes "private") r) e))
 
 end_no_private : (ws : List Written) (ls r : List Lexeme) → Leads (word (codes "end") ∷ ws) ls r → ends_private ls ≡ true
 unfolding starts begins_declaration is_reserved
@@ -260,7 +261,7 @@ package_statements_exact left =
     (λ r e. first_true (ends_sequence role.Handled r) (not_word (codes "begin") r) e))
     (λ s. tt) (λ s. refl) (λ s i p e. e)))
     (λ s ls r l. sees_word_first (codes "begin") (sequence_written s role.Handled) ls r l)
-    (λ r e. not_true (sees_word (codes "begin") r) (second_true (ends_sequence role.Handled r) (not_word (codes "begin") r) e))
+    (λ r e. not-true (sees_word (codes "begin") r) (second_true (ends_sequence role.Handled r) (not_word (codes "begin") r) e))
 
 end_no_begin : (ws : List Written) (ls r : List Lexeme) → Leads (word (codes "end") ∷ ws) ls r → ends_begin ls ≡ true
 unfolding starts begins_statement is_reserved
@@ -426,7 +427,7 @@ module _ (left : ℕ) where
   ends_no_context r end = first_true (ends_context r) (not_word (codes "package") r) end
 
   no_package : (r : List Lexeme) → ends_packages r ≡ true → sees_word (codes "package") r ≡ false
-  no_package r end = not_true (sees_word (codes "package") r) (second_true (ends_context r) (not_word (codes "package") r) end)
+  no_package r end = not-true (sees_word (codes "package") r) (second_true (ends_context r) (not_word (codes "package") r) end)
 
   packages_complete : (ps : List LibraryPackage) (cs : List ContextClause) (fuel : ℕ) (found : List LibraryPackage) (ls r : List Lexeme) → length ls ≤ fuel → list_all fl ps ≡ true
       → Leads (flat_map wl ps ++ flat_map clause_written cs) ls r → ends_packages r ≡ true → packages_from left fuel found ls ≡ done (found ++ ps, cs) r

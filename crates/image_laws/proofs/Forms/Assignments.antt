@@ -1,6 +1,6 @@
 -- Assignments of values, and returns, are built, where no rule is broken.
-use Rattle.std.proofs.Common.{◌≡◌, Bool, true, false, cond, not, [], Option, Some, None, is_some, refl}
-use Rattle.std.proofs.lemmas.Bool.{and_from, and_parts, false≢true}
+use Rattle.std.proofs.Common.{◌≡◌, Bool, true, false, cond, [], Option, Some, None, is_some, refl}
+use Rattle.std.proofs.lemmas.Bool.{and_from, and_parts, false≢true, not-true}
 use Rattle.ada_tree.specs.declared.expressions.Expression.{Expression}
 use Rattle.ada_tree.specs.declared.statements.Assignment.{Assignment}
 use Rattle.ada_regions.specs.declared.types.AdaType.{AdaType}
@@ -26,12 +26,8 @@ use Rattle.image_laws.proofs.Forms.Nothing.{none-of}
 use Rattle.image_laws.proofs.Forms.Expressions.{expected_expressions_built}
 use Rattle.image_laws.proofs.Forms.Sources.{source-sound}
 
-is-false : (b : Bool) → not b ≡ true → b ≡ false
-is-false true e = absurd (false≢true e)
-is-false false e = refl
-
 typed-source : (k : Known) (e : Expression) (t : Typed) → has_values t ≡ true → source_clear e k ≡ true → faults_in (read_expression e k).1 ≡ [] → faults_in (fitted asking.ForValue (operand_type t) (read_expression e k).0) ≡ [] → source_built e k.names ≡ true
-typed-source k e (typing.OfSubtype s) v c f g = let p = and_parts _ _ c in source-sound k e s.of_type p.0 p.1 (is-false _ v) f g
+typed-source k e (typing.OfSubtype s) v c f g = let p = and_parts _ _ c in source-sound k e s.of_type p.0 p.1 (not-true _ v) f g
 typed-source k e typing.OfWholeNumber v c f g = let p = and_parts _ _ c in source-sound k e types.Integer p.0 p.1 refl f g
 typed-source k e typing.OfPointedNumber v c f g = let p = and_parts _ _ c in source-sound k e types.Duration p.0 p.1 refl f g
 typed-source k e _ v c f g = absurd (false≢true v)
@@ -44,7 +40,7 @@ whole-sound false false x e = e
 index-sound : (k : Known) (t : Option AdaType) (i : Expression) → target_index_clear t (Some i) k ≡ true → faults_in (value_found t i k) ≡ [] → expression_built i k.names ≡ true
 unfolding value_found
 index-sound k None i c f = absurd (false≢true c)
-index-sound k (Some t) i c f = let p = and_parts _ _ c in expected_expressions_built k i asking.ForValue t p.1 (is-false _ p.0) f
+index-sound k (Some t) i c f = let p = and_parts _ _ c in expected_expressions_built k i asking.ForValue t p.1 (not-true _ p.0) f
 
 target-sound : (k : Known) (a : Assignment) (i : Option Expression) → source_built a.value k.names ≡ true → target_index_clear (type_of_index_of k a.target) i k ≡ true
     → faults_in (found_if (value_found (type_of_index_of k a.target)) i k) ≡ [] → assigned_built a i k.names ≡ true
@@ -67,7 +63,7 @@ read_assignments_built k a c f =
 returned-sound : (k : Known) (t : Option AdaType) (e : Expression) → has_value_type t ≡ true → source_clear e k ≡ true → faults_in (value_alone_found t e k) ≡ [] → source_built e k.names ≡ true
 unfolding value_alone_found
 returned-sound k None e h c f = absurd (false≢true h)
-returned-sound k (Some t) e h c f = let p = and_parts _ _ c in let q = none-of _ _ f in source-sound k e t p.0 p.1 (is-false _ h) q.0 q.1
+returned-sound k (Some t) e h c f = let p = and_parts _ _ c in let q = none-of _ _ f in source-sound k e t p.0 p.1 (not-true _ h) q.0 q.1
 
 pub read_returns_built : ReadReturnsBuilt
 unfolding return_found

@@ -1,7 +1,7 @@
 -- A name without attribute that is a value is built: what it denotes, where no rule is broken.
 use Rattle.std.proofs.Common.{◌≡◌, ℕ, Bool, true, false, cond, not, ◌&&◌, ◌||◌, List, [], ◌∷◌, map, Option, Some, None, option_map, is_some, is_none, refl, sym, ap, ◌∙◌}
 use Rattle.std.specs.Prelude.{unwrap_or}
-use Rattle.std.proofs.lemmas.Bool.{false≢true}
+use Rattle.std.proofs.lemmas.Bool.{false≢true, not-true}
 use Rattle.ann_base.specs.declared.places.Place.{Place}
 use Rattle.ada_tree.specs.declared.expressions.Argument.{Argument}
 use Rattle.ada_regions.specs.declared.entities.Denoted.{Denoted}
@@ -48,10 +48,6 @@ no-index false = refl
 
 without-type : (k : Known) (u : PredefinedUnit) (has : Bool) → has_values (typed_constant k u (unless_index has None)) ≡ true → ⊥
 without-type k u has v = false≢true (sym (no-constant k u) ∙ sym (ap (λ t. has_values (typed_constant k u t)) (no-index has)) ∙ v)
-
-not-true : (b : Bool) → not b ≡ true → b ≡ false
-not-true true e = absurd (false≢true e)
-not-true false e = refl
 
 module _ {E : Type 0} (reading : E → Reading) (clear : E → Clear) (built : E → Built) (law : (e : E) → ReadLaw (reading e) (clear e) (built e)) (k : Known) (place : Place) where
   -- what is asked of what a name denotes

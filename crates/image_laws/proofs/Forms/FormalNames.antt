@@ -1,8 +1,8 @@
 -- An actual that is given for a formal is found for it, where the names of the formals stand apart.
-use Rattle.std.proofs.Common.{◌≡◌, ℕ, zero, suc, Bool, true, false, cond, not, ◌&&◌, ◌||◌, List, [], ◌∷◌, map, Option, Some, None, option_map, is_some, is_none, refl, sym, ap, ◌∙◌, eqb, eqb-true, eq-eqb}
+use Rattle.std.proofs.Common.{◌≡◌, ℕ, zero, suc, Bool, true, false, cond, ◌&&◌, ◌||◌, List, [], ◌∷◌, map, Option, Some, None, option_map, is_some, is_none, refl, sym, ap, ◌∙◌, eqb, eqb-true, eq-eqb}
 use Rattle.std.specs.Prelude.{⊤, unwrap_or, bytes_eq}
 use Rattle.std.specs.List.{list_any}
-use Rattle.std.proofs.lemmas.Bool.{and_parts, or_parts, false≢true}
+use Rattle.std.proofs.lemmas.Bool.{and_parts, false≢true, not-true, or_parts}
 use Rattle.std.proofs.lemmas.Slice.Eq.{bytes_eq-Decides}
 use Rattle.ada_legality.specs.declared.parts.ActualPart.{ActualPart}
 use Rattle.ada_legality.specs.declared.parts.FormalPart.{FormalPart}
@@ -47,16 +47,12 @@ only-first : (g : FormalPart) (gs : List FormalPart) → bytes_eq [] g.name ≡ 
 only-first g gs e n zero q = refl
 only-first g gs e n (suc at) q = absurd (false≢true (sym (absent g.name gs e n at) ∙ q))
 
-is-false : (b : Bool) → not b ≡ true → b ≡ false
-is-false true e = absurd (false≢true e)
-is-false false e = refl
-
 pub spread : (whole : List FormalPart) → names_clear (names_in whole) ≡ true → Spread whole 0 whole
 spread [] c = tt
 spread (g ∷ gs) c =
     let p = and_parts _ _ c in
     let q = and_parts _ _ p.1 in
-    (only-first g gs (is-false _ p.0) (is-false _ q.0), all-shifted g gs 0 gs (is-false _ q.0) (spread gs q.1))
+    (only-first g gs (not-true _ p.0) (not-true _ q.0), all-shifted g gs 0 gs (not-true _ q.0) (spread gs q.1))
 
 module _ (whole : List FormalPart) (number : ℕ) (name : List ℕ) (only : Only whole number name) where
   by-name : (text : List ℕ) (r : Read) (rest : Option Read) (b g : Bool) → bytes_eq text name ≡ b → (bytes_eq name text || g) ≡ true → (g ≡ true → is_some rest ≡ true) → is_some (cond b (Some r) rest) ≡ true

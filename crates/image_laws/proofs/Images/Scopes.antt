@@ -1,8 +1,8 @@
 -- Where no scope begins twice, each scope of the image has the first action that was made for it.
-use Rattle.std.proofs.Common.{◌≡◌, ℕ, zero, suc, ◌+◌, ◌<◌, Bool, true, false, cond, not, eqb, ltb, length, List, [], ◌∷◌, map, Some, find, refl, ap, ◌∙◌, arith}
+use Rattle.std.proofs.Common.{◌≡◌, ℕ, zero, suc, ◌+◌, ◌<◌, true, false, cond, eqb, ltb, length, List, [], ◌∷◌, map, Some, find, refl, ap, ◌∙◌, arith}
 use Rattle.std.specs.Prelude.{slice_index_or}
 use Rattle.std.specs.List.{list_any, list_all}
-use Rattle.std.proofs.lemmas.Bool.{and_parts, or_parts, false≢true, ltb-true}
+use Rattle.std.proofs.lemmas.Bool.{and_parts, ltb-true, not-true, or_parts}
 use Rattle.profile_machine.specs.declared.image.Image.{Image}
 use Rattle.profile_machine.specs.Program.{no_scope}
 use Rattle.ada_regions.specs.Words.{and_then}
@@ -27,10 +27,6 @@ found-behind g all [] h k = tt
 found-behind g all (f ∷ fs) h k =
     let parts = or_parts _ _ h in
     (ap (λ b. cond b (Some g) (find (λ x. eqb x.scope f.scope) all)) parts.0 ∙ k.0, found-behind g all fs parts.1 k.1)
-
-not-true : (b : Bool) → not b ≡ true → b ≡ false
-not-true true h = absurd (false≢true h)
-not-true false h = refl
 
 found-own : (fs : List FirstAction) → are_apart (scopes_of fs) ≡ true → Found fs fs
 found-own [] h = tt

@@ -2,7 +2,7 @@
 use Rattle.std.proofs.Common.{◌≡◌, ℕ, Bool, true, false, cond, not, eqb, ◌&&◌, ◌||◌, List, [], ◌∷◌, refl, sym, ap, subst, ◌∙◌, eq-eqb}
 use Rattle.std.specs.Prelude.{filter}
 use Rattle.std.specs.List.{list_all, list_any}
-use Rattle.std.proofs.lemmas.Bool.{eqb-true}
+use Rattle.std.proofs.lemmas.Bool.{and_from, and_parts, eqb-true, not-false, not-true}
 use Rattle.trace_text.specs.declared.events.Action as shown
 use Rattle.trace_text.specs.declared.events.Mode.{Mode}
 use Rattle.trace_text.specs.declared.events.Mode.TheVariants.{Read, Write}
@@ -16,22 +16,6 @@ use Rattle.ann_base.specs.Lists.{is_empty}
 use Rattle.profile_machine.specs.Protected.{is_action_of, has_open, is_read, excludes}
 
 -- ---- tests
-
-halves : (a b : Bool) → (a && b) ≡ true → (a ≡ true) × (b ≡ true)
-halves true b e = (refl, e)
-halves false b e = cc
-
-both : (a b : Bool) → a ≡ true → b ≡ true → (a && b) ≡ true
-both true b p q = q
-both false b p q = p
-
-not-false : (b : Bool) → not b ≡ false → b ≡ true
-not-false true e = refl
-not-false false e = cc
-
-not-true : (b : Bool) → not b ≡ true → b ≡ false
-not-true true e = cc
-not-true false e = refl
 
 or-on : (x p q : Bool) → (x || p) ≡ true → (p ≡ true → q ≡ true) → (x || q) ≡ true
 or-on true p q e k = refl
@@ -77,15 +61,11 @@ closed-step n o object a actions left true e is k h =
     sym (ap (λ t. cond t (stripped a ∷ on n actions) (on n actions)) other)
 closed-step n o object a actions left false e is k h = ap (λ rest. cond (eqb n a.object) (stripped a ∷ rest) rest) h
 
-first_holds : (a b : Bool) → (a && b) ≡ true → a ≡ true
-first_holds true b e = refl
-first_holds false b e = cc
-
 pub closed-other : (n o : ℕ) (name : Who) (s : List shown.Action) → eqb n o ≡ false → on n (closed o name s) ≡ on n s
 closed-other n o name [] e = refl
 closed-other n o name (a ∷ actions) e =
     closed-step n o a.object a actions (closed o name actions) (eqb o a.object && who_eq name a.who) e refl
-    (λ t. eqb-true o a.object (first_holds (eqb o a.object) (who_eq name a.who) t)) (closed-other n o name actions e)
+    (λ t. eqb-true o a.object ((and_parts (eqb o a.object) (who_eq name a.who) t).0)) (closed-other n o name actions e)
 
 abbrev first_out : Who → List Action → List Action
 first_out name [] = []
@@ -168,8 +148,8 @@ read-is Write = refl
 all-read : (actions : List Action) → list_all (λ a. is_read a.mode) actions ≡ true → list_all (reads_beside Read) actions ≡ true
 all-read [] e = refl
 all-read (a ∷ actions) e =
-    let parts = halves (is_read a.mode) (list_all (λ x. is_read x.mode) actions) e in
-    both (reads_beside Read a) (list_all (reads_beside Read) actions) (read-is a.mode ∙ parts.0) (all-read actions parts.1)
+    let parts = and_parts (is_read a.mode) (list_all (λ x. is_read x.mode) actions) e in
+    and_from (reads_beside Read a) (list_all (reads_beside Read) actions) (read-is a.mode ∙ parts.0) (all-read actions parts.1)
 
 pub free-beside : (m : Mode) (actions : List Action) → excludes m actions ≡ false → list_all (reads_beside m) actions ≡ true
 free-beside m [] e = refl
@@ -178,7 +158,7 @@ free-beside Read (a ∷ actions) e = all-read (a ∷ actions) (not-false (list_a
 
 beside-step : (o : ℕ) (m : Mode) (a : shown.Action) (actions : List shown.Action) (b : Bool) → eqb o a.object ≡ b → (list_all (reads_beside m) (on o actions) ≡ true → list_all (is_beside o m) actions ≡ true)
     → list_all (reads_beside m) (cond b (stripped a ∷ on o actions) (on o actions)) ≡ true → ((not b || not (is_write m || is_write a.mode)) && list_all (is_beside o m) actions) ≡ true
-beside-step o m a actions true is onward e = let parts = halves (reads_beside m (stripped a)) (list_all (reads_beside m) (on o actions)) e in both (reads_beside m (stripped a)) (list_all (is_beside o m) actions) parts.0 (onward parts.1)
+beside-step o m a actions true is onward e = let parts = and_parts (reads_beside m (stripped a)) (list_all (reads_beside m) (on o actions)) e in and_from (reads_beside m (stripped a)) (list_all (is_beside o m) actions) parts.0 (onward parts.1)
 beside-step o m a actions false is onward e = onward e
 
 pub all-beside : (o : ℕ) (m : Mode) (s : List shown.Action) → list_all (reads_beside m) (on o s) ≡ true → list_all (is_beside o m) s ≡ true

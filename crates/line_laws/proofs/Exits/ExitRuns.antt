@@ -1,6 +1,7 @@
 -- Runs in which nobody acts that waits for an entry call: each `exit` line closes an action that is open.
 use Rattle.std.proofs.Common.{◌≡◌, ℕ, ℤ, zero, suc, Bool, true, false, ◌+◌, ◌≤◌, cond, List, [], ◌∷◌, ◌++◌, Option, Some, None, refl, sym, ap, subst, arith}
 use Rattle.std.specs.Prelude.{IsTrue, unwrap_or}
+use Rattle.std.proofs.lemmas.Bool.{and_from}
 use Rattle.trace_text.specs.declared.events.Action as shown
 use Rattle.trace_text.specs.declared.events.Event.{Event}
 use Rattle.trace_text.specs.declared.events.Event.TheVariants as written
@@ -21,7 +22,7 @@ use Rattle.profile_machine.specs.Dispatching.{choose}
 use Rattle.profile_machine.specs.Instant.{instant}
 use Rattle.profile_machine.specs.Run.{Ran, environment_task, opens, opening, blank_world, tock, stop, at_tick, stopped, then_runs, run_from, run_of}
 use Rattle.machine_laws.specs.Reached.{Comes, opened, ticked}
-use Rattle.line_laws.proofs.Ticks.LineByLine.{both, Follow-append, seen_behind-append}
+use Rattle.line_laws.proofs.Ticks.LineByLine.{Follow-append, seen_behind-append}
 use Rattle.line_laws.specs.ExclusionLaws.{enters_rightly}
 use Rattle.line_laws.proofs.Exclusion.ExclusionLemmas.{runs_exclude}
 use Rattle.line_laws.specs.ExitLaws.{IsRunnerFree, RunnersAreFree, exits_rightly}
@@ -62,11 +63,11 @@ tock-led p s w h =
 
 follows-then : (n : ℕ) (s : List shown.Action) (events : List Event) (rest : List TraceLine) → RightOf s events → follows_lines actions_after exits_rightly (actions_behind s events) rest ≡ true → follows_lines actions_after exits_rightly s (at_tick n events ++ rest) ≡ true
 follows-then n s [] rest a b = b
-follows-then n s (x ∷ xs) rest a b = both (exits_rightly s x) (follows_lines actions_after exits_rightly (actions_after s x) (at_tick n xs ++ rest)) a.0 (follows-then n (actions_after s x) xs rest a.1 b)
+follows-then n s (x ∷ xs) rest a b = and_from (exits_rightly s x) (follows_lines actions_after exits_rightly (actions_after s x) (at_tick n xs ++ rest)) a.0 (follows-then n (actions_after s x) xs rest a.1 b)
 
 follows-alone : (n : ℕ) (s : List shown.Action) (events : List Event) → RightOf s events → follows_lines actions_after exits_rightly s (at_tick n events) ≡ true
 follows-alone n s [] a = refl
-follows-alone n s (x ∷ xs) a = both (exits_rightly s x) (follows_lines actions_after exits_rightly (actions_after s x) (at_tick n xs)) a.0 (follows-alone n (actions_after s x) xs a.1)
+follows-alone n s (x ∷ xs) a = and_from (exits_rightly s x) (follows_lines actions_after exits_rightly (actions_after s x) (at_tick n xs)) a.0 (follows-alone n (actions_after s x) xs a.1)
 
 -- one instant, what follows it, and what is left of the run
 abbrev turn : ℕ → World × List Event → World × List Event → Ran → Option Ended → Ran

@@ -1,6 +1,6 @@
 -- How often the lines have an action of somebody on an object open, and how often its marks do.
 use Rattle.std.proofs.Common.{◌≡◌, ℕ, ◌+◌, ◌≤◌, ◌<◌, Bool, true, false, cond, eqb, ◌&&◌, ◌||◌, List, [], ◌∷◌, Option, Some, None, refl, sym, ap, subst, eq-eqb, arith}
-use Rattle.std.proofs.lemmas.Bool.{eqb-true, false≢true}
+use Rattle.std.proofs.lemmas.Bool.{and_parts, eqb-true, false≢true}
 use Rattle.std.specs.List.{list_any}
 use Rattle.trace_text.specs.declared.events.Action as shown
 use Rattle.trace_text.specs.declared.events.Who.{Who}
@@ -37,10 +37,6 @@ pub opened-any : (name : Who) (o : ℕ) (s : List shown.Action) → 0 < opened n
 opened-any name o [] h = absurd (omega (arith, h))
 opened-any name o (a ∷ actions) h = any-step (is_own name o a) (list_any (λ x. eqb o x.object && who_eq name x.who) actions) (opened name o actions) h (λ g. opened-any name o actions g)
 
-halves : (a b : Bool) → (a && b) ≡ true → (a ≡ true) × (b ≡ true)
-halves true b e = (refl, e)
-halves false b e = absurd (false≢true e)
-
 who_eq-path : (a b : Who) → who_eq a b ≡ true → a ≡ b
 who_eq-path (who.Task a) (who.Task b) e = ap (λ (n : ℕ). who.Task (record { 0 = n })) (eqb-true a.0 b.0 e)
 who_eq-path (who.Task a) who.Agent e = absurd (false≢true e)
@@ -58,7 +54,7 @@ bit-least false = omega arith
 -- the one that is closed is of the one that closes it
 own-same : (name m : Who) (o k : ℕ) (a : shown.Action) → is_own m k a ≡ true → bit (is_own name o a) ≤ bit (is_same name o m k)
 own-same name m o k a e =
-    let parts = halves (eqb k a.object) (who_eq m a.who) e in
+    let parts = and_parts (eqb k a.object) (who_eq m a.who) e in
     let object : k ≡ a.object = eqb-true k a.object parts.0 in
     let subject : m ≡ a.who = who_eq-path m a.who parts.1 in
     subst (λ x. bit (is_own name o a) ≤ bit (is_same name o x k)) (sym subject)

@@ -2,7 +2,7 @@
 -- while it has any it is inside a protected action. A region that it opens is coloured.
 use Rattle.std.proofs.Common.{◌≡◌, ℕ, suc, ◌≤◌, Bool, true, false, ◌||◌, eqb, eq-eqb, List, [], ◌∷◌, Option, Some, None, is_some, refl, sym, ap, ◌∙◌, arith}
 use Rattle.std.specs.List.{list_any}
-use Rattle.std.proofs.lemmas.Bool.{false≢true, eqb-true}
+use Rattle.std.proofs.lemmas.Bool.{eqb-true, false_from_ne_true, false≢true, or_from, or_left, or_right}
 use Rattle.ann_base.specs.declared.identities.RegionNo.{RegionNo}
 use Rattle.profile_machine.specs.declared.world.marks.Frame.{Frame}
 use Rattle.profile_machine.specs.declared.world.tasks.Task.{Task}
@@ -62,13 +62,9 @@ inside-test : (b : Bool) (rest : Bool) → rest ≡ true → (b || rest) ≡ tru
 inside-test true rest e = refl
 inside-test false rest e = e
 
-inside-action : (b : Bool) (rest : Bool) → b ≡ true → (b || rest) ≡ true
-inside-action true rest e = refl
-inside-action false rest e = absurd (false≢true e)
-
 pub rooted-inside : (fs : List Frame) → Rooted (natures fs) → any_protected fs ≡ true
 rooted-inside [] h = elim h [ ]
-rooted-inside (f ∷ []) h = inside-action (is_protected f.mark) false h.0
+rooted-inside (f ∷ []) h = or_left (is_protected f.mark) false h.0
 rooted-inside (f ∷ g ∷ fs) h = inside-test (is_protected f.mark) (any_protected (g ∷ fs)) (rooted-inside (g ∷ fs) h.2)
 
 -- what has a top
@@ -81,25 +77,13 @@ has_top (g ∷ fs) f e = (fs, cc)
 abbrev pub with_next : ℕ → Colour → Colour
 with_next drawn colour k = eqb k (suc drawn) || colour k
 
-none_or : (a b : Bool) → a ≡ false → b ≡ false → (a || b) ≡ false
-none_or true b e f = e
-none_or false b e f = f
-
-or_right : (a b : Bool) → b ≡ true → (a || b) ≡ true
-or_right true b e = refl
-or_right false b e = e
-
-by_value : (b : Bool) → (b ≡ true → ⊥) → b ≡ false
-by_value true h = absurd (h refl)
-by_value false h = refl
-
 not_next : (k drawn : ℕ) → k ≤ drawn → eqb k (suc drawn) ≡ false
-not_next k drawn a = by_value (eqb k (suc drawn)) (λ e. let same : k ≡ suc drawn = eqb-true k (suc drawn) e in omega (arith, same, a))
+not_next k drawn a = false_from_ne_true (eqb k (suc drawn)) (λ e. let same : k ≡ suc drawn = eqb-true k (suc drawn) e in omega (arith, same, a))
 
 module _ (colour : Colour) (drawn : ℕ) where
   region-free : (r : Option RegionNo) → RegionFree colour drawn r → RegionFree (with_next drawn colour) (suc drawn) r
   region-free None h = tt
-  region-free (Some r) h = let within : r.0 ≤ drawn = h.1 in (none_or (eqb r.0 (suc drawn)) (colour r.0) (not_next r.0 drawn within) h.0, omega arith)
+  region-free (Some r) h = let within : r.0 ≤ drawn = h.1 in (or_from (eqb r.0 (suc drawn)) (colour r.0) (not_next r.0 drawn within) h.0, omega arith)
 
   marks-free : (ns : List Nature) → MarksFree colour drawn ns → MarksFree (with_next drawn colour) (suc drawn) ns
   marks-free [] h = tt
@@ -125,7 +109,7 @@ module _ (colour : Colour) (drawn : ℕ) where
   next-drawn within k e = next-drawn-test k (eqb k (suc drawn)) refl e within
 
   pub next-none : colour 0 ≡ false → with_next drawn colour 0 ≡ false
-  next-none e = none_or (eqb 0 (suc drawn)) (colour 0) (not_next 0 drawn (omega arith)) e
+  next-none e = or_from (eqb 0 (suc drawn)) (colour 0) (not_next 0 drawn (omega arith)) e
 
   pub next-owned : RegionOwned (with_next drawn colour) (Some (record { 0 = suc drawn }))
   next-owned = ap (λ q. q || colour (suc drawn)) (eq-eqb (suc drawn) (suc drawn) refl)
@@ -134,11 +118,11 @@ module _ (colour : Colour) (drawn : ℕ) where
 
 master-test : (colour : Colour) (drawn : ℕ) (master : Option RegionNo) (r : RegionNo) → RegionFree colour drawn master → colour r.0 ≡ true → is_the same_region master r ≡ false
 master-test colour drawn None r h e = refl
-master-test colour drawn (Some m) r h e = by_value (same_region m r) (λ same. let is : m.0 ≡ r.0 = eqb-true m.0 r.0 same in false≢true (sym h.0 ∙ ap colour is ∙ e))
+master-test colour drawn (Some m) r h e = false_from_ne_true (same_region m r) (λ same. let is : m.0 ≡ r.0 = eqb-true m.0 r.0 same in false≢true (sym h.0 ∙ ap colour is ∙ e))
 
 pub no_dependents : (colour : Colour) (drawn : ℕ) (r : RegionNo) (ts : List Task) → colour r.0 ≡ true → TasksFree colour drawn ts → list_any (λ t. is_the same_region t.master r) ts ≡ false
 no_dependents colour drawn r [] e h = refl
-no_dependents colour drawn r (t ∷ ts) e h = none_or (is_the same_region t.master r) (list_any (λ u. is_the same_region u.master r) ts) (master-test colour drawn t.master r h.0.master e) (no_dependents colour drawn r ts e h.1)
+no_dependents colour drawn r (t ∷ ts) e h = or_from (is_the same_region t.master r) (list_any (λ u. is_the same_region u.master r) ts) (master-test colour drawn t.master r h.0.master e) (no_dependents colour drawn r ts e h.1)
 
 -- one more above the lowest
 pub rooted-pushed : (n : Nature) (ns : List Nature) → n.release ≡ None → n.abortable ≡ false → Rooted ns → Rooted (n ∷ ns)

@@ -1,8 +1,8 @@
 -- Every run keeps the law of handlers: behind each tock the agent is in the queue exactly where some release is not yet served,
 -- and where it runs one release is being served.
-use Rattle.std.proofs.Common.{◌≡◌, ℕ, ℤ, suc, ◌≤◌, Bool, true, false, not, ◌&&◌, ◌||◌, eqb, List, [], ◌∷◌, length, Option, Some, None, is_some, refl, sym, ap, subst, ◌∙◌, arith}
+use Rattle.std.proofs.Common.{◌≡◌, ℕ, ℤ, suc, ◌≤◌, Bool, true, false, not, ◌||◌, eqb, List, [], ◌∷◌, length, Option, Some, None, is_some, refl, sym, ap, subst, ◌∙◌, arith}
 use Rattle.std.specs.Prelude.{nat_lt, IsTrue}
-use Rattle.std.proofs.lemmas.Bool.{false≢true}
+use Rattle.std.proofs.lemmas.Bool.{and_from, false≢true}
 use Rattle.trace_text.specs.declared.events.Event.{Event}
 use Rattle.trace_text.specs.declared.events.Who.TheVariants as who
 use Rattle.trace_text.specs.Queue.{AtEachTick, entry_of, somebody_eq}
@@ -133,17 +133,13 @@ is_same-refl : (a b : Bool) → a ≡ b → is_same a b ≡ true
 is_same-refl true b e = sym e
 is_same-refl false b e = ap not (sym e)
 
-both_true : (a b : Bool) → a ≡ true → b ≡ true → (a && b) ≡ true
-both_true true b e f = f
-both_true false b e f = e
-
 unless : (test last : Bool) → (test ≡ true → last ≡ true) → (not test || last) ≡ true
 unless true last h = h refl
 unless false last h = refl
 
 right-by : (s : Releases) (w : World) → ShowsAgent s w → (w.ran ≡ Some who.Agent → is_some w.serving ≡ true) → is_agent_right s ≡ true
 right-by s w h serves =
-    both_true (is_same (seen_in s) (nat_lt s.served s.released)) (not (somebody_eq s.sight.runner (Some who.Agent)) || eqb (length s.serving) 1)
+    and_from (is_same (seen_in s) (nat_lt s.served s.released)) (not (somebody_eq s.sight.runner (Some who.Agent)) || eqb (length s.serving) 1)
     (is_same-refl (seen_in s) (nat_lt s.served s.released) (h.seen ∙ h.attending.attends ∙ sym (unserved-by w.serving w.releases s w refl refl h.turn)))
     (unless (somebody_eq s.sight.runner (Some who.Agent)) (eqb (length s.serving) 1)
     (λ e. ap (λ n. eqb n 1) (served-alone w.serving s w refl (serves (sym h.runner ∙ somebody_is s.sight.runner (Some who.Agent) e)) h.turn)))

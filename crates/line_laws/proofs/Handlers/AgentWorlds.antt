@@ -2,6 +2,7 @@
 -- on it, and no release ends with a mark of a task.
 use Rattle.std.proofs.Common.{◌≡◌, ℕ, suc, ◌≤◌, Bool, true, false, cond, List, [], ◌∷◌, ◌++◌, Option, Some, None, option_and_then, refl, subst, arith}
 use Rattle.std.specs.Prelude.{filter, find, unwrap_or}
+use Rattle.std.proofs.lemmas.Bool.{false_from_ne_true}
 use Rattle.ann_base.specs.declared.identities.RegionNo.{RegionNo}
 use Rattle.trace_text.specs.declared.events.Who.{Who}
 use Rattle.trace_text.specs.declared.events.Who.TheVariants as who
@@ -85,13 +86,9 @@ pub TasksFree-later : (colour : Colour) (m n : ℕ) (ts : List Task) → m ≤ n
 TasksFree-later colour m n [] a h = tt
 TasksFree-later colour m n (t ∷ ts) a h = (TaskFree-later colour m n t a h.0, TasksFree-later colour m n ts a h.1)
 
-is_false : (b : Bool) → (b ≡ true → ⊥) → b ≡ false
-is_false true h = absurd (h refl)
-is_false false h = refl
-
 -- the next region is not coloured
 pub next-free : (colour : Colour) (drawn : ℕ) → ((k : ℕ) → colour k ≡ true → k ≤ drawn) → colour (suc drawn) ≡ false
-next-free colour drawn h = is_false (colour (suc drawn)) (λ e. let within : suc drawn ≤ drawn = h (suc drawn) e in omega arith)
+next-free colour drawn h = false_from_ne_true (colour (suc drawn)) (λ e. let within : suc drawn ≤ drawn = h (suc drawn) e in omega arith)
 
 -- ---- lists of tasks
 

@@ -1,7 +1,7 @@
 -- The agent is ready exactly where it serves a release or one is pending; it has no marks where it serves none. What an action
 -- leaves so, and what its lines make of the agent's place.
 use Rattle.std.proofs.Common.{◌≡◌, Bool, true, false, not, ◌||◌, List, [], ◌∷◌, ◌++◌, Option, Some, None, is_some, refl, sym, ap, subst, ◌∙◌}
-use Rattle.std.proofs.lemmas.Bool.{false≢true}
+use Rattle.std.proofs.lemmas.Bool.{false≢true, or_parts}
 use Rattle.ann_base.specs.declared.identities.RegionNo.{RegionNo}
 use Rattle.profile_machine.specs.declared.image.Image.{Image}
 use Rattle.profile_machine.specs.declared.world.World.{World}
@@ -53,13 +53,9 @@ pub calm-placing : (before between after : Bool) (xs ys : List Said) → NoneBlo
 calm-placing before between after xs ys calm e (calm_so more f) = calm_so (NoneBlocks-append xs ys calm more) (called-append before between after xs ys e f)
 calm-placing before between after xs ys calm e (closes_so closed f) = closes_so (Closes-behind xs ys closed) f
 
-both_false : (a b : Bool) → (a || b) ≡ false → (a ≡ false) × (b ≡ false)
-both_false true b e = cc
-both_false false b e = (refl, e)
-
 none-called : (xs : List Said) → are_calls xs ≡ false → NoneCalls xs
 none-called [] e = tt
-none-called (x ∷ xs) e = let parts = both_false (calls_agent x.line) (are_calls xs) e in (parts.0, none-called xs parts.1)
+none-called (x ∷ xs) e = let parts = or_parts (calls_agent x.line) (are_calls xs) e in (parts.0, none-called xs parts.1)
 
 -- before lines that neither take it out nor place it
 pub placing-quiet : (before between after : Bool) (xs ys : List Said) → Placing before xs between → NoneBlocks ys → are_calls ys ≡ false → after ≡ (between || are_calls ys) → Placing before (xs ++ ys) after

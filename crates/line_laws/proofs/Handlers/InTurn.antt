@@ -2,7 +2,7 @@
 -- last that was served.
 use Rattle.std.proofs.Common.{◌≡◌, ℕ, ℤ, suc, ◌+◌, ◌≤◌, Bool, true, false, cond, ◌&&◌, if◌then◌else◌, option_map, eqb, leb, List, [], ◌∷◌, ◌++◌, map, length, Option, Some, None, refl, sym, ap, subst, ◌∙◌, eq-eqb, arith}
 use Rattle.std.specs.Prelude.{unwrap_or}
-use Rattle.std.proofs.lemmas.Bool.{le-leb}
+use Rattle.std.proofs.lemmas.Bool.{and_from, le-leb}
 use Rattle.trace_text.specs.declared.events.Event.{Event}
 use Rattle.trace_text.specs.declared.events.Event.TheVariants as line
 use Rattle.trace_text.specs.declared.events.Who.{Who}
@@ -34,7 +34,7 @@ use Rattle.machine_laws.proofs.Kept.Combinators.{Leads, Alters, settles-leads}
 use Rattle.machine_laws.proofs.Kept.Handlers.{charge-alters}
 use Rattle.machine_laws.proofs.Kept.Instant.{instant-leads}
 use Rattle.machine_laws.proofs.Kept.Run.{opens-keeps, before_tick, tock-parts}
-use Rattle.line_laws.proofs.Ticks.LineByLine.{both, seen_behind, seen_behind-append, Follow, Follow-append, Leads_on, OfRuns, run-at_each_line}
+use Rattle.line_laws.proofs.Ticks.LineByLine.{seen_behind, seen_behind-append, Follow, Follow-append, Leads_on, OfRuns, run-at_each_line}
 use Rattle.line_laws.proofs.Ticks.ReleaseLemmas.{Pending, Pending-behind, Pending-within}
 use Rattle.line_laws.proofs.Exclusion.OwnLines.{told, Told, Told-append, Told-in_order}
 use Rattle.line_laws.specs.HandlerLaws.{ServedInTurn}
@@ -139,7 +139,7 @@ ended-next p number turn s f fits e onward =
     let within : s.begun ≤ s.released = fits.within in
     record {
       turn = (turn.0, None);
-      right = both (eqb number (s.served + 1)) (leb number s.released) (eq-eqb number (s.served + 1) (omega (arith, last, next))) (le-leb number s.released (omega (arith, last, within)));
+      right = and_from (eqb number (s.served + 1)) (leb number s.released) (eq-eqb number (s.served + 1) (omega (arith, last, next))) (le-leb number s.released (omega (arith, last, within)));
       fits_next = record { all_came = fits.all_came; within = within; serves = (one_off-alone number s.serving serves.0, omega (arith, next)) };
       begun_next = refl;
       onward = onward;
@@ -305,8 +305,8 @@ taken_up s w r rest is e h =
     let next : suc s.begun ≡ s.begun + 1 = omega arith in
     record {
       follow = (
-        both (eqb r.number (s.begun + 1) && leb r.number s.released) (eqb (length s.serving) 0)
-            (both (eqb r.number (s.begun + 1)) (leb r.number s.released) (eq-eqb r.number (s.begun + 1) (omega (arith, number))) (le-leb r.number s.released (omega (arith, number, drawn, all_came))))
+        and_from (eqb r.number (s.begun + 1) && leb r.number s.released) (eqb (length s.serving) 0)
+            (and_from (eqb r.number (s.begun + 1)) (leb r.number s.released) (eq-eqb r.number (s.begun + 1) (omega (arith, number))) (le-leb r.number s.released (omega (arith, number, drawn, all_came))))
             (ap (λ (q : List ℕ). eqb (length q) 0) serves.0),
         tt,
       );

@@ -1,7 +1,7 @@
 -- What a task does spares the agent: it leaves the agent's marks and the release that it serves alone, and does not take it out
 -- of the ready queues; where it releases a handler it may wake it.
 use Rattle.std.proofs.Common.{◌≡◌, ℕ, suc, ◌≤◌, Bool, true, false, not, ◌||◌, List, [], ◌∷◌, ◌++◌, Option, Some, None, is_some, refl, sym, ap, subst, ◌∙◌, arith}
-use Rattle.std.proofs.lemmas.Bool.{false≢true}
+use Rattle.std.proofs.lemmas.Bool.{false≢true, or_from}
 use Rattle.ann_base.specs.declared.identities.ObjectNo.{ObjectNo}
 use Rattle.ann_base.specs.declared.identities.RegionNo.{RegionNo}
 use Rattle.trace_text.specs.declared.events.Event.{Event}
@@ -81,10 +81,6 @@ or-assoc : (a b c : Bool) → ((a || b) || c) ≡ (a || (b || c))
 or-assoc true b c = refl
 or-assoc false b c = refl
 
-both_false : (a b : Bool) → a ≡ false → b ≡ false → (a || b) ≡ false
-both_false true b e f = e
-both_false false b e f = f
-
 quiet-blocks : (x : Line) → is_apart x ≡ false → blocks_agent x ≡ false
 quiet-blocks (said.Block name why) e = cc
 quiet-blocks _ e = refl
@@ -103,7 +99,7 @@ visit-calm name o mode xs quiet = (refl, NoneBlocks-append xs (own (said.Exit na
 
 quiet-uncalled : (xs : List Said) → AreQuiet xs → are_calls xs ≡ false
 quiet-uncalled [] a = refl
-quiet-uncalled (x ∷ xs) a = both_false (calls_agent x.line) (are_calls xs) (quiet-calls x.line a.0) (quiet-uncalled xs a.1)
+quiet-uncalled (x ∷ xs) a = or_from (calls_agent x.line) (are_calls xs) (quiet-calls x.line a.0) (quiet-uncalled xs a.1)
 
 attends-activation : (state : State) → Attends state → waits_for_activation (waiting_in state) ≡ true → ⊥
 attends-activation Runnable a e = false≢true e
@@ -201,7 +197,7 @@ module _ (colour : Colour) (wakes : Bool) where
     calm = NoneBlocks-append xs ys h.calm k.calm;
     called = k.called ∙ ap (λ q. q || are_calls ys) h.called ∙ or-assoc (agent_runs a) (are_calls xs) (are_calls ys) ∙ ap (λ q. agent_runs a || q) (sym (are_calls-append xs ys));
     attends = λ e. k.attends (h.attends e);
-    quiet = λ e. are_calls-append xs ys ∙ both_false (are_calls xs) (are_calls ys) (h.quiet e) (k.quiet e);
+    quiet = λ e. are_calls-append xs ys ∙ or_from (are_calls xs) (are_calls ys) (h.quiet e) (k.quiet e);
   }
 
   -- a line that places nobody
@@ -211,9 +207,9 @@ module _ (colour : Colour) (wakes : Bool) where
     marks_same = refl;
     serving_same = refl;
     calm = (quiet-blocks x.line apart, tt);
-    called = or_false (agent_runs w) ∙ ap (λ q. agent_runs w || q) (sym (both_false (calls_agent x.line) false (quiet-calls x.line apart) refl));
+    called = or_false (agent_runs w) ∙ ap (λ q. agent_runs w || q) (sym (or_from (calls_agent x.line) false (quiet-calls x.line apart) refl));
     attends = λ h. h;
-    quiet = λ e. both_false (calls_agent x.line) false (quiet-calls x.line apart) refl;
+    quiet = λ e. or_from (calls_agent x.line) false (quiet-calls x.line apart) refl;
   }
 
   -- a mark of a task is opened, and ends
@@ -286,14 +282,14 @@ module _ (colour : Colour) (wakes : Bool) where
     marks_same = h.marks_same;
     serving_same = h.serving_same;
     calm = (blocks, tt);
-    called = h.called ∙ ap (λ q. agent_runs w || q) (sym (both_false (calls_agent x.line) false (calls) refl));
+    called = h.called ∙ ap (λ q. agent_runs w || q) (sym (or_from (calls_agent x.line) false (calls) refl));
     attends = h.attends;
-    quiet = λ e. both_false (calls_agent x.line) false (calls) refl;
+    quiet = λ e. or_from (calls_agent x.line) false (calls) refl;
   }
 
   visited : (name : Who) (o : ObjectNo) (mode : Mode) (xs : List Said) (w v : World) → AreQuiet xs → R w [] v → R w (own (said.Enter name o mode) ∷ xs ++ own (said.Exit name o) ∷ []) v
   visited name o mode xs w v quiet h =
-      let none : are_calls (xs ++ own (said.Exit name o) ∷ []) ≡ false = are_calls-append xs (own (said.Exit name o) ∷ []) ∙ both_false (are_calls xs) false (quiet-uncalled xs quiet) refl in
+      let none : are_calls (xs ++ own (said.Exit name o) ∷ []) ≡ false = are_calls-append xs (own (said.Exit name o) ∷ []) ∙ or_from (are_calls xs) false (quiet-uncalled xs quiet) refl in
       record {
         apart = h.apart;
         marks_same = h.marks_same;
@@ -311,9 +307,9 @@ module _ (colour : Colour) (wakes : Bool) where
     marks_same = refl;
     serving_same = refl;
     calm = (a, tt);
-    called = or_false (agent_runs w) ∙ ap (λ q. agent_runs w || q) (sym (both_false (calls_agent x.line) false b refl));
+    called = or_false (agent_runs w) ∙ ap (λ q. agent_runs w || q) (sym (or_from (calls_agent x.line) false b refl));
     attends = λ h. h;
-    quiet = λ e. both_false (calls_agent x.line) false b refl;
+    quiet = λ e. or_from (calls_agent x.line) false b refl;
   }
 
   task_placed : (p : Image) (part : Part) (name : Who) (end : QueueEnd) (w : World) → G w → IsTask name → R w (ready_line p part name end w ∷ []) w

@@ -1,7 +1,7 @@
 -- A law at each tick of every run, from what lines show of a world: as it is asked whenever the tick changes, it is kept where it
 -- holds behind the opening and behind each tock.
-use Rattle.std.proofs.Common.{◌≡◌, ℕ, ℤ, zero, suc, Bool, true, false, ◌||◌, leb, List, [], ◌∷◌, ◌++◌, Option, Some, None, refl, sym, subst, arith}
-use Rattle.std.proofs.lemmas.Bool.{le-leb}
+use Rattle.std.proofs.Common.{◌≡◌, ℕ, ℤ, zero, suc, Bool, true, ◌||◌, leb, List, [], ◌∷◌, ◌++◌, Option, Some, None, refl, sym, subst, arith}
+use Rattle.std.proofs.lemmas.Bool.{and_from, le-leb, or_left, or_right}
 use Rattle.trace_text.specs.declared.events.Event.{Event}
 use Rattle.trace_text.specs.declared.events.Event.TheVariants as line
 use Rattle.trace_text.specs.declared.events.Ended.{Ended}
@@ -13,32 +13,24 @@ use Rattle.profile_machine.specs.declared.world.World.{World}
 use Rattle.profile_machine.specs.Instant.{instant}
 use Rattle.profile_machine.specs.Run.{Ran, opening, tock, stop, at_tick, stopped, then_runs, run_from, run_of}
 use Rattle.machine_laws.specs.Reached.{Comes, opened, ticked}
-use Rattle.line_laws.proofs.Ticks.LineByLine.{both, seen_behind, seen_behind-append}
+use Rattle.line_laws.proofs.Ticks.LineByLine.{seen_behind, seen_behind-append}
 
 -- one instant, what follows it, and what is left of the run
 turn : ℕ → World × List Event → World × List Event → Ran → Option Ended → Ran
 turn now i t rest (Some reason) = stopped now i.1 reason
 turn now i t rest None = then_runs now (i.1 ++ t.1) rest
 
-or_right : (a b : Bool) → b ≡ true → (a || b) ≡ true
-or_right true b e = refl
-or_right false b e = e
-
-or_left : (a b : Bool) → a ≡ true → (a || b) ≡ true
-or_left true b e = refl
-or_left false b e = absurd cc
-
 module _ {S : Type 0} (see : S → Event → S) (lawful : S → Event → Bool) (right : S → Bool) where
   ticks-then : (tick now : ℕ) (s : S) (events : List Event) (rest : List TraceLine) → (leb now tick || right s) ≡ true
       → ((t : ℕ) → follows_ticks see right t (seen_behind see lawful s events) rest ≡ true) → follows_ticks see right tick s (at_tick now events ++ rest) ≡ true
   ticks-then tick now s [] rest e k = k tick
   ticks-then tick now s (x ∷ xs) rest e k =
-      both (leb now tick || right s) (follows_ticks see right now (see s x) (at_tick now xs ++ rest)) e (ticks-then now now (see s x) xs rest (or_left (leb now now) (right (see s x)) (le-leb now now (omega arith))) k)
+      and_from (leb now tick || right s) (follows_ticks see right now (see s x) (at_tick now xs ++ rest)) e (ticks-then now now (see s x) xs rest (or_left (leb now now) (right (see s x)) (le-leb now now (omega arith))) k)
 
   ticks-alone : (tick now : ℕ) (s : S) (events : List Event) → (leb now tick || right s) ≡ true → follows_ticks see right tick s (at_tick now events) ≡ true
   ticks-alone tick now s [] e = refl
   ticks-alone tick now s (x ∷ xs) e =
-      both (leb now tick || right s) (follows_ticks see right now (see s x) (at_tick now xs)) e (ticks-alone now now (see s x) xs (or_left (leb now now) (right (see s x)) (le-leb now now (omega arith))))
+      and_from (leb now tick || right s) (follows_ticks see right now (see s x) (at_tick now xs)) e (ticks-alone now now (see s x) xs (or_left (leb now now) (right (see s x)) (le-leb now now (omega arith))))
 
   pub record TicksOfRuns (p : Image) (script : List (ℤ × Item)) (bound : ℕ) (Shows : S → World → Type 0) (s : S) : Type 0 where
     pub opens : let o = opening p script in Shows (seen_behind see lawful s o.1) o.0

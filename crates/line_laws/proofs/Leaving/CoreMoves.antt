@@ -1,6 +1,7 @@
 -- What an action does step by step: it tells of regions what it does to them, and keeps what every world keeps of its marks; whom it
 -- lets wait for a meeting it takes out of the ready queues; and nobody who is free gets a mark on top that is being left.
 use Rattle.std.proofs.Common.{◌≡◌, Bool, true, false, cond, ◌&&◌, List, [], ◌∷◌, ◌++◌, Option, Some, None, option_and_then, refl, sym, ap, subst, ◌∙◌}
+use Rattle.std.proofs.lemmas.Bool.{and_right}
 use Rattle.ann_base.specs.declared.identities.CallNo.{CallNo}
 use Rattle.ann_base.specs.declared.identities.RegionNo.{RegionNo}
 use Rattle.ann_base.specs.declared.identities.TaskNo.{TaskNo}
@@ -79,13 +80,9 @@ pub apart-readies : (n : Who) (line : Line) → is_apart line ≡ false → read
 apart-readies n (said.Ready name level end deadline) e = absurd cc
 apart-readies n _ e = refl
 
-and_false : (a b : Bool) → b ≡ false → (a && b) ≡ false
-and_false true b e = e
-and_false false b e = refl
-
 pub quiet-early : (n : Who) (xs : List Said) → Quiet n xs → Early n xs
 quiet-early n [] h = tt
-quiet-early n (x ∷ xs) h = (and_false (is_last_part x.part) (readies n x.line) h.0, quiet-early n xs h.1)
+quiet-early n (x ∷ xs) h = (and_right (is_last_part x.part) (readies n x.line) h.0, quiet-early n xs h.1)
 
 pub quiet-lines : (n : Who) (xs : List Said) → AreQuiet xs → Quiet n xs
 quiet-lines n [] h = tt

@@ -1,12 +1,12 @@
 -- Lines that come rightly are in turn, and keep the law of leaving.
 use Rattle.std.proofs.Common.{◌≡◌, ℕ, Bool, true, false, cond, not, eqb, ◌&&◌, ◌||◌, List, [], ◌∷◌, Option, Some, None, length, refl, sym, ap, ◌∙◌, eq-eqb}
 use Rattle.std.specs.List.{list_all}
-use Rattle.std.proofs.lemmas.Bool.{eqb-true}
+use Rattle.std.proofs.lemmas.Bool.{and_from, eqb-true, not_from_false}
 use Rattle.trace_text.specs.declared.events.Event.{Event}
 use Rattle.trace_text.specs.declared.events.Event.TheVariants as line
 use Rattle.trace_text.specs.Laws.{is_left_before, is_leaving, inits_of, regions_of, is_final_before, is_rightly_left}
 use Rattle.line_laws.specs.LeavingLaws.{is_newest, is_next_in_turn, is_in_turn, RunsLeaveInTurn, RunsLeaveRightly}
-use Rattle.line_laws.proofs.Leaving.RegionLines.{Told, begun, ended, added, finalized, assigned, leaving, left, inits, regions, final, others, live, live_in, Finalizes, Right, NotLeaving, Well, Known, by_test, both, not-no, newest-known, newest-live, live-one, known-same, known-added, known-finalized, absent-known, well-next, well_first, rightly, eqb-sym-false}
+use Rattle.line_laws.proofs.Leaving.RegionLines.{Told, begun, ended, added, finalized, assigned, leaving, left, inits, regions, final, others, live, live_in, Finalizes, Right, NotLeaving, Well, Known, by_test, newest-known, newest-live, live-one, known-same, known-added, known-finalized, absent-known, well-next, well_first, rightly, eqb-sym-false}
 use Rattle.line_laws.proofs.Leaving.LeftLines.{told_event, tells, tells-leaving, tells-left, tells-inits, tells-regions, tells-final, all-same, rightly-same, told_rightly}
 use Rattle.line_laws.proofs.Leaving.Telling.{RightEvent}
 use Rattle.line_laws.proofs.Leaving.LeavingRuns.{at_each_line}
@@ -92,7 +92,7 @@ all-final : (s : List Told) (os : List ℕ) → unfinalized s os ≡ [] → list
 all-final s [] e = refl
 all-final s (o ∷ os) e =
     by_test (final o s)
-    (λ t. both (final o s) (list_all (λ n. final n s) os) t (all-final s os (sym (test-true (final o s) (unfinalized s os) (o ∷ unfinalized s os) t) ∙ e)))
+    (λ t. and_from (final o s) (list_all (λ n. final n s) os) t (all-final s os (sym (test-true (final o s) (unfinalized s os) (o ∷ unfinalized s os) t) ∙ e)))
     (λ f. absurd (let some : o ∷ unfinalized s os ≡ [] = sym (test-false (final o s) (unfinalized s os) (o ∷ unfinalized s os) f) ∙ e in cc))
 
 head-same : (a b : ℕ) (ms ns : List ℕ) → a ∷ ms ≡ b ∷ ns → b ≡ a
@@ -108,30 +108,30 @@ newest-told o past (n ∷ os) rest e =
 
 next-in_turn : (o : ℕ) (past : List Event) → InOrder (tells past) → (f : Finalizes (tells past) o) → is_next_in_turn o past f.region ≡ true
 next-in_turn o past w f =
-    both (is_leaving f.region past && not (is_left_before f.region past)) _
-    (both (is_leaving f.region past) _ (tells-leaving f.region past ∙ f.leaving) (ap not (tells-left f.region past) ∙ not-no (left f.region (tells past)) f.not_left))
+    and_from (is_leaving f.region past && not (is_left_before f.region past)) _
+    (and_from (is_leaving f.region past) _ (tells-leaving f.region past ∙ f.leaving) (ap not (tells-left f.region past) ∙ not_from_false (left f.region (tells past)) f.not_left))
     (ap (λ os. is_newest o os past) (tells-inits f.region past) ∙ newest-told o past (inits f.region (tells past)) f.rest (w.left_over f.region ∙ f.newest))
 
 in_turn : (past : List Event) (x : Event) → InOrder (tells past) → RightEvent AnyRegion (tells past) (told_event x) → is_in_turn past x ≡ true
-in_turn past (line.Leave name region how) w h = ap not (tells-leaving region.0 past) ∙ not-no (leaving region.0 (tells past)) h
+in_turn past (line.Leave name region how) w h = ap not (tells-leaving region.0 past) ∙ not_from_false (leaving region.0 (tells past)) h
 in_turn past (line.Left name region) w h =
-    both (is_leaving region.0 past && not (is_left_before region.0 past)) _
-    (both (is_leaving region.0 past) _ (tells-leaving region.0 past ∙ h.0) (ap not (tells-left region.0 past) ∙ not-no (left region.0 (tells past)) h.1))
+    and_from (is_leaving region.0 past && not (is_left_before region.0 past)) _
+    (and_from (is_leaving region.0 past) _ (tells-leaving region.0 past ∙ h.0) (ap not (tells-left region.0 past) ∙ not_from_false (left region.0 (tells past)) h.1))
     (all-same (λ o. is_final_before o past) (λ o. final o (tells past)) (inits_of region.0 past) (λ o. tells-final o past)
     ∙ ap (list_all (λ o. final o (tells past))) (tells-inits region.0 past) ∙ all-final (tells past) (inits region.0 (tells past)) (w.left_over region.0 ∙ h.2))
 in_turn past (line.Init name object region declared) w h =
-    both (eqb (length (regions_of object past)) 0) _ (ap (λ rs. eqb (length rs) 0) (tells-regions object past ∙ h.0)) (ap not (tells-final object past) ∙ not-no (final object (tells past)) h.1)
+    and_from (eqb (length (regions_of object past)) 0) _ (ap (λ rs. eqb (length rs) 0) (tells-regions object past ∙ h.0)) (ap not (tells-final object past) ∙ not_from_false (final object (tells past)) h.1)
 in_turn past (line.Final name object) w h =
     let s = tells past in
     let n = newest-known s object h.region (live s) h.rest w.known h.newest in
     let k = live-one s object (live s) w.known (newest-live h.region object (live s) h.rest h.newest) in
-    both (eqb (length (regions_of object past)) 1 && not (is_final_before object past)) _
-    (both (eqb (length (regions_of object past)) 1) _ (ap (λ rs. eqb (length rs) 1) (tells-regions object past ∙ n.one)) (ap not (tells-final object past) ∙ not-no (final object s) k.not_final))
-    (ap (list_all (is_next_in_turn object past)) (tells-regions object past ∙ n.one) ∙ both (is_next_in_turn object past h.region) true (next-in_turn object past w h) refl)
+    and_from (eqb (length (regions_of object past)) 1 && not (is_final_before object past)) _
+    (and_from (eqb (length (regions_of object past)) 1) _ (ap (λ rs. eqb (length rs) 1) (tells-regions object past ∙ n.one)) (ap not (tells-final object past) ∙ not_from_false (final object s) k.not_final))
+    (ap (list_all (is_next_in_turn object past)) (tells-regions object past ∙ n.one) ∙ and_from (is_next_in_turn object past h.region) true (next-in_turn object past w h) refl)
 in_turn past (line.Replace name object) w h =
     let s = tells past in
     let k = live-one s object (live s) w.known h in
-    both (eqb (length (regions_of object past)) 1) _ (ap (λ rs. eqb (length rs) 1) (tells-regions object past ∙ k.one)) (ap not (tells-final object past) ∙ not-no (final object s) k.not_final)
+    and_from (eqb (length (regions_of object past)) 1) _ (ap (λ rs. eqb (length rs) 1) (tells-regions object past ∙ k.one)) (ap not (tells-final object past) ∙ not_from_false (final object s) k.not_final)
 in_turn past _ w h = refl
 
 -- objects that are initialized early may be initialized

@@ -2,7 +2,7 @@
 -- which come rightly keep the law of leaving.
 use Rattle.std.proofs.Common.{◌≡◌, ℕ, Bool, true, false, cond, not, eqb, ◌&&◌, ◌||◌, List, [], ◌∷◌, ◌++◌, length, refl, sym, ap, subst, ◌∙◌, eq-eqb, append_assoc, append-nil}
 use Rattle.std.specs.List.{list_all}
-use Rattle.std.proofs.lemmas.Bool.{eqb-true}
+use Rattle.std.proofs.lemmas.Bool.{and_from, eqb-true, not_from_false, or_left, or_parts, or_right}
 use Rattle.trace_text.specs.Laws.{has, is_front_of}
 
 -- a region begins to be left, and has been left; an object is initialized in a region, finalized, and assigned to
@@ -116,14 +116,6 @@ pub by_test : {P : Type 0} (b : Bool) → (b ≡ true → P) → (b ≡ false �
 by_test true p q = p refl
 by_test false p q = q refl
 
-pub or-false : (a b : Bool) → (a || b) ≡ false → (a ≡ false) × (b ≡ false)
-or-false true b e = absurd cc
-or-false false b e = (refl, e)
-
-pub both : (a b : Bool) → a ≡ true → b ≡ true → (a && b) ≡ true
-both true b p q = q
-both false b p q = p
-
 pub eqb-sym-false : (a b : ℕ) → eqb a b ≡ false → eqb b a ≡ false
 eqb-sym-false a b e = by_test (eqb b a) (λ t. absurd (let same : eqb a a ≡ false = subst (λ n. eqb a n ≡ false) (eqb-true b a t) e in let yes : eqb a a ≡ true = eq-eqb a a refl in cc)) (λ f. f)
 
@@ -152,7 +144,7 @@ finals-test n objects fs false e = refl
 pub finals-new : (o : ℕ) (objects : List ℕ) (s : List Told) → final o s ≡ false → finals (o ∷ objects) s ≡ finals objects s
 finals-new o objects [] e = refl
 finals-new o objects (finalized n ∷ s) e =
-    let parts = or-false (eqb o n) (final o s) e in
+    let parts = or_parts (eqb o n) (final o s) e in
     ap (λ fs. cond (has n (o ∷ objects)) (fs ++ n ∷ []) fs) (finals-new o objects s parts.1)
     ∙ finals-test n objects (finals objects s) (eqb n o) (eqb-sym-false o n parts.0)
 finals-new o objects (begun q ∷ s) e = finals-new o objects s e
@@ -162,14 +154,14 @@ finals-new o objects (assigned n ∷ s) e = finals-new o objects s e
 
 pub front-self : (xs ys : List ℕ) → is_front_of xs (xs ++ ys) ≡ true
 front-self [] ys = refl
-front-self (x ∷ xs) ys = both (eqb x x) (is_front_of xs (xs ++ ys)) (eq-eqb x x refl) (front-self xs ys)
+front-self (x ∷ xs) ys = and_from (eqb x x) (is_front_of xs (xs ++ ys)) (eq-eqb x x refl) (front-self xs ys)
 
 -- ---- an object is taken out of those that are not finalized
 
 others-absent : (o : ℕ) (xs : List (ℕ × ℕ)) → is_live o xs ≡ false → others o xs ≡ xs
 others-absent o [] e = refl
 others-absent o (x ∷ xs) e =
-    let parts = or-false (eqb o x.0) (is_live o xs) e in
+    let parts = or_parts (eqb o x.0) (is_live o xs) e in
     ap (λ t. cond t (others o xs) (x ∷ others o xs)) parts.0 ∙ ap (λ rest. x ∷ rest) (others-absent o xs parts.1)
 
 absent-step : (n : ℕ) (x : ℕ × ℕ) (left_over : List (ℕ × ℕ)) (b : Bool) → eqb n x.0 ≡ false → is_live n left_over ≡ false → is_live n (cond b left_over (x ∷ left_over)) ≡ false
@@ -178,7 +170,7 @@ absent-step n x left_over false e h = ap (λ t. t || is_live n left_over) e ∙ 
 
 pub absent-others : (o n : ℕ) (xs : List (ℕ × ℕ)) → is_live n xs ≡ false → is_live n (others o xs) ≡ false
 absent-others o n [] e = refl
-absent-others o n (x ∷ xs) e = let parts = or-false (eqb n x.0) (is_live n xs) e in absent-step n x (others o xs) (eqb o x.0) parts.0 (absent-others o n xs parts.1)
+absent-others o n (x ∷ xs) e = let parts = or_parts (eqb n x.0) (is_live n xs) e in absent-step n x (others o xs) (eqb o x.0) parts.0 (absent-others o n xs parts.1)
 
 -- the line behind says nothing else of those that are known
 known-step : (o : ℕ) (x : ℕ × ℕ) (s : List Told) (left_over : List (ℕ × ℕ)) (b : Bool) → eqb o x.0 ≡ b → regions x.0 s ≡ x.1 ∷ [] → final x.0 s ≡ false → is_live x.0 left_over ≡ false → Known (finalized o ∷ s) left_over → Known (finalized o ∷ s) (cond b left_over (x ∷ left_over))
@@ -199,7 +191,7 @@ absent-known o s (x ∷ xs) e h =
 pub known-added : (o r : ℕ) (s : List Told) (xs : List (ℕ × ℕ)) → is_live o xs ≡ false → Known s xs → Known (added o r ∷ s) xs
 known-added o r s [] e h = tt
 known-added o r s (x ∷ xs) e h =
-    let parts = or-false (eqb o x.0) (is_live o xs) e in
+    let parts = or_parts (eqb o x.0) (is_live o xs) e in
     (ap (λ t. cond t (r ∷ regions x.0 s) (regions x.0 s)) (eqb-sym-false o x.0 parts.0) ∙ h.0, h.1, h.2, known-added o r s xs parts.1 h.3)
 
 -- what is said of regions alone
@@ -229,21 +221,13 @@ newest-here s o r x xs rest h here is e =
 behind-live : (s : List Told) (o : ℕ) (x : ℕ × ℕ) (xs : List (ℕ × ℕ)) → is_live x.0 xs ≡ false → is_live o xs ≡ true → eqb o x.0 ≡ false
 behind-live s o x xs e t = by_test (eqb o x.0) (λ y. absurd (let no : is_live o xs ≡ false = subst (λ n. is_live n xs ≡ false) (sym (eqb-true o x.0 y)) e in let never : true ≡ false = sym t ∙ no in cc)) (λ f. f)
 
-or_there : (a b : Bool) → b ≡ true → (a || b) ≡ true
-or_there true b e = refl
-or_there false b e = e
-
-or_here : (a b : Bool) → a ≡ true → (a || b) ≡ true
-or_here true b e = refl
-or_here false b e = cc
-
 pub newest-live : (r o : ℕ) (xs : List (ℕ × ℕ)) (rest : List ℕ) → live_in r xs ≡ o ∷ rest → is_live o xs ≡ true
 newest-live r o [] rest e = absurd cc
 newest-live r o (x ∷ xs) rest e =
     by_test (eqb r x.1)
     (λ t. let shown : x.0 ∷ live_in r xs ≡ o ∷ rest = sym (ap (λ c. cond c (x.0 ∷ live_in r xs) (live_in r xs)) t) ∙ e in
-    or_here (eqb o x.0) (is_live o xs) (eq-eqb o x.0 (sym (same_head x.0 o (live_in r xs) rest shown).0)))
-    (λ f. or_there (eqb o x.0) (is_live o xs) (newest-live r o xs rest (sym (ap (λ c. cond c (x.0 ∷ live_in r xs) (live_in r xs)) f) ∙ e)))
+    or_left (eqb o x.0) (is_live o xs) (eq-eqb o x.0 (sym (same_head x.0 o (live_in r xs) rest shown).0)))
+    (λ f. or_right (eqb o x.0) (is_live o xs) (newest-live r o xs rest (sym (ap (λ c. cond c (x.0 ∷ live_in r xs) (live_in r xs)) f) ∙ e)))
 
 pub newest-known : (s : List Told) (o r : ℕ) (xs : List (ℕ × ℕ)) (rest : List ℕ) → Known s xs → live_in r xs ≡ o ∷ rest → Newest s o r xs rest
 newest-known s o r [] rest h e = absurd cc
@@ -268,7 +252,7 @@ pub well_first : Well []
 well_first = record { parts = λ r. refl; early = λ r e. refl; known = tt }
 
 begun-early : (r q : ℕ) (s : List Told) → (leaving r s ≡ false → finals (inits r s) s ≡ []) → (eqb r q || leaving r s) ≡ false → finals (inits r s) s ≡ []
-begun-early r q s k e = k (or-false (eqb r q) (leaving r s) e).1
+begun-early r q s k e = k (or_parts (eqb r q) (leaving r s) e).1
 
 added-parts : (o r q : ℕ) (s : List Told) → Well s → final o s ≡ false → leaving r s ≡ false → (test : Bool) → eqb q r ≡ test
     → cond test (o ∷ inits q s) (inits q s) ≡ finals (cond test (o ∷ inits q s) (inits q s)) s ++ cond test (o ∷ live_in q (live s)) (live_in q (live s))
@@ -356,26 +340,22 @@ live-one s o (x ∷ xs) h e =
     (λ t. let same : o ≡ x.0 = eqb-true o x.0 t in record { region = x.1; one = ap (λ n. regions n s) same ∙ h.0; not_final = ap (λ n. final n s) same ∙ h.1 })
     (λ f. live-one s o xs h.3 (sym (ap (λ t. t || is_live o xs) f) ∙ e))
 
-pub not-no : (b : Bool) → b ≡ false → not b ≡ true
-not-no true e = absurd cc
-not-no false e = refl
-
 next-right : (s : List Told) (o : ℕ) (f : Finalizes s o) → Well s → is_next o s f.region ≡ true
 next-right s o f w =
     let q = f.region in
     let shown : inits q s ≡ (finals (inits q s) s ++ o ∷ []) ++ f.rest = w.parts q ∙ ap (λ xs. finals (inits q s) s ++ xs) f.newest ∙ sym (append_assoc (finals (inits q s) s) (o ∷ []) f.rest) in
-    both (leaving q s && not (left q s)) _ (both (leaving q s) (not (left q s)) f.leaving (not-no (left q s) f.not_left))
+    and_from (leaving q s && not (left q s)) _ (and_from (leaving q s) (not (left q s)) f.leaving (not_from_false (left q s) f.not_left))
     (subst (λ xs. is_front_of (finals (inits q s) s ++ o ∷ []) xs ≡ true) (sym shown) (front-self (finals (inits q s) s ++ o ∷ []) f.rest))
 
 pub rightly : (s : List Told) (e : Told) → Well s → Right NotLeaving s e → comes_rightly s e ≡ true
-rightly s (begun r) w h = not-no (leaving r s) h
+rightly s (begun r) w h = not_from_false (leaving r s) h
 rightly s (ended r) w h =
-    both (leaving r s && not (left r s)) _ (both (leaving r s) (not (left r s)) h.0 (not-no (left r s) h.1))
+    and_from (leaving r s && not (left r s)) _ (and_from (leaving r s) (not (left r s)) h.0 (not_from_false (left r s) h.1))
     (front-of_same (inits r s) (finals (inits r s) s) (w.parts r ∙ ap (λ xs. finals (inits r s) s ++ xs) h.2 ∙ append-nil (finals (inits r s) s)))
-rightly s (added o r) w h = both (not (leaving r s)) _ (not-no (leaving r s) h.2) (not-no (final o s) h.1)
+rightly s (added o r) w h = and_from (not (leaving r s)) _ (not_from_false (leaving r s) h.2) (not_from_false (final o s) h.1)
 rightly s (finalized o) w h =
     let n = newest-known s o h.region (live s) h.rest w.known h.newest in
-    subst (λ rs. (not (eqb (length rs) 0) && list_all (is_next o s) rs) ≡ true) (sym n.one) (both (is_next o s h.region) true (next-right s o h w) refl)
+    subst (λ rs. (not (eqb (length rs) 0) && list_all (is_next o s) rs) ≡ true) (sym n.one) (and_from (is_next o s h.region) true (next-right s o h w) refl)
 rightly s (assigned o) w h =
     let k = live-one s o (live s) w.known h in
-    both (not (eqb (length (regions o s)) 0)) _ (ap (λ rs. not (eqb (length rs) 0)) k.one) (not-no (final o s) k.not_final)
+    and_from (not (eqb (length (regions o s)) 0)) _ (ap (λ rs. not (eqb (length rs) 0)) k.one) (not_from_false (final o s) k.not_final)

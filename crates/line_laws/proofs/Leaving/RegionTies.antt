@@ -1,7 +1,7 @@
 -- What ties the lines of regions and controlled objects to a world: of each region the one mark that has it, and the objects that
 -- are registered, in their order.
 use Rattle.std.proofs.Common.{◌≡◌, ℕ, suc, ◌<◌, ◌≤◌, Bool, true, false, cond, not, eqb, ◌||◌, List, [], ◌∷◌, ◌++◌, map, Option, Some, None, refl, sym, ap, subst, ◌∙◌, eq-eqb, arith}
-use Rattle.std.proofs.lemmas.Bool.{eqb-true}
+use Rattle.std.proofs.lemmas.Bool.{eqb-true, or_left, or_right}
 use Rattle.std.specs.Prelude.{find, unwrap_or}
 use Rattle.ann_base.specs.declared.identities.RegionNo.{RegionNo}
 use Rattle.trace_text.specs.declared.events.Who.{Who}
@@ -209,14 +209,6 @@ first-same f (x ∷ xs) same = ap (λ n. n ∷ natures xs) (same x)
 begun_flag : (q r : ℕ) (s : List Told) (d : ℕ) → eqb q r ≡ false → (b : Bool) → Flag q s d b → Flag q (begun r ∷ s) d b
 begun_flag q r s d e b h = (ap (λ t. t || leaving q s) e ∙ h.0, h.1, h.2, h.3)
 
-or_first : (a b : Bool) → a ≡ true → (a || b) ≡ true
-or_first true b e = refl
-or_first false b e = absurd cc
-
-or_second : (a b : Bool) → b ≡ true → (a || b) ≡ true
-or_second true b e = refl
-or_second false b e = e
-
 not_same : (q r : ℕ) → r < q → eqb q r ≡ false
 not_same q r e = by_test (eqb q r) (λ t. absurd (let same : q ≡ r = eqb-true q r t in omega arith)) (λ f. f)
 
@@ -274,7 +266,7 @@ begun-marks s name w r t h q =
     let alone = single-alone (Flag q s w.drawn.regions) a.before false (flags_in q (natures t.below) ++ a.behind) (subst (Single (Flag q s w.drawn.regions)) (a.whole ∙ ap (λ bs. a.before ++ (bs ++ a.behind)) here) (h.marks q)) in
     subst (λ bs. Single P (a.before ++ (bs ++ a.behind))) (sym (test-true (eqb q r.0) (true ∷ flags_in q (natures t.below)) (flags_in q (natures t.below)) e))
     (subst (λ bs. Single P (bs ++ true ∷ (flags_in q (natures t.below) ++ a.behind))) (sym alone.none_before)
-    (subst (λ bs. Single P (true ∷ bs)) (sym alone.none_behind) (or_first (eqb q r.0) (leaving q s) e, alone.holds.1, alone.holds.2, alone.holds.3))))
+    (subst (λ bs. Single P (true ∷ bs)) (sym alone.none_behind) (or_left (eqb q r.0) (leaving q s) e, alone.holds.1, alone.holds.2, alone.holds.3))))
     (λ e. let here : flags_in q (natures t.task.frames) ≡ flags_in q (natures t.below) = top-flags name w r false q t ∙ test-false (eqb q r.0) (false ∷ flags_in q (natures t.below)) (flags_in q (natures t.below)) e in
     subst (λ bs. Single P (a.before ++ (bs ++ a.behind))) (sym (test-false (eqb q r.0) (true ∷ flags_in q (natures t.below)) (flags_in q (natures t.below)) e))
     (single-on (Flag q s w.drawn.regions) P (a.before ++ (flags_in q (natures t.below) ++ a.behind)) (begun_flag q r.0 s w.drawn.regions e)
@@ -495,8 +487,8 @@ finalized-tied s n w here h =
     }
 
 live-step : (test : Registered → Bool) (y x : Registered) (ys : List Registered) (b : Bool) → cond b (Some y) (find test ys) ≡ Some x → (find test ys ≡ Some x → is_live x.object (map object_and_region ys) ≡ true) → is_live x.object (map object_and_region (y ∷ ys)) ≡ true
-live-step test y x ys true e onward = let same : y ≡ x = cc in or_first (eqb x.object y.object) (is_live x.object (map object_and_region ys)) (eq-eqb x.object y.object (ap (λ (z : Registered). z.object) (sym same)))
-live-step test y x ys false e onward = or_second (eqb x.object y.object) (is_live x.object (map object_and_region ys)) (onward e)
+live-step test y x ys true e onward = let same : y ≡ x = cc in or_left (eqb x.object y.object) (is_live x.object (map object_and_region ys)) (eq-eqb x.object y.object (ap (λ (z : Registered). z.object) (sym same)))
+live-step test y x ys false e onward = or_right (eqb x.object y.object) (is_live x.object (map object_and_region ys)) (onward e)
 
 found-live : (test : Registered → Bool) (x : Registered) (ys : List Registered) → find test ys ≡ Some x → is_live x.object (map object_and_region ys) ≡ true
 found-live test x [] e = absurd cc

@@ -1,6 +1,6 @@
 -- What the pieces of a Put_Line give, and how long it is.
-use Rattle.std.proofs.Common.{◌≡◌, ℕ, ℤ, zero, suc, pos, negsuc, ◌+◌, ◌%◌, ◌≤◌, ◌<◌, ◌^◌, Bool, true, false, cond, leb, ◌&&◌, List, [], ◌∷◌, ◌++◌, refl, sym, ap, ◌∙◌, arith}
-use Rattle.std.proofs.lemmas.Bool.{cond_both, leb-true, leb-false}
+use Rattle.std.proofs.Common.{◌≡◌, ℕ, ℤ, zero, suc, pos, negsuc, ◌+◌, ◌%◌, ◌≤◌, ◌<◌, ◌^◌, true, false, cond, leb, List, [], ◌∷◌, ◌++◌, refl, sym, ap, ◌∙◌, arith}
+use Rattle.std.proofs.lemmas.Bool.{and_parts, cond_both, leb-false, leb-true}
 use Rattle.std.proofs.lemmas.Bool.Decides.{nat_tests}
 use Rattle.std.specs.Prelude.{Ok, Err, length, slice_index_or, decimal}
 use Rattle.std.specs.List.{list_all, AllByRecursion}
@@ -102,13 +102,6 @@ truth-short (Task t) = record { bytes = refl; short = omega arith }
 truth-short (Thing n) = record { bytes = refl; short = omega arith }
 
 -- both tests hold where the first holds and the second
-pub first-holds : (a b : Bool) → (a && b) ≡ true → a ≡ true
-first-holds true b e = refl
-first-holds false b e = cc
-
-pub second-holds : (a b : Bool) → (a && b) ≡ true → b ≡ true
-second-holds true b e = e
-second-holds false b e = cc
 
 longer-first : (a b : ℕ) → a ≤ cond (leb a b) b a
 longer-first a b = cond_both (leb a b) b a (λ x. a ≤ x) (λ e. leb-true a b e) (λ e. omega arith)
@@ -120,10 +113,10 @@ at-short : (most n : ℕ) (literals : List (List ℕ)) → list_all are_text_byt
 at-short most n [] a short = record { bytes = refl; short = omega arith }
 at-short most zero (x ∷ xs) a short =
     let within : length x ≤ longest (x ∷ xs) = longer-first (length x) (longest xs) in
-    record { bytes = first-holds (are_text_bytes x) (list_all are_text_bytes xs) a; short = omega arith }
+    record { bytes = (and_parts (are_text_bytes x) (list_all are_text_bytes xs) a).0; short = omega arith }
 at-short most (suc n) (x ∷ xs) a short =
     let within : longest xs ≤ longest (x ∷ xs) = longer-second (length x) (longest xs) in
-    at-short most n xs (second-holds (are_text_bytes x) (list_all are_text_bytes xs) a) (omega arith)
+    at-short most n xs ((and_parts (are_text_bytes x) (list_all are_text_bytes xs) a).1) (omega arith)
 
 literal-short : (literals : List (List ℕ)) (v : Value) → list_all are_text_bytes literals ≡ true → IsTextUpTo (longest literals) (text_of_literal literals v)
 literal-short literals (Literal n) a = at-short (longest literals) n literals a (omega arith)
@@ -149,8 +142,8 @@ text-short p [] vs a within = record { bytes = refl; short = omega arith }
 text-short p (x ∷ xs) [] a within = record { bytes = refl; short = omega arith }
 text-short p (x ∷ xs) (v ∷ vs) a within =
     append-short (most_bytes p x) (most_bytes_of_all p xs) (piece_with p x v) (text_with p xs vs)
-    (piece-short p x v (first-holds (has_text_bytes p x) (list_all (has_text_bytes p) xs) a) within.0)
-    (text-short p xs vs (second-holds (has_text_bytes p x) (list_all (has_text_bytes p) xs) a) within.1)
+    (piece-short p x v ((and_parts (has_text_bytes p x) (list_all (has_text_bytes p) xs) a).0) within.0)
+    (text-short p xs vs ((and_parts (has_text_bytes p x) (list_all (has_text_bytes p) xs) a).1) within.1)
 
 pub put-short : (p : Image) (pieces : List Piece) (vs : List Value) → IsShortPut p pieces → AllByRecursion IsValueWithin vs → IsPutText (text_with p pieces vs)
 put-short p pieces vs s within =

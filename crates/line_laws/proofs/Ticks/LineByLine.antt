@@ -1,7 +1,8 @@
 -- A law at each line of every run, from what lines show of a world: the opening, each instant and each tock keep both the
 -- law and what is shown. So a further law of lines is one record.
-use Rattle.std.proofs.Common.{◌≡◌, ℕ, ℤ, zero, suc, Bool, true, false, ◌&&◌, List, [], ◌∷◌, ◌++◌, Option, Some, None, refl, sym, subst}
+use Rattle.std.proofs.Common.{◌≡◌, ℕ, ℤ, zero, suc, Bool, true, List, [], ◌∷◌, ◌++◌, Option, Some, None, refl, sym, subst}
 use Rattle.std.specs.Prelude.{IsTrue}
+use Rattle.std.proofs.lemmas.Bool.{and_from}
 use Rattle.trace_text.specs.declared.events.Event.{Event}
 use Rattle.trace_text.specs.declared.events.Event.TheVariants as line
 use Rattle.trace_text.specs.declared.events.Ended.{Ended}
@@ -14,10 +15,6 @@ use Rattle.profile_machine.specs.declared.world.World.{World}
 use Rattle.profile_machine.specs.Instant.{instant}
 use Rattle.machine_laws.specs.LineKinds.{AllAre}
 use Rattle.profile_machine.specs.Run.{Ran, opening, tock, stop, at_tick, stopped, then_runs, run_from, run_of}
-
-pub both : (a b : Bool) → a ≡ true → b ≡ true → (a && b) ≡ true
-both true b p q = q
-both false b p q = p
 
 -- one instant, what follows it, and what is left of the run
 turn : ℕ → World × List Event → World × List Event → Ran → Option Ended → Ran
@@ -49,11 +46,11 @@ module _ {S : Type 0} (see : S → Event → S) (lawful : S → Event → Bool) 
 
   follows-then : (n : ℕ) (s : S) (events : List Event) (rest : List TraceLine) → Follow s events → follows_lines see lawful (seen_behind s events) rest ≡ true → follows_lines see lawful s (at_tick n events ++ rest) ≡ true
   follows-then n s [] rest a b = b
-  follows-then n s (x ∷ xs) rest a b = both (lawful s x) (follows_lines see lawful (see s x) (at_tick n xs ++ rest)) a.0 (follows-then n (see s x) xs rest a.1 b)
+  follows-then n s (x ∷ xs) rest a b = and_from (lawful s x) (follows_lines see lawful (see s x) (at_tick n xs ++ rest)) a.0 (follows-then n (see s x) xs rest a.1 b)
 
   follows-alone : (n : ℕ) (s : S) (events : List Event) → Follow s events → follows_lines see lawful s (at_tick n events) ≡ true
   follows-alone n s [] a = refl
-  follows-alone n s (x ∷ xs) a = both (lawful s x) (follows_lines see lawful (see s x) (at_tick n xs)) a.0 (follows-alone n (see s x) xs a.1)
+  follows-alone n s (x ∷ xs) a = and_from (lawful s x) (follows_lines see lawful (see s x) (at_tick n xs)) a.0 (follows-alone n (see s x) xs a.1)
 
   -- what lines that are kept lead to: the law at each, and what is shown is what the world has
   pub record Leads_on (Shows : S → World → Type 0) (s : S) (lines : List Event) (w : World) : Type 0 where

@@ -1,5 +1,6 @@
 -- The lines of each tick of every run stand in their order: those of the instant, and behind them those of the tock.
-use Rattle.std.proofs.Common.{◌≡◌, ℕ, ℤ, zero, suc, ◌≤◌, Bool, true, false, not, cond, eqb, ◌&&◌, ◌||◌, List, [], ◌∷◌, ◌++◌, Option, Some, None, refl, sym, ap, subst, ◌∙◌, append_assoc, arith}
+use Rattle.std.proofs.Common.{◌≡◌, ℕ, ℤ, zero, suc, ◌≤◌, Bool, true, false, not, cond, eqb, ◌&&◌, List, [], ◌∷◌, ◌++◌, Option, Some, None, refl, sym, ap, subst, ◌∙◌, append_assoc, arith}
+use Rattle.std.proofs.lemmas.Bool.{and_from, or_left, or_right}
 use Rattle.trace_text.specs.declared.events.Event.{Event}
 use Rattle.trace_text.specs.declared.events.Event.TheVariants as line
 use Rattle.trace_text.specs.declared.events.Ended.{Ended}
@@ -23,24 +24,15 @@ use Rattle.machine_laws.proofs.LineLemmas.{instants_say_effects, openings_say_ef
 use Rattle.machine_laws.proofs.RunLemmas.{run_from-rises}
 use Rattle.machine_laws.proofs.Kept.Run.{before_tick, tock-parts}
 use Rattle.line_laws.specs.TickLaws.{is_run, is_serve, may_follow, stands_rightly, follows_tick_order}
-use Rattle.line_laws.proofs.Ticks.LineByLine.{both}
 
 Ordered : List TraceLine → Type 0
 Ordered lines = follows_tick_order lines ≡ true
 
 -- ---- one line before others
 
-or_right : (a b : Bool) → b ≡ true → (a || b) ≡ true
-or_right true b e = refl
-or_right false b e = e
-
-or_left : (a b : Bool) → a ≡ true → (a || b) ≡ true
-or_left true b e = refl
-or_left false b e = cc
-
 pair-ordered : (x y : TraceLine) (rest : List TraceLine) → stands_rightly x y ≡ true → Ordered (y ∷ rest) → Ordered (x ∷ y ∷ rest)
 unfolding Ordered
-pair-ordered x y rest e h = both (stands_rightly x y) (follows_tick_order (y ∷ rest)) e h
+pair-ordered x y rest e h = and_from (stands_rightly x y) (follows_tick_order (y ∷ rest)) e h
 
 -- a line of an effect may stand before any
 effect-ordered : (n : ℕ) (x : Event) (rest : List TraceLine) → is_of_effect x ≡ true → Ordered rest → Ordered ((n, x) ∷ rest)

@@ -2,7 +2,7 @@
 -- was taken up.
 use Rattle.std.proofs.Common.{◌≡◌, ℕ, ℤ, suc, ◌≤◌, Bool, true, false, cond, eqb, leb, List, [], ◌∷◌, ◌++◌, map, Option, Some, None, refl, sym, ap, subst, ◌∙◌, eq-eqb, arith}
 use Rattle.std.specs.Prelude.{unwrap_or}
-use Rattle.std.proofs.lemmas.Bool.{false≢true, le-leb}
+use Rattle.std.proofs.lemmas.Bool.{and_from, false≢true, le-leb}
 use Rattle.trace_text.specs.declared.events.Event.{Event}
 use Rattle.trace_text.specs.declared.events.Event.TheVariants as line
 use Rattle.trace_text.specs.declared.events.Who.{Who}
@@ -34,7 +34,7 @@ use Rattle.machine_laws.proofs.Kept.Handlers.{charge-alters}
 use Rattle.machine_laws.proofs.Kept.Instant.{instant-leads}
 use Rattle.machine_laws.proofs.Kept.Run.{before_tick, tock-parts, opens-keeps}
 use Rattle.line_laws.specs.TickLaws.{Counts, no_counts, counts_after, is_next_release, ReleasesOk}
-use Rattle.line_laws.proofs.Ticks.LineByLine.{both, seen_behind, seen_behind-append, Follow, Follow-append, Leads_on, OfRuns, run-at_each_line}
+use Rattle.line_laws.proofs.Ticks.LineByLine.{seen_behind, seen_behind-append, Follow, Follow-append, Leads_on, OfRuns, run-at_each_line}
 
 -- ---- the releases that are pending
 
@@ -268,7 +268,7 @@ first-lead_on : (c : Counts) (w : World) (r : Release) (rest : List Release) →
 first-lead_on c w r rest e h =
     let first : Pending c.begun w.drawn.releases (r ∷ rest) = subst (Pending c.begun w.drawn.releases) e h.pending in
     let within : suc c.begun ≤ w.drawn.releases = Pending-within (suc c.begun) w.drawn.releases rest first.1 in
-    (both (eqb r.number (suc c.begun)) (leb r.number c.released) (eq-eqb r.number (suc c.begun) first.0) (le-leb r.number c.released (omega (arith, first.0, h.released))), first.1)
+    (and_from (eqb r.number (suc c.begun)) (leb r.number c.released) (eq-eqb r.number (suc c.begun) first.0) (le-leb r.number c.released (omega (arith, first.0, h.released))), first.1)
 
 serve_if_free-lead_on : (serving : Option Release) (frames : List Frame) (releases : List Release) (w : World) (c : Counts) → w.releases ≡ releases → ShowsCounts c w → let done = serve_if_free serving frames releases w in LeadsOn c (done.1 ++ []) done.0
 serve_if_free-lead_on None [] [] w c e h = record { follow = tt; shows = h }

@@ -1,6 +1,7 @@
 -- Completion, termination and masters: each step keeps a relation that its parts keep.
 use Rattle.std.specs.Prelude.{Bool, true, false, not, ◌&&◌, cond, List, [], ◌∷◌, Option, Some, None, find}
 use Rattle.std.proofs.Common.{◌≡◌, refl, subst}
+use Rattle.std.proofs.lemmas.Bool.{and_parts}
 use Rattle.ann_base.specs.declared.identities.RegionNo.{RegionNo}
 use Rattle.trace_text.specs.declared.events.Who.{Who}
 use Rattle.profile_machine.specs.declared.image.Image.{Image}
@@ -29,10 +30,6 @@ use Rattle.machine_laws.proofs.Kept.Inheritance.{lose-alters}
 use Rattle.machine_laws.proofs.Kept.Appointments.{drop_delay-alters}
 use Rattle.machine_laws.proofs.Kept.CallEnds.{end_call-keeps, gone-keeps}
 
-pub second_is_true : (a b : Bool) → (a && b) ≡ true → b ≡ true
-second_is_true true b e = e
-second_is_true false b e = cc
-
 some-is : (t u : Task) → Some t ≡ Some u → t ≡ u
 some-is t u e = cc
 
@@ -59,7 +56,7 @@ module _ {G : GoodWorld} {May Other : Naming} {R : StepRelation} {Q : MoveRelati
   end_group-keeps p actor activator =
       looks-from moves _ (λ w good. keeps-from moves _ w good
       (when-keeps-if moves (not (has_activating w activator) && waits_for_activation (waiting_of w activator)) (wake_activator p (part_of actor activator) activator)
-      (λ is. wake_activator-keeps p (part_of actor activator) activator (moves.awaits activator w good (second_is_true (not (has_activating w activator)) (waits_for_activation (waiting_of w activator)) is)))))
+      (λ is. wake_activator-keeps p (part_of actor activator) activator (moves.awaits activator w good ((and_parts (not (has_activating w activator)) (waits_for_activation (waiting_of w activator)) is).1)))))
 
   pub end_activation_by-keeps : (p : Image) (actor name : Who) (failed : Bool) (by : Option Who) → Keeps G R (end_activation_by p actor name failed by)
   unfolding end_activation_by

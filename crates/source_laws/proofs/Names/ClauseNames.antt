@@ -9,6 +9,7 @@ use Rattle.ada_regions.specs.declared.entities.Denoted.TheVariants as denotes
 use Rattle.ada_regions.specs.declared.table.Names.{Names}
 use Rattle.ada_regions.specs.Words.{same_place, last_from}
 use Rattle.std.specs.Option.{option_or}
+use Rattle.std.proofs.lemmas.Bool.{and_parts}
 use Rattle.ada_regions.specs.PredefinedUnits.{child_unit, item_in}
 use Rattle.ada_regions.specs.Names.{denoted_at}
 use Rattle.ada_regions.specs.Visibility.{item_of}
@@ -19,7 +20,6 @@ use Rattle.source_laws.specs.Places.{place_of, is_among, all_differ}
 use Rattle.source_laws.proofs.Names.PositionLemmas.{false-true}
 use Rattle.source_laws.proofs.Names.Known.{known}
 use Rattle.source_laws.proofs.Names.KnownBegun.{denoted-noted}
-use Rattle.source_laws.proofs.Names.KeptUnits.{both-true}
 use Rattle.source_laws.proofs.Names.Noted.{same-selection}
 use Rattle.source_laws.proofs.Names.Denoting.{same_place-path, same_place-itself, not-true}
 use Rattle.source_laws.proofs.Names.ClausesKept.{Unowned, clauses-selection}
@@ -137,7 +137,7 @@ rest-unnoted : (n : Names) (i : Identifier) (x : Option Denoted) (rest : List Id
 rest-unnoted n i x rest u = (both.1, others)
   where
     both : (not (is_among i.place (map place_of rest)) ≡ true) × (all_differ (map place_of rest) ≡ true)
-    both = both-true (not (is_among i.place (map place_of rest))) (all_differ (map place_of rest)) u.0
+    both = and_parts (not (is_among i.place (map place_of rest))) (all_differ (map place_of rest)) u.0
 
     also : (s t : Bool) → t ≡ true → (s || t) ≡ true
     also true t e = refl
@@ -154,7 +154,7 @@ rest-unnoted n i x rest u = (both.1, others)
 
 last-unnoted : (n : Names) (i : Identifier) (rest : List Identifier) → Unnoted n (i ∷ rest) → denoted_at n (last_from i rest).place ≡ None
 last-unnoted n i [] u = first-unnoted n i [] u
-last-unnoted n i (j ∷ rest) u = last-unnoted n j rest ((both-true _ (all_differ (map place_of (j ∷ rest))) u.0).1, λ q among. u.1 q (also (same_place q i.place) (is_among q (map place_of (j ∷ rest))) among))
+last-unnoted n i (j ∷ rest) u = last-unnoted n j rest ((and_parts _ (all_differ (map place_of (j ∷ rest))) u.0).1, λ q among. u.1 q (also (same_place q i.place) (is_among q (map place_of (j ∷ rest))) among))
   where
     also : (s t : Bool) → t ≡ true → (s || t) ≡ true
     also true t e = refl

@@ -1,5 +1,6 @@
 -- What is kept of a direct name in the table of a source is what the regions around it declare.
 use Rattle.std.proofs.Common.{◌≡◌, inl, inr, ℕ, Bool, true, false, not, ◌&&◌, ◌||◌, List, [], ◌∷◌, ◌++◌, map, Option, Some, None, option_map, eqb, refl, sym, ap, ap₂, subst, ◌∙◌, eqb-true, eq-eqb}
+use Rattle.std.proofs.lemmas.Bool.{and_parts, or_right}
 use Rattle.world_tables.specs.Tables.{item_at}
 use Rattle.ann_base.specs.declared.places.Place.{Place}
 use Rattle.ada_tree.specs.declared.names.Identifier.{Identifier}
@@ -18,7 +19,7 @@ use Rattle.source_laws.specs.Denoted.{told_meaning}
 use Rattle.source_laws.specs.Places.{place_of, places_in, places_before, is_among, all_differ, direct_name}
 use Rattle.source_laws.specs.NameLaws.{DirectNamesByPosition}
 use Rattle.source_laws.proofs.Names.PositionLemmas.{false-true, none-some, stands-here, stands-tail}
-use Rattle.source_laws.proofs.Names.KeptUnits.{both-true, not-false}
+use Rattle.source_laws.proofs.Names.KeptUnits.{not-false}
 use Rattle.source_laws.proofs.Names.KnownBegun.{denoted-noted}
 use Rattle.source_laws.proofs.Names.Noted.{same-parts, same-used_if, same-behind, both-false}
 use Rattle.source_laws.proofs.Names.Lawful.{table_at_the_end, kept-in, directly-meant}
@@ -27,7 +28,7 @@ use Rattle.source_laws.proofs.Names.Lawful.{table_at_the_end, kept-in, directly-
 
 pub same_place-path : (p q : Place) → same_place p q ≡ true → p ≡ q
 same_place-path p q e =
-    let both = both-true (eqb p.line q.line) (eqb p.column q.column) e in ap₂ (λ l c. record { line = l; column = c }) (eqb-true p.line q.line both.0) (eqb-true p.column q.column both.1)
+    let both = and_parts (eqb p.line q.line) (eqb p.column q.column) e in ap₂ (λ l c. record { line = l; column = c }) (eqb-true p.line q.line both.0) (eqb-true p.column q.column both.1)
 
 pub same_place-itself : (p : Place) → same_place p p ≡ true
 same_place-itself p = ap₂ (λ a b. a && b) (eq-eqb p.line p.line refl) (eq-eqb p.column p.column refl)
@@ -40,13 +41,9 @@ among-append p (x ∷ xs) ys = go (same_place p x) (among-append p xs ys)
     go true e = refl
     go false e = e
 
-or-true : (a b : Bool) → b ≡ true → (a || b) ≡ true
-or-true true b e = refl
-or-true false b e = e
-
 differ-behind : (xs ys : List Place) → all_differ (xs ++ ys) ≡ true → all_differ ys ≡ true
 differ-behind [] ys e = e
-differ-behind (x ∷ xs) ys e = differ-behind xs ys (both-true (not (is_among x (xs ++ ys))) (all_differ (xs ++ ys)) e).1
+differ-behind (x ∷ xs) ys e = differ-behind xs ys (and_parts (not (is_among x (xs ++ ys))) (all_differ (xs ++ ys)) e).1
 
 -- what is among the later ones is not among the first
 pub differ-apart : (p : Place) (xs ys : List Place) → all_differ (xs ++ ys) ≡ true → is_among p ys ≡ true → is_among p xs ≡ false
@@ -54,11 +51,11 @@ differ-apart p [] ys e later = refl
 differ-apart p (x ∷ xs) ys e later = go (same_place p x) refl (differ-apart p xs ys differ.1 later)
   where
     differ : (not (is_among x (xs ++ ys)) ≡ true) × (all_differ (xs ++ ys) ≡ true)
-    differ = both-true (not (is_among x (xs ++ ys))) (all_differ (xs ++ ys)) e
+    differ = and_parts (not (is_among x (xs ++ ys))) (all_differ (xs ++ ys)) e
 
     go : (t : Bool) → same_place p x ≡ t → is_among p xs ≡ false → (t || is_among p xs) ≡ false
     go true q more = absurd (not-false (is_among x (xs ++ ys)) differ.0
-        (among-append x xs ys ∙ or-true (is_among x xs) (is_among x ys) (ap (λ z. is_among z ys) (sym (same_place-path p x q)) ∙ later)))
+        (among-append x xs ys ∙ or_right (is_among x xs) (is_among x ys) (ap (λ z. is_among z ys) (sym (same_place-path p x q)) ∙ later)))
     go false q more = more
 
 -- ---- before the name, and behind it
@@ -74,7 +71,7 @@ never-noted last p (o ∷ before) none =
 pub place-before : (p : Place) (b before : Before) → Stands b before → is_among p (places_before b) ≡ true → is_among p (places_before before) ≡ true
 place-before p b [] s among = ap (λ z. is_among p (places_before z)) (sym s) ∙ among
 place-before p b (o ∷ before) (inl e) among = ap (λ z. is_among p (places_before z)) (sym e) ∙ among
-place-before p b (o ∷ before) (inr s) among = among-append p (places_in o) (places_before before) ∙ or-true (is_among p (places_in o)) (is_among p (places_before before)) (place-before p b before s among)
+place-before p b (o ∷ before) (inr s) among = among-append p (places_in o) (places_before before) ∙ or_right (is_among p (places_in o)) (is_among p (places_before before)) (place-before p b before s among)
 
 -- what is kept of a place stays, where no two places are the same
 pub stays-noted : (last : ℕ) (p : Place) (b before : Before) → Stands b before → all_differ (places_before before) ≡ true → is_among p (places_before b) ≡ true
@@ -139,7 +136,7 @@ direct_names_by_position unit complete apart o c s i name m visible =
     let first = first-place o i name in
     let rest = first.0 in
     let differ : all_differ (i.place ∷ (rest ++ places_before c)) ≡ true = ap (λ ps. all_differ (ps ++ places_before c)) (sym first.1) ∙ differ-at (o ∷ c) end s apart in
-    let alone : is_among i.place (rest ++ places_before c) ≡ false = not-true (is_among i.place (rest ++ places_before c)) (both-true (not (is_among i.place (rest ++ places_before c))) (all_differ (rest ++ places_before c)) differ).0 in
+    let alone : is_among i.place (rest ++ places_before c) ≡ false = not-true (is_among i.place (rest ++ places_before c)) (and_parts (not (is_among i.place (rest ++ places_before c))) (all_differ (rest ++ places_before c)) differ).0 in
     let both = both-false i.place (is_among i.place rest) (is_among i.place (places_before c)) (sym (among-append i.place rest (places_before c)) ∙ alone) in
     let found = some-mapped (told_meaning (table_at last end)) (directly (table_at last c) i.text) m (directly-meant last c end i.text here (kept-in unit c complete here) (kept-in unit end complete (stands-here end)) ∙ visible) in
     let among : is_among i.place (places_before (o ∷ c)) ≡ true =

@@ -2,6 +2,7 @@
 use Rattle.std.proofs.Common.{◌≡◌, ◌⊎◌, inl, inr, ℕ, ◌≤◌, ◌<◌, suc, Bool, true, false, cond, not, ◌&&◌, List, [], ◌∷◌, length, Option, Some, None, is_some, option_map, eqb, bytes_eq, find, refl, sym, ap, subst, ◌∙◌, arith, eqb-true, ne_eqb}
 use borrow.Author.Tests.{eqb-false}
 use Rattle.std.proofs.lemmas.Slice.Eq.{bytes_eq-Decides}
+use Rattle.std.proofs.lemmas.Bool.{and_parts}
 use Rattle.world_tables.specs.Tables.{item_at}
 use Rattle.ada_tree.specs.declared.names.Identifier.{Identifier}
 use Rattle.ada_tree.specs.declared.declarations.SubprogramSpecification.{SubprogramSpecification}
@@ -28,7 +29,6 @@ use Rattle.source_laws.proofs.Names.KeptBindings.{item-other, told_of, entity_nu
 use Rattle.source_laws.proofs.Names.KeptSteps.{Kept, next-settled}
 use Rattle.source_laws.proofs.Names.KeptWaiting.{task-waits, protected-waits, derived-waits, package-waits}
 use Rattle.source_laws.proofs.Names.KeptBodies.{next-stands, begun-stands}
-use Rattle.source_laws.proofs.Names.KeptUnits.{both-true}
 use Rattle.source_laws.proofs.Names.KeptAll.{kept, beyond, home, Completing, completed-cases}
 use Rattle.source_laws.proofs.Names.Flags.{FlagsKept, flags-kept}
 use Rattle.source_laws.proofs.Names.Untouched.{begun-binds}
@@ -327,5 +327,5 @@ exports-by last o before fits here t k f x (Some r) e =
 pub exports-kept : (last : ℕ) (before : Before) → IsText before → bodies_complete_before before ≡ true → ExportsKept last before
 exports-kept last [] t complete = λ i b s name. cc
 exports-kept last (o ∷ before) t complete =
-    let c = both-true (completes_if_body o before) (bodies_complete_before before) complete in
+    let c = and_parts (completes_if_body o before) (bodies_complete_before before) complete in
     exports-by last o before t.0 t.1 t.2 (kept last before t.2 c.1) (flags-kept last before t.2) (exports-kept last before t.2 c.1) (begins_next before) refl

@@ -2,6 +2,7 @@
 use Rattle.std.proofs.Common.{◌≡◌, ℕ, Bool, true, false, cond, not, ◌&&◌, List, [], ◌∷◌, length, map, Option, Some, None, is_some, option_map, slice_get, eqb, bytes_eq, refl, sym, ap, subst, ◌∙◌, arith, eqb-true, ◌⊎◌, inl, inr}
 use Rattle.std.proofs.lemmas.Option.{slice_get_within}
 use Rattle.std.proofs.lemmas.Slice.Eq.{bytes_eq-Decides}
+use Rattle.std.proofs.lemmas.Bool.{and_parts}
 use Rattle.world_tables.specs.Tables.{item_at}
 use Rattle.ada_tree.specs.declared.names.Identifier.{Identifier}
 use Rattle.ada_tree.specs.declared.declarations.SubprogramSpecification.{SubprogramSpecification}
@@ -33,7 +34,7 @@ use Rattle.source_laws.proofs.Names.KeptNames.{hidden-again, hidden-first, decla
 use Rattle.source_laws.proofs.Names.KeptBegun.{kept-own}
 use Rattle.source_laws.proofs.Names.KeptWaiting.{region-here, kept-task, kept-protected, kept-derived, kept-package}
 use Rattle.source_laws.proofs.Names.KeptBodies.{joined, bound-said, found-nearest, no_start}
-use Rattle.source_laws.proofs.Names.KeptUnits.{kept-package_body, kept-context_of, task-opens, protected-opens, kept-unit_body, both-true}
+use Rattle.source_laws.proofs.Names.KeptUnits.{kept-package_body, kept-context_of, task-opens, protected-opens, kept-unit_body}
 
 -- ---- at the start
 
@@ -406,9 +407,9 @@ kept-by last o d b t complete k older (Some r) e =
 
 pub kept : (last : ℕ) (before : Before) → IsText before → bodies_complete_before before ≡ true → Kept last before
 kept last [] t complete = kept-start last
-kept last (o ∷ []) t complete = kept-settled last o [] t.0 t.1 (both-true _ _ complete).0 tt refl (kept-start last)
+kept last (o ∷ []) t complete = kept-settled last o [] t.0 t.1 (and_parts _ _ complete).0 tt refl (kept-start last)
 kept last (o ∷ d ∷ b) t complete =
-    let c = both-true _ _ complete in
+    let c = and_parts _ _ complete in
     let k = kept last (d ∷ b) t.2 c.1 in
-    let older = kept last b t.2.2 (both-true _ _ c.1).1 in
+    let older = kept last b t.2.2 (and_parts _ _ c.1).1 in
     kept-by last o d b t c.0 k older (region_behind_it d) refl

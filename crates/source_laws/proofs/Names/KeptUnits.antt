@@ -2,6 +2,7 @@
 use Rattle.std.proofs.Common.{◌≡◌, inl, inr, ℕ, suc, Bool, true, false, cond, not, ◌&&◌, [], ◌∷◌, length, Option, Some, None, is_some, option_map, eqb, append-nil, refl, sym, ap, subst, ◌∙◌, eq-eqb}
 use Rattle.std.specs.List.{list_any}
 use Rattle.std.proofs.lemmas.Option.{slice_get_within}
+use Rattle.std.proofs.lemmas.Bool.{and_parts}
 use Rattle.ada_tree.specs.declared.names.Identifier.{Identifier}
 use Rattle.ann_base.specs.declared.places.Place.{Place}
 use Rattle.ada_regions.specs.declared.entities.Entity.{Entity}
@@ -132,10 +133,6 @@ if_so-found test (Some (o ∷ b)) d e = go (test o) refl e
     go true t q = (o, b, refl, t, (let h : o ∷ b ≡ d = cc in sym h))
     go false t q = cc
 
-pub both-true : (a b : Bool) → (a && b) ≡ true → (a ≡ true) × (b ≡ true)
-both-true true b e = (refl, e)
-both-true false b e = cc
-
 pub not-false : (b : Bool) → not b ≡ true → b ≡ true → ⊥
 not-false true e q = cc
 not-false false e q = cc
@@ -207,7 +204,7 @@ unit-kept last kind i r before t settled k body opens other o b declared is numb
 pub kept-unit_body : (last : ℕ) (kind : UnitKind) (i : Identifier) (r : Region) (before : Before) → IsText before → begins_next before ≡ None → Kept last before → is_first_body kind i.text before ≡ true
     → IsBody (begins r ∷ before) → number_of_region number_of_innermost r before ≡ region_behind number_of_innermost (unit_declared number_of_innermost kind i.text before) (suc (length before))
     → OpensBody last kind i r before → ((j : Identifier) → begins (package_region j) ≡ begins r → ⊥) → Kept last (begins r ∷ before)
-kept-unit_body last kind i r before t settled k complete body number opens other = go (unit_declared number_of_innermost kind i.text before) refl (both-true _ _ complete)
+kept-unit_body last kind i r before t settled k complete body number opens other = go (unit_declared number_of_innermost kind i.text before) refl (and_parts _ _ complete)
   where
     go : (x : Option Before) → unit_declared number_of_innermost kind i.text before ≡ x
         → (is_some (unit_declared number_of_innermost kind i.text before) ≡ true)

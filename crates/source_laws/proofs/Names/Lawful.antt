@@ -12,6 +12,7 @@ use Rattle.ada_regions.specs.declared.table.Frame.{Frame}
 use Rattle.ada_regions.specs.declared.table.Names.{Names}
 use Rattle.ada_regions.specs.Words.{and_then}
 use Rattle.std.specs.Option.{option_or}
+use Rattle.std.proofs.lemmas.Bool.{and_parts}
 use Rattle.ada_regions.specs.PredefinedUnits.{root_unit, item_in}
 use Rattle.ada_regions.specs.Names.{Bindings, binding_in, entity_at, region_here}
 use Rattle.ada_regions.specs.Visibility.{innermost_binding, item_of, in_standard, bound, directly}
@@ -34,7 +35,6 @@ use Rattle.source_laws.proofs.Names.KeptBindings.{told_of, said_by, said, told_i
 use Rattle.source_laws.proofs.Names.KeptSteps.{Kept}
 use Rattle.source_laws.proofs.Names.KeptWaiting.{region-here}
 use Rattle.source_laws.proofs.Names.KeptBodies.{no_start}
-use Rattle.source_laws.proofs.Names.KeptUnits.{both-true}
 use Rattle.source_laws.proofs.Names.KeptAll.{kept}
 use Rattle.source_laws.proofs.Names.UnitTexts.{unit-text}
 
@@ -57,7 +57,7 @@ text-stands b (o ∷ before) (inr s) t = text-stands b before s t.2
 pub complete-stands : (b before : Before) → Stands b before → bodies_complete_before before ≡ true → bodies_complete_before b ≡ true
 complete-stands b [] s c = ap bodies_complete_before s ∙ c
 complete-stands b (o ∷ before) (inl e) c = ap bodies_complete_before e ∙ c
-complete-stands b (o ∷ before) (inr s) c = complete-stands b before s (both-true (completes_if_body o before) (bodies_complete_before before) c).1
+complete-stands b (o ∷ before) (inr s) c = complete-stands b before s (and_parts (completes_if_body o before) (bodies_complete_before before) c).1
 
 pub kept-in : (unit : Tree) (c : Before) → IsTrue (bodies_complete unit) → Stands c (end_of unit) → Kept (last_priority_of unit.pragmas) c
 kept-in unit c complete s = kept (last_priority_of unit.pragmas) c (text-stands c (end_of unit) s (unit-text unit)) (complete-stands c (end_of unit) s complete)

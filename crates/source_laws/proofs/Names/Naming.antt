@@ -1,5 +1,6 @@
 -- Each direct name of a source denotes by its table what it means by its position.
 use Rattle.std.proofs.Common.{◌≡◌, inl, inr, ℕ, Bool, true, false, not, ◌&&◌, ◌||◌, [], ◌∷◌, ◌++◌, Option, Some, None, option_map, refl, sym, ap, ◌∙◌}
+use Rattle.std.proofs.lemmas.Bool.{and_parts}
 use Rattle.ada_tree.specs.declared.names.Identifier.{Identifier}
 use Rattle.ada_regions.specs.declared.entities.Denoted.TheVariants as denotes
 use Rattle.ada_regions.specs.declared.entities.Entity.{Entity}
@@ -21,7 +22,6 @@ use Rattle.source_laws.specs.NameLaws.{MeaningsByPosition, NamesByPosition}
 use Rattle.source_laws.proofs.Names.PositionLemmas.{none-some, stands-here, stands-tail}
 use Rattle.source_laws.proofs.Names.Placing.{looks, Placed}
 use Rattle.source_laws.proofs.Names.UnitTexts.{unit-text, unit-placed}
-use Rattle.source_laws.proofs.Names.KeptUnits.{both-true}
 use Rattle.source_laws.proofs.Names.Noted.{both-false}
 use Rattle.source_laws.proofs.Names.Lawful.{table_at_the_end}
 use Rattle.source_laws.proofs.Names.Denoting.{same_place-itself, among-append, never-noted, stays-noted, first-place, differ-at, not-true}
@@ -56,7 +56,7 @@ meanings_by_position unit complete apart o c s i name =
     let first = first-place o i name in
     let rest = first.0 in
     let differ : all_differ (i.place ∷ (rest ++ places_before c)) ≡ true = ap (λ ps. all_differ (ps ++ places_before c)) (sym first.1) ∙ differ-at (o ∷ c) end s apart in
-    let alone : is_among i.place (rest ++ places_before c) ≡ false = not-true (is_among i.place (rest ++ places_before c)) (both-true (not (is_among i.place (rest ++ places_before c))) (all_differ (rest ++ places_before c)) differ).0 in
+    let alone : is_among i.place (rest ++ places_before c) ≡ false = not-true (is_among i.place (rest ++ places_before c)) (and_parts (not (is_among i.place (rest ++ places_before c))) (all_differ (rest ++ places_before c)) differ).0 in
     let both = both-false i.place (is_among i.place rest) (is_among i.place (places_before c)) (sym (among-append i.place rest (places_before c)) ∙ alone) in
     let among : is_among i.place (places_before (o ∷ c)) ≡ true =
     ap (λ ps. is_among i.place (ps ++ places_before c)) first.1 ∙ ap (λ t. t || is_among i.place (rest ++ places_before c)) (same_place-itself i.place) in

@@ -4,6 +4,7 @@ use Rattle.std.proofs.Common.{◌≡◌, ◌⊎◌, inl, inr, ℕ, ◌<◌, ◌+
 use borrow.Author.Tests.{eqb-false}
 use Rattle.std.specs.List.{filter}
 use Rattle.std.proofs.lemmas.Option.{slice_get_within}
+use Rattle.std.proofs.lemmas.Bool.{and_parts}
 use Rattle.world_tables.specs.Tables.{item_at, put}
 use Rattle.source_laws.proofs.Names.TableLemmas.{item_at-put, item_at-put-other, item_at-with_item}
 use Rattle.ann_base.specs.declared.places.Place.{Place}
@@ -38,7 +39,7 @@ use Rattle.source_laws.proofs.Names.Texts.{IsText, FitsHere}
 use Rattle.source_laws.proofs.Names.Kept.{known_at}
 use Rattle.source_laws.proofs.Names.KeptBindings.{item-other}
 use Rattle.source_laws.proofs.Names.KeptEntities.{slice_get-more, slice_get-left}
-use Rattle.source_laws.proofs.Names.KeptUnits.{both-true, some-same}
+use Rattle.source_laws.proofs.Names.KeptUnits.{some-same}
 
 -- ---- bindings
 
@@ -113,7 +114,7 @@ seen-one n q r b s declared e h =
       x.1,
       λ is. absurd (package-component x.0.kind is (
           sym (ap (λ y. holds_of is_component (and_then y (kind_at n))) h ∙ ap (λ y. holds_of is_component (option_map (λ (z : Entity). z.kind) y)) x.1)
-          ∙ later b.exported (holds_of is_component (and_then b.entity (kind_at n))) (x.2 is).1 (both-true (is_some b.entity) _ declared).1)),
+          ∙ later b.exported (holds_of is_component (and_then b.entity (kind_at n))) (x.2 is).1 (and_parts (is_some b.entity) _ declared).1)),
     )
   where
     later : (a c : Bool) → a ≡ false → (a || c) ≡ true → c ≡ true

@@ -14,6 +14,7 @@ use Rattle.ada_regions.specs.declared.table.Frame.{Frame}
 use Rattle.ada_regions.specs.declared.table.Names.{Names}
 use Rattle.ada_regions.specs.Words.{and_then}
 use Rattle.std.specs.Option.{option_or}
+use Rattle.std.proofs.lemmas.Bool.{and_parts}
 use Rattle.ada_regions.specs.PredefinedUnits.{child_unit, root_unit, item_in}
 use Rattle.ada_regions.specs.Names.{binds, binding_in, entity_at, region_of_entity}
 use Rattle.ada_regions.specs.Visibility.{innermost_binding, item_of, in_standard, bound, directly, exports_name, exported_from, some_if_withed, visible_in, used_around, found_or, sought}
@@ -23,7 +24,6 @@ use Rattle.ada_regions.specs.Regions.{is_package as is_package_kind, is_used_pac
 use Rattle.source_laws.proofs.Names.PositionLemmas.{false-true}
 use Rattle.source_laws.proofs.Names.Known.{known, opened_as}
 use Rattle.source_laws.proofs.Names.Kept.{numbers_of}
-use Rattle.source_laws.proofs.Names.KeptUnits.{both-true}
 use Rattle.source_laws.proofs.Names.ClausesKept.{Unowned}
 use Rattle.source_laws.proofs.Names.PackagesKept.{Sound, AllSound, IsSound}
 use Rattle.source_laws.proofs.Names.Joined.{Tells, ShownBy, tells-used}
@@ -163,7 +163,7 @@ plain-found n q f s other = go (and_then (item_at q n.bindings) (find f)) refl
 exported-plain : (n : Names) (name : List ℕ) (r : Option ℕ) → IsSound (known n) → Plain n (and_then r (exported_from n name))
 unfolding exported_from
 exported-plain n name None s = tt
-exported-plain n name (Some q) s = plain-found n q (exports_name name) s (λ b e h. false-true (sym h.1 ∙ (both-true b.exported (binds name b) e).0))
+exported-plain n name (Some q) s = plain-found n q (exports_name name) s (λ b e h. false-true (sym h.1 ∙ (and_parts b.exported (binds name b) e).0))
 
 entity-plain : (n : Names) (name : List ℕ) (x : Option Entity) → IsSound (known n) → Plain n (and_then x (exported_by n name))
 unfolding exported_by

@@ -1,5 +1,6 @@
 -- What the table says that a package exports is what its declaration declares.
 use Rattle.std.proofs.Common.{◌≡◌, ◌⊎◌, inl, inr, ℕ, suc, Bool, true, false, not, ◌&&◌, List, [], ◌∷◌, length, Option, Some, None, option_map, eqb, bytes_eq, find, refl, sym, ap, subst, ◌∙◌, arith, eqb-true, eq-eqb}
+use Rattle.std.proofs.lemmas.Bool.{and_parts}
 use Rattle.world_tables.specs.Tables.{item_at}
 use Rattle.ada_tree.specs.declared.names.Identifier.{Identifier}
 use Rattle.ada_regions.specs.declared.entities.Denoted.TheVariants as denotes
@@ -27,7 +28,6 @@ use Rattle.source_laws.proofs.Names.KeptBindings.{entity_number}
 use Rattle.source_laws.proofs.Names.KeptSteps.{Kept}
 use Rattle.source_laws.proofs.Names.KeptBodies.{PackageSought, package_there, no_package, package-sought, next-stands}
 use Rattle.source_laws.proofs.Names.KeptWaiting.{package-waits}
-use Rattle.source_laws.proofs.Names.KeptUnits.{both-true}
 use Rattle.source_laws.proofs.Names.Exports.{said_shown, same_length}
 use Rattle.source_laws.proofs.Names.ExportsAll.{nothing-exported, exports-kept}
 use Rattle.source_laws.proofs.Names.Lawful.{kept-in, text-stands, complete-stands}
@@ -46,11 +46,11 @@ module _ (home : ℕ) (u c : Before) (stands : Stands u c) (long : length u ≡ 
 
   declared-shown : (o : Occurrence) (b : Before) → Stands (o ∷ b) c → exports_here home name o b ≡ true → (region : ℕ) × (declares_name number_of_innermost region name o b ≡ true)
   declared-shown (declares i what) b s e =
-      (number_of_innermost (around b), and-true (bytes_eq i.text name) _ (both-true (bytes_eq i.text name) _ e).0 (eq-eqb (number_of_innermost (around b)) (number_of_innermost (around b)) refl))
+      (number_of_innermost (around b), and-true (bytes_eq i.text name) _ (and_parts (bytes_eq i.text name) _ e).0 (eq-eqb (number_of_innermost (around b)) (number_of_innermost (around b)) refl))
   declared-shown (completes i q) b s e =
-      let named = both-true (bytes_eq i.text name) _ e in
-      let there = both-true (begun_at home (around_outside b)) _ named.1 in
-      let anew = both-true (not (body_completes number_of_innermost home name b)) _ there.1 in (
+      let named = and_parts (bytes_eq i.text name) _ e in
+      let there = and_parts (begun_at home (around_outside b)) _ named.1 in
+      let anew = and_parts (not (body_completes number_of_innermost home name b)) _ there.1 in (
         home,
         and-true (bytes_eq i.text name) _ named.0
             (and-true (eqb (number_of_innermost (around_outside b)) home) _ (eq-eqb (number_of_innermost (around_outside b)) home (outside-number b (stands-tail (completes i q) b c s) there.0)) anew.0),

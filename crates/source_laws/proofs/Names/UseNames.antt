@@ -1,5 +1,6 @@
 -- What a direct name denotes by the table, use clauses included, is what it means by position.
 use Rattle.std.proofs.Common.{◌≡◌, inl, inr, ℕ, Bool, true, false, cond, not, ◌&&◌, List, [], ◌∷◌, ◌++◌, map, Option, Some, None, option_map, slice_get, refl, sym, ap, subst, ◌∙◌}
+use Rattle.std.proofs.lemmas.Bool.{and_parts}
 use Rattle.ann_base.specs.declared.places.Place.{Place}
 use Rattle.ada_tree.specs.declared.names.Identifier.{Identifier}
 use Rattle.ada_tree.specs.declared.names.Name.{Name}
@@ -30,7 +31,6 @@ use Rattle.source_laws.proofs.Names.KnownBegun.{denoted-noted}
 use Rattle.source_laws.proofs.Names.Placing.{looks, IsPlaced}
 use Rattle.source_laws.proofs.Names.Texts.{IsText}
 use Rattle.source_laws.proofs.Names.Kept.{known_at, here_at, numbers_of}
-use Rattle.source_laws.proofs.Names.KeptUnits.{both-true}
 use Rattle.source_laws.proofs.Names.Noted.{same-resolved, both-false}
 use Rattle.source_laws.proofs.Names.Lawful.{text-stands, complete-stands, all-around, directly-meant}
 use Rattle.source_laws.proofs.Names.Denoting.{same_place-path, among-append, differ-apart, never-noted, differ-at, not-true}
@@ -68,7 +68,7 @@ differ-first [] ys e = refl
 differ-first (x ∷ xs) ys e = go (is_among x xs) (both-false x (is_among x xs) (is_among x ys) (sym (among-append x xs ys) ∙ not-true (is_among x (xs ++ ys)) both.0)).0 (differ-first xs ys both.1)
   where
     both : (not (is_among x (xs ++ ys)) ≡ true) × (all_differ (xs ++ ys) ≡ true)
-    both = both-true (not (is_among x (xs ++ ys))) (all_differ (xs ++ ys)) e
+    both = and_parts (not (is_among x (xs ++ ys))) (all_differ (xs ++ ys)) e
 
     go : (t : Bool) → t ≡ false → all_differ xs ≡ true → (not t && all_differ xs) ≡ true
     go true q more = absurd (false-true (sym q))
@@ -121,10 +121,10 @@ module _ (last : ℕ) (end : Before) (t : IsText end) (placed : IsPlaced end) (c
     first-alone : (is_among first.place (map place_of q.parts.others) ≡ false) × (is_among first.place (places_before b) ≡ false)
     first-alone = both-false first.place (is_among first.place (map place_of q.parts.others)) (is_among first.place (places_before b)) (
         sym (among-append first.place (map place_of q.parts.others) (places_before b))
-        ∙ not-true (is_among first.place (map place_of q.parts.others ++ places_before b)) (both-true (not (is_among first.place (map place_of q.parts.others ++ places_before b))) _ differ).0)
+        ∙ not-true (is_among first.place (map place_of q.parts.others ++ places_before b)) (and_parts (not (is_among first.place (map place_of q.parts.others ++ places_before b))) _ differ).0)
 
     others-differ : all_differ (map place_of q.parts.others ++ places_before b) ≡ true
-    others-differ = (both-true (not (is_among first.place (map place_of q.parts.others ++ places_before b))) _ differ).1
+    others-differ = (and_parts (not (is_among first.place (map place_of q.parts.others ++ places_before b))) _ differ).1
 
     first-denoted : denoted_at behind_it first.place ≡ found (sought before_first first.text)
     first-denoted = found-noted first before_first (never-noted last first.place b first-alone.1)

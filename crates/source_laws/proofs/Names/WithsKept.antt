@@ -9,6 +9,7 @@ use Rattle.ada_regions.specs.declared.entities.Denoted.TheVariants as denotes
 use Rattle.ada_regions.specs.declared.table.Names.{Names}
 use Rattle.ada_regions.specs.Words.{and_then}
 use Rattle.std.specs.Option.{option_or}
+use Rattle.std.proofs.lemmas.Bool.{and_parts}
 use Rattle.ada_regions.specs.Occurrences.{Occurrence, Region, the_package, the_context, the_context_of, further_context, package_region, begins, ends, declares_unit, with_unit}
 use Rattle.ada_regions.specs.Visibility.{is_withed_by}
 use Rattle.ada_regions.specs.Regions.{package_named, context_of_package, package_to_with, library_unit, unit_named, unit_to_with, withed, begun}
@@ -23,7 +24,6 @@ use Rattle.source_laws.proofs.Names.Placing.{begins_again, looks, Placed, IsPlac
 use Rattle.source_laws.proofs.Names.Texts.{IsText}
 use Rattle.source_laws.proofs.Names.KeptSteps.{Kept}
 use Rattle.source_laws.proofs.Names.KeptBodies.{PackageSought, package_there, no_package, package-sought, begun-stands}
-use Rattle.source_laws.proofs.Names.KeptUnits.{both-true}
 use Rattle.source_laws.proofs.Names.KeptAll.{kept}
 use Rattle.source_laws.proofs.Names.Lawful.{text-stands}
 use Rattle.source_laws.proofs.Names.ClausesKept.{IsInnerRegion, IsCalm, withs_of, withs-behind, clauses-context, clauses-context_again}
@@ -283,7 +283,7 @@ module _ (last : ℕ) (i : Identifier) (c : Before) (t : IsText (begins (the_con
 
     within : (u : PredefinedUnit) (o : Occurrence) (b : Before) → Stands (o ∷ b) c → test u here o b ≡ true → Stands (o ∷ b) d
     within u (with_unit name) b s e =
-        let both = both-true (withs_unit u (with_unit name)) (stands_around here b) e in
+        let both = and_parts (withs_unit u (with_unit name)) (stands_around here b) e in
         clause-before name b s (or-true _ (sym (around-d b) ∙ (sym (further-d name b s) ∙ both.1)))
     within u _ b s e = absurd (false-true e)
 
@@ -314,7 +314,7 @@ module _ (last : ℕ) (i : Identifier) (c : Before) (t : IsText (begins (the_con
 further-withs : (last : ℕ) (c : Before) → begins_again c ≡ true → IsText c → IsPlaced c → bodies_complete_before c ≡ true → ((d : Before) → Stands d c → looks (around d) ≡ true → WithsSay last d)
     → WithsSay last (begins further_context ∷ c)
 further-withs last (begins (the_context_of i) ∷ c) e t p complete older =
-    further-step last i c t p.1 p.0 complete (λ d s l. older d (inr s) l) (kept last c t.2 (both-true (completes_if_body (begins (the_context_of i)) c) (bodies_complete_before c) complete).1)
+    further-step last i c t p.1 p.0 complete (λ d s l. older d (inr s) l) (kept last c t.2 (and_parts (completes_if_body (begins (the_context_of i)) c) (bodies_complete_before c) complete).1)
 further-withs last _ e t p complete older = cc
 
 withs-step : (last : ℕ) (o : Occurrence) (c : Before) → IsText (o ∷ c) → IsPlaced (o ∷ c) → bodies_complete_before c ≡ true → ((d : Before) → Stands d c → looks (around d) ≡ true → WithsSay last d)
@@ -332,6 +332,6 @@ withs-step last o c t p complete older l = calm-step last o c tt tt refl (older 
 pub withs-kept : (last : ℕ) (c : Before) → IsText c → IsPlaced c → bodies_complete_before c ≡ true → (d : Before) → Stands d c → looks (around d) ≡ true → WithsSay last d
 withs-kept last [] t p complete d s l = absurd (false-true (ap (λ z. looks (around z)) (sym s) ∙ l))
 withs-kept last (o ∷ c) t p complete d (inl e) l =
-    let more = (both-true (completes_if_body o c) (bodies_complete_before c) complete).1 in
+    let more = (and_parts (completes_if_body o c) (bodies_complete_before c) complete).1 in
     subst (WithsSay last) (sym e) (withs-step last o c t p more (withs-kept last c t.2 p.1 more) (ap (λ z. looks (around z)) (sym e) ∙ l))
-withs-kept last (o ∷ c) t p complete d (inr s) l = withs-kept last c t.2 p.1 (both-true (completes_if_body o c) (bodies_complete_before c) complete).1 d s l
+withs-kept last (o ∷ c) t p complete d (inr s) l = withs-kept last c t.2 p.1 (and_parts (completes_if_body o c) (bodies_complete_before c) complete).1 d s l

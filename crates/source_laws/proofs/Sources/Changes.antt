@@ -1,6 +1,7 @@
 -- What an occurrence adds to the entities of a table, and to those that have a body.
 use Rattle.std.proofs.Common.{◌≡◌, ◌⊎◌, inl, inr, ℕ, Bool, true, false, cond, ◌||◌, List, [], ◌∷◌, ◌++◌, Option, Some, None, is_some, eqb, eq-eqb, refl, sym, ap, ◌∙◌}
 use Rattle.std.specs.List.{list_any}
+use Rattle.std.proofs.lemmas.Bool.{or_right}
 use Rattle.ann_base.specs.declared.places.Place.{Place}
 use Rattle.ada_tree.specs.declared.names.Identifier.{Identifier}
 use Rattle.ada_tree.specs.declared.declarations.SubprogramSpecification.{SubprogramSpecification}
@@ -54,10 +55,6 @@ after-same o n m e = record { entities = no_entity (ap (λ k. k.entities) e); bo
 
 after-neither : (o : Occurrence) (n m : Names) → m.entities ≡ n.entities → m.bodies ≡ n.bodies → After o n m
 after-neither o n m e f = record { entities = no_entity e; bodies = no_body f }
-
-pub or-later : (a b : Bool) → b ≡ true → (a || b) ≡ true
-or-later true b e = refl
-or-later false b e = e
 
 -- ---- bodies of task and protected units
 
@@ -148,7 +145,7 @@ module _ (kind : UnitKind) (i : Identifier) (scope : Option ℕ) (n : Names) whe
     where
       begun-has : (m : Names) → has_body n e ≡ true → (m.bodies ≡ n.bodies) ⊎ ((f : ℕ) × FirstBody kind i f n m × (m.bodies ≡ f ∷ n.bodies)) → list_any (eqb e) m.bodies ≡ true
       begun-has m has (inl same) = ap (list_any (eqb e)) same ∙ has
-      begun-has m has (inr (f, b, added)) = ap (list_any (eqb e)) added ∙ or-later (eqb e f) (list_any (eqb e) n.bodies) has
+      begun-has m has (inr (f, b, added)) = ap (list_any (eqb e)) added ∙ or_right (eqb e f) (list_any (eqb e) n.bodies) has
 
       go : (t : Bool) → has_body n e ≡ t → list_any (eqb e) (body_begun kind i scope n).bodies ≡ true
       go true q = begun-has (body_begun kind i scope n) q body-begun.bodies

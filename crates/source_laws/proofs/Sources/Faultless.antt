@@ -1,6 +1,7 @@
 -- What a source without faults of legality has found: each declaration of a unit has one body, and the table knows it.
 use Rattle.std.proofs.Common.{◌≡◌, ℕ, ◌+◌, ◌≤◌, suc, Bool, true, false, not, cond, ◌&&◌, ◌||◌, List, [], ◌∷◌, ◌++◌, length, take, filter, None, eqb, eqb-true, refl, ap, ◌∙◌, arith}
 use Rattle.std.specs.List.{flat_map, list_any}
+use Rattle.std.proofs.lemmas.Bool.{and_parts}
 use Rattle.ann_base.specs.declared.places.Place.{Place}
 use Rattle.ada_tree.specs.declared.units.Unit.{Unit as Tree}
 use Rattle.world_tables.specs.Lists.{first_of}
@@ -94,10 +95,6 @@ same-kinds completing.Protected completing.Protected e = refl
 same-kinds completing.ProtectedEntry completing.ProtectedEntry e = refl
 same-kinds a b e = cc
 
-both-of : (a b : Bool) → (a && b) ≡ true → (a ≡ true) × (b ≡ true)
-both-of true b e = (refl, e)
-both-of false b e = cc
-
 not-broken : (t : Bool) (place : Place) → faults_in (broken_if rule.Completions t place) ≡ [] → t ≡ false
 unfolding faults_in
 not-broken true place e = cc
@@ -113,7 +110,7 @@ module _ (n : Names) (all : Found) (kind : BodyKind) (e : ℕ) where
     where
       go : (t : Bool) → (same_kind kind other && eqb e g) ≡ t → 1 ≤ one_if t + worth (declared_weights kind e) rest → is_uncompleted n all kind e ≡ false
       go true q p =
-          let both = both-of (same_kind kind other) (eqb e g) q in
+          let both = and_parts (same_kind kind other) (eqb e g) q in
           ap (λ k. is_uncompleted n all k e) (same-kinds kind other both.0) ∙ (ap (is_uncompleted n all other) (eqb-true e g both.1) ∙ not-broken (is_uncompleted n all other g) place none)
       go false q p = more (omega arith)
   judged-one _ at rest none more positive = more (omega arith)

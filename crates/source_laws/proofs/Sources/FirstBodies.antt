@@ -1,6 +1,7 @@
 -- What the table knows of a body's unit makes it the first body of a unit by position.
 use Rattle.std.proofs.Common.{◌≡◌, ℕ, suc, true, false, cond, not, ◌&&◌, [], ◌∷◌, length, Option, Some, None, is_some, eqb, eqb-true, refl, sym, ap, subst, ◌∙◌}
 use Rattle.std.specs.List.{list_any}
+use Rattle.std.proofs.lemmas.Bool.{and_parts}
 use Rattle.ann_base.specs.declared.places.Place.{Place}
 use Rattle.ada_tree.specs.declared.names.Identifier.{Identifier}
 use Rattle.ada_regions.specs.declared.entities.Entity.{Entity}
@@ -22,7 +23,7 @@ use Rattle.source_laws.proofs.Names.Kept.{known_at}
 use Rattle.source_laws.proofs.Names.KeptBindings.{said_by, said}
 use Rattle.source_laws.proofs.Names.KeptSteps.{Kept}
 use Rattle.source_laws.proofs.Names.KeptBodies.{joined, bound-here, found-nearest, no_start}
-use Rattle.source_laws.proofs.Names.KeptUnits.{if_so-found, both-true, some-same}
+use Rattle.source_laws.proofs.Names.KeptUnits.{if_so-found, some-same}
 use Rattle.source_laws.proofs.Names.KeptAll.{kept}
 use Rattle.source_laws.proofs.Names.Exports.{same_length}
 use Rattle.source_laws.proofs.Names.Lawful.{text-stands, complete-stands}
@@ -141,13 +142,13 @@ module _ (last : ℕ) (before : Before) (t : IsText before) (complete : bodies_c
       within = stands-tail p c before stands
 
       first : is_first_body kind j.text c ≡ true
-      first = sym completes ∙ (both-true (completes_if_body p c) (bodies_complete_before c) (complete-stands (p ∷ c) before stands complete)).0
+      first = sym completes ∙ (and_parts (completes_if_body p c) (bodies_complete_before c) (complete-stands (p ∷ c) before stands complete)).0
 
       k : Kept last c
       k = kept last c (text-stands c before within t) (complete-stands c before within complete)
 
       go : (x : Option Before) → unit_declared number_of_innermost kind j.text c ≡ x → list_any (eqb (length (known_at last b).entities)) (table_at last before).bodies ≡ true
-      go None e = absurd (false-true (ap is_some (sym e) ∙ (both-true (is_some (unit_declared number_of_innermost kind j.text c)) (not (is_some (nearest (begins_body (region_behind number_of_innermost (unit_declared number_of_innermost kind j.text c) 0)) c))) first).0))
+      go None e = absurd (false-true (ap is_some (sym e) ∙ (and_parts (is_some (unit_declared number_of_innermost kind j.text c)) (not (is_some (nearest (begins_body (region_behind number_of_innermost (unit_declared number_of_innermost kind j.text c) 0)) c))) first).0))
       go (Some d) e =
           let f = unit-bound last kind j c d k e in
           let u = f.0 in

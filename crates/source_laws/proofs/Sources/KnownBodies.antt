@@ -1,5 +1,6 @@
 -- Where the table of a source knows the unit of each body, each body completes a unit, and is its only one.
 use Rattle.std.proofs.Common.{◌≡◌, inl, inr, ℕ, ◌≤◌, true, false, ◌&&◌, ◌||◌, leb, [], ◌∷◌, Option, Some, None, eq-eqb, refl, sym, ap, subst, ◌∙◌, arith, leb-true}
+use Rattle.std.proofs.lemmas.Bool.{and_parts}
 use Rattle.ada_tree.specs.declared.names.Identifier.{Identifier}
 use Rattle.ada_regions.specs.declared.entities.UnitKind.{UnitKind}
 use Rattle.ada_regions.specs.declared.entities.UnitKind.TheVariants as unit
@@ -14,7 +15,6 @@ use Rattle.source_laws.specs.Regions.{is_first_body, completes_if_body, bodies_c
 use Rattle.source_laws.specs.Tables.{table_at}
 use Rattle.source_laws.specs.Places.{places_in, places_before, is_among, all_differ}
 use Rattle.source_laws.proofs.Names.PositionLemmas.{stands-here, stands-tail}
-use Rattle.source_laws.proofs.Names.KeptUnits.{both-true}
 use Rattle.source_laws.proofs.Names.Denoting.{same_place-itself, among-append, stays-noted}
 use Rattle.source_laws.proofs.Names.Lawful.{table_at_the_end, text-stands}
 use Rattle.source_laws.proofs.Names.Texts.{IsText}
@@ -28,8 +28,8 @@ use Rattle.source_laws.proofs.Sources.FirstBodies.{first-by-table}
 
 known-at : (n : Names) (all : Before) (o : Occurrence) (c before : Before) → Stands (o ∷ c) before → are_known_bodies n all before ≡ true → is_known_body n all (body_named o) ≡ true
 known-at n all o c [] s known = cc
-known-at n all o c (p ∷ before) (inl e) known = let h : o ≡ p = cc in ap (λ z. is_known_body n all (body_named z)) h ∙ (both-true (is_known_body n all (body_named p)) (are_known_bodies n all before) known).0
-known-at n all o c (p ∷ before) (inr s) known = known-at n all o c before s (both-true (is_known_body n all (body_named p)) (are_known_bodies n all before) known).1
+known-at n all o c (p ∷ before) (inl e) known = let h : o ≡ p = cc in ap (λ z. is_known_body n all (body_named z)) h ∙ (and_parts (is_known_body n all (body_named p)) (are_known_bodies n all before) known).0
+known-at n all o c (p ∷ before) (inr s) known = known-at n all o c before s (and_parts (is_known_body n all (body_named p)) (are_known_bodies n all before) known).1
 
 -- ---- one body at most denotes a unit
 
@@ -127,8 +127,8 @@ module _ (last : ℕ) (end : Before) (t : IsText end) (apart : all_differ (place
       go None d q = cc
       go (Some e) d q =
           let n = table_at last end in
-          let both = both-true (is_unit kind n e) (has_body n e && leb (bodies_denoting n kind e end) 1) q in
-          let more = both-true (has_body n e) (leb (bodies_denoting n kind e end) 1) both.1 in
+          let both = and_parts (is_unit kind n e) (has_body n e && leb (bodies_denoting n kind e end) 1) q in
+          let more = and_parts (has_body n e) (leb (bodies_denoting n kind e end) 1) both.1 in
           choose e d both.0 (leb-true (bodies_denoting n kind e end) 1 more.1) (traced last e end t more.0)
         where
           choose : (e : ℕ) → entity_denoted (table_at last end) i.place ≡ Some e → is_unit kind (table_at last end) e ≡ true → bodies_denoting (table_at last end) kind e end ≤ 1 → Traced last e end → is_first_body kind i.text c ≡ true

@@ -1,6 +1,7 @@
 -- What the table keeps of entities from a position on, and from where it knows that a unit has a body.
 use Rattle.std.proofs.Common.{◌≡◌, inl, inr, ℕ, Bool, true, false, ◌&&◌, ◌||◌, [], ◌∷◌, Option, Some, None, is_some, option_map, slice_get, eqb, eqb-true, refl, sym, ap, subst, ◌∙◌}
 use Rattle.std.specs.List.{list_any}
+use Rattle.std.proofs.lemmas.Bool.{and_parts, or_right}
 use Rattle.ada_tree.specs.declared.names.Identifier.{Identifier}
 use Rattle.ada_regions.specs.declared.types.AdaType.{AdaType}
 use Rattle.ada_regions.specs.declared.types.AdaType.TheVariants as types
@@ -19,10 +20,9 @@ use Rattle.source_laws.specs.Positions.{Before, Stands}
 use Rattle.source_laws.specs.Tables.{table_at}
 use Rattle.source_laws.proofs.Names.PositionLemmas.{stands-here}
 use Rattle.source_laws.proofs.Names.KeptEntities.{slice_get-more}
-use Rattle.source_laws.proofs.Names.KeptUnits.{both-true}
 use Rattle.source_laws.proofs.Names.Texts.{IsText}
 use Rattle.source_laws.specs.Bodies.{body_named, is_same_kind}
-use Rattle.source_laws.proofs.Sources.Changes.{EntitiesAfter, no_entity, one_entity, FirstBody, BodiesAfter, no_body, subprogram_body_of, unit_body_of, after, or-later}
+use Rattle.source_laws.proofs.Sources.Changes.{EntitiesAfter, no_entity, one_entity, FirstBody, BodiesAfter, no_body, subprogram_body_of, unit_body_of, after}
 
 -- ---- entities and bodies stay
 
@@ -42,8 +42,8 @@ body-stays last b (o ∷ before) (inr s) t e has = go (after o (table_at last be
   where
     go : BodiesAfter o (table_at last before) (table_at last (o ∷ before)) → list_any (eqb e) (table_at last before).bodies ≡ true → list_any (eqb e) (table_at last (o ∷ before)).bodies ≡ true
     go (no_body same) old = ap (list_any (eqb e)) same ∙ old
-    go (subprogram_body_of f is more) old = ap (list_any (eqb e)) more ∙ or-later (eqb e f) (list_any (eqb e) (table_at last before).bodies) old
-    go (unit_body_of kind i f named first more) old = ap (list_any (eqb e)) more ∙ or-later (eqb e f) (list_any (eqb e) (table_at last before).bodies) old
+    go (subprogram_body_of f is more) old = ap (list_any (eqb e)) more ∙ or_right (eqb e f) (list_any (eqb e) (table_at last before).bodies) old
+    go (unit_body_of kind i f named first more) old = ap (list_any (eqb e)) more ∙ or_right (eqb e f) (list_any (eqb e) (table_at last before).bodies) old
 
 -- ---- units
 
@@ -58,7 +58,7 @@ unit-entity n e kind is = go (entity_at n e) refl is
     go : (y : Option Entity) → entity_at n e ≡ y → (is_some (and_then y (λ (z : Entity). z.region)) && type_is kind (and_then (option_map (λ (z : Entity). z.kind) y) type_of_kind)) ≡ true
         → (x : Entity) × (entity_at n e ≡ Some x) × (is_some x.region ≡ true) × (type_is kind (type_of_kind x.kind) ≡ true)
     go None there q = cc
-    go (Some x) there q = let both = both-true (is_some x.region) (type_is kind (type_of_kind x.kind)) q in (x, there, both.0, both.1)
+    go (Some x) there q = let both = and_parts (is_some x.region) (type_is kind (type_of_kind x.kind)) q in (x, there, both.0, both.1)
 
 pub unit-stays : (last : ℕ) (b before : Before) → Stands b before → IsText before → (kind : UnitKind) (e : ℕ) → is_unit kind (table_at last b) e ≡ true → is_unit kind (table_at last before) e ≡ true
 unit-stays last b before s t kind e is =

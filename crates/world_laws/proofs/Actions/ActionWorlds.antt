@@ -3,7 +3,7 @@
 use Rattle.std.proofs.Common.{◌≡◌, inl, inr, ℕ, ℤ, ◌≤◌, Bool, true, false, cond, not, leb, eqb, ◌&&◌, ◌||◌, List, [], ◌∷◌, ◌++◌, map, refl, sym, ap, subst, ◌∙◌, arith}
 use Rattle.std.specs.Prelude.{filter, max}
 use Rattle.std.specs.List.{list_any, list_all}
-use Rattle.std.proofs.lemmas.Bool.{eqb-true, false≢true}
+use Rattle.std.proofs.lemmas.Bool.{and_from, and_parts, eqb-true, false≢true, or_right}
 use Rattle.ann_base.specs.declared.identities.ObjectNo.{ObjectNo}
 use Rattle.trace_text.specs.declared.events.Event.{Event}
 use Rattle.trace_text.specs.declared.events.Who.{Who}
@@ -43,14 +43,6 @@ use Rattle.world_laws.proofs.Actions.Kept.Run.{opening-good, tock-good}
 
 -- ---- lists
 
-both : (a b : Bool) → a ≡ true → b ≡ true → (a && b) ≡ true
-both true b p q = q
-both false b p q = p
-
-or-right : (a b : Bool) → b ≡ true → (a || b) ≡ true
-or-right true b e = refl
-or-right false b e = e
-
 opened-more : (n : Who) (a : Action) (actions : List Action) → has_open n actions ≡ true → has_open n (a ∷ actions) ≡ true
 opened-more n a actions e = step (same_who n a.who)
   where
@@ -61,30 +53,26 @@ opened-more n a actions e = step (same_who n a.who)
 all-actions : (P : Action → Bool) (actions : List Action) → ((a : Action) → has_open a.who actions ≡ true → P a ≡ true) → list_all P actions ≡ true
 all-actions P [] k = refl
 all-actions P (a ∷ actions) k =
-    both (P a) (list_all P actions) (k a (ap (λ b. not (is_empty (cond b (a ∷ filter (is_action_of a.who) actions) (filter (is_action_of a.who) actions)))) (who-self a.who)))
+    and_from (P a) (list_all P actions) (k a (ap (λ b. not (is_empty (cond b (a ∷ filter (is_action_of a.who) actions) (filter (is_action_of a.who) actions)))) (who-self a.who)))
     (all-actions P actions (λ x e. k x (opened-more x.who a actions e)))
 
 all-objects : (P : Object → Bool) (H : Who → Object → Type 0) (xs : List Object) → ((n : Who) → EachObject (H n) xs) → ((x : Object) → ((n : Who) → H n x) → P x ≡ true) → list_all P xs ≡ true
 all-objects P H [] h k = refl
-all-objects P H (x ∷ xs) h k = both (P x) (list_all P xs) (k x (λ n. (h n).0)) (all-objects P H xs (λ n. (h n).1) k)
+all-objects P H (x ∷ xs) h k = and_from (P x) (list_all P xs) (k x (λ n. (h n).0)) (all-objects P H xs (λ n. (h n).1) k)
 
 all-each : (P : Object → Bool) (H : Object → Type 0) (xs : List Object) → EachObject H xs → ((x : Object) → H x → P x ≡ true) → list_all P xs ≡ true
 all-each P H [] h k = refl
-all-each P H (x ∷ xs) h k = both (P x) (list_all P xs) (k x h.0) (all-each P H xs h.1 k)
+all-each P H (x ∷ xs) h k = and_from (P x) (list_all P xs) (k x h.0) (all-each P H xs h.1 k)
 
 all-members : (P : Task → Bool) (agent : Task) (ts : List Task) → ((t : Task) → Member t ts → P t ≡ true) → P agent ≡ true → list_all P (ts ++ agent ∷ []) ≡ true
-all-members P agent [] k e = both (P agent) true e refl
-all-members P agent (t ∷ ts) k e = both (P t) (list_all P (ts ++ agent ∷ [])) (k t (inl refl)) (all-members P agent ts (λ u m. k u (inr m)) e)
+all-members P agent [] k e = and_from (P agent) true e refl
+all-members P agent (t ∷ ts) k e = and_from (P t) (list_all P (ts ++ agent ∷ [])) (k t (inl refl)) (all-members P agent ts (λ u m. k u (inr m)) e)
 
 -- ---- the ceiling is among what is inherited
 
-left-part : (a b : Bool) → (a && b) ≡ true → b ≡ true
-left-part true b e = e
-left-part false b e = absurd (false≢true e)
-
 ceiling-step : (o : ObjectNo) (level : ℕ) (i : Inherited) (rest : Bool) (greatest : ℕ) → ((same_cause (inherited_by.Ceiling o) i.cause && eqb level i.level) || rest) ≡ true → (rest ≡ true → level ≤ greatest) → level ≤ max i.level greatest
 ceiling-step o level i rest greatest e k = by_test (same_cause (inherited_by.Ceiling o) i.cause && eqb level i.level)
-    (λ f. let is : level ≡ i.level = eqb-true level i.level (left-part (same_cause (inherited_by.Ceiling o) i.cause) (eqb level i.level) f) in omega (arith, is))
+    (λ f. let is : level ≡ i.level = eqb-true level i.level ((and_parts (same_cause (inherited_by.Ceiling o) i.cause) (eqb level i.level) f).1) in omega (arith, is))
     (λ f. let low : level ≤ greatest = k (sym (ap (λ b. b || rest) f) ∙ e) in omega (arith, low))
 
 ceiling-greatest : (o : ObjectNo) (level least : ℕ) (is : List Inherited) → has_ceiling o level is ≡ true → level ≤ greatest_of (map (λ i. i.level) is) least
@@ -103,8 +91,8 @@ module _ (p : Image) (w : World) (h : Sound w) where
       let marked : marks x.number (natures t.frames) ≡ true = sym held.0 ∙ holds in
       let high : x.ceiling ≤ active p t = ceiling-greatest x.number x.ceiling (own_level p t) t.inherited (held.1 holds) in
       subst (λ (u : Task). (has_action_mark x.number u && is_runnable u && leb x.ceiling (active p u)) ≡ true) (one_of-is w a.who)
-      (both (has_action_mark x.number t && is_runnable t) (leb x.ceiling (active p t))
-      (both (has_action_mark x.number t) (is_runnable t) (action_mark-is x.number t.frames ∙ marked) ((h.5 a.who).1 (marks-guards x.number (natures t.frames) marked))) (grind (arith, high)))
+      (and_from (has_action_mark x.number t && is_runnable t) (leb x.ceiling (active p t))
+      (and_from (has_action_mark x.number t) (is_runnable t) (action_mark-is x.number t.frames ∙ marked) ((h.5 a.who).1 (marks-guards x.number (natures t.frames) marked))) (grind (arith, high)))
 
   objects-hold : list_all (λ o. list_all (holds_rightly p w o) o.actions) w.objects ≡ true
   objects-hold =
@@ -121,10 +109,10 @@ module _ (p : Image) (w : World) (h : Sound w) where
   frames-open : (name : Who) (fs : List Frame) → EachObject (MarkedOpen name fs) w.objects → list_all (has_action w name) fs ≡ true
   frames-open name [] e = refl
   frames-open name (f ∷ fs) e =
-      both (has_action w name f) (list_all (has_action w name) fs)
+      and_from (has_action w name f) (list_all (has_action w name) fs)
       (all-each (λ x. cond (is_mark_of x.number f.mark) (has_open name x.actions) true) (MarkedOpen name (f ∷ fs)) w.objects e
       (λ x k. where_marked name x (is_mark_of x.number f.mark) (λ is. k (ap (λ b. b || list_any (λ g. is_mark_of x.number g.mark) fs) is))))
-      (frames-open name fs (each-on (MarkedOpen name (f ∷ fs)) (MarkedOpen name fs) w.objects (λ x k is. k (or-right (is_mark_of x.number f.mark) (list_any (λ g. is_mark_of x.number g.mark) fs) is)) e))
+      (frames-open name fs (each-on (MarkedOpen name (f ∷ fs)) (MarkedOpen name fs) w.objects (λ x k is. k (or_right (is_mark_of x.number f.mark) (list_any (λ g. is_mark_of x.number g.mark) fs) is)) e))
 
   task-open : (t : Task) (name : Who) → t.who ≡ name → one_of w.tasks w.agent name ≡ t → list_all (has_action w t.who) t.frames ≡ true
   task-open t name named is =
@@ -136,7 +124,7 @@ module _ (p : Image) (w : World) (h : Sound w) where
   everybody-open = all-members (λ t. list_all (has_action w t.who) t.frames) w.agent w.tasks (λ t m. task-open t t.who refl (member-self t w h m)) (task-open w.agent who.Agent h.2.1 refl)
 
   sound-right : actions_are_right p w ≡ true
-  sound-right = both (list_all (λ o. list_all (holds_rightly p w o) o.actions) w.objects) (list_all (λ t. list_all (has_action w t.who) t.frames) (everybody w)) objects-hold everybody-open
+  sound-right = and_from (list_all (λ o. list_all (holds_rightly p w o) o.actions) w.objects) (list_all (λ t. list_all (has_action w t.who) t.frames) (everybody w)) objects-hold everybody-open
 
 -- ---- runs: whose action ends is ready
 

@@ -1,7 +1,7 @@
 -- Protected actions that begin and end, and levels that are inherited and lost.
 use Rattle.std.proofs.Common.{◌≡◌, ℕ, suc, ◌<◌, Bool, true, false, cond, not, eqb, ◌&&◌, ◌||◌, List, [], ◌∷◌, Option, Some, None, refl, sym, ap, subst, ◌∙◌, eq-eqb, arith}
 use Rattle.std.specs.Prelude.{find, filter, is_some}
-use Rattle.std.proofs.lemmas.Bool.{eqb-true, false≢true}
+use Rattle.std.proofs.lemmas.Bool.{eqb-true, false≢true, or_right}
 use Rattle.ann_base.specs.declared.identities.CallNo.{CallNo}
 use Rattle.ann_base.specs.declared.identities.ObjectNo.{ObjectNo}
 use Rattle.ann_base.specs.declared.identities.RegionNo.{RegionNo}
@@ -40,10 +40,6 @@ use Rattle.world_laws.proofs.Actions.SoundLists.{each-on, each-found, each-edite
 
 -- ---- levels that are inherited and lost
 
-or-right : (a b : Bool) → b ≡ true → (a || b) ≡ true
-or-right true b e = refl
-or-right false b e = e
-
 sure-inherits : (drawn : Drawn) (calls : List Call) (objects : List Object) (tasks : List Task) (n : Who) (t : Task) (is : List Inherited)
     → ((x : Object) → marks x.number (natures t.frames) ≡ true → has_ceiling x.number x.ceiling t.inherited ≡ true → has_ceiling x.number x.ceiling is ≡ true)
     → SureOf drawn calls objects tasks n t → SureOf drawn calls objects tasks n (record t { inherited = is })
@@ -54,7 +50,7 @@ pub inherit-good : (F : Naming) (name : Who) (cause : Cause) (level : ℕ) (w : 
 inherit-good F name cause level w h =
     steady-good F name (λ t. record t { inherited = record { cause = cause; level = level } ∷ t.inherited }) w (λ t. refl) (λ t. refl) (λ t. refl)
     (λ n same t g k. sure-inherits w.drawn w.calls w.objects w.tasks n t (record { cause = cause; level = level } ∷ t.inherited)
-    (λ x m e. or-right (same_cause (inherited_by.Ceiling x.number) cause && eqb x.ceiling level) (has_ceiling x.number x.ceiling t.inherited) e) k) h
+    (λ x m e. or_right (same_cause (inherited_by.Ceiling x.number) cause && eqb x.ceiling level) (has_ceiling x.number x.ceiling t.inherited) e) k) h
 
 -- what is lost is under another cause
 left-step : (o : ObjectNo) (level : ℕ) (i : Inherited) (is left : List Inherited) (b c : Bool) → same_cause (inherited_by.Ceiling o) i.cause ≡ c → (c ≡ true → b ≡ false) → ((c && eqb level i.level) || has_ceiling o level is) ≡ true
@@ -234,7 +230,7 @@ module _ (name : Who) (m : ProtectedMark) (w : World) (top : top_nature (marks_o
     where
       popped-in : (r : RegionNo) (fs : List Frame) → in_region r (natures (rest_of fs)) ≡ true → in_region r (natures fs) ≡ true
       popped-in r [] e = e
-      popped-in r (f ∷ fs) e = or-right (is_the same_region (nature f.mark).region r) (in_region r (natures fs)) e
+      popped-in r (f ∷ fs) e = or_right (is_the same_region (nature f.mark).region r) (in_region r (natures fs)) e
 
   pub end-good : (F : Naming) → Good F w → Good F (close_action name m.object (pop name w))
   end-good F h = (ended-sound h.0, edit-free name (λ t. with_frames (rest_of t.frames) t) w (λ t. refl) (λ t. refl) F (λ n same is t g e. ended-guards t.frames e) h.1)
@@ -318,7 +314,7 @@ module _ (name : Who) (o : ObjectNo) (mode : Mode) (call : Option CallNo) (relea
   heir-same low n same t g h =
       let is : n ≡ name = same_who-path n name same in (
         sure-inherits w.drawn w.calls w.objects w.tasks n t (record { cause = inherited_by.Ceiling o; level = level } ∷ t.inherited)
-            (λ x e k. or-right (same_cause (inherited_by.Ceiling x.number) (inherited_by.Ceiling o) && eqb x.ceiling level) (has_ceiling x.number x.ceiling t.inherited) k) h,
+            (λ x e k. or_right (same_cause (inherited_by.Ceiling x.number) (inherited_by.Ceiling o) && eqb x.ceiling level) (has_ceiling x.number x.ceiling t.inherited) k) h,
         λ again. (
           ap (λ b. (b && eqb lets.object.ceiling level) || has_ceiling o lets.object.ceiling t.inherited) (eq-eqb o.0 o.0 refl)
               ∙ ap (λ b. b || has_ceiling o lets.object.ceiling t.inherited) (eq-eqb lets.object.ceiling level (sym level-is)),

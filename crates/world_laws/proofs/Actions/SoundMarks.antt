@@ -1,6 +1,6 @@
 -- Marks that are no actions: opened, and ended.
 use Rattle.std.proofs.Common.{◌⊎◌, inl, inr, ◌≡◌, ℕ, suc, ◌≤◌, ◌<◌, Bool, true, false, ◌||◌, List, [], ◌∷◌, Option, Some, None, refl, sym, ap, subst, ◌∙◌, arith}
-use Rattle.std.proofs.lemmas.Bool.{eqb-true, false≢true}
+use Rattle.std.proofs.lemmas.Bool.{eqb-true, false≢true, or_right}
 use Rattle.ann_base.specs.declared.identities.ObjectNo.{ObjectNo}
 use Rattle.ann_base.specs.declared.identities.RegionNo.{RegionNo}
 use Rattle.trace_text.specs.declared.events.Who.{Who}
@@ -172,13 +172,9 @@ popped-guards : (fs : List Frame) → first_action (natures fs) ≡ None → gua
 popped-guards [] e x = x
 popped-guards (f ∷ fs) e x = sym (guards-plain (nature f.mark) (natures fs) e) ∙ x
 
-or-right : (a b : Bool) → b ≡ true → (a || b) ≡ true
-or-right true b e = refl
-or-right false b e = e
-
 popped-in : (r : RegionNo) (fs : List Frame) → in_region r (natures (rest_of fs)) ≡ true → in_region r (natures fs) ≡ true
 popped-in r [] e = e
-popped-in r (f ∷ fs) e = or-right (is_the same_region (nature f.mark).region r) (in_region r (natures fs)) e
+popped-in r (f ∷ fs) e = or_right (is_the same_region (nature f.mark).region r) (in_region r (natures fs)) e
 
 pub pop-good : (F : Naming) (name : Who) (w : World) → first_action (marks_of w.tasks w.agent name) ≡ None → Good F w → Good F (pop name w)
 pop-good F name w none h =

@@ -2,6 +2,7 @@
 -- a select with a terminate alternative, where it does so later.
 use Rattle.std.proofs.Common.{cond, ◌≡◌, inl, inr, Bool, true, false, List, [], ◌∷◌, Option, Some, None, refl, sym, ap, subst, ◌∙◌, append-nil}
 use Rattle.std.specs.Prelude.{◌&&◌, ℤ, Result, Ok, Err}
+use Rattle.std.proofs.lemmas.Bool.{and_from}
 use Rattle.ann_base.specs.declared.exceptions.Raised.{Raised}
 use Rattle.ann_base.specs.declared.identities.TaskNo.{TaskNo}
 use Rattle.trace_text.specs.declared.events.Who.{Who}
@@ -24,7 +25,6 @@ use Rattle.profile_machine.specs.Steps.{◌▷◌, looks, changes, Step}
 use Rattle.profile_machine.specs.Tasks.{with_state, waiting_of, waiting_in, task_at, is_who, edit_task_found, edit_task}
 use Rattle.profile_machine.specs.WellFormed.{waits_for_delay}
 use Rattle.profile_machine.specs.Words.{same_who}
-use Rattle.machine_laws.proofs.ListLemmas.{both}
 use Rattle.world_laws.proofs.Appointments.DelayEdits.{put-any, plain-owned, edited-numbered, edited-delayed, by_test}
 use Rattle.world_laws.proofs.Appointments.DelayMoves.{nobody_excused, fine, MovedOn, Moved, Lasting, GoodAs, Excuse}
 use Rattle.world_laws.proofs.Appointments.Delays.{idle-later, delayed, Idle, Good, Awaited}
@@ -134,7 +134,7 @@ module _ (t : TaskNo) (m : ℤ) (waiting : Waiting) (w : World) (good : Good w) 
     follows = λ k d x.
         by_test (same_who (who.Task k) (who.Task t))
         (λ e. absurd (let state : waiting_of (edit_task (who.Task t) (with_state (Blocked waiting)) (appoint (due_for.Delay t) m w)) (who.Task k) ≡ Some waiting = subst (λ n. waiting_of (edit_task (who.Task t) (with_state (Blocked waiting)) (appoint (due_for.Delay t) m w)) (who.Task n) ≡ Some waiting) (sym (same_number k e)) own_state in
-        let excuse : (same_who (who.Task k) (who.Task t) && waits_at_terminate (waiting_of (edit_task (who.Task t) (with_state (Blocked waiting)) (appoint (due_for.Delay t) m w)) (who.Task k))) ≡ true = both (same_who (who.Task k) (who.Task t)) (waits_at_terminate (waiting_of (edit_task (who.Task t) (with_state (Blocked waiting)) (appoint (due_for.Delay t) m w)) (who.Task k))) e (ap waits_at_terminate state ∙ terminates) in
+        let excuse : (same_who (who.Task k) (who.Task t) && waits_at_terminate (waiting_of (edit_task (who.Task t) (with_state (Blocked waiting)) (appoint (due_for.Delay t) m w)) (who.Task k))) ≡ true = and_from (same_who (who.Task k) (who.Task t)) (waits_at_terminate (waiting_of (edit_task (who.Task t) (with_state (Blocked waiting)) (appoint (due_for.Delay t) m w)) (who.Task k))) e (ap waits_at_terminate state ∙ terminates) in
         let never : true ≡ false = sym excuse ∙ x in cc))
         (λ e. inl (other_delay k e d, refl, tt));
   }

@@ -1,5 +1,6 @@
 -- What each change keeps of delays, and of the places of those for whom the end of one is appointed.
-use Rattle.std.proofs.Common.{◌≡◌, ◌⊎◌, inl, inr, suc, Bool, true, false, List, [], ◌∷◌, ◌++◌, Option, refl, sym, ap, ◌∙◌, ◌&&◌}
+use Rattle.std.proofs.Common.{◌≡◌, ◌⊎◌, inl, inr, suc, Bool, true, false, List, [], ◌∷◌, ◌++◌, Option, refl, sym, ap, ◌∙◌}
+use Rattle.std.proofs.lemmas.Bool.{and_right}
 use Rattle.ann_base.specs.declared.identities.CallNo.{CallNo}
 use Rattle.ann_base.specs.declared.identities.TaskNo.{TaskNo}
 use Rattle.trace_text.specs.declared.events.Event.{Event}
@@ -40,13 +41,9 @@ nobody_excused t waiting = false
 abbrev pub Follows : Excuse → Excuse → World → List Said → World → Type 0
 Follows first last w xs v = (t : TaskNo) → delayed t v ≡ true → last t (waiting_of v (who.Task t)) ≡ false → ((delayed t w ≡ true) × (first t (waiting_of w (who.Task t)) ≡ false) × Quiet (who.Task t) xs) ⊎ (taken (who.Task t) xs ≡ true)
 
-and_false : (a b : Bool) → b ≡ false → (a && b) ≡ false
-and_false true b e = e
-and_false false b e = refl
-
 pub quiet-early : (n : Who) (xs : List Said) → Quiet n xs → Early n xs
 quiet-early n [] h = tt
-quiet-early n (x ∷ xs) h = (and_false (is_last_part x.part) (readies n x.line) h.0, quiet-early n xs h.1)
+quiet-early n (x ∷ xs) h = (and_right (is_last_part x.part) (readies n x.line) h.0, quiet-early n xs h.1)
 
 taken-either : (n : Who) (b : Bool) (ys : List Said) → taken n ys ≡ true → taken_from n b ys ≡ true
 taken-either n true ys e = more-taken n ys e

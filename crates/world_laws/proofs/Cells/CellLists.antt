@@ -3,7 +3,7 @@
 use Rattle.std.proofs.Common.{◌≡◌, ℕ, zero, suc, ◌+◌, ◌≤◌, Bool, true, false, cond, not, List, [], ◌∷◌, ◌++◌, Option, Some, None, length, slice_set, refl, ap, subst, ◌∙◌, arith}
 use Rattle.std.specs.Prelude.{filter, find, take, drop, replicate, pos}
 use Rattle.std.specs.List.{list_all}
-use Rattle.std.proofs.lemmas.Bool.{and_parts}
+use Rattle.std.proofs.lemmas.Bool.{and_from, and_parts}
 use Rattle.std.proofs.lemmas.List.{length-append, length-drop, length-replicate, length-take-le}
 use Rattle.profile_machine.specs.declared.values.CellRun.{CellRun}
 use Rattle.profile_machine.specs.declared.declarations.Scope.{Scope}
@@ -12,7 +12,6 @@ use Rattle.profile_machine.specs.declared.values.Value.TheVariants.{Whole}
 use Rattle.profile_machine.specs.Words.{without, set_where, edit_found, edit_where}
 use Rattle.profile_machine.specs.Program.{with_run, with_runs, initial_cells}
 use Rattle.profile_machine.specs.Scopes.{put_cells}
-use Rattle.machine_laws.proofs.ListLemmas.{both}
 
 -- ---- how many
 
@@ -63,7 +62,7 @@ length-initial_cells scope =
 
 module _ {X : Type 0} (holds : X → Bool) where
   kept_or_not-all : (x : X) (xs : List X) (left : Bool) → holds x ≡ true → list_all holds xs ≡ true → list_all holds (cond left (x ∷ xs) xs) ≡ true
-  kept_or_not-all x xs true a b = both (holds x) (list_all holds xs) a b
+  kept_or_not-all x xs true a b = and_from (holds x) (list_all holds xs) a b
   kept_or_not-all x xs false a b = b
 
   filter-all : (test : X → Bool) (xs : List X) → list_all holds xs ≡ true → list_all holds (filter test xs) ≡ true
@@ -76,8 +75,8 @@ module _ {X : Type 0} (holds : X → Bool) where
   without-all test xs h = filter-all (λ x. not (test x)) xs h
 
   set_here-all : (x y : X) (xs ys : List X) (here : Bool) → holds x ≡ true → holds y ≡ true → list_all holds xs ≡ true → list_all holds ys ≡ true → list_all holds (cond here (x ∷ xs) (y ∷ ys)) ≡ true
-  set_here-all x y xs ys true a b c d = both (holds x) (list_all holds xs) a c
-  set_here-all x y xs ys false a b c d = both (holds y) (list_all holds ys) b d
+  set_here-all x y xs ys true a b c d = and_from (holds x) (list_all holds xs) a c
+  set_here-all x y xs ys false a b c d = and_from (holds y) (list_all holds ys) b d
 
   set_where-all : (test : X → Bool) (x : X) (xs : List X) → holds x ≡ true → list_all holds xs ≡ true → list_all holds (set_where test x xs) ≡ true
   set_where-all test x [] a h = refl

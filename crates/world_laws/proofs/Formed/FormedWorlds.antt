@@ -1,7 +1,8 @@
 -- The parts of a well-formed world, one after the other.
-use Rattle.std.proofs.Common.{◌≡◌, ℕ, ℤ, pos, Bool, true, false, ◌&&◌, List, [], ◌∷◌, refl}
+use Rattle.std.proofs.Common.{◌≡◌, ℕ, ℤ, pos, Bool, true, ◌&&◌, List, [], ◌∷◌, refl}
 use Rattle.std.specs.Prelude.{int_le}
 use Rattle.std.specs.List.{list_all}
+use Rattle.std.proofs.lemmas.Bool.{and_from, and_parts}
 use Rattle.profile_machine.specs.declared.image.Image.{Image}
 use Rattle.profile_machine.specs.declared.run_data.Item.{Item}
 use Rattle.profile_machine.specs.declared.world.World.{World}
@@ -10,7 +11,6 @@ use Rattle.profile_machine.specs.declared.world.appointments.Due.{Due}
 use Rattle.profile_machine.specs.declared.world.appointments.Due.TheVariants as due_for
 use Rattle.profile_machine.specs.WellFormed.{all_adjacent, is_awaited, appointments_are_right, places_are_right, tasks_are_numbered, registered_are_numbered, releases_are_numbered, scopes_are_right, cells_are_right, actions_are_right, queues_are_right, marks_are_right, sequences_are_open}
 use Rattle.machine_laws.specs.Reached.{Reached}
-use Rattle.machine_laws.proofs.ListLemmas.{both}
 use Rattle.machine_laws.proofs.NumberLemmas.{reached_tasks, reached_registered, reached_releases}
 use Rattle.world_laws.proofs.Places.PlaceWorlds.{reached_places_are_right}
 use Rattle.world_laws.proofs.Scopes.ScopeWorlds.{reached_scopes_are_right}
@@ -35,14 +35,6 @@ due-awaited p w (due_for.Delay t) delay timeout trigger = delay
 due-awaited p w (due_for.Timeout c) delay timeout trigger = timeout
 due-awaited p w (due_for.Trigger t depth) delay timeout trigger = trigger
 
-first : (a b : Bool) → (a && b) ≡ true → a ≡ true
-first true b e = refl
-first false b e = e
-
-rest : (a b : Bool) → (a && b) ≡ true → b ≡ true
-rest true b e = e
-rest false b e = cc
-
 all-awaited : (p : Image) (w : World) (xs : List Appointment) → list_all (λ a. delay_is_awaited p w a.due) xs ≡ true → list_all (λ a. is_timeout_awaited p w a.due) xs ≡ true → list_all (λ a. trigger_is_awaited p w a.due) xs ≡ true
     → list_all (λ a. is_awaited p w a.due) xs ≡ true
 all-awaited p w [] delays timeouts triggers = refl
@@ -50,13 +42,13 @@ all-awaited p w (x ∷ xs) delays timeouts triggers =
     let delayed = list_all (λ a. delay_is_awaited p w a.due) xs in
     let timed = list_all (λ a. is_timeout_awaited p w a.due) xs in
     let triggered = list_all (λ a. trigger_is_awaited p w a.due) xs in
-    both (is_awaited p w x.due) (list_all (λ a. is_awaited p w a.due) xs)
-    (due-awaited p w x.due (first (delay_is_awaited p w x.due) delayed delays) (first (is_timeout_awaited p w x.due) timed timeouts) (first (trigger_is_awaited p w x.due) triggered triggers))
-    (all-awaited p w xs (rest (delay_is_awaited p w x.due) delayed delays) (rest (is_timeout_awaited p w x.due) timed timeouts) (rest (trigger_is_awaited p w x.due) triggered triggers))
+    and_from (is_awaited p w x.due) (list_all (λ a. is_awaited p w a.due) xs)
+    (due-awaited p w x.due ((and_parts (delay_is_awaited p w x.due) delayed delays).0) ((and_parts (is_timeout_awaited p w x.due) timed timeouts).0) ((and_parts (trigger_is_awaited p w x.due) triggered triggers).0))
+    (all-awaited p w xs ((and_parts (delay_is_awaited p w x.due) delayed delays).1) ((and_parts (is_timeout_awaited p w x.due) timed timeouts).1) ((and_parts (trigger_is_awaited p w x.due) triggered triggers).1))
 
 reached_appointments_are_right : (p : Image) (script : List (ℤ × Item)) (bound : ℕ) (w : World) → Reached p script bound w → appointments_are_right p w ≡ true
 reached_appointments_are_right p script bound w r =
-    both (all_adjacent (λ a b. int_le a.moment b.moment) w.appointments && list_all (λ a. int_le (pos w.time) a.moment) w.appointments) (list_all (λ a. is_awaited p w a.due) w.appointments)
+    and_from (all_adjacent (λ a b. int_le a.moment b.moment) w.appointments && list_all (λ a. int_le (pos w.time) a.moment) w.appointments) (list_all (λ a. is_awaited p w a.due) w.appointments)
     (reached_appointments_are_in_order p script bound w r)
     (all-awaited p w w.appointments (reached_delays_are_awaited p script bound w r) (reached_timeouts_are_awaited p script bound w r) (reached_triggers_are_awaited p script bound w r))
 
@@ -64,7 +56,7 @@ reached_appointments_are_right p script bound w r =
 
 all_eleven : (a b c d e f g h i j k : Bool) → a ≡ true → b ≡ true → c ≡ true → d ≡ true → e ≡ true → f ≡ true → g ≡ true → h ≡ true → i ≡ true → j ≡ true → k ≡ true → (a && b && c && d && e && f && g && h && i && j && k) ≡ true
 all_eleven a b c d e f g h i j k ta tb tc td te tf tg th ti tj tk =
-    both _ k (both _ j (both _ i (both _ h (both _ g (both _ f (both _ e (both _ d (both _ c (both a b ta tb) tc) td) te) tf) tg) th) ti) tj) tk
+    and_from _ k (and_from _ j (and_from _ i (and_from _ h (and_from _ g (and_from _ f (and_from _ e (and_from _ d (and_from _ c (and_from a b ta tb) tc) td) te) tf) tg) th) ti) tj) tk
 
 pub reached_worlds_are_well_formed : ReachedWorldsAreWellFormed
 reached_worlds_are_well_formed p fits script bound w r =

@@ -1,6 +1,6 @@
 -- What edits of frames leave: of the one on top, of the outermost one, and of one at a depth.
 use Rattle.std.proofs.Common.{◌≡◌, ℕ, suc, Bool, true, false, cond, not, eqb, ◌&&◌, ◌||◌, List, [], ◌∷◌, Option, Some, None, refl, sym, ap, ◌∙◌, length}
-use Rattle.std.proofs.lemmas.Bool.{false≢true}
+use Rattle.std.proofs.lemmas.Bool.{false≢true, or_right}
 use Rattle.std.specs.Prelude.{is_none}
 use Rattle.ann_base.specs.declared.identities.CallNo.{CallNo}
 use Rattle.profile_machine.specs.declared.world.appointments.Registered.{Registered}
@@ -131,17 +131,13 @@ popped-finalizes registered drawn (x ∷ xs) h = h.1
 
 -- ---- the outermost mark of a task that is abnormal is struck
 
-cause-later : (a b : Bool) → b ≡ true → (a || b) ≡ true
-cause-later true b e = refl
-cause-later false b e = e
-
 last-empty : (y : Frame) (rest : List Frame) → is_empty (edit_last struck_frame (y ∷ rest)) ≡ false
 last-empty y [] = refl
 last-empty y (z ∷ zs) = refl
 
 pub last-struck : (fs : List Frame) → StruckRightly true fs → StruckRightly true (edit_last struck_frame fs)
 last-struck [] h = tt
-last-struck (x ∷ []) h = ((λ e. cause-later (is_triggered x.mark) true refl), tt)
+last-struck (x ∷ []) h = ((λ e. or_right (is_triggered x.mark) true refl), tt)
 last-struck (x ∷ y ∷ rest) h =
     ((λ e. ap (λ b. is_triggered x.mark || (b && true)) (last-empty y rest) ∙ h.0 e), last-struck (y ∷ rest) h.1)
 

@@ -1,6 +1,6 @@
 -- Each change that steps are made of keeps what is known of marks.
 use Rattle.std.proofs.Common.{◌≡◌, inl, ℕ, suc, ◌<◌, ◌≤◌, Bool, true, false, cond, not, eqb, ◌&&◌, ◌||◌, List, [], ◌∷◌, Option, Some, None, refl, sym, ap, subst, ◌∙◌, arith, eq-eqb}
-use Rattle.std.proofs.lemmas.Bool.{eqb-true, false≢true}
+use Rattle.std.proofs.lemmas.Bool.{and_parts, eqb-true, false≢true}
 use Rattle.std.specs.Prelude.{find, is_some, is_none, leb, ℤ, int_lt, unwrap_or}
 use Rattle.std.specs.List.{list_any}
 use Rattle.ann_base.specs.declared.identities.ObjectNo.{ObjectNo}
@@ -115,10 +115,6 @@ or-case : {P : Type 0} (a b : Bool) → (a ≡ true → P) → (b ≡ true → P
 or-case true b k l h = k refl
 or-case false b k l h = l h
 
-and-both : (a b : Bool) → (a && b) ≡ true → (a ≡ true) × (b ≡ true)
-and-both true b h = (refl, h)
-and-both false b h = absurd (false≢true h)
-
 named-drawn : (w : World) (t : TaskNo) (u : Task) (name : Who) → u.who ≡ name → same_who (who.Task t) name ≡ true → DrawnTo w.drawn.tasks name → t.0 < w.drawn.tasks
 named-drawn w t u (who.Task k) is same low = subst (λ n. n < w.drawn.tasks) (sym (eqb-true t.0 k.0 same)) low
 named-drawn w t u who.Agent is same low = absurd low
@@ -138,7 +134,7 @@ trigger-good t depth moment w good awaits begun = record {
   single = good.single;
   triggers = λ u d is.
       or-case (is_trigger_of u d (due_for.Trigger t depth)) (list_any (λ (a : Appointment). is_trigger_of u d a.due) w.appointments)
-      (λ e. let both = and-both (eqb u.0 t.0) (eqb d depth) e in
+      (λ e. let both = and_parts (eqb u.0 t.0) (eqb d depth) e in
       let one : t ≡ u = ap (λ n. record { 0 = n }) (sym (eqb-true u.0 t.0 both.0)) in
       let deep : depth ≡ d = sym (eqb-true d depth both.1) in
       subst (λ x. (x.0 < w.drawn.tasks) × AwaitsAt d (one_of w.tasks w.agent (who.Task x))) one
@@ -256,7 +252,7 @@ unregistered-here registered drawn o n (Abortable m) apart h = h
 unregistered-here registered drawn o n (InInitialize l) apart h = h
 unregistered-here registered drawn o n (InFinalize k) apart h = h
 unregistered-here registered drawn o n (InAssign m) apart h =
-    let k = and-both (eqb n m.target) (is_some (find (is_number n) registered)) h in
+    let k = and_parts (eqb n m.target) (is_some (find (is_number n) registered)) h in
     ap (λ b. b && is_some (find (is_number n) (without (is_number o) registered))) k.0 ∙ some-left o n registered (other-target o n m.target apart k.0) k.1
 
 later-objects : (drawn : ℕ) (rs : List Registered) → AllDrawn drawn rs → AllDrawn (suc drawn) rs

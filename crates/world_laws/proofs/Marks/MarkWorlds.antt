@@ -1,6 +1,7 @@
 -- The marks of every world that a run reaches, as tests.
 use Rattle.std.proofs.Common.{◌≡◌, ℕ, Bool, true, false, cond, eqb, ◌&&◌, ◌||◌, List, [], ◌∷◌, ◌++◌, Some, refl}
 use Rattle.std.specs.List.{list_all}
+use Rattle.std.proofs.lemmas.Bool.{and_from, and_parts}
 use Rattle.profile_machine.specs.declared.world.World.{World}
 use Rattle.profile_machine.specs.declared.world.marks.Frame.{Frame}
 use Rattle.profile_machine.specs.declared.world.marks.Mark.{Mark}
@@ -14,27 +15,19 @@ use Rattle.world_laws.proofs.Marks.MarkRuns.{reached-good}
 
 -- ---- tests
 
-both : (a b : Bool) → a ≡ true → b ≡ true → (a && b) ≡ true
-both true b p q = q
-both false b p q = p
-
-first : (a b : Bool) → (a && b) ≡ true → a ≡ true
-first true b h = refl
-first false b h = h
-
 where_so : (a b : Bool) → (a ≡ true → b ≡ true) → cond a b true ≡ true
 where_so true b k = k refl
 where_so false b k = refl
 
 all-hold : (P : Task → Type 0) (test : Task → Bool) (ts : List Task) (agent : Task) → ((t : Task) → P t → test t ≡ true) → AllTasks P ts → P agent → list_all test (ts ++ agent ∷ []) ≡ true
-all-hold P test [] agent k h a = both (test agent) true (k agent a) refl
-all-hold P test (t ∷ ts) agent k h a = both (test t) (list_all test (ts ++ agent ∷ [])) (k t h.0) (all-hold P test ts agent k h.1 a)
+all-hold P test [] agent k h a = and_from (test agent) true (k agent a) refl
+all-hold P test (t ∷ ts) agent k h a = and_from (test t) (list_all test (ts ++ agent ∷ [])) (k t h.0) (all-hold P test ts agent k h.1 a)
 
 -- ---- what is struck
 
 struck-rightly : (t : Task) (fs : List Frame) → StruckRightly t.abnormal fs → frames_are_struck_rightly t fs ≡ true
 struck-rightly t [] h = refl
-struck-rightly t (f ∷ fs) h = both (is_struck_rightly t f fs) (frames_are_struck_rightly t fs) (where_so f.struck (is_triggered f.mark || (is_empty fs && t.abnormal)) h.0) (struck-rightly t fs h.1)
+struck-rightly t (f ∷ fs) h = and_from (is_struck_rightly t f fs) (frames_are_struck_rightly t fs) (where_so f.struck (is_triggered f.mark || (is_empty fs && t.abnormal)) h.0) (struck-rightly t fs h.1)
 
 struck-world : (w : World) → GoodMarks w → marks_are_struck_rightly w ≡ true
 struck-world w good = all-hold (RightMarks w.registered w.drawn.controlled) (λ t. frames_are_struck_rightly t t.frames) w.tasks w.agent (λ t h. struck-rightly t t.frames h.struck) good.tasks_right good.agent_right
@@ -52,7 +45,7 @@ here-on w n (InAccept m) h = h
 here-on w n (Abortable m) h = h
 here-on w n (InInitialize l) h = h
 here-on w n (InFinalize o) h = h
-here-on w n (InAssign m) h = first (eqb n m.target) _ h
+here-on w n (InAssign m) h = (and_parts (eqb n m.target) _ h).0
 
 below-above : (w : World) (n : ℕ) (fs : List Frame) → below_finalizes w.registered w.drawn.controlled n fs ≡ true → stands_above w n fs ≡ true
 below-above w n [] h = h
@@ -70,7 +63,7 @@ mark-stands w (InAssign m) fs h = refl
 
 frames-stand : (w : World) (fs : List Frame) → FinalizesRightly w.registered w.drawn.controlled fs → frames_stand_rightly w fs ≡ true
 frames-stand w [] h = refl
-frames-stand w (f ∷ fs) h = both (stands_rightly w f.mark fs) (frames_stand_rightly w fs) (mark-stands w f.mark fs h.0) (frames-stand w fs h.1)
+frames-stand w (f ∷ fs) h = and_from (stands_rightly w f.mark fs) (frames_stand_rightly w fs) (mark-stands w f.mark fs h.0) (frames-stand w fs h.1)
 
 stands-world : (w : World) → GoodMarks w → finalizes_stand_rightly w ≡ true
 stands-world w good = all-hold (RightMarks w.registered w.drawn.controlled) (λ t. frames_stand_rightly w t.frames) w.tasks w.agent (λ t h. frames-stand w t.frames h.finalizes) good.tasks_right good.agent_right
@@ -107,8 +100,8 @@ mark-right w (InAssign m) fs h = refl
 frames-right : (w : World) (t : Task) (fs : List Frame) → StruckRightly t.abnormal fs → FinalizesRightly w.registered w.drawn.controlled fs → frames_are_right w t fs ≡ true
 frames-right w t [] struck finalizes = refl
 frames-right w t (f ∷ fs) struck finalizes =
-    both (is_struck_rightly t f fs && finalizes_rightly w f.mark fs) (frames_are_right w t fs)
-    (both (is_struck_rightly t f fs) (finalizes_rightly w f.mark fs) (where_so f.struck (is_triggered f.mark || (is_empty fs && t.abnormal)) struck.0) (mark-right w f.mark fs finalizes.0))
+    and_from (is_struck_rightly t f fs && finalizes_rightly w f.mark fs) (frames_are_right w t fs)
+    (and_from (is_struck_rightly t f fs) (finalizes_rightly w f.mark fs) (where_so f.struck (is_triggered f.mark || (is_empty fs && t.abnormal)) struck.0) (mark-right w f.mark fs finalizes.0))
     (frames-right w t fs struck.1 finalizes.1)
 
 right-world : (w : World) → GoodMarks w → marks_are_right w ≡ true

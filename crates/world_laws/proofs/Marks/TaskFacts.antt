@@ -1,6 +1,6 @@
 -- Facts of all tasks of a list, where one is edited, comes or goes; and of what is found in a list.
 use Rattle.std.proofs.Common.{◌≡◌, ◌<◌, Bool, true, false, cond, not, ◌||◌, List, [], ◌∷◌, ◌++◌, Option, Some, None, refl, sym, ap, subst, ◌∙◌}
-use Rattle.std.proofs.lemmas.Bool.{false≢true}
+use Rattle.std.proofs.lemmas.Bool.{false≢true, or_left, or_right}
 use Rattle.std.specs.Prelude.{find, filter}
 use Rattle.std.specs.List.{list_any}
 use Rattle.ann_base.specs.declared.identities.TaskNo.{TaskNo}
@@ -26,17 +26,9 @@ pub found-test : {X : Type 0} (test : X → Bool) (x : X) (xs : List X) → find
 found-test test x [] h = cc
 found-test test x (y ∷ ys) h = found-step (test y) test y x (find test ys) refl (λ k. found-test test x ys k) h
 
-any-here : (a b : Bool) → a ≡ true → (a || b) ≡ true
-any-here true b e = refl
-any-here false b e = absurd (false≢true e)
-
-any-later : (a b : Bool) → b ≡ true → (a || b) ≡ true
-any-later true b e = refl
-any-later false b e = e
-
 any-step : {X : Type 0} (b : Bool) (y x : X) (q : X → Bool) (xs : List X) (rest : Option X) → q x ≡ true → (rest ≡ Some x → list_any q xs ≡ true) → cond b (Some y) rest ≡ Some x → list_any q (y ∷ xs) ≡ true
-any-step true y x q xs rest is onward h = let same : y ≡ x = cc in any-here (q y) (list_any q xs) (ap q same ∙ is)
-any-step false y x q xs rest is onward h = any-later (q y) (list_any q xs) (onward h)
+any-step true y x q xs rest is onward h = let same : y ≡ x = cc in or_left (q y) (list_any q xs) (ap q same ∙ is)
+any-step false y x q xs rest is onward h = or_right (q y) (list_any q xs) (onward h)
 
 pub found-any : {X : Type 0} (q test : X → Bool) (x : X) (xs : List X) → find test xs ≡ Some x → q x ≡ true → list_any q xs ≡ true
 found-any q test x [] h is = cc
@@ -57,7 +49,7 @@ either false b c k h = k h
 
 fewer-step : {X : Type 0} (b : Bool) (q : X → Bool) (y : X) (ys left : List X) → (list_any q left ≡ true → list_any q ys ≡ true) → list_any q (cond b (y ∷ left) left) ≡ true → (q y || list_any q ys) ≡ true
 fewer-step true q y ys left onward h = either (q y) (list_any q left) (list_any q ys) onward h
-fewer-step false q y ys left onward h = any-later (q y) (list_any q ys) (onward h)
+fewer-step false q y ys left onward h = or_right (q y) (list_any q ys) (onward h)
 
 pub fewer-any : {X : Type 0} (q test : X → Bool) (xs : List X) → list_any q (without test xs) ≡ true → list_any q xs ≡ true
 fewer-any q test [] h = h

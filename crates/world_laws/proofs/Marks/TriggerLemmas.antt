@@ -1,6 +1,6 @@
 -- Where a trigger may strike, and what stands on top of somebody whose part ends.
 use Rattle.std.proofs.Common.{◌≡◌, ℕ, Bool, true, false, ◌&&◌, List, [], ◌∷◌, Option, Some, None, refl, sym, ap, subst, ◌∙◌, eq-eqb}
-use Rattle.std.proofs.lemmas.Bool.{eqb-true, false≢true}
+use Rattle.std.proofs.lemmas.Bool.{and_from, eqb-true, false≢true}
 use Rattle.ann_base.specs.declared.identities.CallNo.{CallNo}
 use Rattle.ann_base.specs.declared.identities.TaskNo.{TaskNo}
 use Rattle.trace_text.specs.declared.events.Who.{Who}
@@ -195,15 +195,11 @@ trigger-due w good t depth appointed u is =
       unawaited = λ d waits. awaits-uncalled d part.frame.mark part.has;
     }
 
-both_same : (a b : Bool) → a ≡ true → b ≡ true → (a && b) ≡ true
-both_same true b p q = q
-both_same false b p q = p
-
 due-case : (w : World) → GoodMarks w → (due : Due) → ((t : TaskNo) (depth : ℕ) → is_trigger_of t depth due ≡ true → is_appointed (is_trigger_of t depth) w ≡ true) → DueRightly (drop_appointment (is_the_same_due due) w) due
 due-case w good (due_for.Event n h) k = tt
 due-case w good (due_for.Delay t) k = tt
 due-case w good (due_for.Timeout c) k = tt
-due-case w good (due_for.Trigger t depth) k = trigger-due w good t depth (k t depth (both_same _ _ (eq-eqb t.0 t.0 refl) (eq-eqb depth depth refl)))
+due-case w good (due_for.Trigger t depth) k = trigger-due w good t depth (k t depth (and_from _ _ (eq-eqb t.0 t.0 refl) (eq-eqb depth depth refl)))
 
 pub due_rightly : (w : World) → GoodMarks w → (events : Bool) (a : Appointment) → first_due events w.time w.appointments ≡ Some a → DueRightly (drop_appointment (is_the_same_due a.due) w) a.due
 due_rightly w good events a found =

@@ -1,6 +1,7 @@
 -- The triggers that are appointed in every world that a run reaches, as a test.
-use Rattle.std.proofs.Common.{◌≡◌, ℕ, Bool, true, false, ◌&&◌, ◌||◌, List, [], ◌∷◌, refl, eq-eqb}
+use Rattle.std.proofs.Common.{◌≡◌, ℕ, Bool, true, List, [], ◌∷◌, refl, eq-eqb}
 use Rattle.std.specs.List.{list_any, list_all}
+use Rattle.std.proofs.lemmas.Bool.{and_from, or_left, or_right}
 use Rattle.ann_base.specs.declared.identities.TaskNo.{TaskNo}
 use Rattle.trace_text.specs.declared.events.Who.TheVariants as who
 use Rattle.profile_machine.specs.declared.image.Image.{Image}
@@ -15,18 +16,6 @@ use Rattle.world_laws.specs.MarkWorlds.{trigger_is_awaited, ReachedTriggersAreAw
 use Rattle.world_laws.proofs.Marks.MarkFacts.{GoodMarks}
 use Rattle.world_laws.proofs.Marks.MarkRuns.{reached-good}
 
-both : (a b : Bool) → a ≡ true → b ≡ true → (a && b) ≡ true
-both true b p q = q
-both false b p q = p
-
-here : (a b : Bool) → a ≡ true → (a || b) ≡ true
-here true b e = refl
-here false b e = cc
-
-later : (a b : Bool) → b ≡ true → (a || b) ≡ true
-later true b e = refl
-later false b e = e
-
 -- a trigger is awaited where its part awaits it
 abbrev Awaited : World → (TaskNo → ℕ → Bool) → Type 0
 Awaited w test = (t : TaskNo) (depth : ℕ) → test t depth ≡ true → awaits_trigger_at depth (frames_of w (who.Task t)) ≡ true
@@ -35,14 +24,14 @@ due-awaited : (p : Image) (w : World) (due : Due) → Awaited w (λ t depth. is_
 due-awaited p w (due_for.Event n h) k = refl
 due-awaited p w (due_for.Delay t) k = refl
 due-awaited p w (due_for.Timeout c) k = refl
-due-awaited p w (due_for.Trigger t depth) k = k t depth (both _ _ (eq-eqb t.0 t.0 refl) (eq-eqb depth depth refl))
+due-awaited p w (due_for.Trigger t depth) k = k t depth (and_from _ _ (eq-eqb t.0 t.0 refl) (eq-eqb depth depth refl))
 
 all-awaited : (p : Image) (w : World) (xs : List Appointment) → Awaited w (λ t depth. list_any (λ a. is_trigger_of t depth a.due) xs) → list_all (λ a. trigger_is_awaited p w a.due) xs ≡ true
 all-awaited p w [] k = refl
 all-awaited p w (a ∷ rest) k =
-    both (trigger_is_awaited p w a.due) (list_all (λ (x : Appointment). trigger_is_awaited p w x.due) rest)
-    (due-awaited p w a.due (λ t depth is. k t depth (here (is_trigger_of t depth a.due) (list_any (λ (x : Appointment). is_trigger_of t depth x.due) rest) is)))
-    (all-awaited p w rest (λ t depth is. k t depth (later (is_trigger_of t depth a.due) (list_any (λ (x : Appointment). is_trigger_of t depth x.due) rest) is)))
+    and_from (trigger_is_awaited p w a.due) (list_all (λ (x : Appointment). trigger_is_awaited p w x.due) rest)
+    (due-awaited p w a.due (λ t depth is. k t depth (or_left (is_trigger_of t depth a.due) (list_any (λ (x : Appointment). is_trigger_of t depth x.due) rest) is)))
+    (all-awaited p w rest (λ t depth is. k t depth (or_right (is_trigger_of t depth a.due) (list_any (λ (x : Appointment). is_trigger_of t depth x.due) rest) is)))
 
 triggers-awaited : (p : Image) (w : World) → GoodMarks w → list_all (λ a. trigger_is_awaited p w a.due) w.appointments ≡ true
 triggers-awaited p w good = all-awaited p w w.appointments (λ t depth is. (good.triggers t depth is).1.0.0)

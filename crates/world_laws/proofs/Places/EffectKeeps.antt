@@ -56,7 +56,8 @@ use Rattle.profile_machine.specs.declared.world.tasks.Task.{Task}
 use Rattle.profile_machine.specs.declared.world.tasks.Waiting.{Waiting}
 use Rattle.profile_machine.specs.declared.world.tasks.Waiting.TheVariants as waits_for
 use Rattle.std.proofs.Common.{ap, inl, inr, refl, subst, sym, ◌∙◌, ◌∷◌, ◌≡◌, ◌⊎◌}
-use Rattle.std.specs.Prelude.{Bool, List, None, Option, Some, [], false, suc, true, ℕ, ℤ, ◌-◌, ◌||◌}
+use Rattle.std.specs.Prelude.{List, None, Option, Some, [], false, suc, true, ℕ, ℤ, ◌-◌, ◌||◌}
+use Rattle.std.proofs.lemmas.Bool.{or_right}
 use Rattle.trace_text.specs.declared.events.Created.TheVariants as created
 use Rattle.trace_text.specs.declared.events.Who.{Who}
 use Rattle.trace_text.specs.declared.events.Who.TheVariants as who
@@ -79,10 +80,6 @@ running-awake : (state : tasks.State) → is_runnable_state state ≡ true → i
 running-awake Made runs = absurd cc
 running-awake Runnable runs = refl
 running-awake (Blocked waiting) runs = absurd cc
-
-right_of : (a b : Bool) → b ≡ true → (a || b) ≡ true
-right_of true b e = refl
-right_of false b e = e
 
 -- who is among these has only been made
 among_made : (p : Image) (s : List Placed) (a : Who) (v : World) (n : Who) (rest : List Task) → EachTask (λ t. IsUnmade p s a v t.who) rest → is_among n rest ≡ true → is_made_state (task_of v n).state ≡ true
@@ -184,7 +181,7 @@ module _ (p : Image) (s : List Placed) (a : Who) where
   later_begun : (v : World) (t : Task) (rest : List Task) → IsUnmade p s a v t.who → is_among t.who rest ≡ false → Readies p (Since p s a v (t ∷ rest)) (Since p s a v rest) t.who (OfOther t.who)
   later_begun v t rest made differs =
       begun_readies (Since p s a v (t ∷ rest)) (Since p s a v rest) v.drawn.tasks t.who made.other made.drawn
-      (λ d n c l apart h. (h.0, h.1, h.2, λ among. h.3 (right_of (same_who n t.who) (is_among n rest) among))) (λ d c l h. ((h.0.0.calm made.other).0, h.1))
+      (λ d n c l apart h. (h.0, h.1, h.2, λ among. h.3 (or_right (same_who n t.who) (is_among n rest) among))) (λ d c l h. ((h.0.0.calm made.other).0, h.1))
       (λ d c l runs size good. ((good, λ same. clash_of (same_who t.who a) same made.other), size, (λ sleeps. begun_awake p s a t.who c runs sleeps), (λ among. clash_of (is_among t.who rest) among differs)))
 
   activates_since : (v : World) (t : Task) (rest : List Task) → IsUnmade p s a v t.who → is_among t.who rest ≡ false → Leads (Held (Since p s a v (t ∷ rest))) (Held (Since p s a v rest)) (ready p (OfOther t.who) t.who)
@@ -343,7 +340,7 @@ module _ (p : Image) (s : List Placed) (a : Who) where
   since_then v w rest said h = holds-also (Since p s a v rest) Whole (λ d n c l k. k.0) w said h
 
   since_less : (v w : World) (t : Task) (rest : List Task) (said : List Said) → Holds (Since p s a v (t ∷ rest)) w said → Holds (Since p s a v rest) w said
-  since_less v w t rest said h = holds-also (Since p s a v (t ∷ rest)) (Since p s a v rest) (λ d n c l k. (k.0, k.1, k.2, λ among. k.3 (right_of (same_who n t.who) (is_among n rest) among))) w said h
+  since_less v w t rest said h = holds-also (Since p s a v (t ∷ rest)) (Since p s a v rest) (λ d n c l k. (k.0, k.1, k.2, λ among. k.3 (or_right (same_who n t.who) (is_among n rest) among))) w said h
 
   unmade_state : {P : Type 0} (v : World) (t : Task) → IsThere v t → is_made t ≡ true → runs_in (core (task_of v t.who)) ≡ true → P
   unmade_state v t there made runs = made-apart t.state made (ap (λ u. is_runnable_state u.state) (sym there.found) ∙ runs)

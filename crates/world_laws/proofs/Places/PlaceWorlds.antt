@@ -22,7 +22,8 @@ use Rattle.profile_machine.specs.declared.world.tasks.Placed.{Placed}
 use Rattle.profile_machine.specs.declared.world.tasks.Task.{Task}
 use Rattle.std.proofs.Common.{[], ap, arith, cond, eq-eqb, inl, inr, refl, subst, sym, ◌++◌, ◌∙◌, ◌∷◌, ◌≡◌, ◌⊎◌}
 use Rattle.std.specs.List.{list_all, list_any}
-use Rattle.std.specs.Prelude.{Bool, List, None, Option, Some, eqb, false, int_le, is_some, not, true, ℕ, ℤ, ◌&&◌, ◌||◌}
+use Rattle.std.specs.Prelude.{Bool, List, None, Option, Some, false, int_le, is_some, not, true, ℕ, ℤ, ◌&&◌, ◌||◌}
+use Rattle.std.proofs.lemmas.Bool.{and_parts, not-true, or_parts}
 use Rattle.trace_text.specs.declared.events.Who.{Who}
 use Rattle.trace_text.specs.declared.events.Who.TheVariants as who
 use Rattle.ceiling_laws.proofs.Runs.Kept.Waking.{who-is}
@@ -83,22 +84,10 @@ all-there P (t ∷ ts) last each is = ap (λ b. b && list_all P (ts ++ last ∷ 
 
 -- ---- where who is there stands
 
-both-true : (a b : Bool) → (a && b) ≡ true → (a ≡ true) × (b ≡ true)
-both-true true b e = (refl, e)
-both-true false b e = absurd cc
-
-not-so : (b : Bool) → not b ≡ true → b ≡ false
-not-so true e = absurd cc
-not-so false e = refl
-
-or-none : (a b : Bool) → (a || b) ≡ false → (a ≡ false) × (b ≡ false)
-or-none true b e = absurd cc
-or-none false b e = (refl, e)
-
 not-there : (n : Who) (places : List Placed) → list_any (λ x. same_who n x.who) places ≡ false → spot_in n places ≡ None
 not-there n [] e = refl
 not-there n (x ∷ xs) e =
-    let none = or-none (same_who n x.who) (list_any (λ y. same_who n y.who) xs) e in
+    let none = or_parts (same_who n x.who) (list_any (λ y. same_who n y.who) xs) e in
     ap (λ b. cond b (Some (x.level, x.deadline)) (spot_in n xs)) none.0 ∙ not-there n xs none.1
 
 -- each entry is the one of its name
@@ -111,9 +100,9 @@ later-spot n x xs spot apart found =
 entries-hold : (P : Placed → Bool) (places : List Placed) → all_differ (λ x y. same_who x.who y.who) places ≡ true → ((x : Placed) → spot_in x.who places ≡ Some (x.level, x.deadline) → P x ≡ true) → list_all P places ≡ true
 entries-hold P [] differ h = refl
 entries-hold P (x ∷ xs) differ h =
-    let apart = both-true (not (list_any (λ y. same_who x.who y.who) xs)) (all_differ (λ y z. same_who y.who z.who) xs) differ in
+    let apart = and_parts (not (list_any (λ y. same_who x.who y.who) xs)) (all_differ (λ y z. same_who y.who z.who) xs) differ in
     ap (λ b. b && list_all P xs) (h x (ap (λ b. cond b (Some (x.level, x.deadline)) (spot_in x.who xs)) (same-self x.who)))
-    ∙ entries-hold P xs apart.1 (λ y found. h y (later-spot y.who x xs (y.level, y.deadline) (not-so (list_any (λ z. same_who x.who z.who) xs) apart.0) found))
+    ∙ entries-hold P xs apart.1 (λ y found. h y (later-spot y.who x xs (y.level, y.deadline) (not-true (list_any (λ z. same_who x.who z.who) xs) apart.0) found))
 
 entry-stands : (p : Image) (w : World) (x : Placed) → AllStand p w.places w → spot_in x.who w.places ≡ Some (x.level, x.deadline)
     → (x.level ≡ active p (task_of w x.who)) × (x.deadline ≡ deadline_shown p (task_of w x.who))
@@ -129,14 +118,11 @@ same-deadline : (a b : Option ℤ) → a ≡ b → same_option same_number a b �
 same-deadline None b e = subst (λ c. same_option same_number None c ≡ true) e refl
 same-deadline (Some a) b e = subst (λ c. same_option same_number (Some a) c ≡ true) e (same_moment-self a)
 
-same-level : (a b : ℕ) → a ≡ b → eqb a b ≡ true
-same-level a b e = eq-eqb a b e
-
 placed-at-active : (p : Image) (w : World) → all_differ (λ x y. same_who x.who y.who) w.places ≡ true → AllStand p w.places w → list_all (is_at_active p w) w.places ≡ true
 placed-at-active p w differ h =
     entries-hold (is_at_active p w) w.places differ (λ x found.
     let stands = entry-stands p w x h found in
-    ap (λ b. b && same_option same_number x.deadline (deadline_shown p (task_of w x.who))) (same-level x.level (active p (task_of w x.who)) stands.0)
+    ap (λ b. b && same_option same_number x.deadline (deadline_shown p (task_of w x.who))) (eq-eqb x.level (active p (task_of w x.who)) stands.0)
     ∙ same-deadline x.deadline (deadline_shown p (task_of w x.who)) stands.1)
 
 ready-placed : (p : Image) (w : World) → AllStand p w.places w → ready_are_placed w ≡ true

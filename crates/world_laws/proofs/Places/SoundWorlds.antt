@@ -16,12 +16,13 @@ use Rattle.profile_machine.specs.declared.world.tasks.Task.{Task}
 use Rattle.std.proofs.Common.{ap, arith, cond, inl, inr, map, refl, subst, sym, ◌++◌, ◌||◌, ◌∙◌, ◌∷◌, ◌≡◌, ◌≤◌, ◌⊎◌}
 use Rattle.std.specs.List.{list_any}
 use Rattle.std.specs.Prelude.{Bool, List, None, Option, Some, [], eqb, false, find, leb, not, suc, true, ℕ, ℤ, unwrap_or}
+use Rattle.std.proofs.lemmas.Bool.{le-leb}
 use Rattle.trace_text.specs.declared.events.Who.{Who}
 use Rattle.trace_text.specs.declared.events.Who.TheVariants as who
 use Rattle.ceiling_laws.proofs.Runs.Kept.Waking.{found-each, who-is}
 use Rattle.ceiling_laws.proofs.Runs.LevelMoves.{EachTask}
 use Rattle.ceiling_laws.proofs.Runs.SameLemmas.{set_where-seen}
-use Rattle.ceiling_laws.proofs.Places.SoundWorlds.{IsThere, Known, NamesFrom, Unactivated, drawn-on, each-on, earlier-low, found_as, from-low, is_agent, is_fresh, later-apart, lower-suc, names_behind, names_head, names_lower, not-yet, put-either, whose, whose-append}
+use Rattle.ceiling_laws.proofs.Places.SoundWorlds.{IsThere, Known, NamesFrom, Unactivated, drawn-on, each-on, earlier-low, found_as, is_agent, is_fresh, later-apart, lower-suc, names_behind, names_head, names_lower, not-yet, put-either, whose, whose-append}
 
 -- ---- names
 
@@ -51,7 +52,7 @@ head-known : (n : Who) (low drawn : ℕ) (t : Task) (ts : List Task) (ns : List 
 head-known (who.Task k) low drawn t ts ns is h = record {
   found = ap (λ b. cond b (Some t) (find (is_who t.who) ts)) (same-self t.who);
   drawn_before = ap (is_fresh drawn) is ∙ not-yet k.0 drawn (drawn-number (suc k.0) drawn ns h.1);
-  behind_it = ap (is_fresh low) is ∙ from-low low k.0 h.0;
+  behind_it = ap (is_fresh low) is ∙ le-leb low k.0 h.0;
   no_agent = ap is_agent is;
 }
 head-known who.Agent low drawn t ts ns is h = never h

@@ -2,7 +2,7 @@
 use Rattle.std.proofs.Common.{◌≡◌, ℕ, suc, ℤ, ◌<◌, Bool, true, false, cond, not, ◌&&◌, ◌||◌, ◌⊎◌, inl, inr, eqb, List, [], ◌∷◌, Option, Some, None, refl, sym, ap, subst, ◌∙◌, arith, option_map}
 use Rattle.std.specs.Prelude.{find, is_some, is_none, int_lt}
 use Rattle.std.specs.List.{list_any}
-use Rattle.std.proofs.lemmas.Bool.{and_parts, eqb-true, eq-eqb, true≢false}
+use Rattle.std.proofs.lemmas.Bool.{and_parts, eq-eqb, eqb-true, or_cases, or_left, true≢false}
 use Rattle.ann_base.specs.declared.identities.CallNo.{CallNo}
 use Rattle.ann_base.specs.declared.identities.TaskNo.{TaskNo}
 use Rattle.trace_text.specs.declared.events.Who.{Who}
@@ -273,20 +273,12 @@ appointments-calm w xs timed set =
 pub drop_appointment-calm : {E : Kind} (out : Due → Bool) (w : World) → Calm E w (drop_appointment out w)
 drop_appointment-calm out w = appointments-calm w (without (λ a. out a.due) w.appointments) (λ c h. inl (dropped-appointed (is_timeout_of c) out w h)) (λ t depth h. inl (dropped-appointed (is_trigger_of t depth) out w h))
 
-first-or : (b c : Bool) → (b || c) ≡ true → (b ≡ true) ⊎ (c ≡ true)
-first-or true c h = inl refl
-first-or false c h = inr h
-
-or-left : (b c : Bool) → b ≡ true → (b || c) ≡ true
-or-left true c h = refl
-or-left false c h = cc
-
 or-right : (b c : Bool) → c ≡ true → (b || c) ≡ true
 or-right true c h = refl
 or-right false c h = h
 
 put-rest : (test : Appointment → Bool) (a x : Appointment) (xs : List Appointment) → (test x ≡ true) ⊎ ((test a ≡ true) ⊎ (list_any test xs ≡ true)) → (test a ≡ true) ⊎ (list_any test (x ∷ xs) ≡ true)
-put-rest test a x xs (inl h) = inr (or-left (test x) (list_any test xs) h)
+put-rest test a x xs (inl h) = inr (or_left (test x) (list_any test xs) h)
 put-rest test a x xs (inr (inl h)) = inl h
 put-rest test a x xs (inr (inr h)) = inr (or-right (test x) (list_any test xs) h)
 
@@ -295,11 +287,11 @@ onward-or f (inl a) = inl a
 onward-or f (inr b) = inr (f b)
 
 put-step : (test : Appointment → Bool) (a x : Appointment) (xs put : List Appointment) (b : Bool) → (list_any test put ≡ true → (test a ≡ true) ⊎ (list_any test xs ≡ true)) → list_any test (cond b (a ∷ x ∷ xs) (x ∷ put)) ≡ true → (test a ≡ true) ⊎ (list_any test (x ∷ xs) ≡ true)
-put-step test a x xs put true onward h = first-or (test a) (list_any test (x ∷ xs)) h
-put-step test a x xs put false onward h = put-rest test a x xs (onward-or onward (first-or (test x) (list_any test put) h))
+put-step test a x xs put true onward h = or_cases (test a) (list_any test (x ∷ xs)) h
+put-step test a x xs put false onward h = put-rest test a x xs (onward-or onward (or_cases (test x) (list_any test put) h))
 
 put-any : (test : Appointment → Bool) (a : Appointment) (xs : List Appointment) → list_any test (put_appointment a xs) ≡ true → (test a ≡ true) ⊎ (list_any test xs ≡ true)
-put-any test a [] h = first-or (test a) false h
+put-any test a [] h = or_cases (test a) false h
 put-any test a (x ∷ xs) h = put-step test a x xs (put_appointment a xs) (int_lt a.moment x.moment) (put-any test a xs) h
 
 either : {A B C : Type 0} → A ⊎ B → (A → C) → (B → C) → C

@@ -1,8 +1,8 @@
 -- Changes of a world by which no call is made, none comes into a queue, and none is served that was not.
-use Rattle.std.proofs.Common.{◌≡◌, ℕ, suc, ◌≤◌, ◌<◌, Bool, true, false, cond, ◌&&◌, ◌⊎◌, inl, inr, List, [], ◌∷◌, Option, Some, None, refl, sym, ap, subst, ◌∙◌, arith}
+use Rattle.std.proofs.Common.{◌≡◌, ℕ, suc, ◌≤◌, ◌<◌, Bool, true, false, cond, ◌⊎◌, inl, inr, List, [], ◌∷◌, Option, Some, None, refl, sym, ap, subst, ◌∙◌, arith}
 use Rattle.std.specs.Prelude.{find, is_some}
 use Rattle.std.specs.List.{list_all, list_any}
-use Rattle.std.proofs.lemmas.Bool.{and_parts, true≢false}
+use Rattle.std.proofs.lemmas.Bool.{and_from, and_parts, true≢false}
 use Rattle.ann_base.specs.declared.identities.CallNo.{CallNo}
 use Rattle.ann_base.specs.declared.identities.ObjectNo.{ObjectNo}
 use Rattle.ann_base.specs.declared.identities.TaskNo.{TaskNo}
@@ -76,13 +76,9 @@ task_of-same w v same whole who.Agent = whole
 
 -- ---- names
 
-both : (a b : Bool) → a ≡ true → b ≡ true → (a && b) ≡ true
-both true b e h = h
-both false b e h = e
-
 named-set_step : (x t : Task) (ts others : List Task) (b : Bool) → is_named x ≡ true → is_named t ≡ true → list_all is_named ts ≡ true → list_all is_named others ≡ true → list_all is_named (cond b (x ∷ ts) (t ∷ others)) ≡ true
-named-set_step x t ts others true h first rest more = both (is_named x) (list_all is_named ts) h rest
-named-set_step x t ts others false h first rest more = both (is_named t) (list_all is_named others) first more
+named-set_step x t ts others true h first rest more = and_from (is_named x) (list_all is_named ts) h rest
+named-set_step x t ts others false h first rest more = and_from (is_named t) (list_all is_named others) first more
 
 named-set : (name : Who) (x : Task) (ts : List Task) → is_named x ≡ true → list_all is_named ts ≡ true → list_all is_named (set_where (is_who name) x ts) ≡ true
 named-set name x [] h all = refl

@@ -1,7 +1,7 @@
 -- The call that is chosen stands in one of the queues from which it is chosen (9.5.3, D.4).
 use Rattle.std.proofs.Common.{◌≡◌, Bool, true, false, cond, ◌||◌, ltb, List, [], ◌∷◌, Option, Some, None, refl, sym, subst, ap, map}
 use Rattle.std.specs.List.{list_any}
-use Rattle.std.proofs.lemmas.Bool.{eq-eqb, true≢false}
+use Rattle.std.proofs.lemmas.Bool.{eq-eqb, or_left, or_right, true≢false}
 use Rattle.ann_base.specs.declared.identities.CallNo.{CallNo}
 use Rattle.profile_machine.specs.declared.image.Image.{Image}
 use Rattle.profile_machine.specs.declared.image.Queuing.{Queuing}
@@ -13,19 +13,11 @@ use Rattle.profile_machine.specs.Calls.{first_head, better_of, best_head, next_b
 abbrev pub InSome : List (List CallNo) → CallNo → Type 0
 InSome queues c = list_any (λ q. has same_call q c) queues ≡ true
 
-or-left : (a b : Bool) → a ≡ true → (a || b) ≡ true
-or-left true b e = refl
-or-left false b e = cc
-
-or-right : (a b : Bool) → b ≡ true → (a || b) ≡ true
-or-right true b e = refl
-or-right false b e = e
-
 in-first : (x c : CallNo) (xs : List CallNo) (queues : List (List CallNo)) → x ≡ c → InSome ((x ∷ xs) ∷ queues) c
-in-first x c xs queues is = or-left (has same_call (x ∷ xs) c) (list_any (λ q. has same_call q c) queues) (or-left (same_call x c) (has same_call xs c) (subst (λ y. same_call x y ≡ true) is (eq-eqb x.0 x.0 refl)))
+in-first x c xs queues is = or_left (has same_call (x ∷ xs) c) (list_any (λ q. has same_call q c) queues) (or_left (same_call x c) (has same_call xs c) (subst (λ y. same_call x y ≡ true) is (eq-eqb x.0 x.0 refl)))
 
 in-rest : (q : List CallNo) (queues : List (List CallNo)) (c : CallNo) → InSome queues c → InSome (q ∷ queues) c
-in-rest q queues c h = or-right (has same_call q c) (list_any (λ r. has same_call r c) queues) h
+in-rest q queues c h = or_right (has same_call q c) (list_any (λ r. has same_call r c) queues) h
 
 some-same : (a b : CallNo) → Some a ≡ Some b → a ≡ b
 some-same a b e = cc

@@ -2,7 +2,7 @@
 use Rattle.std.proofs.Common.{◌≡◌, ℕ, suc, ◌+◌, ◌<◌, Bool, true, false, cond, not, ◌&&◌, ◌||◌, ◌⊎◌, inl, inr, eqb, ltb, List, [], ◌∷◌, Option, Some, None, refl, sym, subst, ap, ◌∙◌, arith}
 use Rattle.std.specs.Prelude.{find, is_some}
 use Rattle.std.specs.List.{list_all, list_any}
-use Rattle.std.proofs.lemmas.Bool.{eqb-true, eq-eqb, or_left, or_right, true≢false}
+use Rattle.std.proofs.lemmas.Bool.{and_from, eq-eqb, eqb-true, or_left, or_right, true≢false}
 use Rattle.ann_base.specs.declared.identities.CallNo.{CallNo}
 use Rattle.trace_text.specs.declared.events.Who.{Who}
 use Rattle.trace_text.specs.declared.events.Who.TheVariants as who
@@ -25,7 +25,7 @@ use Rattle.profile_machine.specs.Values.{is_object, queue_at, queues_of}
 use Rattle.profile_machine.specs.WellFormed.{all_adjacent, is_queued_call, queue_is_right, queues_from, task_queues_are_right, queues_are_right}
 use Rattle.machine_laws.specs.NumberLaws.{calls_fall}
 use Rattle.world_laws.specs.QueueWorlds.{ReachedQueuesAreRight, ReachedTimeoutsAreAwaited, is_timeout_awaited}
-use Rattle.machine_laws.proofs.ListLemmas.{Falls, both}
+use Rattle.machine_laws.proofs.ListLemmas.{Falls}
 use Rattle.world_laws.proofs.Queues.CallChanges.{stands-where}
 use Rattle.world_laws.proofs.Queues.CallLists.{same-call}
 use Rattle.world_laws.proofs.Queues.Kept.CallEnds.{found-directed, found-number}
@@ -45,14 +45,14 @@ right-found p w o k c good h = by_found (call_of w c) refl (good.there o k c h) 
 each-right : (p : Image) (w : World) (o : Owner) (k : ℕ) (queue : List CallNo) → Good p w → ((c : CallNo) → has same_call queue c ≡ true → Stands w o k c) → queue_is_right p w o k queue ≡ true
 each-right p w o k [] good stands = refl
 each-right p w o k (c ∷ cs) good stands =
-    both (is_queued_call p o k (call_of w c)) (queue_is_right p w o k cs) (right-found p w o k c good (stands c (or_left (same_call c c) (has same_call cs c) (eq-eqb c.0 c.0 refl))))
+    and_from (is_queued_call p o k (call_of w c)) (queue_is_right p w o k cs) (right-found p w o k c good (stands c (or_left (same_call c c) (has same_call cs c) (eq-eqb c.0 c.0 refl))))
     (each-right p w o k cs good (λ x h. stands x (or_right (same_call c x) (has same_call cs x) h)))
 
 -- those of an owner, from a place on
 pub all-from : (p : Image) (w : World) (o : Owner) (place : ℕ) (queues : List (List CallNo)) → Good p w → ((k : ℕ) (c : CallNo) → has same_call (queue_at queues k) c ≡ true → Stands w o (place + k) c) → queues_from p w o place queues ≡ true
 all-from p w o place [] good stands = refl
 all-from p w o place (queue ∷ queues) good stands =
-    both (queue_is_right p w o place queue) (queues_from p w o (suc place) queues)
+    and_from (queue_is_right p w o place queue) (queues_from p w o (suc place) queues)
     (each-right p w o place queue good (λ c h. subst (λ n. Stands w o n c) (omega arith) (stands 0 c h)))
     (all-from p w o (suc place) queues good (λ k c h. subst (λ n. Stands w o n c) (omega arith) (stands (suc k) c h)))
 
@@ -64,7 +64,7 @@ task-right p w t who.Agent good named is = absurd (true≢false (sym named))
 
 tasks-right : (p : Image) (w : World) (ts : List Task) → Good p w → AllTasks (λ t. (task_of w t.who ≡ t) × (is_named t ≡ true)) ts → list_all (λ t. task_queues_are_right p w t.who t.queues) ts ≡ true
 tasks-right p w [] good all = refl
-tasks-right p w (t ∷ ts) good all = both (task_queues_are_right p w t.who t.queues) (list_all (λ u. task_queues_are_right p w u.who u.queues) ts) (task-right p w t t.who good all.0.1 all.0.0) (tasks-right p w ts good all.1)
+tasks-right p w (t ∷ ts) good all = and_from (task_queues_are_right p w t.who t.queues) (list_all (λ u. task_queues_are_right p w u.who u.queues) ts) (task-right p w t t.who good all.0.1 all.0.0) (tasks-right p w ts good all.1)
 
 -- ---- of objects
 
@@ -102,7 +102,7 @@ found-objects top (x ∷ xs) h = (
 objects-right : (p : Image) (w : World) (xs : List Object) → Good p w → AllObjects (λ x. find (is_object x.number) w.objects ≡ Some x) xs → list_all (λ o. queues_from p w (owned_by.Object o.number) 0 o.queues) xs ≡ true
 objects-right p w [] good all = refl
 objects-right p w (x ∷ xs) good all =
-    both (queues_from p w (owned_by.Object x.number) 0 x.queues) (list_all (λ o. queues_from p w (owned_by.Object o.number) 0 o.queues) xs)
+    and_from (queues_from p w (owned_by.Object x.number) 0 x.queues) (list_all (λ o. queues_from p w (owned_by.Object o.number) 0 o.queues) xs)
     (all-from p w (owned_by.Object x.number) 0 x.queues good (λ k c h. subst (λ m. Stands w (owned_by.Object x.number) m c) (omega arith) (subst (λ found. has same_call (queue_at (queues_of found) k) c ≡ true) (sym all.0) h)))
     (objects-right p w xs good all.1)
 
@@ -110,8 +110,8 @@ good-right : (p : Image) (w : World) → Good p w → calls_fall w ≡ true → 
 good-right p w good fall =
     let tasks = list_all (λ t. task_queues_are_right p w t.who t.queues) w.tasks in
     let objects = list_all (λ o. queues_from p w (owned_by.Object o.number) 0 o.queues) w.objects in
-    both (tasks && objects) (all_adjacent (λ a b. ltb b.number.0 a.number.0) w.calls)
-    (both tasks objects (tasks-right p w w.tasks good (listed-each p w good)) (objects-right p w w.objects good (found-objects (suc w.drawn.objects) w.objects good.objects.0))) fall
+    and_from (tasks && objects) (all_adjacent (λ a b. ltb b.number.0 a.number.0) w.calls)
+    (and_from tasks objects (tasks-right p w w.tasks good (listed-each p w good)) (objects-right p w w.objects good (found-objects (suc w.drawn.objects) w.objects good.objects.0))) fall
 
 pub reached_queues_are_right : ReachedQueuesAreRight
 reached_queues_are_right p script bound w reached = good-right p w (reached-good p script bound w reached) (calls-fall p script bound w reached)
@@ -136,8 +136,8 @@ awaited-may p w c good a (Some d) e =
     let place = stands-where p w a.owner a.place d good (found-directed d.number w d (subst (λ n. call_of w n ≡ Some d) (sym number) e)) (subst (λ n. Stands w a.owner a.place n) (sym number) a.stands) in
     let queue = queue_of w d.owner (place_of_entry p d.entry) in
     let here : has same_call queue c ≡ true = subst (λ o. Stands w o (place_of_entry p d.entry) c) place.0 (subst (λ k. Stands w a.owner k c) place.1 a.stands) in
-    both (stands_in_queue p w d && not d.firm) (still_serves w d.owner)
-    (both (stands_in_queue p w d) (not d.firm) (subst (λ n. list_any (same_call n) queue ≡ true) (sym number) (has-any c queue here)) (ap not (a.unfirm d e)))
+    and_from (stands_in_queue p w d && not d.firm) (still_serves w d.owner)
+    (and_from (stands_in_queue p w d) (not d.firm) (subst (λ n. list_any (same_call n) queue ≡ true) (sym number) (has-any c queue here)) (ap not (a.unfirm d e)))
     (open-serves w d.owner (subst (Open w) place.0 a.opens))
 
 due-awaited : (p : Image) (w : World) (due : Due) → Good p w → ((c : CallNo) → is_timeout_of c due ≡ true → is_appointed (is_timeout_of c) w ≡ true) → is_timeout_awaited p w due ≡ true
@@ -152,7 +152,7 @@ due-awaited p w (due_for.Trigger t depth) good set = refl
 all-awaited : (p : Image) (w : World) (appointments : List Appointment) → Good p w → ((c : CallNo) → list_any (λ a. is_timeout_of c a.due) appointments ≡ true → is_appointed (is_timeout_of c) w ≡ true) → list_all (λ a. is_timeout_awaited p w a.due) appointments ≡ true
 all-awaited p w [] good set = refl
 all-awaited p w (a ∷ rest) good set =
-    both (is_timeout_awaited p w a.due) (list_all (λ x. is_timeout_awaited p w x.due) rest)
+    and_from (is_timeout_awaited p w a.due) (list_all (λ x. is_timeout_awaited p w x.due) rest)
     (due-awaited p w a.due good (λ c h. set c (or_left (is_timeout_of c a.due) (list_any (λ x. is_timeout_of c x.due) rest) h)))
     (all-awaited p w rest good (λ c h. set c (or_right (is_timeout_of c a.due) (list_any (λ x. is_timeout_of c x.due) rest) h)))
 

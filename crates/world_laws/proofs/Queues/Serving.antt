@@ -2,7 +2,7 @@
 use Rattle.std.proofs.Common.{◌≡◌, ℕ, zero, suc, Bool, true, false, cond, not, ◌||◌, ◌⊎◌, inl, inr, ◌<◌, ◌≤◌, ◌++◌, eqb, ltb, List, [], ◌∷◌, Option, Some, None, refl, sym, subst, ap, ◌∙◌, option_map}
 use Rattle.std.specs.Prelude.{is_none, is_some, find}
 use Rattle.std.specs.List.{list_all, list_any}
-use Rattle.std.proofs.lemmas.Bool.{eqb-true, eq-eqb, true≢false}
+use Rattle.std.proofs.lemmas.Bool.{eq-eqb, eqb-true, or_cases, or_left, or_right, true≢false}
 use Rattle.ann_base.specs.declared.identities.CallNo.{CallNo}
 use Rattle.ann_base.specs.declared.identities.TaskNo.{TaskNo}
 use Rattle.trace_text.specs.declared.events.Who.{Who}
@@ -116,40 +116,28 @@ module _ (w v : World) (beside : Beside w v) where
 
 -- ---- a call comes into a queue
 
-or-left : (a b : Bool) → a ≡ true → (a || b) ≡ true
-or-left true b e = refl
-or-left false b e = cc
-
-or-right : (a b : Bool) → b ≡ true → (a || b) ≡ true
-or-right true b e = refl
-or-right false b e = e
-
-or-parts : (a b : Bool) → (a || b) ≡ true → (a ≡ true) ⊎ (b ≡ true)
-or-parts true b e = inl refl
-or-parts false b e = inr e
-
 -- it is the new one, or it was there
 abbrev Comes : CallNo → List CallNo → CallNo → Type 0
 Comes c q x = (same_call c x ≡ true) ⊎ (has same_call q x ≡ true)
 
 comes-on : (c y : CallNo) (ys : List CallNo) (x : CallNo) → Comes c ys x → Comes c (y ∷ ys) x
 comes-on c y ys x (inl e) = inl e
-comes-on c y ys x (inr e) = inr (or-right (same_call y x) (has same_call ys x) e)
+comes-on c y ys x (inr e) = inr (or_right (same_call y x) (has same_call ys x) e)
 
 comes-first : (c y : CallNo) (ys put : List CallNo) (x : CallNo) → (has same_call put x ≡ true → Comes c ys x) → (same_call y x ≡ true) ⊎ (has same_call put x ≡ true) → Comes c (y ∷ ys) x
-comes-first c y ys put x onward (inl e) = inr (or-left (same_call y x) (has same_call ys x) e)
+comes-first c y ys put x onward (inl e) = inr (or_left (same_call y x) (has same_call ys x) e)
 comes-first c y ys put x onward (inr e) = comes-on c y ys x (onward e)
 
 put-last : (c : CallNo) (q : List CallNo) (x : CallNo) → has same_call (q ++ c ∷ []) x ≡ true → Comes c q x
-put-last c [] x h = or-parts (same_call c x) false h
-put-last c (y ∷ ys) x h = comes-first c y ys (ys ++ c ∷ []) x (put-last c ys x) (or-parts (same_call y x) (has same_call (ys ++ c ∷ []) x) h)
+put-last c [] x h = or_cases (same_call c x) false h
+put-last c (y ∷ ys) x h = comes-first c y ys (ys ++ c ∷ []) x (put-last c ys x) (or_cases (same_call y x) (has same_call (ys ++ c ∷ []) x) h)
 
 put-among : (w : World) (c : CallNo) (priority : ℕ) (q : List CallNo) (x : CallNo) → has same_call (put_by_priority w c priority q) x ≡ true → Comes c q x
-put-among w c priority [] x h = or-parts (same_call c x) false h
+put-among w c priority [] x h = or_cases (same_call c x) false h
 put-among w c priority (y ∷ ys) x h = step (ltb (priority_of w y) priority) h (put-among w c priority ys x) where
   step : (b : Bool) → has same_call (cond b (c ∷ y ∷ ys) (y ∷ put_by_priority w c priority ys)) x ≡ true → (has same_call (put_by_priority w c priority ys) x ≡ true → Comes c ys x) → Comes c (y ∷ ys) x
-  step true k onward = or-parts (same_call c x) (has same_call (y ∷ ys) x) k
-  step false k onward = comes-first c y ys (put_by_priority w c priority ys) x onward (or-parts (same_call y x) (has same_call (put_by_priority w c priority ys) x) k)
+  step true k onward = or_cases (same_call c x) (has same_call (y ∷ ys) x) k
+  step false k onward = comes-first c y ys (put_by_priority w c priority ys) x onward (or_cases (same_call y x) (has same_call (put_by_priority w c priority ys) x) k)
 
 pub put-comes : (queuing : Queuing) (w : World) (c : CallNo) (priority : ℕ) (q : List CallNo) (x : CallNo) → has same_call (put_call queuing w c priority q) x ≡ true → Comes c q x
 put-comes queuing.Fifo w c priority q x h = put-last c q x h
@@ -159,11 +147,11 @@ taken-stood : (out : CallNo) (q : List CallNo) (x : CallNo) → has same_call (t
 taken-stood out [] x h = h
 taken-stood out (y ∷ ys) x h = step (not (same_call out y)) h (taken-stood out ys x) where
   step : (b : Bool) → has same_call (cond b (y ∷ take_call out ys) (take_call out ys)) x ≡ true → (has same_call (take_call out ys) x ≡ true → has same_call ys x ≡ true) → has same_call (y ∷ ys) x ≡ true
-  step true k onward = kept (or-parts (same_call y x) (has same_call (take_call out ys) x) k) onward where
+  step true k onward = kept (or_cases (same_call y x) (has same_call (take_call out ys) x) k) onward where
     kept : (same_call y x ≡ true) ⊎ (has same_call (take_call out ys) x ≡ true) → (has same_call (take_call out ys) x ≡ true → has same_call ys x ≡ true) → has same_call (y ∷ ys) x ≡ true
-    kept (inl e) onward = or-left (same_call y x) (has same_call ys x) e
-    kept (inr e) onward = or-right (same_call y x) (has same_call ys x) (onward e)
-  step false k onward = or-right (same_call y x) (has same_call ys x) (onward k)
+    kept (inl e) onward = or_left (same_call y x) (has same_call ys x) e
+    kept (inr e) onward = or_right (same_call y x) (has same_call ys x) (onward e)
+  step false k onward = or_right (same_call y x) (has same_call ys x) (onward k)
 
 pub put_anew-comes : (w : World) (c : CallNo) (priority : ℕ) (q : List CallNo) (x : CallNo) → has same_call (put_call queuing.Priority w c priority (take_call c q)) x ≡ true → Comes c q x
 put_anew-comes w c priority q x h = later (put-comes queuing.Priority w c priority (take_call c q) x h) where
@@ -181,18 +169,18 @@ last-stays c (y ∷ ys) x h = step (same_call y x) h (last-stays c ys x) where
 
 among-stays : (w : World) (c : CallNo) (priority : ℕ) (q : List CallNo) (x : CallNo) → has same_call q x ≡ true → has same_call (put_by_priority w c priority q) x ≡ true
 among-stays w c priority [] x h = absurd (true≢false (sym h))
-among-stays w c priority (y ∷ ys) x h = step (ltb (priority_of w y) priority) (or-parts (same_call y x) (has same_call ys x) h) (among-stays w c priority ys x) where
+among-stays w c priority (y ∷ ys) x h = step (ltb (priority_of w y) priority) (or_cases (same_call y x) (has same_call ys x) h) (among-stays w c priority ys x) where
   step : (b : Bool) → (same_call y x ≡ true) ⊎ (has same_call ys x ≡ true) → (has same_call ys x ≡ true → has same_call (put_by_priority w c priority ys) x ≡ true) → has same_call (cond b (c ∷ y ∷ ys) (y ∷ put_by_priority w c priority ys)) x ≡ true
-  step true k onward = or-right (same_call c x) (has same_call (y ∷ ys) x) h
-  step false (inl k) onward = or-left (same_call y x) (has same_call (put_by_priority w c priority ys) x) k
-  step false (inr k) onward = or-right (same_call y x) (has same_call (put_by_priority w c priority ys) x) (onward k)
+  step true k onward = or_right (same_call c x) (has same_call (y ∷ ys) x) h
+  step false (inl k) onward = or_left (same_call y x) (has same_call (put_by_priority w c priority ys) x) k
+  step false (inr k) onward = or_right (same_call y x) (has same_call (put_by_priority w c priority ys) x) (onward k)
 
 among-new : (w : World) (c : CallNo) (priority : ℕ) (q : List CallNo) → has same_call (put_by_priority w c priority q) c ≡ true
-among-new w c priority [] = or-left (same_call c c) false (eq-eqb c.0 c.0 refl)
+among-new w c priority [] = or_left (same_call c c) false (eq-eqb c.0 c.0 refl)
 among-new w c priority (y ∷ ys) = step (ltb (priority_of w y) priority) (among-new w c priority ys) where
   step : (b : Bool) → has same_call (put_by_priority w c priority ys) c ≡ true → has same_call (cond b (c ∷ y ∷ ys) (y ∷ put_by_priority w c priority ys)) c ≡ true
-  step true k = or-left (same_call c c) (has same_call (y ∷ ys) c) (eq-eqb c.0 c.0 refl)
-  step false k = or-right (same_call y c) (has same_call (put_by_priority w c priority ys) c) k
+  step true k = or_left (same_call c c) (has same_call (y ∷ ys) c) (eq-eqb c.0 c.0 refl)
+  step false k = or_right (same_call y c) (has same_call (put_by_priority w c priority ys) c) k
 
 pub put-stays : (queuing : Queuing) (w : World) (c : CallNo) (priority : ℕ) (q : List CallNo) (x : CallNo) → has same_call q x ≡ true → has same_call (put_call queuing w c priority q) x ≡ true
 put-stays queuing.Fifo w c priority q x h = last-stays c q x h

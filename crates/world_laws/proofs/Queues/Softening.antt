@@ -1,6 +1,6 @@
 -- Edits of somebody that are calm: of what is no queue, mark or state, of a state, and of marks.
 use Rattle.std.proofs.Common.{◌≡◌, ℕ, suc, ◌+◌, ◌≤◌, ◌<◌, Bool, true, false, cond, ◌||◌, ◌⊎◌, inl, inr, eqb, length, List, [], ◌∷◌, Some, refl, sym, ap, subst, ◌∙◌, arith}
-use Rattle.std.proofs.lemmas.Bool.{eqb-true, true≢false}
+use Rattle.std.proofs.lemmas.Bool.{eqb-true, or_cases, or_right, true≢false}
 use Rattle.ann_base.specs.declared.identities.CallNo.{CallNo}
 use Rattle.ann_base.specs.declared.identities.TaskNo.{TaskNo}
 use Rattle.trace_text.specs.declared.events.Who.{Who}
@@ -105,10 +105,6 @@ none-before : (b : Bool) (n : ℕ) → b ≡ false → one_if b + n ≤ n
 none-before true n e = cc
 none-before false n e = omega arith
 
-or-second : (a b : Bool) → (a || b) ≡ true → (a ≡ true) ⊎ (b ≡ true)
-or-second true b e = inl refl
-or-second false b e = inr e
-
 -- what waits has so many marks above it
 at-below : (depth : ℕ) (ns : List Nature) → awaits_at depth ns ≡ true → depth < length ns
 at-below depth [] h = cc
@@ -141,7 +137,7 @@ push-calm name f w opens awake =
       stays = λ k c h. inl h;
       completed = refl;
       fewer = λ c. none-before (is_the same_call (nature f.mark).service c) (served_in c (natures fs)) (opens.serves c);
-      owns = λ c h. own_or c (or-second (has_own c (nature f.mark)) (some_nature (has_own c) (natures fs)) h);
+      owns = λ c h. own_or c (or_cases (has_own c (nature f.mark)) (some_nature (has_own c) (natures fs)) h);
       ended = λ c h. inl (rest-true (ends_by c (nature f.mark)) (some_nature (ends_by c) (natures fs)) (opens.begun c) h);
       awaits = λ n depth is set h. awaits-more depth (nature f.mark) (natures fs) h;
       ends = λ c h. (h, λ d e i. absurd (awake c d h e));
@@ -161,10 +157,6 @@ fewer-below : (b : Bool) (n : ℕ) → n ≤ one_if b + n
 fewer-below true n = omega arith
 fewer-below false n = omega arith
 
-or-on : (a b : Bool) → b ≡ true → (a || b) ≡ true
-or-on true b e = refl
-or-on false b e = e
-
 pub natures-length : (fs : List Frame) → length (natures fs) ≡ length fs
 natures-length [] = refl
 natures-length (f ∷ fs) = ap suc (natures-length fs)
@@ -180,7 +172,7 @@ served-below c (f ∷ fs) = fewer-below (is_the same_call (nature f.mark).servic
 
 some-below : (test : Nature → Bool) (fs : List Frame) → some_nature test (natures (rest_of fs)) ≡ true → some_nature test (natures fs) ≡ true
 some-below test [] h = h
-some-below test (f ∷ fs) h = or-on (test (nature f.mark)) (some_nature test (natures fs)) h
+some-below test (f ∷ fs) h = or_right (test (nature f.mark)) (some_nature test (natures fs)) h
 
 awaits-below : (name : Who) (w : World) (n : TaskNo) (depth : ℕ) (fs : List Frame) → Unset name w fs → name ≡ who.Task n → is_appointed (is_trigger_of n depth) w ≡ true → awaits_at depth (natures fs) ≡ true → awaits_at depth (natures (rest_of fs)) ≡ true
 awaits-below name w n depth [] unset is set h = h

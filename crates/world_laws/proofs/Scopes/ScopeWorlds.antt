@@ -2,6 +2,7 @@
 use Rattle.std.proofs.Common.{◌≡◌, ℕ, ◌+◌, ◌≤◌, ◌<◌, Bool, true, false, cond, eqb, ltb, ◌&&◌, List, [], ◌∷◌, ◌++◌, length, Option, Some, None, refl, sym, ap, subst, ◌∙◌, arith, eq-eqb}
 use Rattle.std.specs.Prelude.{filter, find, is_some}
 use Rattle.std.specs.List.{list_all}
+use Rattle.std.proofs.lemmas.Bool.{and_from}
 use Rattle.trace_text.specs.declared.events.Who.{Who}
 use Rattle.profile_machine.specs.declared.world.World.{World}
 use Rattle.profile_machine.specs.declared.world.marks.Frame.{Frame}
@@ -11,7 +12,7 @@ use Rattle.profile_machine.specs.declared.world.tasks.Task.{Task}
 use Rattle.profile_machine.specs.Words.{same_who}
 use Rattle.profile_machine.specs.Scopes.{id_in, is_id, scope_in_use}
 use Rattle.profile_machine.specs.WellFormed.{all_adjacent, everybody, frames_with_scopes, has_scope, is_older, scopes_are_right, scopes_counted}
-use Rattle.machine_laws.proofs.ListLemmas.{Falls-adjacent, both}
+use Rattle.machine_laws.proofs.ListLemmas.{Falls-adjacent}
 use Rattle.world_laws.specs.ScopeWorlds.{ReachedScopesAreRight}
 use Rattle.world_laws.proofs.Scopes.FineMoves.{natures, is_task_mark}
 use Rattle.world_laws.proofs.Scopes.ScopeKeys.{Key, Weights, bit, number, of_number, scope_keys, weigh, weigh-append}
@@ -123,7 +124,7 @@ module _ (w : World) (g : GoodWorld w) where
   unfolding of_both
   mark-test m None b fs least = refl
   mark-test m (Some i) b fs least =
-      let here : bit (eqb i.0 i.0 && same_who m m) ≡ 1 = ap bit (both (eqb i.0 i.0) (same_who m m) (eq-eqb i.0 i.0 refl) (same_who-self m)) in
+      let here : bit (eqb i.0 i.0 && same_who m m) ≡ 1 = ap bit (and_from (eqb i.0 i.0) (same_who m m) (eq-eqb i.0 i.0 refl) (same_who-self m)) in
       let all = least i.0 in
       let more : 0 < weigh (of_both m i.0) (scope_keys w.scopes) = omega (arith, here, all) in
       let o = owned-of m i w.scopes more (g.once i.0) in
@@ -137,15 +138,15 @@ module _ (w : World) (g : GoodWorld w) where
   frames-test : (m : Who) (fs : List Frame) → ((k : ℕ) → weigh (of_both m k) (keys_by m (owns_in (natures fs))) ≤ weigh (of_both m k) (scope_keys w.scopes)) → list_all (has_scope w m) fs ≡ true
   frames-test m [] least = refl
   frames-test m (f ∷ fs) least =
-      both (has_scope w m f) (list_all (has_scope w m) fs) (mark-test m (id_in f.mark) (is_task_mark f.mark) fs least)
+      and_from (has_scope w m f) (list_all (has_scope w m) fs) (mark-test m (id_in f.mark) (is_task_mark f.mark) fs least)
       (frames-test m fs (λ k. let a = below-least m k (id_in f.mark) (is_task_mark f.mark) fs in let b = least k in omega (arith, a, b)))
 
   -- of each of everybody
   all-test : (ts : List Task) (agent : Task) → ((by : Weights) → weigh by (everybody_keys ts agent) ≤ weigh by (scope_keys w.scopes)) → list_all (λ t. list_all (has_scope w t.who) t.frames) (ts ++ agent ∷ []) ≡ true
   all-test [] agent least =
-      both (list_all (has_scope w agent.who) agent.frames) true (frames-test agent.who agent.frames (λ k. least (of_both agent.who k))) refl
+      and_from (list_all (has_scope w agent.who) agent.frames) true (frames-test agent.who agent.frames (λ k. least (of_both agent.who k))) refl
   all-test (t ∷ ts) agent least =
-      both (list_all (has_scope w t.who) t.frames) (list_all (λ u. list_all (has_scope w u.who) u.frames) (ts ++ agent ∷ []))
+      and_from (list_all (has_scope w t.who) t.frames) (list_all (λ u. list_all (has_scope w u.who) u.frames) (ts ++ agent ∷ []))
       (frames-test t.who t.frames (λ k. let a = least (of_both t.who k) in let b = weigh-append (of_both t.who k) (keys_of (t ∷ ts)) (task_keys agent) in let c = weigh-append (of_both t.who k) (task_keys t) (keys_of ts) in omega (arith, a, b, c)))
       (all-test ts agent (λ by. let a = least by in let b = weigh-append by (keys_of (t ∷ ts)) (task_keys agent) in let c = weigh-append by (task_keys t) (keys_of ts) in let d = weigh-append by (keys_of ts) (task_keys agent) in omega (arith, a, b, c, d)))
 
@@ -160,7 +161,7 @@ module _ (w : World) (g : GoodWorld w) where
       let x = all_adjacent (λ a b. is_older b.id a.id) w.scopes in
       let y = list_all (λ t. list_all (has_scope w t.who) t.frames) (everybody w) in
       let z = eqb (length w.scopes) (scopes_counted (everybody w)) in
-      both (x && y) z (both x y older owned) (eq-eqb (length w.scopes) (scopes_counted (everybody w)) same)
+      and_from (x && y) z (and_from x y older owned) (eq-eqb (length w.scopes) (scopes_counted (everybody w)) same)
 
 pub reached_scopes_are_right : ReachedScopesAreRight
 reached_scopes_are_right p script bound w r = good-scopes w (reached-good p script bound w r)

@@ -1,6 +1,6 @@
 -- Groups of tasks: those that are activated begin, each with its own scope, or are gone; and those that were only made are gone.
 use Rattle.std.proofs.Common.{◌≡◌, ℕ, ◌<◌, Bool, true, false, cond, eqb, ◌&&◌, List, [], ◌∷◌, refl, sym, ap, subst, ◌∙◌}
-use Rattle.std.proofs.lemmas.Bool.{false≢true}
+use Rattle.std.proofs.lemmas.Bool.{and_parts, false≢true}
 use Rattle.std.specs.Prelude.{filter, ◌||◌}
 use Rattle.ann_base.specs.declared.exceptions.Raised.TheVariants as exception
 use Rattle.ann_base.specs.declared.identities.RegionNo.{RegionNo}
@@ -266,10 +266,6 @@ any-listed : (ts : List Task) → Each (λ t. Unit {0}) ts
 any-listed [] = tt
 any-listed (t ∷ ts) = (tt, any-listed ts)
 
-first_is_true : (a b : Bool) → (a && b) ≡ true → a ≡ true
-first_is_true true b e = refl
-first_is_true false b e = e
-
 led-whole : (me : Who) (w v : World) → Turned me w w v → Led me w v
 led-whole me w v h = record { good = h.good; live = h.live; still = λ n k. h.still n k k }
 
@@ -340,7 +336,7 @@ module _ (p : Image) (me : Who) where
   made_in-keeps r =
       looks-from (acting me) _ (λ w g. weaker-from (Turned me w) (Led me) w _ (λ v t. led-whole me w v t)
       (turns-from me w (λ t. is_made t ≡ true) (end_made p me) (filter (is_made_in r) w.tasks) w (λ t x made g_x need. let k = need made in end_made-from p me me w t x g_x k.0 k.1)
-      g (distinct-listed me w (is_made_in r) g) (made-listed me w (is_made_in r) (λ t e. first_is_true (is_made t) _ e) g) (ready-listed me w (is_made_in r) g)))
+      g (distinct-listed me w (is_made_in r) g) (made-listed me w (is_made_in r) (λ t e. (and_parts (is_made t) _ e).0) g) (ready-listed me w (is_made_in r) g)))
 
   pub leave_region-keeps : (m : ScopeMark) (leaving : Leaving) (r : RegionNo) → Keeps (ActingWorld me) (StepOf (Led me)) (leave_region p me m leaving r)
   unfolding leave_region

@@ -1,7 +1,7 @@
 -- In every world that a run reaches, who is ready has opened the sequence with handlers to which it has come.
 use Rattle.std.proofs.Common.{◌≡◌, ℕ, ℤ, zero, suc, Bool, true, false, cond, not, ◌&&◌, List, [], ◌∷◌, ◌++◌, Option, Some, None, slice_index_or, refl, sym, ap, subst, ◌∙◌, inl, inr, unwrap_or}
 use Rattle.std.specs.List.{list_all}
-use Rattle.std.proofs.lemmas.Bool.{false≢true, and_parts}
+use Rattle.std.proofs.lemmas.Bool.{and_parts, false≢true, not-true}
 use Rattle.trace_text.specs.declared.events.Created.TheVariants as created
 use Rattle.trace_text.specs.declared.events.Event.{Event}
 use Rattle.trace_text.specs.declared.events.Event.TheVariants as line
@@ -69,10 +69,6 @@ listed-at : {X : Type 0} (test : X → Bool) (d : X) (xs : List X) (n : ℕ) →
 listed-at test d [] n outside h = outside
 listed-at test d (x ∷ xs) zero outside h = (and_parts (test x) (list_all test xs) h).0
 listed-at test d (x ∷ xs) (suc n) outside h = listed-at test d xs n outside (and_parts (test x) (list_all test xs) h).1
-
-not-true : (b : Bool) → not b ≡ true → b ≡ false
-not-true true e = absurd (false≢true e)
-not-true false e = refl
 
 module _ (p : Image) (fit : sequences_fit p ≡ true) where
   statement-fits : (s : StatementNo) → form_fits p (form_of p s) ≡ true

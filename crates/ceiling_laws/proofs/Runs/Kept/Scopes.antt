@@ -27,6 +27,7 @@ use Rattle.profile_machine.specs.declared.world.scopes.Variable.{Variable}
 use Rattle.std.proofs.Common.{ap, refl, sym, ◌∙◌, ◌≡◌}
 use Rattle.std.specs.List.{list_any}
 use Rattle.std.specs.Prelude.{Bool, List, [], cond, false, int_lt, not, slice_set, true, ℕ, ℤ, ◌||◌, ◌∷◌}
+use Rattle.std.proofs.lemmas.Bool.{or_right}
 use Rattle.trace_text.specs.declared.events.Who.{Who}
 use Rattle.trace_text.specs.declared.events.Who.TheVariants as who
 
@@ -48,12 +49,8 @@ or-true : (a b c : Bool) → (a || b) ≡ true → (b ≡ true → c ≡ true) �
 or-true true b c e onward = refl
 or-true false b c e onward = onward e
 
-pub or-behind : (a b : Bool) → b ≡ true → (a || b) ≡ true
-or-behind true b e = refl
-or-behind false b e = e
-
 fewer-step : (test : Appointment → Bool) (a : Appointment) (rest fewer : List Appointment) (b : Bool) → list_any test (cond (not b) (a ∷ fewer) fewer) ≡ true → (list_any test fewer ≡ true → list_any test rest ≡ true) → list_any test (a ∷ rest) ≡ true
-fewer-step test a rest fewer true e onward = or-behind (test a) (list_any test rest) (onward e)
+fewer-step test a rest fewer true e onward = or_right (test a) (list_any test rest) (onward e)
 fewer-step test a rest fewer false e onward = or-true (test a) (list_any test fewer) (list_any test rest) e onward
 
 pub without-any : (test drops : Appointment → Bool) (xs : List Appointment) → list_any test (without drops xs) ≡ true → list_any test xs ≡ true

@@ -36,16 +36,9 @@ use Rattle.profile_machine.specs.declared.world.lines.Part.TheVariants.{TheFinis
 use Rattle.profile_machine.specs.declared.world.tasks.Waiting.TheVariants as waits_for
 use Rattle.std.proofs.Common.{Bool, None, Option, Some, cond, false, not, refl, true, ℤ, ◌&&◌, ◌≡◌, List}
 use Rattle.std.specs.Prelude.{is_none}
+use Rattle.std.proofs.lemmas.Bool.{and_parts}
 use Rattle.trace_text.specs.declared.events.Who.{Who}
 use Rattle.trace_text.specs.declared.events.Who.TheVariants as who
-
-first_is_true : (a b : Bool) → (a && b) ≡ true → a ≡ true
-first_is_true true b e = refl
-first_is_true false b e = cc
-
-second_is_true : (a b : Bool) → (a && b) ≡ true → b ≡ true
-second_is_true true b e = e
-second_is_true false b e = cc
 
 module _ {X : State} (quiet : Silences X) where
   pub open_abortable-alters : (p : Image) (name : Who) (select : StatementNo) (call : Option CallNo) → Alters X (open_abortable p name select call)
@@ -103,7 +96,7 @@ module _ {p : Image} {actor : Who} {Fits Narrow : Fitting} {Sleeps : Sleeping} {
   opens_at v d true is =
       let name = who.Task d.caller in
       let few = is_triggering d.kind && is_none (abortable_depth v d) && not d.firm && not d.attempted && is_none d.outcome in
-      let waits : waits_for_call d.number (waiting_of v name) ≡ true = second_is_true few (waits_for_call d.number (waiting_of v name)) (first_is_true (few && waits_for_call d.number (waiting_of v name)) (has_room v name 1 0) is) in
+      let waits : waits_for_call d.number (waiting_of v name) ≡ true = (and_parts few (waits_for_call d.number (waiting_of v name)) ((and_parts (few && waits_for_call d.number (waiting_of v name)) (has_room v name 1 0) is).0)).1 in
       asleep_at acting.later.base name v _ (acting.later.base.sleeps v name (waiting-blocked (waits_for_call d.number) refl (task_of v name).state waits))
       (then-leads _ (ready p TheFinish name) (changes-keeps _ (open_abortable-alters (asleep_quiet acting.later.base name) p name d.statement (Some d.number))) (acting.later.base.wakes TheFinish name (acting.fits_finish name)))
 

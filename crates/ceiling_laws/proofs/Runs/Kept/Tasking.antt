@@ -46,12 +46,9 @@ use Rattle.profile_machine.specs.declared.world.tasks.Waiting.{Waiting}
 use Rattle.profile_machine.specs.declared.world.tasks.Waiting.TheVariants as waits_for
 use Rattle.std.proofs.Common.{ap, refl, subst, sym, ◌∙◌, ◌≡◌}
 use Rattle.std.specs.Prelude.{Bool, List, None, Option, Some, cond, eqb, false, filter, leb, length, true, ℕ, ◌&&◌, ◌||◌}
+use Rattle.std.proofs.lemmas.Bool.{and_parts}
 use Rattle.trace_text.specs.declared.events.Who.{Who}
 use Rattle.trace_text.specs.declared.events.Who.TheVariants as who
-
-first_is_true : (a b : Bool) → (a && b) ≡ true → a ≡ true
-first_is_true true b e = refl
-first_is_true false b e = cc
 
 first_of_three : (a b c : Bool) → (a && b && c) ≡ true → a ≡ true
 first_of_three true b c e = refl
@@ -221,7 +218,7 @@ module _ {p : Image} {actor : Who} {Fits Narrow : Fitting} {Sleeps : Sleeping} {
       then-keeps _ _ (changes-keeps _ (edit_top_scope-alters acting.later.base.quiet actor being_left_mark))
       (then-keeps _ _ (changes-keeps _ (edit_top-alters acting.later.base.quiet actor (left_so_frame leaving)))
       (then-keeps _ _ (says-keeps acting.later.base.quiet Own (line.Leave actor r (leaves_as leaving)) refl)
-      (then-keeps _ _ (looks-with _ (λ v said h. since_at v _ (for_each_task-keeps (λ t. Unmade v t.who) (filter (is_made_in r) v.tasks) (end_made p actor) (made_each v said h (is_made_in r) (λ t e. first_is_true (is_made t) (is_the same_region t.master r) e)) (end_made-keeps v))))
+      (then-keeps _ _ (looks-with _ (λ v said h. since_at v _ (for_each_task-keeps (λ t. Unmade v t.who) (filter (is_made_in r) v.tasks) (end_made p actor) (made_each v said h (is_made_in r) (λ t e. (and_parts (is_made t) (is_the same_region t.master r) e).0)) (end_made-keeps v))))
       (then-keeps _ _ (complete_if_task-keeps m.purpose) (wait_for_dependents-keeps r)))))
 
   end_task-leads : (leaving : Leaving) → Leads F W (end_task p actor leaving)

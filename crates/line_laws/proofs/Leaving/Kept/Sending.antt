@@ -1,7 +1,7 @@
 -- Calls that are sent on, and abortable parts that begin: each step keeps a relation that its parts keep.
 use Rattle.std.proofs.Common.{◌≡◌, ℤ, Bool, true, false, cond, not, ◌&&◌, Option, Some, None, refl, sym, []}
 use Rattle.std.specs.Prelude.{◌||◌}
-use Rattle.std.proofs.lemmas.Bool.{false≢true}
+use Rattle.std.proofs.lemmas.Bool.{and_parts, false≢true}
 use Rattle.ann_base.specs.declared.identities.CallNo.{CallNo}
 use Rattle.trace_text.specs.declared.events.Who.{Who}
 use Rattle.profile_machine.specs.declared.image.Image.{Image}
@@ -45,10 +45,6 @@ last_is_false false true c d h k = absurd (false≢true (sym h))
 last_is_false false false true d h k = absurd (false≢true (sym h))
 last_is_false false false false d h k = h
 
-first-true : (a b : Bool) → (a && b) ≡ true → a ≡ true
-first-true true b e = refl
-first-true false b e = absurd cc
-
 module _ {G : GoodWorld} {May Acts Pushes : Naming} {Stops : Type 0} {R : StepRelation} {Q : MoveRelation} (moves : FineMoves G May Acts Pushes Stops R Q) where
   pub open_abortable-alters : (p : Image) (name : Who) (select : StatementNo) (call : Option CallNo) → May name → Alters G R (open_abortable p name select call)
   open_abortable-alters p name select call may = push-alters moves name (new_frame (new_abortable_mark select call) (abortable_in (form_of p select))) may refl refl refl
@@ -90,7 +86,7 @@ module _ {G : GoodWorld} {May Acts Pushes : Naming} {Stops : Type 0} {R : StepRe
   cancel_sent-keeps p c = search (changes-keeps, unqueued-alters, then-keeps, says-keeps, deliver-keeps) depth 6
 
   first-of-all : (a b c d e f g : Bool) → (a && b && c && d && e && f && g) ≡ true → f ≡ true
-  first-of-all true true true true true f g h = first-true f g h
+  first-of-all true true true true true f g h = (and_parts f g h).0
   first-of-all true true true true false f g h = absurd cc
   first-of-all true true true false e f g h = absurd cc
   first-of-all true true false d e f g h = absurd cc

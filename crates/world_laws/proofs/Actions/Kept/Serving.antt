@@ -38,6 +38,7 @@ use Rattle.profile_machine.specs.Protected.{served_next, edit_top_protected, beg
 use Rattle.profile_machine.specs.Values.{object_of}
 use Rattle.profile_machine.specs.Serving.{serves_nothing, is_served_now, serve_ends, end_release, close_action, wait_or_unwind, wait_for_own, resume_own, behind_action, release_object, settle_sent, begins_part, chosen_is_sent, serve_chosen, serve_next, serve_calls, go_on_by_mode, end_operation, finish_raised, finish_well, finish_call, end_entry_body, end_in_protected_by, end_in_protected, keep_values, keeps_sending, end_body_of_entry, part_of_start, with_body_left, no_longer_serves, not_left, outcome_by, is_own_call, may_open_abortable}
 use Rattle.std.proofs.Common.{◌≡◌, refl, sym, subst}
+use Rattle.std.proofs.lemmas.Bool.{or_right}
 use Rattle.world_tables.specs.Lists.{rest_of}
 use Rattle.machine_laws.proofs.Moves.{own}
 use Rattle.world_laws.proofs.Actions.FineMoves.{FineMoves}
@@ -107,10 +108,6 @@ module _ {G : GoodWorld} {F : Naming} (moves : FineMoves G F) where
 abbrev beside : FineMoves (Good Nobody) Nobody
 beside = good_moves Nobody
 
-or-right : (a b : Bool) → b ≡ true → (a || b) ≡ true
-or-right true b e = refl
-or-right false b e = e
-
 -- ---- the action on top ends
 
 top-sound : (name : Who) (m : ProtectedMark) (w : World) → Sound w → top_nature (marks_of w.tasks w.agent name) ≡ Some (acted m) → ReleaseSound name m.release × OwnSound w.drawn.calls w.calls name m.own_call
@@ -145,7 +142,7 @@ module _ (p : Image) (name : Who) (m : ProtectedMark) where
       → From (Good Nobody) v (lose_running p name (inherited_by.Ceiling m.object) ▷ set_deferred p name ▷ behind_action p name m release own)
   ended-from (Some r) own v good none free agent known =
       let only = good_moves (Only name) in
-      let better : Good (Only name) v = (good.0, λ n is. subst (λ k. Free k v) (sym is) (free (or-right (is_some own) true refl))) in
+      let better : Good (Only name) v = (good.0, λ n is. subst (λ k. Free k v) (sym is) (free (or_right (is_some own) true refl))) in
       less-from (Only name) _ v
       (then-from only (lose_running p name (inherited_by.Ceiling m.object)) (set_deferred p name ▷ behind_action p name m (Some r) own) v (ceiling_lost-from only p name m.object v (lose_ceiling-good (Only name) name m.object v none better))
       (then-keeps only (set_deferred p name) _ (set_deferred-keeps only p name) (behind_release-keeps r own (sym agent))))

@@ -33,7 +33,7 @@ use Rattle.std.proofs.Common.{◌≡◌, refl, sym, ap, ◌∙◌, subst, ◌⊎
 use Rattle.profile_machine.specs.Values.{seen_by}
 use Rattle.world_laws.proofs.Actions.FineMoves.{FineMoves}
 use Rattle.world_laws.proofs.Actions.Sound.{GoodWorld, Naming, Sound, Free, Good}
-use Rattle.std.proofs.lemmas.Bool.{false≢true}
+use Rattle.std.proofs.lemmas.Bool.{and_parts, false≢true}
 use Rattle.line_laws.proofs.Exclusion.ObjectLists.{by_test}
 use Rattle.profile_machine.specs.declared.world.marks.Mark.TheVariants.{Scope}
 use Rattle.world_laws.proofs.Actions.Natures.{nature}
@@ -63,10 +63,6 @@ use Rattle.world_laws.proofs.Actions.Kept.Switching.{Only, less-from, switch-fro
 use Rattle.profile_machine.specs.Words.{is_the, same_region}
 use Rattle.profile_machine.specs.Inheritance.{inherit}
 use Rattle.profile_machine.specs.declared.world.tasks.Cause.TheVariants as inherited_by
-
-first_true : (a b : Bool) → (a && b) ≡ true → a ≡ true
-first_true true b e = refl
-first_true false b e = e
 
 module _ {G : GoodWorld} {F : Naming} (moves : FineMoves G F) where
   says_created-keeps : (d : DeclNo) (t : world.Task) → Keeps G (says_created d t)
@@ -211,7 +207,7 @@ module _ {G : GoodWorld} {F : Naming} (moves : FineMoves G F) where
   -- those that were made in a region end with it
   made_end-keeps : (p : Image) (name : Who) (r : RegionNo) (tasks : List world.Task) → ((t : world.Task) → Member t tasks → is_made t ≡ true → F t.who) → Keeps G (for_each (filter (is_made_in r) tasks) (end_made p name))
   made_end-keeps p name r tasks free =
-      for_member-keeps (filter (is_made_in r) tasks) (end_made p name) (λ t m. let n = filter-member (is_made_in r) t tasks m in end_made-keeps p name t (free t n.0 (first_true (is_made t) (is_the same_region t.master r) n.1)))
+      for_member-keeps (filter (is_made_in r) tasks) (end_made p name) (λ t m. let n = filter-member (is_made_in r) t tasks m in end_made-keeps p name t (free t n.0 ((and_parts (is_made t) (is_the same_region t.master r) n.1).0)))
 
 -- ---- who is in no protected action, and those that are only made, have none open
 

@@ -1,6 +1,7 @@
 -- Completion, termination and masters: each step keeps a relation that its parts keep.
 use Rattle.std.proofs.Common.{◌≡◌, refl, subst}
 use Rattle.std.specs.Prelude.{Bool, true, false, not, ◌&&◌, cond, List, [], ◌∷◌, Option, Some, None, find}
+use Rattle.std.proofs.lemmas.Bool.{and_parts}
 use Rattle.ann_base.specs.declared.exceptions.Raised.TheVariants as exception
 use Rattle.ann_base.specs.declared.identities.RegionNo.{RegionNo}
 use Rattle.trace_text.specs.declared.events.Who.{Who}
@@ -32,10 +33,6 @@ use Rattle.world_laws.proofs.Appointments.Kept.Frames.{leaves-keeps, raises-keep
 use Rattle.world_laws.proofs.Appointments.Kept.Inheritance.{lose-alters}
 use Rattle.world_laws.proofs.Appointments.Kept.Tasks.{edit_task-alters}
 use Rattle.machine_laws.proofs.Kept.Combinators.{From}
-
-second_is_true : (a b : Bool) → (a && b) ≡ true → b ≡ true
-second_is_true true b e = e
-second_is_true false b e = cc
 
 -- who waits for an activation or for dependents waits for no delay
 waits-activation : (waiting : Option Waiting) → waits_for_activation waiting ≡ true → waits_for_delay waiting ≡ false
@@ -89,7 +86,7 @@ module _ {G : GoodWorld} {May : Naming} {R : StepRelation} {Q : MoveRelation} (m
   unfolding end_group
   end_group-keeps p actor activator =
       looks-from moves _ (λ w good. end_group_where p actor activator w (not (has_activating w activator) && waits_for_activation (waiting_of w activator)) good
-      (λ is. moves.asleep activator w good (waits-activation (waiting_of w activator) (second_is_true (not (has_activating w activator)) (waits_for_activation (waiting_of w activator)) is))))
+      (λ is. moves.asleep activator w good (waits-activation (waiting_of w activator) ((and_parts (not (has_activating w activator)) (waits_for_activation (waiting_of w activator)) is).1))))
 
   pub end_activation_by-keeps : (p : Image) (actor name : Who) (failed : Bool) (by : Option Who) → Keeps G R (end_activation_by p actor name failed by)
   unfolding end_activation_by

@@ -1,6 +1,7 @@
 -- Calls that are sent on, and abortable parts that begin: each step keeps a relation that its parts keep.
 use Rattle.std.proofs.Common.{◌≡◌, ℤ, Bool, true, false, cond, not, ◌&&◌, Option, Some, None, refl, []}
 use Rattle.std.specs.Prelude.{is_none}
+use Rattle.std.proofs.lemmas.Bool.{and_parts}
 use Rattle.ann_base.specs.declared.identities.CallNo.{CallNo}
 use Rattle.trace_text.specs.declared.events.Who.{Who}
 use Rattle.trace_text.specs.declared.events.Who.TheVariants as who
@@ -32,14 +33,6 @@ use Rattle.world_laws.proofs.Appointments.Kept.Combinators.{Keeps, Alters, chang
 use Rattle.world_laws.proofs.Appointments.Kept.Dispatching.{ready-from, idle_then-from, block-keeps}
 use Rattle.world_laws.proofs.Appointments.Kept.Frames.{push-alters}
 use Rattle.machine_laws.proofs.Kept.Combinators.{From}
-
-pub second_is_true : (a b : Bool) → (a && b) ≡ true → b ≡ true
-second_is_true true b e = e
-second_is_true false b e = absurd cc
-
-pub first_is_true : (a b : Bool) → (a && b) ≡ true → a ≡ true
-first_is_true true b e = refl
-first_is_true false b e = absurd cc
 
 module _ {G : GoodWorld} {May : Naming} {R : StepRelation} {Q : MoveRelation} (moves : FineMoves G May R Q) where
   pub open_abortable-alters : (p : Image) (name : Who) (select : StatementNo) (call : Option CallNo) → Alters G R (open_abortable p name select call)
@@ -87,7 +80,7 @@ module _ {G : GoodWorld} {May : Naming} {R : StepRelation} {Q : MoveRelation} (m
   opens_where p d w true good is =
       let name = who.Task d.caller in
       let few = is_triggering d.kind && is_none (abortable_depth w d) && not d.firm && not d.attempted && is_none d.outcome in
-      let waits : waits_for_call d.number (waiting_of w name) ≡ true = second_is_true few (waits_for_call d.number (waiting_of w name)) (first_is_true (few && waits_for_call d.number (waiting_of w name)) (has_room w name 1 0) is) in
+      let waits : waits_for_call d.number (waiting_of w name) ≡ true = (and_parts few (waits_for_call d.number (waiting_of w name)) ((and_parts (few && waits_for_call d.number (waiting_of w name)) (has_room w name 1 0) is).0)).1 in
       idle_then-from moves name (changes (open_abortable p name d.statement (Some d.number))) (ready p TheFinish name) w good (moves.asleep name w good (waits-call d.number (waiting_of w name) waits))
       (changes-keeps moves _ (open_abortable-alters p name d.statement (Some d.number))) (λ v good_v idle. ready-from moves p TheFinish name v good_v idle)
 

@@ -16,8 +16,7 @@ use Rattle.profile_machine.specs.Scopes.{is_id, with_cells, edit_cells, write_ce
 use Rattle.profile_machine.specs.Values.{value}
 use Rattle.profile_machine.specs.WellFormed.{has_its_cells}
 use Rattle.world_laws.proofs.Cells.CellLists.{length-initial_cells, length-put_cells, length-slice_set, edit_where-all, without-all}
-use Rattle.machine_laws.proofs.ListLemmas.{both}
-use Rattle.std.proofs.lemmas.Bool.{eq-eqb, eqb-true}
+use Rattle.std.proofs.lemmas.Bool.{and_from, eq-eqb, eqb-true}
 use Rattle.world_laws.proofs.Cells.RightCells.{Right, Alters}
 use Rattle.world_laws.proofs.Cells.Kept.Frames.{push-alters}
 
@@ -45,7 +44,7 @@ begun_cells p scope values = eq-eqb _ _ (length-put_cells 0 values (initial_cell
 
 pub begin_scope-alters : (p : Image) (name : Who) (scope : ScopeNo) (b : Beginning) → Alters p (begin_scope p name scope b)
 unfolding Right
-begin_scope-alters p name scope b = record { at = λ w right. both (eqb (length (put_cells 0 b.values (initial_cells (scope_of p scope)))) (scope_of p scope).size) (list_all (has_its_cells p) w.scopes) (begun_cells p scope b.values) right }
+begin_scope-alters p name scope b = record { at = λ w right. and_from (eqb (length (put_cells 0 b.values (initial_cells (scope_of p scope)))) (scope_of p scope).size) (list_all (has_its_cells p) w.scopes) (begun_cells p scope b.values) right }
 
 pub draw_region-alters : {p : Image} (kept : Bool) → Alters p (draw_region kept)
 unfolding Right

@@ -33,6 +33,7 @@ use Rattle.profile_machine.specs.Controlled.{next_to_finalize, finalize, top_reg
 use Rattle.profile_machine.specs.Declarations.{set_thing}
 use Rattle.profile_machine.specs.Tasking.{unit_of_declaration, optional_span, created_task, add_task, says_created, create_task, create, fall_from, unit_of_task, begin_task, says_done, fail_to_begin, activate_one, await_group, activate_group, activate, end_own_activation, end_made, complete_if_task, wait_for_dependents, leave_region, end_environment, end_task, is_normal, end_body, behind_scope, says_left, end_of_scope, go_on_leaving, end_scope_mark_of, end_scope_mark, says_abort, abort_one, unwind_by, unwind_one, abort_all, abort_statement, block_at_terminate, take_terminates, unwind_all, no_failure, is_to_activate, top_region_of_scope, is_to_abort, left_by, abnormal_task, named_tasks, raises_behind, is_made_in, is_task_scope, is_environment, fails_by, group_fails, activated_task, leaves_as, being_left_mark, left_so_frame}
 use Rattle.std.proofs.Common.{◌≡◌, refl, sym, ap, subst, ◌∙◌, cond}
+use Rattle.std.proofs.lemmas.Bool.{and_parts}
 use Rattle.profile_machine.specs.Values.{seen_by}
 use Rattle.machine_laws.proofs.Moves.{StepRelation, MoveRelation, own}
 use Rattle.world_laws.proofs.Marks.MarkFacts.{Ends, Drawn, Unarmed, AllTasks, is_own_scope}
@@ -70,10 +71,6 @@ same_region_in r q region a b = let one : Some q ≡ Some r = sym b ∙ a in cc
 
 no_region : {P : Type 0} (q : RegionNo) (region : Option RegionNo) → region ≡ None → region ≡ Some q → P
 no_region q region a b = absurd (let one : None ≡ Some q = sym a ∙ b in cc)
-
-first_is_true : (a b : Bool) → (a && b) ≡ true → a ≡ true
-first_is_true true b e = refl
-first_is_true false b e = cc
 
 -- of those that are made, for none a trigger is appointed
 made_of-unarmed : (w : World) (test : world.Task → Bool) → ((t : world.Task) → test t ≡ true → is_made t ≡ true) → AllTasks (λ t. is_made t ≡ true → Unarmed t.who w) w.tasks → AllTasks (λ t. Unarmed t.who w) (filter test w.tasks)
@@ -145,7 +142,7 @@ module _ {G : GoodWorld} {May Other : Naming} {R : StepRelation} {Q : MoveRelati
   all_made-keeps : (p : Image) (name : Who) (r : RegionNo) → Keeps G R (looks (λ v. for_each (filter (is_made_in r) v.tasks) (end_made p name)))
   all_made-keeps p name r =
       looks-from moves _ (λ w good. for_each_known-from moves (λ t v. Unarmed t.who v) (λ t. unarmed t.who) (end_made p name) (λ t v good_v none. end_made-from p name t v good_v none) (filter (is_made_in r) w.tasks) w good
-      (made_of-unarmed w (is_made_in r) (λ t is. first_is_true (is_made t) (is_the same_region t.master r) is) (made-unarmed w (moves.facts w good))))
+      (made_of-unarmed w (is_made_in r) (λ t is. (and_parts (is_made t) (is_the same_region t.master r) is).0) (made-unarmed w (moves.facts w good))))
 
   pub complete_if_task-keeps : (p : Image) (name : Who) (purpose : Purpose) → May name → Keeps G R (complete_if_task p name purpose)
   unfolding complete_if_task
@@ -354,7 +351,7 @@ module _ {G : GoodWorld} {May Other : Naming} {Owns : Who → RegionNo → Type 
       looks-from moves _ (λ w good.
       let test = is_to_activate (top_region_of_scope w name) part in
       let ts = filter test w.tasks in
-      let group = waiting_each w ts (some_of-others moves test w.tasks (moves.listed w good)) (made_of-unarmed w test (λ t is. first_is_true (is_made t) (is_the same_region t.master (top_region_of_scope w name)) (first_is_true (is_made t && is_the same_region t.master (top_region_of_scope w name)) (eqb t.declarative_part part) is)) (made-unarmed w (moves.facts w good))) in
+      let group = waiting_each w ts (some_of-others moves test w.tasks (moves.listed w good)) (made_of-unarmed w test (λ t is. (and_parts (is_made t) (is_the same_region t.master (top_region_of_scope w name)) ((and_parts (is_made t && is_the same_region t.master (top_region_of_scope w name)) (eqb t.declarative_part part) is).0)).0) (made-unarmed w (moves.facts w good))) in
       then_known-from moves (λ v. AllTasks (λ t. Waiting_for t v) ts) (still_group ts) (goes name (next_of p s)) _ w group (keeps-from moves _ w good (search (goes-keeps)))
       (λ v good_v group_v. then_known-from moves (λ u. AllTasks (λ t. Waiting_for t u) ts) (still_group ts) (changes (edit_task name no_failure)) _ v group_v (keeps-from moves _ v good_v (search (changes-keeps, edit_task-alters)))
       (λ u good_u group_u. for_each_known-from moves Waiting_for still_waiting (activate_one p name (active_of p w name)) (λ t x good_x k. activate_one-from p name (active_of p w name) t x good_x k.0 k.1) ts u good_u group_u)))

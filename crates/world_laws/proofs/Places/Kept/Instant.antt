@@ -44,9 +44,9 @@ use Rattle.profile_machine.specs.declared.world.tasks.Waiting.TheVariants as wai
 use Rattle.std.proofs.Common.{ap, cond, eq-eqb, refl, subst, sym, ◌∙◌, ◌≡◌}
 use Rattle.std.specs.List.{list_any}
 use Rattle.std.specs.Prelude.{Bool, List, None, Option, Some, [], eqb, false, find, int_le, length, not, pos, suc, true, zero, ℕ, ℤ, ◌&&◌, ◌||◌, ◌∷◌}
+use Rattle.std.proofs.lemmas.Bool.{or_right}
 use Rattle.trace_text.specs.declared.events.Who.{Who}
 use Rattle.trace_text.specs.declared.events.Who.TheVariants as who
-use Rattle.ceiling_laws.proofs.Runs.Kept.Scopes.{or-behind}
 use Rattle.ceiling_laws.proofs.Runs.LevelMoves.{Sleeping}
 
 -- for whom a moment may be appointed in a world
@@ -160,7 +160,7 @@ module _ {p : Image} {Sleeps : Sleeping} {Drawn : Appointing} {N : State} (moves
   found-any test other (x ∷ xs) a found is = found-step (other x) test x a xs found is (λ k. found-any test other xs a k is) where
     found-step : (b : Bool) (test : Appointment → Bool) (x a : Appointment) (xs : List Appointment) → cond b (Some x) (find other xs) ≡ Some a → test a ≡ true → (find other xs ≡ Some a → list_any test xs ≡ true) → list_any test (x ∷ xs) ≡ true
     found-step true test x a xs found is onward = let one : x ≡ a = cc in ap (λ t. t || list_any test xs) (ap test one ∙ is)
-    found-step false test x a xs found is onward = or-behind (test x) (list_any test xs) (onward found)
+    found-step false test x a xs found is onward = or_right (test x) (list_any test xs) (onward found)
 
   drop_due : (v : World) (said : List Said) (a : Appointment) → N v said → ((t : TaskNo) → is_delay_of t a.due ≡ true → is_delayed t v ≡ true) → Leads (At N v) (Coming a.due) (changes (drop_appointment (is_the_same_due a.due)))
   drop_due v said a h delayed =

@@ -28,14 +28,11 @@ use Rattle.profile_machine.specs.declared.world.tasks.State.TheVariants.{Runnabl
 use Rattle.profile_machine.specs.declared.world.tasks.Task.{Task}
 use Rattle.std.proofs.Common.{refl, subst, ◌≡◌}
 use Rattle.std.specs.Prelude.{Bool, List, None, Option, Some, cond, false, find, not, true, ◌&&◌}
+use Rattle.std.proofs.lemmas.Bool.{and_parts}
 use Rattle.trace_text.specs.declared.events.Who.{Who}
 use Rattle.trace_text.specs.declared.events.Who.TheVariants as who
 use Rattle.ceiling_laws.proofs.Runs.Kept.Waking.{found-each, waiting-blocked, who-is}
 use Rattle.ceiling_laws.proofs.Runs.LevelMoves.{EachTask, Fitting, Sleeping, is_blocked}
-
-second_is_true : (a b : Bool) → (a && b) ≡ true → b ≡ true
-second_is_true true b e = e
-second_is_true false b e = cc
 
 module _ {p : Image} {Fits : Fitting} {Sleeps : Sleeping} {X : State} (moves : BaseMoves p Fits Sleeps X) (actor : Who) (fits : (name : Who) → Fits (part_of actor name) name) where
   pub gone_by_completion-keeps : (c : Call) → Keeps X (gone_by_completion p actor c)
@@ -52,7 +49,7 @@ module _ {p : Image} {Fits : Fitting} {Sleeps : Sleeping} {X : State} (moves : B
   unfolding end_group
   end_group-keeps activator =
       looks-with _ (λ v said h. when-leads (not (has_activating v activator) && waits_for_activation (waiting_of v activator)) _
-      (λ is. asleep_at moves activator v _ (moves.sleeps v activator (waiting-blocked waits_for_activation refl (task_of v activator).state (second_is_true (not (has_activating v activator)) (waits_for_activation (waiting_of v activator)) is))) (wake_activator-leads activator))
+      (λ is. asleep_at moves activator v _ (moves.sleeps v activator (waiting-blocked waits_for_activation refl (task_of v activator).state ((and_parts (not (has_activating v activator)) (waits_for_activation (waiting_of v activator)) is).1))) (wake_activator-leads activator))
       (λ w s k. k.0))
 
   module _ (name : Who) (loses : (w : World) (said : List Said) → X w said → X (lose name inherited_by.Activation w) said) where

@@ -36,18 +36,11 @@ use Rattle.profile_machine.specs.declared.world.lines.Part.TheVariants.{TheBlock
 use Rattle.profile_machine.specs.declared.world.tasks.Waiting.TheVariants as waits_for
 use Rattle.std.proofs.Common.{Bool, None, Option, Some, cond, false, not, refl, subst, sym, true, ℤ, ◌&&◌, ◌≡◌, List}
 use Rattle.std.specs.Prelude.{is_none}
+use Rattle.std.proofs.lemmas.Bool.{and_parts}
 use Rattle.trace_text.specs.declared.events.Who.{Who}
 use Rattle.trace_text.specs.declared.events.Who.TheVariants as who
 use Rattle.ceiling_laws.proofs.Runs.Kept.Waking.{waiting-blocked}
 use Rattle.ceiling_laws.proofs.Runs.LevelMoves.{FitsAll, Fitting, Sleeping}
-
-first_is_true : (a b : Bool) → (a && b) ≡ true → a ≡ true
-first_is_true true b e = refl
-first_is_true false b e = cc
-
-second_is_true : (a b : Bool) → (a && b) ≡ true → b ≡ true
-second_is_true true b e = e
-second_is_true false b e = cc
 
 module _ {X : State} (quiet : Silences X) where
   pub open_abortable-alters : (p : Image) (name : Who) (select : StatementNo) (call : Option CallNo) → Alters X (open_abortable p name select call)
@@ -90,7 +83,7 @@ module _ {p : Image} {Fits : Fitting} {Sleeps : Sleeping} {X : State} (moves : B
   opens_at v d true is =
       let name = who.Task d.caller in
       let few = is_triggering d.kind && is_none (abortable_depth v d) && not d.firm && not d.attempted && is_none d.outcome in
-      let waits : waits_for_call d.number (waiting_of v name) ≡ true = second_is_true few (waits_for_call d.number (waiting_of v name)) (first_is_true (few && waits_for_call d.number (waiting_of v name)) (has_room v name 1 0) is) in
+      let waits : waits_for_call d.number (waiting_of v name) ≡ true = (and_parts few (waits_for_call d.number (waiting_of v name)) ((and_parts (few && waits_for_call d.number (waiting_of v name)) (has_room v name 1 0) is).0)).1 in
       asleep_at moves name v _ (moves.sleeps v name (waiting-blocked (waits_for_call d.number) refl (task_of v name).state waits))
       (then-leads _ (ready p TheFinish name) (changes-keeps _ (open_abortable-alters (asleep_quiet moves name) p name d.statement (Some d.number))) (moves.wakes TheFinish name (fits_finish name)))
 

@@ -51,16 +51,12 @@ use Rattle.profile_machine.specs.declared.world.tasks.Waiting.TheVariants as wai
 use Rattle.std.specs.List.{list_any}
 use Rattle.std.proofs.Common.{ap, refl, subst, sym, ◌∙◌, ◌≡◌}
 use Rattle.std.specs.Prelude.{Bool, List, None, Option, Some, [], cond, eqb, false, filter, leb, length, true, ℕ, ◌&&◌, ◌||◌, ◌∷◌}
+use Rattle.std.proofs.lemmas.Bool.{and_parts, or_right}
 use Rattle.trace_text.specs.declared.events.Who.{Who}
 use Rattle.trace_text.specs.declared.events.Who.TheVariants as who
-use Rattle.ceiling_laws.proofs.Runs.Kept.Scopes.{or-behind}
 use Rattle.ceiling_laws.proofs.Runs.Kept.Waking.{each-both, filter-each, filter-tested, for_each_task-keeps}
 use Rattle.ceiling_laws.proofs.Runs.LevelMoves.{EachTask, Fitting, Sleeping}
 use Rattle.ceiling_laws.proofs.Places.SoundWorlds.{each-on}
-
-first_is_true : (a b : Bool) → (a && b) ≡ true → a ≡ true
-first_is_true true b e = refl
-first_is_true false b e = cc
 
 -- of tasks that bear other names those for which a test holds do
 none_if : (name : Who) (t : world.Task) (kept : List world.Task) (found b : Bool) → (found || list_any (λ u. same_who name u.who) kept) ≡ false → same_who name t.who ≡ found → list_any (λ u. same_who name u.who) (cond b (t ∷ kept) kept) ≡ false
@@ -95,7 +91,7 @@ among-first : (t : world.Task) (rest : List world.Task) → list_any (λ u. same
 among-first t rest = ap (λ b. b || list_any (λ u. same_who t.who u.who) rest) (same-self t.who)
 
 among-more : (t u : world.Task) (rest : List world.Task) → list_any (λ x. same_who t.who x.who) rest ≡ true → list_any (λ x. same_who t.who x.who) (u ∷ rest) ≡ true
-among-more t u rest e = or-behind (same_who t.who u.who) (list_any (λ x. same_who t.who x.who) rest) e
+among-more t u rest e = or_right (same_who t.who u.who) (list_any (λ x. same_who t.who x.who) rest) e
 
 each-among : (ts : List world.Task) → EachTask (λ t. list_any (λ u. same_who t.who u.who) ts ≡ true) ts
 each-among [] = tt
@@ -188,7 +184,7 @@ module _ {p : Image} {actor : Who} {Listed : World → Naming} {W Y : State} {V 
   leaving_each : (v : World) (said : List Said) → W v said → EachTask (Leaves v) (filter (may_terminate v) v.tasks)
   leaving_each v said h =
       let tasks = filter (may_terminate v) v.tasks in
-      each-both (λ t. Listed v t.who) (λ t. Waits v t × (may_terminate v t ≡ true)) (Leaves v) tasks (λ t listed k. (listed, λ same. k.0 same (first_is_true (is_at_terminate t) (list_any (λ r. is_region_being_left v r && all_at_terminate v r) (masters_of v t)) k.1)))
+      each-both (λ t. Listed v t.who) (λ t. Waits v t × (may_terminate v t ≡ true)) (Leaves v) tasks (λ t listed k. (listed, λ same. k.0 same ((and_parts (is_at_terminate t) (list_any (λ r. is_region_being_left v r && all_at_terminate v r) (masters_of v t)) k.1).0)))
       (filter-each (λ t. Listed v t.who) (may_terminate v) v.tasks (choosing.listed v said h))
       (each-both (Waits v) (λ t. may_terminate v t ≡ true) (λ t. Waits v t × (may_terminate v t ≡ true)) tasks (λ t a b. (a, b)) (filter-each (Waits v) (may_terminate v) v.tasks (choosing.waits v said h)) (filter-tested (may_terminate v) v.tasks))
 
@@ -325,7 +321,7 @@ module _ {p : Image} {actor : Who} {Fits : Fitting} {Sleeps : Sleeping} {May : A
       (then-leads _ _ (says-keeps acting.later.base.quiet Own (line.Leave actor r (leaves_as leaving)) refl)
       (then-leads _ _ (looks-with _ (λ v said h.
       let tasks = filter (is_made_in r) v.tasks in
-      let unmade = made_each v said h (is_made_in r) (λ t e. first_is_true (is_made t) (is_the same_region t.master r) e) in
+      let unmade = made_each v said h (is_made_in r) (λ t e. (and_parts (is_made t) (is_the same_region t.master r) e).0) in
       since_at v tasks tasks _ unmade (end_each-keeps v tasks tasks unmade (each-among tasks))))
       (then-leads _ _ (complete_if_task-keeps m.purpose) (wait_for_dependents-leads r)))))
 

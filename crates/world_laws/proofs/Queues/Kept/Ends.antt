@@ -1,7 +1,7 @@
 -- Abortable parts on top end with their calls forgotten, and calls end (9.7.4).
 use Rattle.std.proofs.Common.{◌≡◌, ℕ, Bool, true, false, cond, not, inl, inr, ◌≤◌, eqb, length, List, [], ◌∷◌, Option, Some, None, refl, sym, subst, ap, ◌∙◌, option_map}
 use Rattle.std.specs.Prelude.{Ok, Err, is_none, find}
-use Rattle.std.proofs.lemmas.Bool.{and_parts, eq-eqb, true≢false}
+use Rattle.std.proofs.lemmas.Bool.{and_from, and_parts, eq-eqb, false_from_ne_true, true≢false}
 use Rattle.ann_base.specs.Results.{◌>>=◌}
 use Rattle.ann_base.specs.declared.identities.CallNo.{CallNo}
 use Rattle.ann_base.specs.declared.identities.TaskNo.{TaskNo}
@@ -47,7 +47,6 @@ use Rattle.world_laws.proofs.Queues.Kept.CallEnds.{found-number, readied, readie
 use Rattle.world_laws.proofs.Queues.Kept.Combinators.{From, Keeps, Quiets, branch-keeps, calms-from, changes-calms, changes-from, changes_then-from, keeps-from, looks_at-from, nothing-from, nothing-keeps, says-calms, then-after, then-calms, then-from, when-from, when-keeps, with_call-from, world_behind}
 use Rattle.world_laws.proofs.Queues.Kept.Frames.{goes-keeps, leaves-keeps, open_sequence-keeps, pass_on-keeps, raises-keeps}
 use Rattle.world_laws.proofs.Queues.Kept.Parts.{call_at, call_at-awaits, call_at-depth, edit_abortable_at-calm, edited-ending}
-use Rattle.machine_laws.proofs.ListLemmas.{both}
 use Rattle.world_laws.proofs.Queues.Softening.{Unset, marks-calm, pop-calm}
 use Rattle.world_laws.proofs.Queues.Standing.{Awake, Calm, Ended, Good, Idle, Kind, Out, any_kind, awaits_at, awaits_part, calls_part, calm-awake, calm-ended, calm-good, calm-idle, calm-out, calm-then, ended-out, is_ending, nature, natures, part_of, waits_end, GoodBut}
 
@@ -180,9 +179,9 @@ end_abortable-from p part name m f below w free ends top mark =
     ended-then (part-ended p name f below m w ends.good top mark ends.unset free (λ c call. ends.stays f below m c top mark call) (λ c call. ends.out f below m c top mark call)) where
       ended-then : {E : Kind} → Calm E w (forget_trigger m.call (pop name w)) × Awake name (forget_trigger m.call (pop name w))
           → From E w (looks (λ w. changes (pop name) ▷ changes (forget_trigger m.call) ▷ elim (ended_by_itself f below) as (λ _. Step) [ true ↦ behind_abortable p part name m (trigger_outcome w m.call) | false ↦ pass_on p name (leaving_of f) ]))
-      ended-then both = record {
-        leads = λ said. calm-then w (forget_trigger m.call (pop name w)) _ both.0
-            ((keeps-from (elim (ended_by_itself f below) as (λ _. Step) [ true ↦ behind_abortable p part name m (trigger_outcome w m.call) | false ↦ pass_on p name (leaving_of f) ]) (forget_trigger m.call (pop name w)) both.1
+      ended-then and_from = record {
+        leads = λ said. calm-then w (forget_trigger m.call (pop name w)) _ and_from.0
+            ((keeps-from (elim (ended_by_itself f below) as (λ _. Step) [ true ↦ behind_abortable p part name m (trigger_outcome w m.call) | false ↦ pass_on p name (leaving_of f) ]) (forget_trigger m.call (pop name w)) and_from.1
             (branch-keeps (ended_by_itself f below) (behind_abortable p part name m (trigger_outcome w m.call)) (pass_on p name (leaving_of f)) (behind_abortable-keeps p part name m (trigger_outcome w m.call)) (pass_on-keeps p name (leaving_of f)))).leads said);
       }
 
@@ -336,10 +335,6 @@ AllAwake E w = (a : Who) → E.steady a ≡ true → Awake a w
 pub all_awake-on : (E : Kind) {K : Kind} (w v : World) → Calm K w v → AllAwake E w → AllAwake E v
 all_awake-on E w v calm awake a is = calm-awake w v calm a (awake a is)
 
-not-steady : (b : Bool) → (b ≡ true → ⊥) → b ≡ false
-not-steady true h = absurd (h refl)
-not-steady false h = refl
-
 waits-not : (a : Who) (c : CallNo) (d : Call) (w : World) → Awake a w → waiting_of w a ≡ waits_end c → call_of w c ≡ Some d → ⊥
 unfolding Awake
 waits-not a c d w awake is e = awake c d is e
@@ -354,7 +349,7 @@ module _ {E : Kind} {late : CallNo → Bool} (p : Image) (part : Part) (c : Call
   end_for_abortable-by depth at true is =
       let there = seen (waits-this c.number (waiting_of w (who.Task c.caller)) is) in
       end_wait-leaves p part c depth outcome w good end (call_at-depth c.number depth (frames_of w (who.Task c.caller)) at) (good.ends (who.Task c.caller) c.number there.0 (waits-this c.number (waiting_of w (who.Task c.caller)) is) there.1)
-      (not-steady (E.steady (who.Task c.caller)) (λ steady. waits-not (who.Task c.caller) c.number there.0 w (awake (who.Task c.caller) steady) (waits-this c.number (waiting_of w (who.Task c.caller)) is) there.1)) go
+      (false_from_ne_true (E.steady (who.Task c.caller)) (λ steady. waits-not (who.Task c.caller) c.number there.0 w (awake (who.Task c.caller) steady) (waits-this c.number (waiting_of w (who.Task c.caller)) is) there.1)) go
   end_for_abortable-by depth at false is =
       let found = call_at-depth c.number depth (frames_of w (who.Task c.caller)) at in
       unwaited-leaves c w (trigger_at part c.caller depth) (not-waiting c.number (waiting_of w (who.Task c.caller)) is)

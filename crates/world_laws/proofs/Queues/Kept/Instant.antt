@@ -2,7 +2,7 @@
 use Rattle.std.proofs.Common.{◌≡◌, ℕ, ℤ, zero, suc, pos, Bool, true, false, cond, ◌&&◌, ◌||◌, inl, inr, List, [], ◌∷◌, Option, Some, None, refl, sym, subst, ap, ◌∙◌, length}
 use Rattle.std.specs.Prelude.{int_le, unwrap_or}
 use Rattle.std.specs.List.{list_any}
-use Rattle.std.proofs.lemmas.Bool.{eq-eqb, or_left, or_right, true≢false}
+use Rattle.std.proofs.lemmas.Bool.{and_from, eq-eqb, or_left, or_right, true≢false}
 use Rattle.ann_base.specs.declared.identities.CallNo.{CallNo}
 use Rattle.ann_base.specs.declared.identities.TaskNo.{TaskNo}
 use Rattle.trace_text.specs.declared.events.Who.{Who}
@@ -45,7 +45,6 @@ use Rattle.world_laws.proofs.Queues.Kept.Handlers.{interrupt-calms, release-calm
 use Rattle.world_laws.proofs.Queues.Kept.Onward.{Onward, calm-onward, calms-any, with_call-onward}
 use Rattle.world_laws.proofs.Queues.Kept.Parts.{call_at-awaits, edit_abortable_at-calm}
 use Rattle.world_laws.proofs.Queues.Kept.Sending.{no-steady}
-use Rattle.machine_laws.proofs.ListLemmas.{both}
 use Rattle.world_laws.proofs.Queues.Standing.{Awake, Calm, Good, Idle, Kind, Out, Waited, any_kind, calm-good, calm-idle, is_named, quiet_kind, waits_end}
 
 -- ---- moves
@@ -177,7 +176,7 @@ trigger-onward p t depth v good waited none =
     (λ u calm. unwind-from p Own (who.Task t) u (λ x. refl) (calm-good p v u good calm)))
 
 self-due : (t : TaskNo) (depth : ℕ) → is_trigger_of t depth (due_for.Trigger t depth) ≡ true
-self-due t depth = both _ _ (eq-eqb t.0 t.0 refl) (eq-eqb depth depth refl)
+self-due t depth = and_from _ _ (eq-eqb t.0 t.0 refl) (eq-eqb depth depth refl)
 
 come_due-onward : (p : Image) (due : Due) (w : World) → Good p w → ((test : Due → Bool) → test due ≡ true → is_appointed test w ≡ true) → Onward p (drop_appointment (is_the_same_due due) w) (come_due p due)
 unfolding come_due

@@ -1,6 +1,7 @@
 -- Completion, termination and masters: each step keeps a relation that its parts keep.
 use Rattle.std.specs.Prelude.{Bool, not, ◌&&◌, cond, List, Option, Some, None, find}
 use Rattle.std.proofs.Common.{◌≡◌, refl}
+use Rattle.std.proofs.lemmas.Bool.{and_parts}
 use Rattle.ann_base.specs.declared.identities.RegionNo.{RegionNo}
 use Rattle.trace_text.specs.declared.events.Who.{Who}
 use Rattle.profile_machine.specs.declared.image.Image.{Image}
@@ -28,7 +29,7 @@ use Rattle.world_laws.proofs.Scopes.Kept.Inheritance.{lose-alters}
 use Rattle.world_laws.proofs.Scopes.Kept.Appointments.{drop_delay-alters}
 use Rattle.world_laws.proofs.Scopes.Kept.CallEnds.{end_call-keeps, gone-keeps}
 use Rattle.machine_laws.proofs.FineMoves.{GoodWorld, Naming}
-use Rattle.machine_laws.proofs.Kept.Masters.{found-other, second_is_true}
+use Rattle.machine_laws.proofs.Kept.Masters.{found-other}
 
 module _ {G : GoodWorld} {May Other : Naming} {R : StepRelation} {Q : MoveRelation} (moves : FineMoves G May Other R Q) where
   pub gone_by_completion-keeps : (p : Image) (actor : Who) (c : Call) → Keeps G R (gone_by_completion p actor c)
@@ -44,7 +45,7 @@ module _ {G : GoodWorld} {May Other : Naming} {R : StepRelation} {Q : MoveRelati
   end_group-keeps p actor activator =
       looks-from moves _ (λ w good. keeps-from moves _ w good
       (when-keeps-if moves (not (has_activating w activator) && waits_for_activation (waiting_of w activator)) (wake_activator p (part_of actor activator) activator)
-      (λ is. wake_activator-keeps p (part_of actor activator) activator (moves.awaits activator w good (second_is_true (not (has_activating w activator)) (waits_for_activation (waiting_of w activator)) is)))))
+      (λ is. wake_activator-keeps p (part_of actor activator) activator (moves.awaits activator w good ((and_parts (not (has_activating w activator)) (waits_for_activation (waiting_of w activator)) is).1)))))
 
   pub end_activation_by-keeps : (p : Image) (actor name : Who) (failed : Bool) (by : Option Who) → Keeps G R (end_activation_by p actor name failed by)
   unfolding end_activation_by

@@ -3,6 +3,7 @@ use Rattle.ann_base.specs.declared.exceptions.Raised.TheVariants as exception
 use Rattle.world_laws.proofs.Sequences.Kept.Woken.{woken, opened-turns, left-turns}
 use Rattle.std.specs.Prelude.{Bool, true, false, not, ◌&&◌, cond, List, Option, Some, None, find}
 use Rattle.std.proofs.Common.{◌≡◌, refl, inr}
+use Rattle.std.proofs.lemmas.Bool.{and_parts}
 use Rattle.ann_base.specs.declared.identities.RegionNo.{RegionNo}
 use Rattle.trace_text.specs.declared.events.Who.{Who}
 use Rattle.profile_machine.specs.declared.image.Image.{Image}
@@ -30,7 +31,6 @@ use Rattle.world_laws.proofs.Sequences.Kept.Inheritance.{lose-alters}
 use Rattle.world_laws.proofs.Sequences.Kept.Appointments.{drop_delay-alters}
 use Rattle.world_laws.proofs.Sequences.Kept.CallEnds.{end_call-keeps, gone-keeps}
 use Rattle.machine_laws.proofs.Kept.Combinators.{Alters, From, Keeps}
-use Rattle.machine_laws.proofs.Kept.Masters.{second_is_true}
 
 module _ {p : Image} {G : GoodWorld} {May Other : Naming} (moves : FineMoves p G May Other) where
   pub forget_task-alters : (name : Who) → Alters G (Behind G) (forget_task name)
@@ -54,7 +54,7 @@ module _ {p : Image} {G : GoodWorld} {May Other : Naming} (moves : FineMoves p G
   end_group-keeps actor activator =
       looks-from moves _ (λ w good. keeps-from moves _ w good
       (when-keeps-if moves (not (has_activating w activator) && waits_for_activation (waiting_of w activator)) (wake_activator p (part_of actor activator) activator)
-      (λ is. wake_activator-keeps (part_of actor activator) activator (moves.awaits activator w good (second_is_true (not (has_activating w activator)) (waits_for_activation (waiting_of w activator)) is)))))
+      (λ is. wake_activator-keeps (part_of actor activator) activator (moves.awaits activator w good ((and_parts (not (has_activating w activator)) (waits_for_activation (waiting_of w activator)) is).1)))))
 
   pub end_activation_by-keeps : (actor name : Who) (failed : Bool) (by : Option Who) → Keeps G (Behind G) (end_activation_by p actor name failed by)
   unfolding end_activation_by

@@ -58,14 +58,10 @@ lowest_alone n (m ∷ ns) k e h = absurd (false≢true (sym (ap is_some h.0) ∙
 
 -- ---- inside a protected action
 
-inside-test : (b : Bool) (rest : Bool) → rest ≡ true → (b || rest) ≡ true
-inside-test true rest e = refl
-inside-test false rest e = e
-
 pub rooted-inside : (fs : List Frame) → Rooted (natures fs) → any_protected fs ≡ true
 rooted-inside [] h = elim h [ ]
 rooted-inside (f ∷ []) h = or_left (is_protected f.mark) false h.0
-rooted-inside (f ∷ g ∷ fs) h = inside-test (is_protected f.mark) (any_protected (g ∷ fs)) (rooted-inside (g ∷ fs) h.2)
+rooted-inside (f ∷ g ∷ fs) h = or_right (is_protected f.mark) (any_protected (g ∷ fs)) (rooted-inside (g ∷ fs) h.2)
 
 -- what has a top
 pub has_top : (fs : List Frame) (f : Frame) → first_of fs ≡ Some f → (rest : List Frame) × (fs ≡ f ∷ rest)

@@ -19,13 +19,13 @@ use Rattle.profile_machine.specs.Steps.{places_after_all, rests}
 use Rattle.profile_machine.specs.Dispatching as dispatching
 use Rattle.profile_machine.specs.Dispatching.{choose}
 use Rattle.profile_machine.specs.Instant.{instant}
-use Rattle.profile_machine.specs.Run.{Ran, say, says_run, serve_if_free, serve, says_idle, opening, tock, stop, at_tick, stopped, then_runs, run_from, run_of}
+use Rattle.profile_machine.specs.Run.{Ran, say, says_run, serve_if_free, serve, says_idle, opening, tock, stop, at_tick, run_from, run_of}
 use Rattle.machine_laws.specs.LineKinds.{is_of_effect, AllAre}
 use Rattle.machine_laws.proofs.TimeLemmas.{instants_take_no_time, instants_keep_runner, tocks_take_one_tick, opening_now, opening-runner}
 use Rattle.machine_laws.proofs.LineLemmas.{instants_say_effects, tocks_say_ticks, openings_say_effects}
 use Rattle.machine_laws.proofs.PlaceLemmas.{openings_place_by_lines, instants_place_by_lines, tocks_place_nobody, tock_lines-places}
-use Rattle.machine_laws.proofs.QueueLemmas.{lined, lined-after, lined-head}
-use Rattle.machine_laws.proofs.RunLemmas.{run_from-rises}
+use Rattle.machine_laws.proofs.QueueLemmas.{lined, lined-after, lined-head, by_test}
+use Rattle.machine_laws.proofs.RunLemmas.{run_from-rises, turn}
 use Rattle.machine_laws.proofs.Kept.Run.{before_tick, tock-parts}
 
 -- ---- what lines of one tick show
@@ -64,7 +64,7 @@ unfolding runner_by
 runner_by-append r [] ys = refl
 runner_by-append r (x ∷ xs) ys = runner_by-append (runner_after r x) xs ys
 
-effect-runner : (r : Option Who) (event : Event) → is_of_effect event ≡ true → runner_after r event ≡ r
+pub effect-runner : (r : Option Who) (event : Event) → is_of_effect event ≡ true → runner_after r event ≡ r
 effect-runner r (line.Run name) e = cc
 effect-runner r line.Idle e = cc
 effect-runner r _ e = refl
@@ -76,13 +76,13 @@ effects-runner r (x ∷ xs) a = ap (λ q. runner_by q xs) (effect-runner r x a.0
 
 -- ---- a tock shows the one that is chosen
 
-same_who-path : (a b : Who) → same_who a b ≡ true → a ≡ b
+pub same_who-path : (a b : Who) → same_who a b ≡ true → a ≡ b
 same_who-path (who.Task a) (who.Task b) e = ap (λ n. who.Task (record { 0 = n })) (eqb-true a.0 b.0 e)
 same_who-path (who.Task a) who.Agent e = cc
 same_who-path who.Agent (who.Task b) e = cc
 same_who-path who.Agent who.Agent e = refl
 
-ran-path : (ran : Option Who) (name : Who) → same_option same_who ran (Some name) ≡ true → ran ≡ Some name
+pub ran-path : (ran : Option Who) (name : Who) → same_option same_who ran (Some name) ≡ true → ran ≡ Some name
 ran-path None name e = cc
 ran-path (Some other) name e = ap Some (same_who-path other name e)
 
@@ -119,7 +119,7 @@ before_tick-runner p (Some name) w =
 tock-runner : (p : Image) (w : World) → runner_by w.ran (tock p w).1 ≡ choose w
 tock-runner p w = ap (λ a. runner_by w.ran a.1) (tock-parts p w) ∙ before_tick-runner p (choose w) w
 
-tock-ran : (p : Image) (w : World) → (tock p w).0.ran ≡ choose w
+pub tock-ran : (p : Image) (w : World) → (tock p w).0.ran ≡ choose w
 tock-ran p w = ap (λ a. a.0.ran) (tock-parts p w)
 
 -- ---- lines and worlds show one thing
@@ -172,7 +172,7 @@ up_to-at_tick : (tick now : ℕ) (events : List Event) (rest : List TraceLine) �
 up_to-at_tick tick now [] rest a = refl
 up_to-at_tick tick now (x ∷ xs) rest a = let within : leb now tick ≡ true = grind arith in rw within (ap (λ l. (now, x) ∷ l) (up_to-at_tick tick now xs rest a))
 
-up_to-later : (tick later : ℕ) (rest : List TraceLine) → tick < later → RisesFrom later rest → up_to tick rest ≡ []
+pub up_to-later : (tick later : ℕ) (rest : List TraceLine) → tick < later → RisesFrom later rest → up_to tick rest ≡ []
 up_to-later tick later [] a h = refl
 up_to-later tick later (x ∷ xs) a h = let beyond : leb x.0 tick ≡ false = grind (arith, h.0) in rw beyond refl
 
@@ -191,10 +191,6 @@ last_from-later m n (x ∷ xs) a = omega arith
 seen-up_to : (tick now : ℕ) (s : Sight) (events : List Event) (rest : List TraceLine) → now ≤ tick → seen_from see s (up_to tick (at_tick now events ++ rest)) ≡ seen_from see (after_all s events) (up_to tick rest)
 seen-up_to tick now s events rest a = ap (seen_from see s) (up_to-at_tick tick now events rest a) ∙ seen-at_tick now s events (up_to tick rest)
 
-by_test : {P : Type 0} (b : Bool) → (b ≡ true → P) → (b ≡ false → P) → P
-by_test true p q = p refl
-by_test false p q = q refl
-
 -- the lines of one turn, and what is left of the run
 Held-turn : (s : Sight) (now : ℕ) (events : List Event) (rest : List TraceLine) → RisesFrom (suc now) rest → Runs_first (after_all s events) → Held (after_all s events) (suc now) rest → Held s now (at_tick now events ++ rest)
 unfolding Held
@@ -210,10 +206,6 @@ Held-turn s now events rest rises first later tick a b =
 Held-stopped : (s : Sight) (now : ℕ) (events : List Event) → Held s now (at_tick now events)
 unfolding Held
 Held-stopped s now events tick a b = absurd (let none : tick < now = subst (λ n. tick < n) (last_from-alone now events) b in omega arith)
-
-turn : ℕ → World × List Event → World × List Event → Ran → Option Ended → Ran
-turn now i t rest (Some reason) = stopped now i.1 reason
-turn now i t rest None = then_runs now (i.1 ++ t.1) rest
 
 turn-held : (s : Sight) (now : ℕ) (i t : World × List Event) (rest : Ran) (reason : Option Ended) → RisesFrom (suc now) rest.lines → Runs_first (after_all s (i.1 ++ t.1)) → Held (after_all s (i.1 ++ t.1)) (suc now) rest.lines → Held s now (turn now i t rest reason).lines
 unfolding turn

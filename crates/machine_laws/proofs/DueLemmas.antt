@@ -30,7 +30,7 @@ use Rattle.machine_laws.proofs.FinestMoves.{all_of, tocks_of}
 use Rattle.machine_laws.proofs.Moves.{Moves, TockMoves}
 use Rattle.machine_laws.proofs.Kept.Combinators.{Keeps, Leads, then-leads, settles-leads, world_behind, kept-world}
 use Rattle.machine_laws.proofs.Kept.Appointments.{is_later}
-use Rattle.machine_laws.proofs.Kept.Instant.{come_due-keeps, moments_due-leads, timers_due-leads, budgets_due-leads, quantum_spent-leads}
+use Rattle.machine_laws.proofs.Kept.Instant.{come_due-keeps, moments_due-leads, timers_due-leads, budgets_due-leads, quantum_spent-leads, is_there, or_that}
 use Rattle.machine_laws.proofs.Kept.Run.{before_tick, tock-parts, before_tick-leads, opens-keeps}
 
 -- ---- those that are due: events, or the others
@@ -169,14 +169,6 @@ module _ (events : Bool) where
   never_more-tocks = record { tells = λ event w k. still w; serves = λ r rest w k. still w }
 
 -- ---- what is due is taken, the first of them first
-
-abbrev is_there : {X : Type 0} → Option X → Bool
-is_there (Some x) = true
-is_there None = false
-
-abbrev or_that : {X : Type 0} → X → Option X → X
-or_that x (Some y) = y
-or_that x None = x
 
 found_none : {X : Type 0} (b : Bool) (x : X) (rest : Option X) → cond b (Some x) rest ≡ None → (b ≡ false) × (rest ≡ None)
 found_none true x rest h = absurd (false≢true (sym (ap is_there h)))

@@ -238,7 +238,7 @@ quiet-others [] q = tt
 quiet-others (x ∷ xs) q = (first_is_false (is_told_apart x.line) (is_placing x.line) q.0, quiet-others xs q.1)
 
 -- an edit of a task draws nothing
-edit_found-drawn : (name : Who) (f : Task → Task) (w : World) (found : Option Task) → (edit_task_found name f w found).drawn ≡ w.drawn
+pub edit_found-drawn : (name : Who) (f : Task → Task) (w : World) (found : Option Task) → (edit_task_found name f w found).drawn ≡ w.drawn
 edit_found-drawn name f w None = refl
 edit_found-drawn (who.Task n) f w (Some t) = refl
 edit_found-drawn who.Agent f w (Some t) = refl

@@ -38,10 +38,10 @@ use Rattle.machine_laws.proofs.Kept.Run.{tock-parts, before_tick-leads, opens-ke
 
 -- ---- the numbers
 
-abbrev task_number : Task → ℕ
+abbrev pub task_number : Task → ℕ
 task_number t = number_in t.who
 
-abbrev call_number : Call → ℕ
+abbrev pub call_number : Call → ℕ
 call_number c = c.number.0
 
 abbrev registered_number : Registered → ℕ

@@ -17,13 +17,13 @@ use Rattle.profile_machine.specs.Steps.{is_deadline_before, is_above, put_at_tai
 use Rattle.profile_machine.specs.Dispatching as dispatching
 use Rattle.machine_laws.proofs.OrderLemmas.{Behind, Behind-out, Descends, Descends-head, is_above-asym, is_above-trans}
 
-by_test : {P : Type 0} (b : Bool) → (b ≡ true → P) → (b ≡ false → P) → P
+pub by_test : {P : Type 0} (b : Bool) → (b ≡ true → P) → (b ≡ false → P) → P
 by_test true p q = p refl
 by_test false p q = q refl
 
 -- ---- the same tests under other names
 
-who_eq-is : (a b : Who) → who_eq a b ≡ same_who a b
+pub who_eq-is : (a b : Who) → who_eq a b ≡ same_who a b
 who_eq-is (who.Task a) (who.Task b) = refl
 who_eq-is (who.Task a) who.Agent = refl
 who_eq-is who.Agent (who.Task b) = refl

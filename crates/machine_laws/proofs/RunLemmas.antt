@@ -93,7 +93,7 @@ NoneEnds-then : (n : ℕ) (events : List Event) (rest : List TraceLine) → AllA
 NoneEnds-then n [] rest a h = h
 NoneEnds-then n (x ∷ xs) rest a h = (a.0, NoneEnds-then n xs rest a.1 h)
 
-at_tick-append : (n : ℕ) (xs ys : List Event) → at_tick n (xs ++ ys) ≡ at_tick n xs ++ at_tick n ys
+pub at_tick-append : (n : ℕ) (xs ys : List Event) → at_tick n (xs ++ ys) ≡ at_tick n xs ++ at_tick n ys
 at_tick-append n [] ys = refl
 at_tick-append n (x ∷ xs) ys = ap (λ rest. (n, x) ∷ rest) (at_tick-append n xs ys)
 
@@ -129,7 +129,7 @@ then_runs-goes bound now next events rest n a b h = record {
 }
 
 -- one instant, what follows it, and what is left of the run
-turn : ℕ → World × List Event → World × List Event → Ran → Option Ended → Ran
+pub turn : ℕ → World × List Event → World × List Event → Ran → Option Ended → Ran
 turn now i t rest (Some reason) = stopped now i.1 reason
 turn now i t rest None = then_runs now (i.1 ++ t.1) rest
 

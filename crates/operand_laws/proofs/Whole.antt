@@ -14,7 +14,7 @@ use Rattle.ada_regions.specs.Numbered.{names_of}
 use Rattle.ada_regions.specs.TypeKinds.{is_array_type}
 use Rattle.ada_image.specs.declared.making.MadeLists.{MadeLists}
 use Rattle.ada_image.specs.declared.making.Within.{Within}
-use Rattle.ada_image.specs.Making.{Making, ◌>>=◌, pure, nothing_made}
+use Rattle.ada_image.specs.Making.{◌>>=◌, pure, nothing_made}
 use Rattle.ada_image.specs.Layout.{subtype_is, scope_no}
 use Rattle.ada_image.specs.ImageOfExpressions.{expression_image, expression_made, optional_value}
 use Rattle.ada_image.specs.ImageOfCalls.{function_call}
@@ -25,6 +25,7 @@ use Rattle.operand_laws.specs.OperandLaws.{OperandsAreMadeFirst}
 use Rattle.operand_laws.proofs.Rising.{Keeps, keeps-then}
 use Rattle.operand_laws.proofs.Simple.{expression-keeps}
 use Rattle.operand_laws.proofs.Units.{actions-keep}
+use Rattle.image_laws.proofs.Images.Whole.{behind_actions}
 
 -- ---- deadlines, barriers and initial values
 
@@ -81,13 +82,6 @@ declarations-keep within before (d ∷ ds) =
     (λ others l h. h))
 
 -- ---- all that is made
-
-abbrev behind_actions : Within → Making MadeLists
-behind_actions within = do
-  task_units ← task_units_made within 0 within.names.task_units
-  entries ← entries_made within [] within.names.entries
-  declarations ← declarations_made within [] within.names.declarations
-  pure (record { task_units = task_units; entries = entries; declarations = declarations })
 
 behind-keeps : (within : Within) → Keeps (behind_actions within)
 behind-keeps within =

@@ -13,9 +13,9 @@ use Rattle.profile_machine.specs.Handlers.{without_number}
 use Rattle.release_laws.specs.Asked.{Request, OfEvent, OfTimer, OfBudget, OfNothing}
 use Rattle.release_laws.specs.ReleaseLaws.{EventSet, TimerSet, BudgetSet, Account, but_event, put_event, events_asked, but_timer, timers_asked, is_reached, is_number_of, clock_of, but_budget, budgets_asked, budgets_run_out}
 use Rattle.release_laws.proofs.ClockLemmas.{clock_in}
-use Rattle.release_laws.proofs.EventLists.{events_of, Rises}
+use Rattle.release_laws.proofs.EventLists.{events_of, Rises, either}
 use Rattle.release_laws.proofs.TimerLists.{read-past}
-use Rattle.release_laws.proofs.KeyedLists.{Lacks, Differ, without-differ, but-lacks, last-differ}
+use Rattle.release_laws.proofs.KeyedLists.{Lacks, Differ, without-differ, but-lacks, last-differ, other_way}
 use Rattle.release_laws.proofs.Untouched.{budget_in}
 use Rattle.release_laws.proofs.Effects.{due_asked, handler_asked}
 use Rattle.release_laws.proofs.EventSteps.{number_of_event}
@@ -34,9 +34,6 @@ put-lacks n s (x ∷ xs) e l = lacks-where (int_lt s.moment x.moment) (put-lacks
     lacks-where true k = (e, l)
     lacks-where false k = (l.0, k)
 
-other_way : (a b : ℕ) → eqb a b ≡ false → eqb b a ≡ false
-other_way a b h = grind arith
-
 put-differ : (s : EventSet) (es : List EventSet) → Lacks number_of_event s.event es → Differ number_of_event es → Differ number_of_event (put_event s es)
 put-differ s [] l d = (tt, tt)
 put-differ s (x ∷ xs) l d = differ-where (int_lt s.moment x.moment) (put-differ s xs l.1 d.1)
@@ -44,10 +41,6 @@ put-differ s (x ∷ xs) l d = differ-where (int_lt s.moment x.moment) (put-diffe
     differ-where : (b : Bool) → Differ number_of_event (put_event s xs) → Differ number_of_event (cond b (s ∷ x ∷ xs) (x ∷ put_event s xs))
     differ-where true k = (l, d)
     differ-where false k = (put-lacks x.event s xs (other_way s.event x.event l.0) d.0, k)
-
-either : {X : Type 0} (P : X → Type 0) (b : Bool) (x y : X) → P x → P y → P (cond b x y)
-either P true x y h k = h
-either P false x y h k = k
 
 but-differ : (n : ℕ) (es : List EventSet) → Differ number_of_event es → Differ number_of_event (but_event n es)
 but-differ n es d = without-differ number_of_event (λ s. eqb n s.event) es d

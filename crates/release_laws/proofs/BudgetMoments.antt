@@ -1,5 +1,5 @@
 -- The handler that a budget got stays in the account, and is released where the budget runs out.
-use Rattle.std.proofs.Common.{◌≡◌, ℕ, zero, suc, ◌+◌, true, cond, eqb, ltb, filter, length, slice_index_or, List, [], ◌∷◌, ◌++◌, Some, None, refl, sym, subst, arith}
+use Rattle.std.proofs.Common.{◌≡◌, ℕ, zero, suc, ◌+◌, true, cond, eqb, filter, length, slice_index_or, List, [], ◌∷◌, ◌++◌, Some, None, refl, sym, subst, arith}
 use Rattle.std.proofs.lemmas.Bool.{false≢true, not-true}
 use Rattle.profile_machine.specs.declared.image.Image.{Image}
 use Rattle.profile_machine.specs.declared.world.World.{World}
@@ -13,14 +13,9 @@ use Rattle.release_laws.specs.MomentLaws.{IsAmong, leaves_budget, LeaveBudget, l
 use Rattle.release_laws.proofs.RunReleases.{runs_release}
 use Rattle.release_laws.proofs.CauseLemmas.{budgets-stand}
 use Rattle.release_laws.proofs.MomentLemmas.{among-front, among-behind, among-map, among-filter, among-without, among-one, either-among, behind-front, last-itself}
+use Rattle.release_laws.proofs.TimerLists.{none-below, below-behind}
 
 -- ---- the budget that runs out is found by its number
-
-none-below : (n : ℕ) → ltb n 0 ≡ true → ⊥
-none-below n h = grind arith
-
-below-behind : (n k : ℕ) → ltb (suc n) (suc k) ≡ true → ltb n k ≡ true
-below-behind n k h = grind arith
 
 next_number : (k n m : ℕ) → eqb (k + suc n) m ≡ true → eqb (suc k + n) m ≡ true
 next_number k n m h = grind arith

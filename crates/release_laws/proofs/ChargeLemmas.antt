@@ -22,12 +22,9 @@ use Rattle.release_laws.proofs.Untouched.{Sight, sight_of}
 use Rattle.release_laws.proofs.Effects.{edited-alike}
 use Rattle.release_laws.proofs.TickSteps.{other-clock}
 use Rattle.release_laws.proofs.Tocks.{risen, clocked, paid, paid-sight, same_budgets, run-alike, serve-alike, idle-same, spent-who, spent-clock}
+use Rattle.release_laws.proofs.TimerSteps.{or_that}
 
 -- ---- what is seen of each task, where one is edited and this is not
-
-or_that : {X : Type 0} → X → Option X → X
-or_that x (Some y) = y
-or_that x None = x
 
 seen-alike : {Y : Type 0} (see : Task → Y) (b : Bool) (x z : Task) (rest : Option Task) → see x ≡ see z → option_map see (cond b (Some x) rest) ≡ option_map see (cond b (Some z) rest)
 seen-alike see true x z rest e = ap Some e

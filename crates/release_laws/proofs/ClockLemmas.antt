@@ -7,6 +7,7 @@ use Rattle.trace_text.specs.declared.events.Who.TheVariants as who
 use Rattle.profile_machine.specs.declared.world.tasks.Task.{Task}
 use Rattle.profile_machine.specs.Words.{same_who, set_where, without}
 use Rattle.profile_machine.specs.Tasks.{nobody, is_who, found_task}
+use Rattle.machine_laws.proofs.Kept.Instant.{or_that}
 
 -- what a clock shows of a task that may be there
 abbrev pub shown : Option Task → ℕ
@@ -14,10 +15,6 @@ shown found = (unwrap_or found nobody).cpu_ticks
 
 abbrev pub clock_in : List Task → TaskNo → ℕ
 clock_in tasks t = shown (found_task (who.Task t) tasks)
-
-abbrev or_that : {X : Type 0} → X → Option X → X
-or_that x (Some y) = y
-or_that x None = x
 
 shown-alike : (b : Bool) (x y : Task) (rest : Option Task) → x.cpu_ticks ≡ y.cpu_ticks → shown (cond b (Some x) rest) ≡ shown (cond b (Some y) rest)
 shown-alike true x y rest e = e

@@ -53,7 +53,7 @@ lower : (m k : ℤ) → int_le m k ≡ true → (xs : List Appointment) → NotB
 lower m k h [] n = tt
 lower m k h (a ∷ rest) n = (le_on m k a.moment h n.0, lower m k h rest n.1)
 
-either : {X : Type 0} (P : X → Type 0) (b : Bool) (x y : X) → P x → P y → P (cond b x y)
+pub either : {X : Type 0} (P : X → Type 0) (b : Bool) (x y : X) → P x → P y → P (cond b x y)
 either P true x y h k = h
 either P false x y h k = k
 

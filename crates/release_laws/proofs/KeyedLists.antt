@@ -1,17 +1,10 @@
 -- Lists in which each item has a number of its own: taking the first that passes a test, again and again, takes all that pass it.
-use Rattle.std.proofs.Common.{◌≡◌, ℕ, Bool, true, false, cond, not, eqb, find, filter, List, [], ◌∷◌, ◌++◌, Option, Some, None, refl, sym, ap, subst, ◌∙◌, eq-eqb, arith}
+use Rattle.std.proofs.Common.{◌≡◌, ℕ, Bool, true, false, cond, not, eqb, find, filter, List, [], ◌∷◌, ◌++◌, Some, None, refl, sym, ap, subst, ◌∙◌, eq-eqb, arith}
 use Rattle.std.proofs.lemmas.Bool.{false≢true}
 use Rattle.profile_machine.specs.Words.{without}
+use Rattle.machine_laws.proofs.Kept.Instant.{is_there, or_that}
 
-abbrev is_there : {X : Type 0} → Option X → Bool
-is_there (Some x) = true
-is_there None = false
-
-abbrev or_that : {X : Type 0} → X → Option X → X
-or_that x (Some y) = y
-or_that x None = x
-
-other_way : (a b : ℕ) → eqb a b ≡ false → eqb b a ≡ false
+pub other_way : (a b : ℕ) → eqb a b ≡ false → eqb b a ≡ false
 other_way a b h = grind arith
 
 module _ {X : Type 0} (key : X → ℕ) where

@@ -19,17 +19,13 @@ use Rattle.release_laws.specs.ReleaseLaws.{TimerSet, BudgetSet, is_reached, budg
 use Rattle.release_laws.proofs.ClockLemmas.{clock_in, shown}
 use Rattle.release_laws.proofs.TimerLists.{timer_in, with_timer_in, timers_in}
 use Rattle.release_laws.proofs.Untouched.{budget_in, edited-seen}
-use Rattle.release_laws.proofs.TimerSteps.{number_of_timer}
+use Rattle.release_laws.proofs.TimerSteps.{number_of_timer, or_that}
 
 -- ---- the clock of one task alone goes on
 
 apart : (u t : TaskNo) (other : Who) → same_task u t ≡ false → same_who (who.Task t) other ≡ true → same_who (who.Task u) other ≡ false
 apart u t (who.Task n) h k = let e : t.0 ≡ n.0 = eqb-true t.0 n.0 k in subst (λ i. eqb u.0 i ≡ false) e h
 apart u t who.Agent h k = refl
-
-or_that : {X : Type 0} → X → Option X → X
-or_that x (Some y) = y
-or_that x None = x
 
 module _ (u t : TaskNo) (x y : Task) (different : same_task u t ≡ false) (same_name : x.who ≡ y.who) where
   other-here : (z : Task) (zs : List Task) → z ≡ y → is_who (who.Task t) z ≡ true → found_task (who.Task u) (x ∷ zs) ≡ found_task (who.Task u) (z ∷ zs)

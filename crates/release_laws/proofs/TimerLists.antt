@@ -14,10 +14,10 @@ use Rattle.release_laws.specs.ReleaseLaws.{TimerSet, but_timer, is_number_of}
 differ-behind : (n k : ℕ) → eqb (suc n) (suc k) ≡ false → eqb n k ≡ false
 differ-behind n k h = grind arith
 
-none-below : (n : ℕ) → ltb n 0 ≡ true → ⊥
+pub none-below : (n : ℕ) → ltb n 0 ≡ true → ⊥
 none-below n h = grind arith
 
-below-behind : (n k : ℕ) → ltb (suc n) (suc k) ≡ true → ltb n k ≡ true
+pub below-behind : (n k : ℕ) → ltb (suc n) (suc k) ≡ true → ltb n k ≡ true
 below-behind n k h = grind arith
 
 past-behind : (n k : ℕ) → ltb (suc n) (suc k) ≡ false → ltb n k ≡ false

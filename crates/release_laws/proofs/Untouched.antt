@@ -38,7 +38,7 @@ use Rattle.profile_machine.specs.Controlled.{edit_scope_mark, edit_top_scope}
 use Rattle.profile_machine.specs.Tasking.{add_task, being_left_mark, left_so_frame}
 use Rattle.profile_machine.specs.Releases.{released}
 use Rattle.machine_laws.proofs.Moves.{own, is_told_apart}
-use Rattle.machine_laws.proofs.FineMoves.{AnyWorld, Anybody, AnyRegion, AnyRelease, EachIs, gone_on, is_apart, is_placing, first_is_false, quiet-others}
+use Rattle.machine_laws.proofs.FineMoves.{AnyWorld, Anybody, AnyRegion, AnyRelease, gone_on, is_apart, is_placing, first_is_false, quiet-others, each-anybody}
 use Rattle.machine_laws.proofs.FinestMoves.{FinestMoves, SparesEvents, MarkOpenings, OwnRegions, ActionEnds, HandlerMoves, Begins, Anyhow, is_of_region, less-quiet}
 use Rattle.release_laws.proofs.ClockLemmas.{clock_in, set-clock, added-clock, gone-clock}
 use Rattle.release_laws.proofs.EventLists.{events_of, Rises, put-rises, without-rises, put_other-events, spared-events}
@@ -213,10 +213,6 @@ released-append (_ ∷ xs) ys = released-append xs ys
 
 none-append : (xs ys : List Event) → released xs ≡ [] → released ys ≡ [] → released (xs ++ ys) ≡ []
 none-append xs ys p q = released-append xs ys ∙ ap (λ hs. hs ++ released ys) p ∙ q
-
-each-anybody : (ts : List Task) → EachIs Anybody ts
-each-anybody [] = tt
-each-anybody (t ∷ ts) = (tt, each-anybody ts)
 
 left-untouched : (name : Who) (leaving : Leaving) (w : World) → Untouched (sight_of w) (sight_of (edit_top name (left_so_frame leaving) (edit_top_scope name being_left_mark w)))
 left-untouched name leaving w =

@@ -34,16 +34,16 @@ use Rattle.ceiling_laws.specs.CeilingLaws.{IsBelow, LetsInBelow, RaisesAbove, Se
 
 -- ---- tests
 
-second_false : (a b : Bool) → (a && b) ≡ false → a ≡ true → b ≡ false
+pub second_false : (a b : Bool) → (a && b) ≡ false → a ≡ true → b ≡ false
 second_false true b e is = e
 second_false false b e is = absurd cc
 
-not_less : (a c : ℕ) → ltb c a ≡ false → a ≤ c
+pub not_less : (a c : ℕ) → ltb c a ≡ false → a ≤ c
 not_less a c e = grind arith
 
 -- ---- who is let in
 
-not_above : (a b c : Bool) → cond a entering_is.SameObject (cond b entering_is.AboveCeiling (cond c entering_is.Held entering_is.Inside)) ≡ entering_is.Inside → b ≡ false
+pub not_above : (a b c : Bool) → cond a entering_is.SameObject (cond b entering_is.AboveCeiling (cond c entering_is.Held entering_is.Inside)) ≡ entering_is.Inside → b ≡ false
 not_above true b c e = absurd cc
 not_above false true c e = absurd cc
 not_above false false c e = refl

@@ -1,11 +1,10 @@
 -- What each step by which an effect changes somebody's level makes of places.
 use Rattle.ann_base.specs.declared.identities.TaskNo.{TaskNo}
 use Rattle.ceiling_laws.proofs.Places.EditLemmas.{edit-others, edit-state, inherit-rises}
-use Rattle.ceiling_laws.proofs.Places.PartOrder.{last_put-append}
+use Rattle.ceiling_laws.proofs.Places.PartOrder.{last_put-append, by_test}
 use Rattle.ceiling_laws.specs.Acting.{AreLow, BaseLeavesLow, BlockLeavesLow, EndLeavesLow, InheritanceLeavesLow, LeadsLow, LossLeavesLow, MayBePlaced, PlacingLeavesLow, ReadyLeavesLow}
 use Rattle.ceiling_laws.specs.PlaceLaws.{IsAtMost, level_shown}
 use Rattle.ceiling_laws.specs.Puts.{last_put, place_by, puts, with_put}
-use Rattle.ceiling_laws.proofs.Runs.FoundLemmas.{by_test}
 use Rattle.ceiling_laws.proofs.Runs.Kept.Waking.{who-is}
 use Rattle.ceiling_laws.proofs.Runs.LevelMoves.{said_so}
 use Rattle.profile_machine.specs.Dispatching.{active, active_of, block, deadline_shown, grant_quantum, granted, keep_level, level_kept_by, ready, says_block, says_ready, to_head, to_tail, without_kept_level, word_of}
@@ -21,19 +20,21 @@ use Rattle.profile_machine.specs.declared.world.World.{World}
 use Rattle.profile_machine.specs.declared.world.lines.Line.{Line}
 use Rattle.profile_machine.specs.declared.world.lines.Line.TheVariants as line
 use Rattle.profile_machine.specs.declared.world.lines.Part.{Part}
-use Rattle.profile_machine.specs.declared.world.lines.Part.TheVariants.{OfOther, Own, TheBlock, TheCall, TheFinish, ThePlacing}
+use Rattle.profile_machine.specs.declared.world.lines.Part.TheVariants.{TheBlock, ThePlacing}
 use Rattle.profile_machine.specs.declared.world.lines.Said.{Said}
 use Rattle.profile_machine.specs.declared.world.tasks.Cause.{Cause}
 use Rattle.profile_machine.specs.declared.world.tasks.State.TheVariants.{Blocked, Runnable}
 use Rattle.profile_machine.specs.declared.world.tasks.Task.{Task}
 use Rattle.profile_machine.specs.declared.world.tasks.Waiting.{Waiting}
-use Rattle.std.proofs.Common.{Bool, List, None, Option, Some, [], ap, arith, cond, eq-eqb, false, inl, inr, le_refl, le_trans, ltb, refl, subst, sym, true, ℕ, ◌&&◌, ◌++◌, ◌∙◌, ◌∷◌, ◌≡◌, ◌≤◌, ◌⊎◌}
+use Rattle.std.proofs.Common.{Bool, List, None, Option, Some, [], ap, arith, cond, false, inl, inr, le_refl, le_trans, ltb, refl, subst, sym, true, ℕ, ◌&&◌, ◌++◌, ◌∙◌, ◌∷◌, ◌≡◌, ◌≤◌, ◌⊎◌}
 use Rattle.std.specs.Prelude.{eqb, slice_index_or}
 use Rattle.trace_text.specs.Laws.{Levels}
 use Rattle.trace_text.specs.declared.events.QueueEnd.{QueueEnd}
 use Rattle.trace_text.specs.declared.events.QueueEnd.TheVariants.{Head, Tail}
 use Rattle.trace_text.specs.declared.events.Who.{Who}
 use Rattle.trace_text.specs.declared.events.Who.TheVariants as who
+use Rattle.line_laws.proofs.Handlers.AgentLines.{block_last}
+use Rattle.line_laws.proofs.Leaving.TaskLemmas.{same_self}
 
 abbrev Fine : ℕ → Option ℕ → Option (Part × Option ℕ) → Type 0
 Fine level shown last = MayBePlaced ThePlacing last × IsAtMost (place_by last shown) level
@@ -56,29 +57,17 @@ put-fine : (last : Option (Part × Option ℕ)) (part : Part) (level : ℕ) (sho
 put-fine None part level shown early may = (inr early, le_refl level)
 put-fine (Some last) part level shown early may = put-test (is_part_before part last.0) last part level shown early may
 
-pub block-last : (part : Part) → is_part_before TheBlock part ≡ false
-block-last TheCall = refl
-block-last TheFinish = refl
-block-last Own = refl
-block-last (OfOther name) = refl
-block-last ThePlacing = refl
-block-last TheBlock = refl
-
 out-test : (b : Bool) (last : Part × Option ℕ) (level : ℕ) (shown : Option ℕ) → b ≡ false → Fine level shown (cond b (Some last) (Some (TheBlock, None)))
 out-test true last level shown e = absurd cc
 out-test false last level shown e = (inl refl, tt)
 
 out-fine : (last : Option (Part × Option ℕ)) (level : ℕ) (shown : Option ℕ) → Fine level shown (with_put last TheBlock (Some None))
 out-fine None level shown = (inl refl, tt)
-out-fine (Some last) level shown = out-test (is_part_before TheBlock last.0) last level shown (block-last last.0)
+out-fine (Some last) level shown = out-test (is_part_before TheBlock last.0) last level shown (block_last last.0)
 
-with-none : (last : Option (Part × Option ℕ)) (part : Part) → with_put last part None ≡ last
+pub with-none : (last : Option (Part × Option ℕ)) (part : Part) → with_put last part None ≡ last
 with-none None part = refl
 with-none (Some last) part = refl
-
-same-self : (a : Who) → same_who a a ≡ true
-same-self (who.Task a) = eq-eqb a.0 a.0 refl
-same-self who.Agent = refl
 
 module _ (p : Image) (s : Levels) where
   abbrev FineOf : World → List Said → Who → Type 0
@@ -103,7 +92,7 @@ module _ (p : Image) (s : Levels) where
   ready-low part name end a b said early may others h =
       let x = line.Ready name (active_of p b name) end (deadline_shown p (task_of b name)) in
       by_name name b (said ++ said_so part x ∷ [])
-      (said-fine name part x (Some (active_of p b name)) b said (ap (λ t. cond t (Some (Some (active_of p b name))) None) (same-self name)) (put-fine (last_put name said) part (active_of p b name) (level_shown name s) early may))
+      (said-fine name part x (Some (active_of p b name)) b said (ap (λ t. cond t (Some (Some (active_of p b name))) None) (same_self name)) (put-fine (last_put name said) part (active_of p b name) (level_shown name s) early may))
       (λ n apart. unsaid n part x b said (ap (λ t. cond t (Some (Some (active_of p b name))) None) apart) (same-fine a b said n (others n apart) (h n)))
 
   head-low : (name : Who) (a b : World) (said : List Said) → ((n : Who) → same_who n name ≡ false → active_of p b n ≡ active_of p a n) → AreLow p s a said → LeadsLow p s (to_head p ThePlacing name b said)
@@ -166,7 +155,7 @@ module _ (p : Image) (s : Levels) where
       let b = edit_task name without_kept_level (edit_task name (with_state (Blocked waiting)) w) in
       let x = line.Block name (word_of waiting) in
       by_name name b (said ++ said_so TheBlock x ∷ [])
-      (said-fine name TheBlock x None b said (ap (λ t. cond t (Some None) None) (same-self name)) (out-fine (last_put name said) (active_of p b name) (level_shown name s)))
+      (said-fine name TheBlock x None b said (ap (λ t. cond t (Some None) None) (same_self name)) (out-fine (last_put name said) (active_of p b name) (level_shown name s)))
       (λ n apart. unsaid n TheBlock x b said (ap (λ t. cond t (Some None) None) apart) (same-fine w b said n (blocked-others name waiting w n apart) (h n)))
 
   tail-low : (part : Part) (name : Who) (a w : World) (said : List Said) → is_part_before ThePlacing part ≡ false → MayBePlaced part (last_put name said) → ((n : Who) → same_who n name ≡ false → active_of p w n ≡ active_of p a n) → AreLow p s a said → LeadsLow p s (to_tail p part name w said)
@@ -209,7 +198,7 @@ module _ (p : Image) (s : Levels) where
   done-low part (who.Task t) w said h =
       let x = line.Done t in
       by_name (who.Task t) w (said ++ said_so part x ∷ [])
-      (said-fine (who.Task t) part x None w said (ap (λ b. cond b (Some None) None) (same-self (who.Task t))) (gone-fine (last_put (who.Task t) said) part (active_of p w (who.Task t)) (level_shown (who.Task t) s) (h (who.Task t))))
+      (said-fine (who.Task t) part x None w said (ap (λ b. cond b (Some None) None) (same_self (who.Task t))) (gone-fine (last_put (who.Task t) said) part (active_of p w (who.Task t)) (level_shown (who.Task t) s) (h (who.Task t))))
       (λ n apart. unsaid n part x w said (ap (λ b. cond b (Some None) None) apart) (h n))
   done-low part who.Agent w said h = h
 

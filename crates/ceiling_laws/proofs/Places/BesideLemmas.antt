@@ -1,17 +1,17 @@
 -- What comes about beside the effect of who acts leaves everybody at or below its active priority: its lines are of one part, and
 -- place each who becomes ready at the active priority that it then has.
 use Rattle.ceiling_laws.proofs.Places.EditLemmas.{active-plain, active-same, edit-others, inherit-rises}
-use Rattle.ceiling_laws.proofs.Places.PartOrder.{last_put-append}
+use Rattle.ceiling_laws.proofs.Places.PartOrder.{last_put-append, by_test}
 use Rattle.ceiling_laws.proofs.Places.QueueLemmas.{effects_place_by_the_last}
 use Rattle.ceiling_laws.specs.PlaceLaws.{AreAtMostActive, IsAtMost, OthersKeepPlaces, level_shown}
 use Rattle.ceiling_laws.specs.Puts.{last_put, place_by, puts, with_put}
-use Rattle.ceiling_laws.proofs.Runs.FoundLemmas.{by_test}
 use Rattle.ceiling_laws.proofs.Runs.FreeMoves.{any_task, any_world}
 use Rattle.ceiling_laws.proofs.Runs.Kept.Instant.{OtherMoves}
 use Rattle.ceiling_laws.proofs.Runs.Kept.Waking.{who-is}
 use Rattle.ceiling_laws.proofs.Runs.LevelMoves.{Silences, is_apart, said_so}
 use Rattle.ceiling_laws.proofs.Runs.RunLemmas.{Others, Settles, behind_onward}
 use Rattle.ceiling_laws.proofs.Runs.Triples.{Ends, Keeps, Leads, State, With, from-leads}
+use Rattle.ceiling_laws.proofs.Places.ActingLemmas.{at_most-risen, with-none}
 use Rattle.ceiling_laws.specs.RunLaws.{levels_told}
 use Rattle.machine_laws.proofs.Moves.{lines_of}
 use Rattle.profile_machine.specs.Dispatching.{active, active_of, deadline_shown, grant_quantum, granted, keep_level, level_kept_by, ready, says_ready, to_tail}
@@ -33,9 +33,10 @@ use Rattle.profile_machine.specs.declared.world.tasks.Cause.{Cause}
 use Rattle.profile_machine.specs.declared.world.tasks.Cause.TheVariants as inherited_by
 use Rattle.profile_machine.specs.declared.world.tasks.State.TheVariants.{Runnable}
 use Rattle.profile_machine.specs.declared.world.tasks.Task.{Task}
-use Rattle.std.proofs.Common.{Bool, List, None, Option, Some, [], ap, cond, eq-eqb, false, le_refl, le_trans, refl, subst, sym, true, ℕ, ℤ, ◌&&◌, ◌++◌, ◌∙◌, ◌∷◌, ◌≡◌, ◌≤◌}
+use Rattle.std.proofs.Common.{Bool, List, None, Option, Some, [], ap, cond, false, le_refl, refl, subst, sym, true, ℕ, ℤ, ◌&&◌, ◌++◌, ◌∙◌, ◌∷◌, ◌≡◌, ◌≤◌}
 use Rattle.std.specs.Prelude.{eqb, slice_index_or}
 use Rattle.line_laws.proofs.Ticks.LineByLine.{Follow, seen_behind}
+use Rattle.line_laws.proofs.Leaving.TaskLemmas.{same_self}
 use Rattle.trace_text.specs.Laws.{Levels, see_levels}
 use Rattle.trace_text.specs.declared.events.Event.{Event}
 use Rattle.trace_text.specs.declared.events.QueueEnd.{QueueEnd}
@@ -54,10 +55,6 @@ Lowly level shown last = OwnPut last × IsAtMost (place_by last shown) level
 Low : Image → Levels → State
 Low p s w said = (n : Who) → Lowly (active_of p w n) (level_shown n s) (last_put n said)
 
-at_most-risen : (place : Option ℕ) (a b : ℕ) → a ≤ b → IsAtMost place a → IsAtMost place b
-at_most-risen None a b up h = tt
-at_most-risen (Some level) a b up h = le_trans h up
-
 lowly-risen : (shown : Option ℕ) (last : Option (Part × Option ℕ)) (a b : ℕ) → a ≤ b → Lowly a shown last → Lowly b shown last
 lowly-risen shown last a b up h = (h.0, at_most-risen (place_by last shown) a b up h.1)
 
@@ -69,10 +66,6 @@ puts-apart n (line.Block name waits) e = absurd cc
 puts-apart n (line.Done t) e = absurd cc
 puts-apart n _ e = refl
 
-with-none : (last : Option (Part × Option ℕ)) (part : Part) → with_put last part None ≡ last
-with-none None part = refl
-with-none (Some last) part = refl
-
 pub unsaid : (n : Who) (said : List Said) (part : Part) (x : Line) → puts n x ≡ None → last_put n (said ++ said_so part x ∷ []) ≡ last_put n said
 unsaid n said part x e = last_put-append n said (said_so part x) ∙ ap (with_put (last_put n said) part) e ∙ with-none (last_put n said) part
 
@@ -83,12 +76,8 @@ placed-so : (last : Option (Part × Option ℕ)) (level : ℕ) (shown : Option �
 placed-so None level shown own = (refl, le_refl level)
 placed-so (Some last) level shown own = own-placed last.0 last.1 level shown own
 
-pub same-self : (a : Who) → same_who a a ≡ true
-same-self (who.Task a) = eq-eqb a.0 a.0 refl
-same-self who.Agent = refl
-
 ready-puts : (name : Who) (level : ℕ) (end : QueueEnd) (deadline : Option ℤ) → puts name (line.Ready name level end deadline) ≡ Some (Some level)
-ready-puts name level end deadline = ap (λ b. cond b (Some (Some level)) None) (same-self name)
+ready-puts name level end deadline = ap (λ b. cond b (Some (Some level)) None) (same_self name)
 
 ready-other : (n name : Who) (level : ℕ) (end : QueueEnd) (deadline : Option ℤ) → same_who n name ≡ false → puts n (line.Ready name level end deadline) ≡ None
 ready-other n name level end deadline apart = ap (λ b. cond b (Some (Some level)) None) apart
@@ -189,7 +178,7 @@ module _ (p : Image) (s : Levels) where
 abbrev pub any_event : Levels → Event → Bool
 any_event sight event = true
 
-any_follow : (sight : Levels) (lines : List Event) → Follow see_levels any_event sight lines
+pub any_follow : (sight : Levels) (lines : List Event) → Follow see_levels any_event sight lines
 any_follow sight [] = tt
 any_follow sight (x ∷ xs) = (refl, any_follow (see_levels sight x) xs)
 

@@ -1,8 +1,9 @@
 -- What changes of a task make of active priorities.
 use Rattle.ceiling_laws.proofs.Runs.CoreLemmas.{core-same}
-use Rattle.ceiling_laws.proofs.Runs.FoundLemmas.{by_test, set-other}
+use Rattle.ceiling_laws.proofs.Runs.FoundLemmas.{set-other}
 use Rattle.ceiling_laws.proofs.Runs.Kept.Waking.{who-is}
 use Rattle.ceiling_laws.proofs.Runs.SameLemmas.{found_is_who, set_where-found}
+use Rattle.ceiling_laws.proofs.Places.PartOrder.{by_test}
 use Rattle.ceiling_laws.specs.Cores.{Core, Same}
 use Rattle.profile_machine.specs.Dispatching.{active, active_of, kept_level_or_base}
 use Rattle.profile_machine.specs.Inheritance.{inherit}
@@ -19,7 +20,7 @@ use Rattle.std.specs.Prelude.{find, unwrap_or}
 use Rattle.trace_text.specs.declared.events.Who.{Who}
 use Rattle.trace_text.specs.declared.events.Who.TheVariants as who
 
-abbrev active_core : Image → Core → ℕ
+abbrev pub active_core : Image → Core → ℕ
 active_core p c = greatest_of (map (λ i. i.level) c.inherited) (kept_level_or_base (edf_low p c.base) c.kept_level c.base)
 
 -- a change that touches no level leaves each active priority
@@ -30,7 +31,7 @@ pub active-plain : (p : Image) (a b : World) (n : Who) → b.tasks ≡ a.tasks �
 active-plain p a b (who.Task t) tasks agent = ap (λ ts. active p (unwrap_or (find (is_who (who.Task t)) ts) nobody)) tasks
 active-plain p a b who.Agent tasks agent = ap (active p) agent
 
-named-apart : (m k : Who) (x y : Task) → is_who m x ≡ true → y.who ≡ x.who → same_who k m ≡ false → is_who k y ≡ false
+pub named-apart : (m k : Who) (x y : Task) → is_who m x ≡ true → y.who ≡ x.who → same_who k m ≡ false → is_who k y ≡ false
 named-apart m k x y is same apart = ap (same_who k) (same ∙ sym (who-is m x.who is)) ∙ apart
 
 -- ---- a task that is edited

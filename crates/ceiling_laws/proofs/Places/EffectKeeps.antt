@@ -1,7 +1,6 @@
 -- Effects leave everybody at or below its active priority, and who is not ready nowhere.
 use Rattle.ann_base.specs.declared.exceptions.Raised.TheVariants as exception
 use Rattle.ann_base.specs.declared.identities.TaskNo.{TaskNo}
-use Rattle.ceiling_laws.proofs.Places.BesideLemmas.{same-self}
 use Rattle.ceiling_laws.proofs.Places.CorePoints.{Except, Holds, Places, Point, Readies, Turns, active_in, holds-also, holds-edit, holds-of, holds-plain, holds-put, holds-sound, holds_quiet, keeps_says, not-absent, ready-holds}
 use Rattle.ceiling_laws.proofs.Places.EffectMoves.{Sleeping_in, Wakeful, base_moves, base_set_or_deferred, ceases_good, clash_of, deadline_set_or_deferred, deferred_set, dying_wakeful, ending_wakeful, good-choosing, good_wakeful, heads_later, keeps_turns, later-kept, later-rises, later-wakes, later_wakeful, lost_later, nobody-acts, owed_loses, owes_since, owing_wakeful, paid, rests_choosing, self_apart, since_wakeful, starts_later, tails_later}
 use Rattle.ceiling_laws.proofs.Places.SoundWorlds.{IsAbsent, IsThere, Sound, Unactivated, all_there, each-on, is_agent, is_fresh, known, sound-add, sound-appoint, sound-edit, sound-forget, sound-plain, sound-task, unactivated-loses, unactivated_without}
@@ -10,7 +9,7 @@ use Rattle.ceiling_laws.specs.Acting.{MayBePlaced}
 use Rattle.ceiling_laws.specs.PlaceLaws.{IsAtMost, level_shown}
 use Rattle.ceiling_laws.specs.Puts.{last_put, puts, with_put}
 use Rattle.ceiling_laws.proofs.Runs.ActingMoves.{ActingMoves, IsNew, LaterMoves, SelectMoves}
-use Rattle.ceiling_laws.proofs.Runs.FoundLemmas.{by_test, kept-others, none-left}
+use Rattle.ceiling_laws.proofs.Runs.FoundLemmas.{kept-others, none-left}
 use Rattle.ceiling_laws.proofs.Runs.FreeMoves.{anywhere}
 use Rattle.ceiling_laws.proofs.Runs.Kept.CallEnds.{deliver-keeps}
 use Rattle.ceiling_laws.proofs.Runs.Kept.Declarations.{set_thing-same}
@@ -21,6 +20,7 @@ use Rattle.ceiling_laws.proofs.Runs.Kept.Waking.{who-is}
 use Rattle.ceiling_laws.proofs.Runs.LevelMoves.{EachTask, Fitting, is_blocked}
 use Rattle.ceiling_laws.proofs.Runs.SameLemmas.{edit_task-same}
 use Rattle.ceiling_laws.proofs.Runs.Triples.{Alters, Ends, Keeps, Leads, State, With, changes-keeps, changes-leads, for_some-keeps, from-leads, looks-keeps, nothing-leads, then-keeps, then-leads}
+use Rattle.ceiling_laws.proofs.Places.PartOrder.{by_test}
 use Rattle.ceiling_laws.specs.Cores.{Core, Same, core}
 use Rattle.profile_machine.specs.Appointments.{appoint}
 use Rattle.profile_machine.specs.CallEnds.{deliver}
@@ -65,13 +65,14 @@ use Rattle.trace_text.specs.declared.events.Created.TheVariants as created
 use Rattle.trace_text.specs.declared.events.Waits.{Waits}
 use Rattle.trace_text.specs.declared.events.Who.{Who}
 use Rattle.trace_text.specs.declared.events.Who.TheVariants as who
+use Rattle.line_laws.proofs.Leaving.TaskLemmas.{same_self}
 
-made-apart : {P : Type 0} (state : tasks.State) → is_made_state state ≡ true → is_runnable_state state ≡ true → P
+pub made-apart : {P : Type 0} (state : tasks.State) → is_made_state state ≡ true → is_runnable_state state ≡ true → P
 made-apart Made made runs = absurd cc
 made-apart Runnable made runs = absurd cc
 made-apart (Blocked waiting) made runs = absurd cc
 
-made-unblocked : (state : tasks.State) → is_made_state state ≡ true → is_blocked state ≡ false
+pub made-unblocked : (state : tasks.State) → is_made_state state ≡ true → is_blocked state ≡ false
 made-unblocked Made made = refl
 made-unblocked Runnable made = absurd cc
 made-unblocked (Blocked waiting) made = absurd cc
@@ -115,16 +116,16 @@ record AddedAs (t : Task) (n : Who) (before behind : Core) : Type 0 where
   was : before ≡ core nobody
   is : behind ≡ core t
 
-or_found : Option Task → Option Task → Option Task
+pub or_found : Option Task → Option Task → Option Task
 or_found None other = other
 or_found (Some x) other = Some x
 
-behind_if : (b : Bool) (x : Task) (found behind other : Option Task) → behind ≡ or_found found other → cond b (Some x) behind ≡ or_found (cond b (Some x) found) other
+pub behind_if : (b : Bool) (x : Task) (found behind other : Option Task) → behind ≡ or_found found other → cond b (Some x) behind ≡ or_found (cond b (Some x) found) other
 unfolding or_found
 behind_if true x found behind other e = refl
 behind_if false x found behind other e = e
 
-find-behind : (test : Task → Bool) (t : Task) (xs : List Task) → find test (xs ++ t ∷ []) ≡ or_found (find test xs) (cond (test t) (Some t) None)
+pub find-behind : (test : Task → Bool) (t : Task) (xs : List Task) → find test (xs ++ t ∷ []) ≡ or_found (find test xs) (cond (test t) (Some t) None)
 unfolding or_found
 find-behind test t [] = refl
 find-behind test t (x ∷ xs) = behind_if (test x) x (find test xs) (find test (xs ++ t ∷ [])) (cond (test t) (Some t) None) (find-behind test t xs)
@@ -164,13 +165,13 @@ nowhere c = None
 done-holds : (P Q : Point) (part : Part) (t : TaskNo) → Places P Q (who.Task t) part nowhere → Leads (Holds P) (Holds Q) (says_done part (who.Task t))
 unfolding says_done Ends nowhere
 done-holds P Q part t places = record {
-  runs = λ w said h. holds-put P Q (who.Task t) part nowhere (line.Done t) w said (ap (λ b. cond b (Some None) None) (same-self (who.Task t))) (λ n apart. done_puts n t apart) places h;
+  runs = λ w said h. holds-put P Q (who.Task t) part nowhere (line.Done t) w said (ap (λ b. cond b (Some None) None) (same_self (who.Task t))) (λ n apart. done_puts n t apart) places h;
 }
 
 block-holds : (P Q : Point) (name : Who) (waits : Waits) → Places P Q name TheBlock nowhere → Leads (Holds P) (Holds Q) (says TheBlock (line.Block name waits))
 unfolding Ends nowhere
 block-holds P Q name waits places = record {
-  runs = λ w said h. holds-put P Q name TheBlock nowhere (line.Block name waits) w said (ap (λ b. cond b (Some None) None) (same-self name)) (λ n apart. ap (λ b. cond b (Some None) None) apart) places h;
+  runs = λ w said h. holds-put P Q name TheBlock nowhere (line.Block name waits) w said (ap (λ b. cond b (Some None) None) (same_self name)) (λ n apart. ap (λ b. cond b (Some None) None) apart) places h;
 }
 
 module _ (p : Image) (s : Levels) (a : Who) where
@@ -204,7 +205,7 @@ module _ (p : Image) (s : Levels) (a : Who) where
     others = λ d n c l apart h. h.0 apart;
     own = λ d c l h.
         let out = block-put l in
-        (subst (Good p s a d name c) (sym out) (blocked-good p s a d name c (Some (TheBlock, None)) refl), λ acts. let k = h.1 (same-self name) acts in (k.0, inr (k.1, out)));
+        (subst (Good p s a d name c) (sym out) (blocked-good p s a d name c (Some (TheBlock, None)) refl), λ acts. let k = h.1 (same_self name) acts in (k.0, inr (k.1, out)));
   }
 
   blocks_later : (name : Who) (waiting : Waiting) → Keeps (Held Whole) (block TheBlock name waiting)
@@ -344,7 +345,7 @@ module _ (p : Image) (s : Levels) (a : Who) where
   spoken_places = record {
     others = λ d n c l apart h. h.0 apart;
     own = λ d c l h.
-        let k = h.1 (same-self a) in
+        let k = h.1 (same_self a) in
         (subst (Good p s a d a c) (sym (block-put l)) (blocked-good p s a d a c (Some (TheBlock, None)) refl), λ acts. (k.0, out_state c l k.1));
   }
 
@@ -402,8 +403,8 @@ module _ (p : Image) (s : Levels) (a : Who) where
   select_turns : (waiting : Waiting) → waits_at_terminate (Some waiting) ≡ true → Turns (First p s a) (Choosing p s a) a (with_state (Blocked waiting))
   select_turns waiting waits = record {
     others = λ d n c l apart h. good-choosing p s a d n c l h.0;
-    own = λ d t l is h. record { late = h.0.late; low = h.0.low; shown = inr (same-self a, waits); fresh = h.0.fresh };
-    missed = λ d l task h. nobody-runs (h.1 (same-self a)).1;
+    own = λ d t l is h. record { late = h.0.late; low = h.0.low; shown = inr (same_self a, waits); fresh = h.0.fresh };
+    missed = λ d l task h. nobody-runs (h.1 (same_self a)).1;
   }
 
   selects : (waiting : Waiting) → waits_at_terminate (Some waiting) ≡ true → Leads (Held (First p s a)) (Held (Choosing p s a)) (changes (edit_task a (with_state (Blocked waiting))))
@@ -491,7 +492,7 @@ module _ (p : Image) (s : Levels) (a : Who) where
   ended_loses v name w said h =
       holds-edit (Ending p s a v name) (Ending p s a v name) name less w said (λ t. refl) (sound-edit name less w (λ t. refl) (λ t k. unactivated_without (λ i. same_cause inherited_by.Activation i.cause) t.inherited k) (holds-sound (Ending p s a v name) w said h))
       (keeps_turns p s a (Ending p s a v name) name less (λ d t l is k. (
-        (later-kept p s a d name t (core (less t)) l is refl (at_most-out (place p s a name l) (active_in p (core (less t))) (k.1 (same-self name))) k.0.0, k.0.1, k.0.2),
+        (later-kept p s a d name t (core (less t)) l is refl (at_most-out (place p s a name l) (active_in p (core (less t))) (k.1 (same_self name))) k.0.0, k.0.1, k.0.2),
         k.1,
         k.2,
       ))) h
@@ -501,7 +502,7 @@ module _ (p : Image) (s : Levels) (a : Who) where
       holds-forget (Ending p s a v name) (Since p s a v) name (record {
         others = λ d n c l apart h. h.0;
         task = λ d c l task h.
-            let hidden = h.1 (same-self name) in (
+            let hidden = h.1 (same_self name) in (
               (record { late = h.0.0.0.late; low = at_most-out (place p s a name l) (active_in p (core nobody)) hidden; shown = inr (inl hidden); fresh = λ e. hidden }, λ same. clash_of (same_who name a) same h.2.other),
               h.0.1,
               λ sleeps. nobody-sleeps sleeps,
@@ -516,8 +517,8 @@ module _ (p : Image) (s : Levels) (a : Who) where
   last_places t is = record {
     others = λ d n c l apart h. ((λ e. h.0), (λ same. clash_of (same_who n a) same (ap (same_who n) (sym is) ∙ apart)));
     own = λ d c l h.
-        let acts = h.1 (ap (same_who (who.Task t)) (sym is) ∙ same-self (who.Task t)) in (
-          (λ apart. clash_of (same_who (who.Task t) a) (ap (same_who (who.Task t)) (sym is) ∙ same-self (who.Task t)) apart),
+        let acts = h.1 (ap (same_who (who.Task t)) (sym is) ∙ same_self (who.Task t)) in (
+          (λ apart. clash_of (same_who (who.Task t) a) (ap (same_who (who.Task t)) (sym is) ∙ same_self (who.Task t)) apart),
           (λ same. record {
             late = put-late (limit p s a (who.Task t)) Own l None (fits_own p s a (who.Task t)) h.0.late;
             runs = acts.1;
@@ -546,7 +547,7 @@ module _ (p : Image) (s : Levels) (a : Who) where
   dying_loses (who.Task n) is w said h =
       holds-edit (Dying p s a) (Dying p s a) (who.Task n) less w said (λ t. refl) (sound-task n less w (λ t. refl) (holds-sound (Dying p s a) w said h))
       (keeps_turns p s a (Dying p s a) (who.Task n) less (λ d t l named k. (
-        (λ apart. clash_of (same_who (who.Task n) a) (ap (same_who (who.Task n)) (sym is) ∙ same-self (who.Task n)) apart),
+        (λ apart. clash_of (same_who (who.Task n) a) (ap (same_who (who.Task n)) (sym is) ∙ same_self (who.Task n)) apart),
         (λ same. let o = k.1 same in record { late = o.late; runs = o.runs; fresh = o.fresh; gone = gone-loses t (who.Task n) l refl o.gone }),
       ))) h
   dying_loses who.Agent is w said h =
@@ -573,11 +574,11 @@ module _ (p : Image) (s : Levels) (a : Who) where
       holds-forget (Dying p s a) (Good p s a) a (record {
         others = λ d n c l apart h. h.0 apart;
         task = λ d c l task h.
-            let o = h.1 (same-self a) in
+            let o = h.1 (same_self a) in
             let hidden = gone-hidden a c l task o.gone in
             record { late = o.late; low = at_most-out (place p s a a l) (active_in p (core nobody)) hidden; shown = inr (inl hidden); fresh = λ e. hidden };
         agent = λ d c l agent h.
-            let o = h.1 (same-self a) in
+            let o = h.1 (same_self a) in
             record { late = o.late; low = gone-low a c l o.gone; shown = inl o.runs; fresh = λ e. clash_of (is_fresh d a) e o.fresh };
       })
 
@@ -675,8 +676,8 @@ module _ (p : Image) (s : Levels) (a : Who) where
   met t = record {
     between = Met (who.Task t);
     others = λ d n c l apart h. h.0;
-    own = λ d u l h. let k = h.1 (same-self (who.Task t)) in record { late = h.0.0.late; may = k.0; drawn = k.1; runs = inl refl; acts = λ same. refl };
-    missed = λ d l task h. let k = h.1 (same-self (who.Task t)) in record { late = h.0.0.late; may = k.0; drawn = k.1; runs = inr (task, refl); acts = λ same. nobody-acts p s a l (h.0.1 same).1 };
+    own = λ d u l h. let k = h.1 (same_self (who.Task t)) in record { late = h.0.0.late; may = k.0; drawn = k.1; runs = inl refl; acts = λ same. refl };
+    missed = λ d l task h. let k = h.1 (same_self (who.Task t)) in record { late = h.0.0.late; may = k.0; drawn = k.1; runs = inr (task, refl); acts = λ same. nobody-acts p s a l (h.0.1 same).1 };
     keeps = λ d u l level named h. record { late = h.late; may = h.may; drawn = h.drawn; runs = begun_runs (who.Task t) u level named h.runs; acts = h.acts };
     places = λ d c l h. (placed-good p s a d (who.Task t) c l TheFinish (fits_finish p s a (who.Task t)) h.drawn h.late h.may h.runs, λ same. (h.drawn, inl (h.acts same)));
   }
@@ -728,8 +729,8 @@ module _ (p : Image) (s : Levels) (a : Who) where
     fits_finish = fits_finish p s a;
     tails = tails_later p s a;
     waits_at_select = λ accepts delay. selects (waits_for.Select accepts delay true) refl;
-    appoints_first = λ t moment is. appoints-holds (First p s a) (λ d c l h. (h.1 (same-self a)).0) t moment is;
-    appoints = λ t moment is. appoints-holds Whole (λ d c l h. (h.1 (same-self a)).0) t moment is;
+    appoints_first = λ t moment is. appoints-holds (First p s a) (λ d c l h. (h.1 (same_self a)).0) t moment is;
+    appoints = λ t moment is. appoints-holds Whole (λ d c l h. (h.1 (same_self a)).0) t moment is;
     loses = lost_later p s a;
     sets_deferred = deferred_set p s a;
     sets_base = λ t level. from-leads (set_or_defer_base p a (who.Task t) level) (starts_later p s a) (base_set_or_deferred p s a (who.Task t) level);

@@ -1,18 +1,17 @@
 -- What each step of an effect makes of places: all that an effect keeps.
 use Rattle.ceiling_laws.proofs.Places.ActingLemmas.{at_most-risen}
-use Rattle.ceiling_laws.proofs.Places.BesideLemmas.{same-self}
 use Rattle.ceiling_laws.proofs.Places.CorePoints.{Holds, Knowing, Places, Point, Readies, Turns, active_in, at_active, core-plain, holds-also, holds-edit, holds-knowing, holds-of, holds-sound, holds_quiet, keeps_says, not-absent, ready-holds, state-kept, to_head-holds, to_tail-holds}
 use Rattle.ceiling_laws.proofs.Places.SoundWorlds.{IsAbsent, Sound, Unactivated, is_agent, is_fresh, known, sound-edit, unactivated_without}
 use Rattle.ceiling_laws.proofs.Places.Standing.{Acting, Bare, Choosing, Dying, Ending, First, Fits, Good, Hidden, IsShownRightly, IsUnmade, Last, Later, Loose, Owes, Owing, Since, acting-placed, acts_early, at_most-out, awake, blocked-put, fits_limit, limit, limit-actor, nobody-runs, nobody-sleeps, place, placed-good, runs_in, sleeps_in, woken-good}
 use Rattle.ceiling_laws.specs.PlaceLaws.{IsAtMost}
 use Rattle.ceiling_laws.specs.Puts.{last_put, with_put}
 use Rattle.ceiling_laws.proofs.Runs.CoreLemmas.{core-same}
-use Rattle.ceiling_laws.proofs.Runs.FoundLemmas.{by_test}
 use Rattle.ceiling_laws.proofs.Runs.Kept.Priorities.{reprioritize_own-keeps, says_deadline-keeps}
 use Rattle.ceiling_laws.proofs.Runs.Kept.Tasks.{edit_task-alters}
 use Rattle.ceiling_laws.proofs.Runs.Kept.Waking.{who-is}
 use Rattle.ceiling_laws.proofs.Runs.LevelMoves.{BaseMoves, Fitting, Sleeping, is_blocked}
 use Rattle.ceiling_laws.proofs.Runs.Triples.{At, Keeps, Leads, State, With, branch-leads, changes-keeps, changes-leads, from-leads, from_at, looks-keeps, looks-leads, looks-with, nothing-keeps, nothing-leads, then-keeps, then-leads, when-keeps, when-leads}
+use Rattle.ceiling_laws.proofs.Places.PartOrder.{by_test}
 use Rattle.ceiling_laws.specs.Cores.{Core, Same, core}
 use Rattle.profile_machine.specs.Dispatching.{active_of, ready, to_head, to_tail}
 use Rattle.profile_machine.specs.Frames.{in_protected}
@@ -43,6 +42,7 @@ use Rattle.std.specs.Prelude.{Bool, List, None, Option, Some, false, not, true, 
 use Rattle.trace_text.specs.Laws.{Levels}
 use Rattle.trace_text.specs.declared.events.Who.{Who}
 use Rattle.trace_text.specs.declared.events.Who.TheVariants as who
+use Rattle.line_laws.proofs.Leaving.TaskLemmas.{same_self}
 
 abbrev pub Sleeping_in : Sleeping
 Sleeping_in w name = is_blocked (task_of w name).state ≡ true
@@ -85,8 +85,8 @@ module _ {p : Image} {Parts : Fitting} (P : Point) (wakeful : Wakeful p Parts P)
   waking name part fits = record {
     between = Woken name;
     others = λ d n c l apart h. h.0;
-    own = λ d t l h. record { before = core t; held = h.0; slept = (h.1 (same-self name)).1; drawn = (h.1 (same-self name)).0; runs = refl };
-    missed = λ d l task h. nobody-sleeps (h.1 (same-self name)).1;
+    own = λ d t l h. record { before = core t; held = h.0; slept = (h.1 (same_self name)).1; drawn = (h.1 (same_self name)).0; runs = refl };
+    missed = λ d l task h. nobody-sleeps (h.1 (same_self name)).1;
     keeps = λ d t l level named h. record { before = h.before; held = h.held; slept = h.slept; drawn = h.drawn; runs = h.runs };
     places = λ d c l h. wakeful.wakes part d name h.before c l fits h.drawn h.slept h.runs h.held;
   }
@@ -242,7 +242,7 @@ module _ (p : Image) (s : Levels) (a : Who) where
   -- ---- who is edited or placed is somebody, and others are as they were
 
   pub self_apart : {P : Type 0} (n : Who) → same_who n n ≡ false → P
-  self_apart n apart = clash_of (same_who n n) (same-self n) apart
+  self_apart n apart = clash_of (same_who n n) (same_self n) apart
 
   pub keeps_turns : (P : Point) (name : Who) (f : Task → Task) → ((d : ℕ) (t : Task) (l : Last) → Named name t → P d name (core t) l → P d name (core (f t)) l) → Turns P P name f
   keeps_turns P name f own = record { others = λ d n c l apart h. h; own = own; missed = λ d l task h. h }
@@ -258,7 +258,7 @@ module _ (p : Image) (s : Levels) (a : Who) where
   pub actor_places : Places (Loose p s a a) (Later p s a) a ThePlacing (at_active p)
   actor_places = record {
     others = λ d n c l apart h. h.0 apart;
-    own = λ d c l h. let b = h.1 (same-self a) in acting-placed p s a d a c l ThePlacing (same-self a) refl b.late (b.acting (same-self a));
+    own = λ d c l h. let b = h.1 (same_self a) in acting-placed p s a d a c l ThePlacing (same_self a) refl b.late (b.acting (same_self a));
   }
 
   pub later-bare : (d : ℕ) (n : Who) (c : Core) (l : Last) → Later p s a d n c l → Bare p s a d n c l
@@ -304,7 +304,7 @@ module _ (p : Image) (s : Levels) (a : Who) where
     h.0,
     λ n. by_test (same_who n name)
         (λ same. subst (λ m. Later p s a w.drawn.tasks m (core (task_of w m)) (last_put m said)) (sym (who-is n name same))
-        (tight w.drawn.tasks name (core (task_of w name)) (last_put name said) ((h.1 name).1 (same-self name)) low))
+        (tight w.drawn.tasks name (core (task_of w name)) (last_put name said) ((h.1 name).1 (same_self name)) low))
         (λ apart. (h.1 n).0 apart),
   )
 
@@ -316,7 +316,7 @@ module _ (p : Image) (s : Levels) (a : Who) where
 
   pub unready : (name : Who) (w : World) (said : List Said) → runs_in (core (task_of w name)) ≡ false → Holds (Loose p s a name) w said → Holds (Later p s a) w said
   unready name w said idle h =
-      let b = (holds-of (Loose p s a name) w said name h).1 (same-self name) in
+      let b = (holds-of (Loose p s a name) w said name h).1 (same_self name) in
       tightened name w said h (unready-low w.drawn.tasks name (core (task_of w name)) (last_put name said) idle b.shown b.absent)
 
   -- who is ready is placed in the last part that fits
@@ -328,8 +328,8 @@ module _ (p : Image) (s : Levels) (a : Who) where
   ready_places name = record {
     others = λ d n c l apart h. h.0.0 apart;
     own = λ d c l h.
-        let b = h.0.1 (same-self name) in
-        let k = h.1 (same-self name) in
+        let b = h.0.1 (same_self name) in
+        let k = h.1 (same_self name) in
         (placed-good p s a d name c l (limit p s a name) (fits_limit p s a name) k.1 b.late b.late (inl k.0), λ acts. (k.1, inl k.0));
   }
 
@@ -395,10 +395,10 @@ module _ (p : Image) (s : Levels) (a : Who) where
 
   -- what was deferred is set behind an action
   pub base_set_placing : (level : ℕ) → Keeps (Holds (Later p s a)) (set_base p ThePlacing ThePlacing a level)
-  base_set_placing level = subst (λ part. Keeps (Holds (Later p s a)) (set_base p ThePlacing part a level)) (limit-actor p s a a (same-self a)) (base_set ThePlacing a level)
+  base_set_placing level = subst (λ part. Keeps (Holds (Later p s a)) (set_base p ThePlacing part a level)) (limit-actor p s a a (same_self a)) (base_set ThePlacing a level)
 
   pub deadline_set_placing : (deadline : ℤ) → Keeps (Holds (Later p s a)) (set_deadline p ThePlacing ThePlacing a deadline)
-  deadline_set_placing deadline = subst (λ part. Keeps (Holds (Later p s a)) (set_deadline p ThePlacing part a deadline)) (limit-actor p s a a (same-self a)) (deadline_set ThePlacing a deadline)
+  deadline_set_placing deadline = subst (λ part. Keeps (Holds (Later p s a)) (set_deadline p ThePlacing part a deadline)) (limit-actor p s a a (same_self a)) (deadline_set ThePlacing a deadline)
 
   pub base_taken : (deferred : Option ℕ) → Keeps (Holds (Later p s a)) (take_base p a deferred)
   unfolding take_base
@@ -478,7 +478,7 @@ module _ (p : Image) (s : Levels) (a : Who) where
   pub paid_places : (before : World) → Places (Owing p s a before) (Later p s a) a ThePlacing (at_active p)
   paid_places before = record {
     others = λ d n c l apart h. (h.0 apart, λ same. clash_of (same_who n a) same apart);
-    own = λ d c l h. let o = h.1 (same-self a) in acting-placed p s a d a c l ThePlacing (same-self a) refl o.late o.acting;
+    own = λ d c l h. let o = h.1 (same_self a) in acting-placed p s a d a c l ThePlacing (same_self a) refl o.late o.acting;
   }
 
   pub acting-shown : (n : Who) (c : Core) (l : Last) → (runs_in c ≡ true) ⊎ ((sleeps_in c ≡ true) × (l ≡ Some (TheBlock, None))) → IsShownRightly p s a n c l

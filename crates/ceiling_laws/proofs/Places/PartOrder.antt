@@ -50,7 +50,7 @@ neither (OfOther a) Own e = refl
 neither (OfOther a) ThePlacing e = refl
 neither (OfOther a) TheBlock e = refl
 
-by_test : {P : Type 0} (b : Bool) → (b ≡ true → P) → (b ≡ false → P) → P
+pub by_test : {P : Type 0} (b : Bool) → (b ≡ true → P) → (b ≡ false → P) → P
 by_test true f g = f refl
 by_test false f g = g refl
 

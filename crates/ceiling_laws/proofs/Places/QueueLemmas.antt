@@ -28,7 +28,7 @@ eq-same (who.Task a) who.Agent = refl
 eq-same who.Agent (who.Task b) = refl
 eq-same who.Agent who.Agent = refl
 
-whose-name : (a b : Who) → who_eq a b ≡ true → a ≡ b
+pub whose-name : (a b : Who) → who_eq a b ≡ true → a ≡ b
 whose-name (who.Task a) (who.Task b) e = ap (λ n. who.Task (record { 0 = n })) (eqb-true a.0 b.0 e)
 whose-name (who.Task a) who.Agent e = absurd cc
 whose-name who.Agent (who.Task b) e = absurd cc

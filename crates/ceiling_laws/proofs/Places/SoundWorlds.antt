@@ -1,7 +1,6 @@
 -- What of a world stays sound: its tasks bear numbers of tasks, each another, and only numbers that were drawn; for no other task a
 -- moment is appointed; and the agent was activated by nobody.
 use Rattle.ann_base.specs.declared.identities.TaskNo.{TaskNo}
-use Rattle.ceiling_laws.proofs.Places.BesideLemmas.{same-self}
 use Rattle.ceiling_laws.proofs.Runs.Kept.Waking.{found-each, who-is}
 use Rattle.ceiling_laws.proofs.Runs.LevelMoves.{EachTask}
 use Rattle.ceiling_laws.proofs.Runs.SameLemmas.{set_where-seen}
@@ -25,6 +24,7 @@ use Rattle.std.specs.List.{list_any}
 use Rattle.std.specs.Prelude.{Bool, List, None, Option, Some, [], eqb, false, find, int_lt, leb, not, suc, true, ℕ, ℤ, unwrap_or}
 use Rattle.trace_text.specs.declared.events.Who.{Who}
 use Rattle.trace_text.specs.declared.events.Who.TheVariants as who
+use Rattle.line_laws.proofs.Leaving.TaskLemmas.{same_self}
 
 -- ---- names
 
@@ -45,7 +45,7 @@ NamesFrom low drawn [] = low ≤ drawn
 NamesFrom low drawn (who.Task t ∷ ns) = (low ≤ t.0) × NamesFrom (suc t.0) drawn ns
 NamesFrom low drawn (who.Agent ∷ ns) = false ≡ true
 
-never : {P : Type 0} → false ≡ true → P
+pub never : {P : Type 0} → false ≡ true → P
 never e = absurd cc
 
 pub names_lower : (less low drawn : ℕ) (ns : List Who) → less ≤ low → NamesFrom low drawn ns → NamesFrom less drawn ns
@@ -71,15 +71,15 @@ names_head who.Agent low drawn ns fewer h onward = h
 pub lower-suc : (low n : ℕ) → low ≤ n → low ≤ suc n
 lower-suc low n h = omega (arith, h)
 
-names_tail : (n : Who) (low drawn : ℕ) (ns fewer : List Who) → NamesFrom low drawn (n ∷ ns) → ((l : ℕ) → NamesFrom l drawn ns → NamesFrom l drawn fewer) → NamesFrom low drawn fewer
+pub names_tail : (n : Who) (low drawn : ℕ) (ns fewer : List Who) → NamesFrom low drawn (n ∷ ns) → ((l : ℕ) → NamesFrom l drawn ns → NamesFrom l drawn fewer) → NamesFrom low drawn fewer
 names_tail (who.Task t) low drawn ns fewer h onward = names_lower low (suc t.0) drawn fewer (lower-suc low t.0 h.0) (onward (suc t.0) h.1)
 names_tail who.Agent low drawn ns fewer h onward = never h
 
-names_if : (b : Bool) (low drawn : ℕ) (t : Task) (ns : List Who) (fewer : List Task) → NamesFrom low drawn (t.who ∷ ns) → ((l : ℕ) → NamesFrom l drawn ns → NamesFrom l drawn (map whose fewer)) → NamesFrom low drawn (map whose (cond b (t ∷ fewer) fewer))
+pub names_if : (b : Bool) (low drawn : ℕ) (t : Task) (ns : List Who) (fewer : List Task) → NamesFrom low drawn (t.who ∷ ns) → ((l : ℕ) → NamesFrom l drawn ns → NamesFrom l drawn (map whose fewer)) → NamesFrom low drawn (map whose (cond b (t ∷ fewer) fewer))
 names_if true low drawn t ns fewer h onward = names_head t.who low drawn ns (map whose fewer) h onward
 names_if false low drawn t ns fewer h onward = names_tail t.who low drawn ns (map whose fewer) h onward
 
-names_without : (name : Who) (low drawn : ℕ) (ts : List Task) → NamesFrom low drawn (map whose ts) → NamesFrom low drawn (map whose (without (is_who name) ts))
+pub names_without : (name : Who) (low drawn : ℕ) (ts : List Task) → NamesFrom low drawn (map whose ts) → NamesFrom low drawn (map whose (without (is_who name) ts))
 names_without name low drawn [] h = h
 names_without name low drawn (t ∷ ts) h = names_if (not (is_who name t)) low drawn t (map whose ts) (without (is_who name) ts) h (λ l k. names_without name l drawn ts k)
 
@@ -109,7 +109,7 @@ later-apart k (who.Task i) (who.Task j) late is = later_number k i.0 j.0 late (a
 later-apart k (who.Task i) who.Agent late is = refl
 later-apart k who.Agent m late is = absurd cc
 
-drawn-number : (low drawn : ℕ) (ns : List Who) → NamesFrom low drawn ns → low ≤ drawn
+pub drawn-number : (low drawn : ℕ) (ns : List Who) → NamesFrom low drawn ns → low ≤ drawn
 drawn-number low drawn [] h = h
 drawn-number low drawn (who.Task t ∷ ns) h = let k = drawn-number (suc t.0) drawn ns h.1 in omega (arith, h.0, k)
 drawn-number low drawn (who.Agent ∷ ns) h = never h
@@ -121,9 +121,9 @@ pub earlier-low : (low k : ℕ) (m : Who) → low ≤ k → is_fresh (suc k) m �
 earlier-low low k (who.Task j) l late = earlier_number low k j.0 l late
 earlier-low low k who.Agent l late = late
 
-head-known : (n : Who) (low drawn : ℕ) (t : Task) (ts : List Task) (ns : List Who) → t.who ≡ n → NamesFrom low drawn (n ∷ ns) → Known low drawn (t ∷ ts) t
+pub head-known : (n : Who) (low drawn : ℕ) (t : Task) (ts : List Task) (ns : List Who) → t.who ≡ n → NamesFrom low drawn (n ∷ ns) → Known low drawn (t ∷ ts) t
 head-known (who.Task k) low drawn t ts ns is h = record {
-  found = ap (λ b. cond b (Some t) (find (is_who t.who) ts)) (same-self t.who);
+  found = ap (λ b. cond b (Some t) (find (is_who t.who) ts)) (same_self t.who);
   drawn_before = ap (is_fresh drawn) is ∙ not-yet k.0 drawn (drawn-number (suc k.0) drawn ns h.1);
   behind_it = ap (is_fresh low) is ∙ le-leb low k.0 h.0;
   no_agent = ap is_agent is;

@@ -1,14 +1,12 @@
 -- Where an effect leaves somebody: at or below its active priority, and nowhere where it is not ready.
-use Rattle.ceiling_laws.proofs.Places.ActingLemmas.{block-last}
-use Rattle.ceiling_laws.proofs.Places.BesideLemmas.{same-self}
 use Rattle.ceiling_laws.proofs.Places.CorePoints.{Except, Point, active_in}
 use Rattle.ceiling_laws.proofs.Places.SoundWorlds.{IsAbsent, is_agent, is_fresh}
 use Rattle.ceiling_laws.specs.Acting.{MayBePlaced}
 use Rattle.ceiling_laws.specs.PlaceLaws.{IsAtMost, level_shown}
 use Rattle.ceiling_laws.specs.Puts.{place_by, with_put}
-use Rattle.ceiling_laws.proofs.Runs.FoundLemmas.{by_test}
 use Rattle.ceiling_laws.proofs.Runs.Kept.Waking.{who-is}
 use Rattle.ceiling_laws.proofs.Runs.LevelMoves.{Fitting, is_blocked}
+use Rattle.ceiling_laws.proofs.Places.PartOrder.{by_test}
 use Rattle.ceiling_laws.specs.Cores.{Core, core}
 use Rattle.profile_machine.specs.Dispatching.{active_of}
 use Rattle.profile_machine.specs.Masters.{part_of, waits_at_terminate}
@@ -27,6 +25,8 @@ use Rattle.std.specs.Prelude.{Bool, None, Option, Some, false, true, ℕ}
 use Rattle.trace_text.specs.Laws.{Levels}
 use Rattle.trace_text.specs.declared.events.Who.{Who}
 use Rattle.trace_text.specs.declared.events.Who.TheVariants as who
+use Rattle.line_laws.proofs.Handlers.AgentLines.{block_last}
+use Rattle.line_laws.proofs.Leaving.TaskLemmas.{same_self}
 
 abbrev pub Last : Type 0
 Last = Option (Part × Option ℕ)
@@ -70,7 +70,7 @@ out-late part (Some last) shown out = inl out
 -- behind a block nothing is said
 pub block-put : (last : Last) → with_put last TheBlock (Some None) ≡ Some (TheBlock, None)
 block-put None = refl
-block-put (Some last) = ap (λ b. cond b (Some last) (Some (TheBlock, None))) (block-last last.0)
+block-put (Some last) = ap (λ b. cond b (Some last) (Some (TheBlock, None))) (block_last last.0)
 
 pub blocked-put : (last : Last) (part : Part) (place : Option ℕ) → last ≡ Some (TheBlock, None) → is_part_before part TheBlock ≡ true → with_put last part (Some place) ≡ last
 blocked-put last part place is before = subst (λ l. with_put l part (Some place) ≡ l) (sym is) (ap (λ b. cond b (Some (TheBlock, None)) (Some (part, place))) before)
@@ -85,14 +85,14 @@ early-part TheBlock e = absurd cc
 
 -- ---- parts
 
-less_self : (n : ℕ) → ltb n n ≡ false
+pub less_self : (n : ℕ) → ltb n n ≡ false
 less_self n = grind arith
 
 pub self-before : (name : Who) → is_numbered_before name name ≡ false
 self-before (who.Task t) = less_self t.0
 self-before who.Agent = refl
 
-part-self : (part : Part) → is_part_before part part ≡ false
+pub part-self : (part : Part) → is_part_before part part ≡ false
 part-self TheCall = refl
 part-self TheFinish = refl
 part-self Own = refl
@@ -101,7 +101,7 @@ part-self ThePlacing = refl
 part-self TheBlock = refl
 
 pub apart-sym : (x y : Who) → same_who x y ≡ false → same_who y x ≡ false
-apart-sym x y apart = by_test (same_who y x) (λ same. absurd (let clash : false ≡ true = sym apart ∙ ap (same_who x) (who-is y x same) ∙ same-self x in cc)) (λ e. e)
+apart-sym x y apart = by_test (same_who y x) (λ same. absurd (let clash : false ≡ true = sym apart ∙ ap (same_who x) (who-is y x same) ∙ same_self x in cc)) (λ e. e)
 
 -- ---- states of a task
 
@@ -117,7 +117,7 @@ nobody-runs e = absurd cc
 pub nobody-sleeps : {P : Type 0} → sleeps_in (core nobody) ≡ true → P
 nobody-sleeps e = absurd cc
 
-awake_state : {P : Type 0} (state : tasks.State) → is_runnable_state state ≡ true → is_blocked state ≡ true → P
+pub awake_state : {P : Type 0} (state : tasks.State) → is_runnable_state state ≡ true → is_blocked state ≡ true → P
 awake_state Made runs sleeps = absurd cc
 awake_state Runnable runs sleeps = absurd cc
 awake_state (Blocked waiting) runs sleeps = absurd cc
@@ -216,7 +216,7 @@ module _ (p : Image) (s : Levels) (a : Who) where
   -- ---- parts in which lines place
 
   pub limit-own : limit a ≡ ThePlacing
-  limit-own = ap (λ b. cond b ThePlacing (part_of a a)) (same-self a)
+  limit-own = ap (λ b. cond b ThePlacing (part_of a a)) (same_self a)
 
   pub limit-other : (n : Who) → same_who n a ≡ false → limit n ≡ OfOther n
   limit-other n apart =

@@ -1,7 +1,7 @@
 -- Before each instant of every run, and behind it, everybody who is shown stands at or below its active priority, and who is not
 -- ready is not shown.
 use Rattle.ann_base.specs.declared.identities.TaskNo.{TaskNo}
-use Rattle.ceiling_laws.proofs.Places.BesideLemmas.{OwnPut, any_event, same-self, seen-told}
+use Rattle.ceiling_laws.proofs.Places.BesideLemmas.{OwnPut, any_event, seen-told, any_follow}
 use Rattle.ceiling_laws.proofs.Places.CorePoints.{Holds, Knowing, Places, Point, Readies, active_in, at_active, core-plain, holds-also, holds-knowing, holds-sound, holds_quiet, keeps_says, not-absent, ready-holds, to_tail-holds}
 use Rattle.ceiling_laws.proofs.Places.EffectKeeps.{begun_runs, effect_moves}
 use Rattle.ceiling_laws.proofs.Places.EffectMoves.{Sleeping_in, Wakeful, base_moves, ceases_good, clash_of, good-rises, good-wakes, runs-drawn}
@@ -14,7 +14,6 @@ use Rattle.ceiling_laws.specs.PlaceLaws.{IsAtMost, RunsKeepCeilings, RunsPlaceAt
 use Rattle.ceiling_laws.specs.Puts.{last_put, with_put}
 use Rattle.ceiling_laws.proofs.Runs.ActingMoves.{Either}
 use Rattle.ceiling_laws.proofs.Runs.CoreLemmas.{core-same}
-use Rattle.ceiling_laws.proofs.Runs.FoundLemmas.{by_test}
 use Rattle.ceiling_laws.proofs.Runs.Kept.Act.{effect-leads}
 use Rattle.ceiling_laws.proofs.Runs.Kept.Frames.{open_sequence-keeps}
 use Rattle.ceiling_laws.proofs.Runs.Kept.Instant.{Appointing, OtherMoves}
@@ -26,6 +25,7 @@ use Rattle.ceiling_laws.proofs.Runs.ShownPlaces.{who_acts_is_shown}
 use Rattle.ceiling_laws.proofs.Runs.TockLemmas.{tock-same}
 use Rattle.ceiling_laws.proofs.Runs.Triples.{Leads, With, changes-keeps, from-leads, then-leads}
 use Rattle.ceiling_laws.proofs.Runs.WholeRuns.{places_keep_ceilings}
+use Rattle.ceiling_laws.proofs.Places.PartOrder.{by_test}
 use Rattle.ceiling_laws.specs.Cores.{Core, core}
 use Rattle.ceiling_laws.specs.RunLaws.{Tells, levels_told, told_first, told_on}
 use Rattle.machine_laws.proofs.LineLemmas.{tocks_say_ticks}
@@ -45,9 +45,9 @@ use Rattle.profile_machine.specs.declared.world.lines.Part.TheVariants.{Own}
 use Rattle.profile_machine.specs.declared.world.lines.Said.{Said}
 use Rattle.profile_machine.specs.declared.world.marks.Purpose.TheVariants as opened_for
 use Rattle.profile_machine.specs.declared.world.tasks.Task.{Task}
-use Rattle.std.proofs.Common.{ap, cond, inl, inr, le_refl, refl, subst, sym, ◌++◌, ◌∙◌, ◌∷◌, ◌≡◌, ◌≤◌, ◌⊎◌}
+use Rattle.std.proofs.Common.{ap, cond, inl, inr, le_refl, refl, subst, sym, ◌++◌, ◌∙◌, ◌≡◌, ◌≤◌, ◌⊎◌}
 use Rattle.std.specs.Prelude.{Bool, List, None, Option, Some, [], false, true, ℕ, ℤ, unwrap_or}
-use Rattle.line_laws.proofs.Ticks.LineByLine.{Follow}
+use Rattle.line_laws.proofs.Leaving.TaskLemmas.{same_self}
 use Rattle.trace_text.specs.Laws.{Levels, no_levels, see_levels}
 use Rattle.trace_text.specs.Queue.{entry_of}
 use Rattle.trace_text.specs.declared.events.Created.TheVariants as created
@@ -65,10 +65,6 @@ pub record Stands (p : Image) (sight : Levels) (d : ℕ) (n : Who) (c : Core) : 
 
 abbrev pub AllStand : Image → Levels → World → Type 0
 AllStand p sight w = Sound w × ((n : Who) → Stands p sight w.drawn.tasks n (core (task_of w n)))
-
-any_follow : (sight : Levels) (lines : List Event) → Follow see_levels any_event sight lines
-any_follow sight [] = tt
-any_follow sight (x ∷ xs) = (refl, any_follow (see_levels sight x) xs)
 
 module _ (p : Image) where
   stands_as : (sight : Levels) (d : ℕ) (n : Who) (c : Core) (l : Last) (a : Who) (behind : Levels) → level_shown n behind ≡ place p sight a n l → Good p sight a d n c l → Stands p behind d n c
@@ -177,8 +173,8 @@ module _ (p : Image) where
   coming sight n = record {
     between = Coming sight n;
     others = λ d m c l apart h. h.0;
-    own = λ d t l h. record { late = h.0.0.late; own = h.0.1; drawn = h.1 (same-self n); runs = inl refl };
-    missed = λ d l task h. record { late = h.0.0.late; own = h.0.1; drawn = h.1 (same-self n); runs = inr (task, refl) };
+    own = λ d t l h. record { late = h.0.0.late; own = h.0.1; drawn = h.1 (same_self n); runs = inl refl };
+    missed = λ d l task h. record { late = h.0.0.late; own = h.0.1; drawn = h.1 (same_self n); runs = inr (task, refl) };
     keeps = λ d t l level named h. record { late = h.late; own = h.own; drawn = h.drawn; runs = begun_runs p sight who.Agent n t level named h.runs };
     places = λ d c l h. (placed-good p sight who.Agent d n c l Own (fits_own p sight who.Agent n) h.drawn h.late (own-may l h.own) h.runs, own-put l Own (Some (active_in p c)) refl h.own);
   }
@@ -198,7 +194,7 @@ module _ (p : Image) where
   running_places sight n = record {
     others = λ d m c l apart h. h.0;
     own = λ d c l h.
-        let k = h.1 (same-self n) in
+        let k = h.1 (same_self n) in
         (placed-good p sight who.Agent d n c l Own (fits_own p sight who.Agent n) k.1 h.0.0.late (own-may l h.0.1) (inl k.0), own-put l Own (Some (active_in p c)) refl h.0.1);
   }
 

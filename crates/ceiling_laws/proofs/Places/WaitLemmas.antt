@@ -1,14 +1,14 @@
 -- Nobody who waits is shown in the queue, as far as what comes about beside the effect of who acts decides on it.
 use Rattle.ann_base.specs.declared.identities.TaskNo.{TaskNo}
-use Rattle.ceiling_laws.proofs.Places.BesideLemmas.{any_event, seen-told}
-use Rattle.ceiling_laws.proofs.Places.EditLemmas.{edit-state}
-use Rattle.ceiling_laws.proofs.Places.PartOrder.{last_put-append}
+use Rattle.ceiling_laws.proofs.Places.BesideLemmas.{any_event, seen-told, unsaid, any_follow}
+use Rattle.ceiling_laws.proofs.Places.EditLemmas.{edit-state, named-apart}
+use Rattle.ceiling_laws.proofs.Places.PartOrder.{by_test}
 use Rattle.ceiling_laws.proofs.Places.QueueLemmas.{effects_place_by_the_last}
 use Rattle.ceiling_laws.proofs.Places.TockPlaces.{tock_lines-entries}
 use Rattle.ceiling_laws.specs.PlaceLaws.{AreWaitersOut, OthersKeepWaitersOut, TocksKeepWaitersOut, level_in, level_shown}
-use Rattle.ceiling_laws.specs.Puts.{last_put, place_by, puts, with_put}
+use Rattle.ceiling_laws.specs.Puts.{last_put, place_by, puts}
 use Rattle.ceiling_laws.proofs.Runs.CoreLemmas.{core-same}
-use Rattle.ceiling_laws.proofs.Runs.FoundLemmas.{by_test, set-other}
+use Rattle.ceiling_laws.proofs.Runs.FoundLemmas.{set-other}
 use Rattle.ceiling_laws.proofs.Runs.FreeMoves.{any_task, any_world}
 use Rattle.ceiling_laws.proofs.Runs.Kept.Instant.{OtherMoves}
 use Rattle.ceiling_laws.proofs.Runs.Kept.Waking.{who-is}
@@ -44,19 +44,15 @@ use Rattle.profile_machine.specs.declared.world.tasks.Task.{Task}
 use Rattle.profile_machine.specs.declared.world.tasks.Waiting.{Waiting}
 use Rattle.std.proofs.Common.{Bool, List, None, Option, Some, [], ap, cond, false, refl, subst, sym, true, ℕ, ℤ, ◌&&◌, ◌++◌, ◌∙◌, ◌∷◌, ◌≡◌}
 use Rattle.std.specs.Prelude.{eqb, find, slice_index_or, unwrap_or}
-use Rattle.line_laws.proofs.Ticks.LineByLine.{Follow, seen_behind}
+use Rattle.line_laws.proofs.Ticks.LineByLine.{seen_behind}
 use Rattle.trace_text.specs.Laws.{Levels, see_levels}
 use Rattle.trace_text.specs.Queue.{entry_of}
-use Rattle.trace_text.specs.declared.events.Event.{Event}
 use Rattle.trace_text.specs.declared.events.QueueEnd.{QueueEnd}
 use Rattle.trace_text.specs.declared.events.QueueEnd.TheVariants.{Tail}
 use Rattle.trace_text.specs.declared.events.Who.{Who}
 use Rattle.trace_text.specs.declared.events.Who.TheVariants as who
 
 -- ---- states of tasks that are edited
-
-named-apart : (m k : Who) (x y : Task) → is_who m x ≡ true → y.who ≡ x.who → same_who k m ≡ false → is_who k y ≡ false
-named-apart m k x y is same apart = ap (same_who k) (same ∙ sym (who-is m x.who is)) ∙ apart
 
 other-found : (name : Who) (f : Task → Task) (w : World) (n : Who) (found : Option Task) → task_at w name ≡ found → ((t : Task) → (f t).who ≡ t.who) → same_who n name ≡ false → waiting_of (edit_task_found name f w found) n ≡ waiting_of w n
 other-found name f w n None is named apart = refl
@@ -113,13 +109,6 @@ puts-apart n (line.Ready name level end deadline) e = absurd cc
 puts-apart n (line.Block name waits) e = absurd cc
 puts-apart n (line.Done t) e = absurd cc
 puts-apart n _ e = refl
-
-with-none : (last : Option (Part × Option ℕ)) (part : Part) → with_put last part None ≡ last
-with-none None part = refl
-with-none (Some last) part = refl
-
-unsaid : (n : Who) (said : List Said) (part : Part) (x : Line) → puts n x ≡ None → last_put n (said ++ said_so part x ∷ []) ≡ last_put n said
-unsaid n said part x e = last_put-append n said (said_so part x) ∙ ap (with_put (last_put n said) part) e ∙ with-none (last_put n said) part
 
 waits-never : {P : Type 0} (found : Option Waiting) (waiting : Waiting) → found ≡ None → found ≡ Some waiting → P
 waits-never found waiting none some = absurd (let never : None ≡ Some waiting = sym none ∙ some in cc)
@@ -195,10 +184,6 @@ module _ (p : Image) (s : Levels) where
   out-starts : (w : World) → AreWaitersOut s w → Out s w []
   unfolding Out
   out-starts w h = h
-
-any_follow : (sight : Levels) (lines : List Event) → Follow see_levels any_event sight lines
-any_follow sight [] = tt
-any_follow sight (x ∷ xs) = (refl, any_follow (see_levels sight x) xs)
 
 module _ (p : Image) where
   out-over : (sight : Levels) (v : World) (xs : List Said) → Out sight v xs → AreWaitersOut (seen_behind see_levels any_event sight (lines_of p xs)) (placed_by (lines_of p xs) v)

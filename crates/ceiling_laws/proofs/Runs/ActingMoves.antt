@@ -2,7 +2,7 @@
 use Rattle.ann_base.specs.declared.exceptions.Raised.TheVariants as exception
 use Rattle.ann_base.specs.declared.identities.ObjectNo.{ObjectNo}
 use Rattle.ann_base.specs.declared.identities.TaskNo.{TaskNo}
-use Rattle.ceiling_laws.proofs.Runs.LevelMoves.{BaseMoves, EachTask, FitsAll, Fitting, Naming, Silences, Sleeping, is_blocked}
+use Rattle.ceiling_laws.proofs.Runs.LevelMoves.{BaseMoves, EachTask, FitsAll, Fitting, Silences, Sleeping, is_blocked}
 use Rattle.ceiling_laws.proofs.Runs.Triples.{Alters, Keeps, Leads, State, With}
 use Rattle.ceiling_laws.specs.Cores.{Same}
 use Rattle.profile_machine.specs.Appointments.{appoint}
@@ -43,6 +43,7 @@ use Rattle.std.specs.Prelude.{List, None, Option, false, true, ℕ, ℤ}
 use Rattle.trace_text.specs.declared.events.Mode.{Mode}
 use Rattle.trace_text.specs.declared.events.Who.{Who}
 use Rattle.trace_text.specs.declared.events.Who.TheVariants as who
+use Rattle.machine_laws.proofs.FineMoves.{Naming}
 
 -- who may enter an object in a world
 abbrev pub Admitting : Type 1

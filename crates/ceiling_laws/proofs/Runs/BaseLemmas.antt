@@ -14,6 +14,8 @@ use Rattle.ceiling_laws.proofs.Runs.RunLemmas.{Instants, Settles, either_over, i
 use Rattle.ceiling_laws.proofs.Runs.SameLemmas.{edit_task-same, same_then}
 use Rattle.ceiling_laws.proofs.Runs.TockLemmas.{tock-same}
 use Rattle.ceiling_laws.proofs.Runs.Triples.{Alters, Ends, Keeps, Leads, State, With, changes-keeps, changes-leads, for_some-keeps, from-leads, from_at, looks-keeps, nothing-keeps, then-keeps, then-leads}
+use Rattle.ceiling_laws.proofs.Places.SoundWorlds.{never}
+use Rattle.ceiling_laws.proofs.Runs.CeilingLemmas.{any_event}
 use Rattle.ceiling_laws.specs.Cores.{Core, Same, core}
 use Rattle.ceiling_laws.specs.RunLaws.{AreBasesShown, BasesAreTold, Tells, bases_told, told_first, told_on}
 use Rattle.machine_laws.proofs.LineLemmas.{tocks_say_ticks}
@@ -104,9 +106,6 @@ NoBases shown w said = NoBaseLine said × ShowsBases shown w
 
 TellsBases : List (ℕ × ℕ) → State
 TellsBases shown w said = Ordered bases_by is_base_line said × Sooner bases_by is_base_line ThePlacing said × ShowsBases (told shown said) w
-
-never : {P : Type 0} → false ≡ true → P
-never e = absurd cc
 
 none-append : (xs : List Said) (x : Said) → NoBaseLine xs → is_base_line x.line ≡ false → NoBaseLine (xs ++ x ∷ [])
 none-append [] x h e = (e, tt)
@@ -385,9 +384,6 @@ module _ (p : Image) (shown : List (ℕ × ℕ)) where
   }
 
 -- ---- runs
-
-abbrev any_event : List (ℕ × ℕ) → Event → Bool
-any_event shown event = true
 
 any_follow : (shown : List (ℕ × ℕ)) (lines : List Event) → Follow bases_after any_event shown lines
 any_follow shown [] = tt

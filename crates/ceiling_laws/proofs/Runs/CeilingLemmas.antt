@@ -227,7 +227,7 @@ module _ (p : Image) (shown : List (ℕ × ℕ)) where
 
 -- ---- runs
 
-abbrev any_event : List (ℕ × ℕ) → Event → Bool
+abbrev pub any_event : List (ℕ × ℕ) → Event → Bool
 any_event shown event = true
 
 any_follow : (shown : List (ℕ × ℕ)) (lines : List Event) → Follow ceilings_after any_event shown lines

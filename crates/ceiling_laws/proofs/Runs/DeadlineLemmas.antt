@@ -13,6 +13,7 @@ use Rattle.ceiling_laws.proofs.Runs.LevelMoves.{Silences, is_apart, said_so}
 use Rattle.ceiling_laws.proofs.Runs.RunLemmas.{Instants, Settles, free_instants, instant_onward, settles_onward}
 use Rattle.ceiling_laws.proofs.Runs.TockLemmas.{tock-same}
 use Rattle.ceiling_laws.proofs.Runs.Triples.{Alters, At, Ends, Keeps, Leads, State, changes-keeps, for_some-keeps, from-leads, looks-keeps, then-keeps}
+use Rattle.ceiling_laws.proofs.Places.QueueLemmas.{whose-name}
 use Rattle.ceiling_laws.specs.RunLaws.{AreBasesShown, DeadlinesAreOfTasks, Tells, bases_told, levels_told, told_first, told_on}
 use Rattle.machine_laws.proofs.LineLemmas.{AllAre-append, tocks_say_ticks}
 use Rattle.machine_laws.specs.LineKinds.{AllAre, is_of_tock}
@@ -47,7 +48,6 @@ use Rattle.profile_machine.specs.declared.world.scopes.ScopeId.{ScopeId}
 use Rattle.profile_machine.specs.declared.world.tasks.Task.{Task}
 use Rattle.std.proofs.Common.{ap, map, refl, subst, sym, ◌∙◌, ◌≡◌}
 use Rattle.std.specs.Bool.{then_some}
-use Rattle.std.proofs.lemmas.Bool.{eqb-true}
 use Rattle.std.specs.Prelude.{Bool, List, None, Option, Some, [], cond, false, if◌then◌else◌, true, ℕ, ℤ, ◌++◌, ◌+◌, ◌-◌, ◌∷◌}
 use Rattle.line_laws.proofs.Ticks.LineByLine.{Follow}
 use Rattle.trace_text.specs.Laws.{Levels, base_of, no_levels, see_levels}
@@ -291,12 +291,6 @@ entries-after p xs _ h e = h
 entries-told : (p : Image) (sight : Levels) (lines : List Event) → AllEntries p sight.entries → AllAre (right_event p) lines → AllEntries p (levels_told sight lines).entries
 entries-told p sight [] h a = h
 entries-told p sight (x ∷ xs) h a = entries-told p (see_levels sight x) xs (entries-after p sight.entries x h a.0) a.1
-
-whose-name : (a b : Who) → who_eq a b ≡ true → a ≡ b
-whose-name (who.Task a) (who.Task b) e = ap (λ n. who.Task (record { 0 = n })) (eqb-true a.0 b.0 e)
-whose-name (who.Task a) who.Agent e = absurd cc
-whose-name who.Agent (who.Task b) e = absurd cc
-whose-name who.Agent who.Agent e = refl
 
 entry-if : (p : Image) (name : Who) (b : Bool) (x entry : Entry) (rest : Option Entry) → who_eq name x.who ≡ b → told_rightly p x.who x.deadline ≡ true → (rest ≡ Some entry → told_rightly p name entry.deadline ≡ true) → (if b then Some x else rest) ≡ Some entry → told_rightly p name entry.deadline ≡ true
 entry-if p name true x entry rest is e onward found =

@@ -9,8 +9,9 @@ use Rattle.profile_machine.specs.declared.world.lines.Line.{Line}
 use Rattle.profile_machine.specs.declared.world.lines.Line.TheVariants as line
 use Rattle.profile_machine.specs.declared.world.lines.Part.TheVariants.{Own}
 use Rattle.profile_machine.specs.declared.world.lines.Said.{Said}
-use Rattle.std.proofs.Common.{Bool, List, [], ap, cond, false, inl, inr, map, refl, subst, sym, true, ◌++◌, ◌∙◌, ◌∷◌, ◌≡◌, ◌⊎◌}
+use Rattle.std.proofs.Common.{Bool, List, [], ap, cond, false, inl, inr, refl, subst, sym, true, ◌++◌, ◌∙◌, ◌∷◌, ◌≡◌, ◌⊎◌}
 use Rattle.line_laws.proofs.Ticks.LineByLine.{Follow}
+use Rattle.line_laws.proofs.Ticks.ReleaseLemmas.{events_of}
 use Rattle.trace_text.specs.Laws.{Levels, see_levels, is_below_ceiling}
 use Rattle.trace_text.specs.declared.events.Event.{Event}
 use Rattle.trace_text.specs.declared.events.Event.TheVariants as written
@@ -139,9 +140,6 @@ entered-in_order sight (x ∷ xs) (inl h) = quiet-put sight x (in_order xs) h.0 
 entered-in_order sight (x ∷ xs) (inr h) = begins-put sight x (in_order xs) h.0 (late-in_order xs h.1)
 
 -- ---- the law
-
-abbrev events_of : Image → List Said → List Event
-events_of p xs = map (λ x. event_of p x.line) xs
 
 abbrev pub Lawful : Levels → List Event → Type 0
 Lawful = Follow see_levels is_below_ceiling

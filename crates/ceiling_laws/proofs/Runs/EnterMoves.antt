@@ -10,17 +10,19 @@ use Rattle.ceiling_laws.proofs.Runs.Kept.Frames.{goes-keeps, open_sequence-keeps
 use Rattle.ceiling_laws.proofs.Runs.LevelMoves.{Silences, said_so}
 use Rattle.ceiling_laws.proofs.Runs.RunLemmas.{Others, behind_onward, settles_onward}
 use Rattle.ceiling_laws.proofs.Runs.Triples.{Alters, Ends, Keeps, Leads, State, With, changes-keeps, for_some-keeps, from-leads, from_at, looks-keeps, nothing-keeps, then-keeps}
+use Rattle.ceiling_laws.proofs.Ceilings.CeilingLemmas.{second_false, not_less, not_above}
+use Rattle.ceiling_laws.proofs.Places.EditLemmas.{active_core}
 use Rattle.ceiling_laws.specs.Cores.{Core, Same, ceiling_in, core}
 use Rattle.ceiling_laws.specs.RunLaws.{AreCeilingsShown, InstantsKeepCeilings, ShowsPlace, ShowsRunner, TocksKeepCeilings, keep_ceilings}
 use Rattle.machine_laws.proofs.LineLemmas.{tocks_say_ticks}
 use Rattle.machine_laws.specs.LineKinds.{is_of_tock}
 use Rattle.profile_machine.specs.Appointments.{appoint}
 use Rattle.profile_machine.specs.Declarations.{says_object, set_thing, with_object}
-use Rattle.profile_machine.specs.Dispatching.{active, active_of, kept_level_or_base}
+use Rattle.profile_machine.specs.Dispatching.{active, active_of}
 use Rattle.profile_machine.specs.Instant.{budgets_due, effect, effect_of_runner, events_due, finish_action, instant, is_over, moments_due, quantum_spent, script_items, timers_due}
 use Rattle.profile_machine.specs.Masters.{forget_task, part_of}
 use Rattle.profile_machine.specs.Priorities.{says_base, set_base}
-use Rattle.profile_machine.specs.Program.{edf_low, has_edf, next_of, protected_unit_of}
+use Rattle.profile_machine.specs.Program.{has_edf, next_of, protected_unit_of}
 use Rattle.profile_machine.specs.Protected.{entering_option, excludes, has_open, is_above_ceiling, is_action_of}
 use Rattle.profile_machine.specs.Run.{blank_world, environment, opening, opens, tock}
 use Rattle.profile_machine.specs.Scopes.{goes_with, open_scope, plainly}
@@ -28,7 +30,7 @@ use Rattle.profile_machine.specs.Steps.{Done, Move, changes, done, in_order, res
 use Rattle.profile_machine.specs.Tasking.{add_task, create_task, says_created}
 use Rattle.profile_machine.specs.Tasks.{edit_task, found_task, nobody, task_of}
 use Rattle.profile_machine.specs.Values.{object_of}
-use Rattle.profile_machine.specs.Words.{greatest_of, without}
+use Rattle.profile_machine.specs.Words.{without}
 use Rattle.profile_machine.specs.declared.image.Image.{Image}
 use Rattle.profile_machine.specs.declared.numbers.DeclNo.{DeclNo}
 use Rattle.profile_machine.specs.declared.numbers.ProtectedUnitNo.{ProtectedUnitNo}
@@ -48,7 +50,7 @@ use Rattle.profile_machine.specs.declared.world.objects.Object.{Object}
 use Rattle.profile_machine.specs.declared.world.scopes.Located.{Located}
 use Rattle.profile_machine.specs.declared.world.scopes.ScopeId.{ScopeId}
 use Rattle.profile_machine.specs.declared.world.tasks.Task.{Task}
-use Rattle.std.proofs.Common.{Bool, List, None, Option, Some, [], ap, arith, cond, false, inl, inr, le_trans, ltb, map, nat_le, refl, subst, sym, true, ◌&&◌, ◌∙◌, ◌∷◌, ◌≡◌, ◌≤◌}
+use Rattle.std.proofs.Common.{Bool, List, None, Option, Some, [], ap, false, inl, inr, le_trans, ltb, map, nat_le, refl, subst, sym, true, ◌&&◌, ◌∙◌, ◌∷◌, ◌≡◌, ◌≤◌}
 use Rattle.std.proofs.lemmas.Bool.{and_from, le-leb, or_parts}
 use Rattle.std.specs.Prelude.{not, ℕ, ℤ, ◌-◌, unwrap_or}
 use Rattle.line_laws.proofs.Ticks.LineByLine.{Follow-all, Follow-append, seen_behind}
@@ -62,18 +64,6 @@ use Rattle.trace_text.specs.declared.events.Who.{Who}
 use Rattle.trace_text.specs.declared.events.Who.TheVariants as who
 
 -- ---- who is let in
-
-second_false : (a b : Bool) → (a && b) ≡ false → a ≡ true → b ≡ false
-second_false true b e is = e
-second_false false b e is = absurd cc
-
-not_less : (a c : ℕ) → ltb c a ≡ false → a ≤ c
-not_less a c e = grind arith
-
-not_above : (a b c : Bool) → cond a entering_is.SameObject (cond b entering_is.AboveCeiling (cond c entering_is.Held entering_is.Inside)) ≡ entering_is.Inside → b ≡ false
-not_above true b c e = absurd cc
-not_above false true c e = absurd cc
-not_above false false c e = refl
 
 -- the object is there, and somebody is not above its ceiling
 MayEnter : Image → Who → Admitting
@@ -90,9 +80,6 @@ inside-may p name w o mode (Some x) is e =
       not_less (active_of p w name) x.ceiling parts.0,
       λ edf. not_less (task_of w name).base x.ceiling (second_false (has_edf p) (ltb x.ceiling (task_of w name).base) parts.1 edf),
     )
-
-abbrev active_core : Image → Core → ℕ
-active_core p c = greatest_of (map (λ i. i.level) c.inherited) (kept_level_or_base (edf_low p c.base) c.kept_level c.base)
 
 may-on : (p : Image) (name : Who) (a b : World) (o : ObjectNo) → Same a b → MayEnter p name a o → MayEnter p name b o
 unfolding MayEnter

@@ -2,6 +2,7 @@
 use Rattle.ann_base.specs.declared.identities.TaskNo.{TaskNo}
 use Rattle.ceiling_laws.proofs.Runs.Kept.Waking.{who-is}
 use Rattle.ceiling_laws.proofs.Runs.SameLemmas.{found_is_who, set_where-found}
+use Rattle.ceiling_laws.proofs.Places.PartOrder.{by_test}
 use Rattle.profile_machine.specs.Tasks.{edit_task_found, is_who}
 use Rattle.profile_machine.specs.Words.{same_who, set_where, without}
 use Rattle.profile_machine.specs.declared.world.World.{World}
@@ -10,10 +11,6 @@ use Rattle.std.proofs.Common.{Bool, List, None, Option, Some, [], ap, cond, fals
 use Rattle.std.specs.Prelude.{find}
 use Rattle.trace_text.specs.declared.events.Who.{Who}
 use Rattle.trace_text.specs.declared.events.Who.TheVariants as who
-
-pub by_test : {P : Type 0} (b : Bool) → (b ≡ true → P) → (b ≡ false → P) → P
-by_test true f g = f refl
-by_test false f g = g refl
 
 -- ---- another is found as before
 

@@ -9,7 +9,7 @@ use Rattle.ceiling_laws.proofs.Runs.Kept.Instant.{Appointing, OtherMoves}
 use Rattle.ceiling_laws.proofs.Runs.Kept.Priorities.{reprioritize_own-keeps, says_deadline-keeps}
 use Rattle.ceiling_laws.proofs.Runs.Kept.Rendezvous.{begin_accept-keeps, finish_without_room-keeps}
 use Rattle.ceiling_laws.proofs.Runs.Kept.Tasks.{edit_task-alters}
-use Rattle.ceiling_laws.proofs.Runs.LevelMoves.{BaseMoves, EachTask, Fitting, Naming, Silences, Sleeping}
+use Rattle.ceiling_laws.proofs.Runs.LevelMoves.{BaseMoves, EachTask, Fitting, Silences, Sleeping}
 use Rattle.ceiling_laws.proofs.Runs.Triples.{Alters, At, Keeps, Leads, State, With, branch-keeps, branch-leads, changes-keeps, from-leads, from_at, looks-keeps, looks-leads, looks-with, nothing-keeps, then-keeps, then-leads, then-together, when-keeps, when-leads}
 use Rattle.ceiling_laws.specs.Cores.{Same}
 use Rattle.profile_machine.specs.Appointments.{appoint}
@@ -56,6 +56,8 @@ use Rattle.trace_text.specs.declared.events.QueueEnd.TheVariants.{Head, Tail}
 use Rattle.trace_text.specs.declared.events.Waits.{Waits}
 use Rattle.trace_text.specs.declared.events.Who.{Who}
 use Rattle.trace_text.specs.declared.events.Who.TheVariants as who
+use Rattle.machine_laws.proofs.FineMoves.{Naming}
+use Rattle.machine_laws.proofs.Kept.Dispatching.{full_quantum-who}
 
 -- what each edit and each line keeps by itself, where lines place in some parts
 pub record FreeBase (p : Image) (Fits : Part → Type 0) (X : State) : Type 0 where
@@ -92,10 +94,6 @@ pub record FreeMoves (p : Image) (actor : Who) (May : Admitting) (F I J : State)
   pub takes : (v : World) (level : ℕ) → v.agent.deferred_base ≡ Some level → Leads (At I v) I (changes (edit_task who.Agent (λ u. record u { deferred_base = None })) ▷ set_base p ThePlacing ThePlacing who.Agent level)
   pub creates : (s : StatementNo) (d : DeclNo) (id : Option ScopeId) (t : Task) → Leads (With F (IsNew p t)) I (create_task p actor s d id t)
   pub makes : (l : Located) (u : ProtectedUnitNo) → Keeps I (changes (with_object p l u) ▷ says_object p l u)
-
-full_quantum-who : (b : Bool) (n : ℕ) (t : Task) → (cond b (record t { quantum = n }) t).who ≡ t.who
-full_quantum-who true n t = refl
-full_quantum-who false n t = refl
 
 full_quantum-base : (b : Bool) (n : ℕ) (t : Task) → (cond b (record t { quantum = n }) t).base ≡ t.base
 full_quantum-base true n t = refl

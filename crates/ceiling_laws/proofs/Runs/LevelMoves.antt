@@ -54,8 +54,6 @@ abbrev pub FitsAll : Fitting → Part → Type 0
 FitsAll Fits part = (name : Who) → Fits part name
 
 -- of some names alone
-abbrev pub Naming : Type 1
-Naming = Who → Type 0
 
 -- each of these tasks
 abbrev pub EachTask : (Task → Type 0) → List Task → Type 0

@@ -13,7 +13,7 @@ use Rattle.profile_machine.specs.declared.image.Image.{Image}
 use Rattle.profile_machine.specs.declared.run_data.Item.{Item}
 use Rattle.profile_machine.specs.declared.world.World.{World}
 use Rattle.profile_machine.specs.declared.world.tasks.Placed.{Placed}
-use Rattle.std.proofs.Common.{ap, eq-eqb, inl, inr, refl, subst, sym, ◌∙◌, ◌≡◌, ◌⊎◌}
+use Rattle.std.proofs.Common.{ap, inl, inr, refl, subst, sym, ◌∙◌, ◌≡◌, ◌⊎◌}
 use Rattle.std.specs.Prelude.{Bool, List, if◌then◌else◌, None, Some, [], cond, false, true, ℕ, ℤ, ◌++◌, ◌∷◌}
 use Rattle.trace_text.specs.Laws.{Levels, no_levels, see_levels}
 use Rattle.trace_text.specs.Queue.{entry_of, who_eq}
@@ -21,6 +21,7 @@ use Rattle.trace_text.specs.declared.events.Entry.{Entry}
 use Rattle.trace_text.specs.declared.events.Event.{Event}
 use Rattle.trace_text.specs.declared.events.Who.{Who}
 use Rattle.trace_text.specs.declared.events.Who.TheVariants as who
+use Rattle.line_laws.proofs.Exclusion.ActionLists.{who_eq-self}
 
 -- ---- the ready queues are what the lines show
 
@@ -28,7 +29,7 @@ entries-lined : (sight : Levels) (lines : List Event) → lined (levels_told sig
 entries-lined sight [] = refl
 entries-lined sight (x ∷ xs) = entries-lined (see_levels sight x) xs ∙ ap (places_after_all xs) (lined-after sight.entries x)
 
-places-append : (places : List Placed) (xs ys : List Event) → places_after_all (xs ++ ys) places ≡ places_after_all ys (places_after_all xs places)
+pub places-append : (places : List Placed) (xs ys : List Event) → places_after_all (xs ++ ys) places ≡ places_after_all ys (places_after_all xs places)
 places-append places [] ys = refl
 places-append places (x ∷ xs) ys = places-append (places_after x places) xs ys
 
@@ -62,10 +63,6 @@ head-test name false x y placed ys e = inl cc
 head-put : (name : Who) (x : Placed) (xs : List Placed) → dispatching.head_of (put_at_head x xs) ≡ Some name → (x.who ≡ name) ⊎ (dispatching.head_of xs ≡ Some name)
 head-put name x [] e = inl cc
 head-put name x (y ∷ ys) e = head-test name (is_above y x) x y (put_at_head x ys) ys e
-
-who_eq-self : (a : Who) → who_eq a a ≡ true
-who_eq-self (who.Task a) = eq-eqb a.0 a.0 refl
-who_eq-self who.Agent = refl
 
 InQueue : Who → List Entry → Type 0
 InQueue name queue = (entry : Entry) × (entry_of name queue ≡ Some entry)

@@ -4,10 +4,11 @@ use Rattle.ceiling_laws.proofs.Runs.CeilingLemmas.{ceilings_are_told}
 use Rattle.ceiling_laws.proofs.Runs.DeadlineLemmas.{deadlines_are_of_tasks}
 use Rattle.ceiling_laws.proofs.Runs.EnterMoves.{instants_keep_ceilings, opening_keeps_ceilings, tocks_keep_ceilings}
 use Rattle.ceiling_laws.proofs.Runs.ShownPlaces.{who_acts_is_shown}
+use Rattle.ceiling_laws.proofs.Places.TockPlaces.{levels-append}
 use Rattle.ceiling_laws.specs.RunLaws.{AreCeilingsShown, ArePlaced, PlacesKeepCeilings, ShowsPlace, ShowsRunner, Tells, ceilings_told, keep_ceilings, levels_told, told_first, told_on}
 use Rattle.profile_machine.specs.Dispatching.{active_of}
 use Rattle.profile_machine.specs.Instant.{instant, is_over}
-use Rattle.profile_machine.specs.Run.{Ran, at_tick, opening, run_from, run_of, stop, stopped, then_runs, tock}
+use Rattle.profile_machine.specs.Run.{Ran, at_tick, opening, run_from, run_of, stop, tock}
 use Rattle.profile_machine.specs.Tasks.{nobody, task_at, task_of}
 use Rattle.profile_machine.specs.declared.image.Image.{Image}
 use Rattle.profile_machine.specs.declared.run_data.Item.{Item}
@@ -24,12 +25,9 @@ use Rattle.trace_text.specs.declared.events.Entry.{Entry}
 use Rattle.trace_text.specs.declared.events.Event.{Event}
 use Rattle.trace_text.specs.declared.events.Event.TheVariants as written
 use Rattle.trace_text.specs.declared.events.Who.{Who}
+use Rattle.machine_laws.proofs.RunLemmas.{turn}
 
 -- ---- what lines show, line by line
-
-levels-append : (sight : Levels) (xs ys : List Event) → levels_told sight (xs ++ ys) ≡ levels_told (levels_told sight xs) ys
-levels-append sight [] ys = refl
-levels-append sight (x ∷ xs) ys = levels-append (see_levels sight x) xs ys
 
 ceilings-levels : (sight : Levels) (lines : List Event) → (levels_told sight lines).ceilings ≡ ceilings_told sight.ceilings lines
 ceilings-levels sight [] = refl
@@ -91,10 +89,6 @@ instant-keeps p script bound lines w low placed told =
     (runner-shown p script bound lines w low placed told)
 
 -- ---- a run
-
-turn : ℕ → World × List Event → World × List Event → Ran → Option Ended → Ran
-turn now i t rest (Some reason) = stopped now i.1 reason
-turn now i t rest None = then_runs now (i.1 ++ t.1) rest
 
 turn-keeps : (now : ℕ) (sight : Levels) (i t : World × List Event) (rest : Ran) (reason : Option Ended) → keep_ceilings sight i.1 ≡ true → keep_ceilings (levels_told sight i.1) t.1 ≡ true
     → (reason ≡ None → follows_lines see_levels is_below_ceiling (levels_told (levels_told sight i.1) t.1) rest.lines ≡ true) → follows_lines see_levels is_below_ceiling sight (turn now i t rest reason).lines ≡ true

@@ -92,7 +92,7 @@ eats_package left = eats_first (eats_word _) (λ place. local_choose (head_start
 
 -- ---- packages: the fuel is the number of tokens, and each package has one at least
 
-abbrev Packages : Type 0
+abbrev pub Packages : Type 0
 Packages = List LibraryPackage × List ContextClause
 
 abbrev next_package : ℕ → ℕ → List LibraryPackage → List ContextClause → Parser Packages

@@ -30,7 +30,7 @@ use Rattle.grammar_laws.proofs.Reading.Selects.{ReadsDeeper}
 use Rattle.grammar_laws.proofs.Reading.ClausesEnds.{ends_operations, ends_specification}
 use Rattle.grammar_laws.proofs.Reading.ClausesSteps.{delimiter_ends, last_before, plain_before, word_kept, identifier_kept, end_name_exact, respelt_by, carried, chosen_by, passed_by, forked}
 use Rattle.grammar_laws.proofs.Reading.ClausesSpecifications.{specification_exact}
-use Rattle.grammar_laws.proofs.Reading.ClausesTasks.{task_behind, task_exact, protected_behind, protected_exact}
+use Rattle.grammar_laws.proofs.Reading.ClausesTasks.{task_behind, task_exact, protected_behind, protected_exact, task_made, protected_made}
 use Rattle.grammar_laws.proofs.Reading.ClausesBegins.{task_no_body, protected_no_body}
 use Rattle.grammar_laws.proofs.Reading.Bodies.{opened_is, body_exact, Specified, specified_written, specified_fits, specified_behind, specified_body_exact, specified_exact, operation_bodies_exact}
 
@@ -111,9 +111,6 @@ TaskBody = Place × (Identifier × Body Sequence)
 abbrev task_body_made : TaskBody → Declaration Sequence
 task_body_made x = declarations.TaskBody x.0 x.1.0 x.1.1
 
-abbrev task_made : TaskDeclaration → Declaration Sequence
-task_made t = declarations.Task t
-
 abbrev named_behind : TaskBody → List Written
 named_behind x = body_written sequence_written x.1.0 x.1.1
 
@@ -167,9 +164,6 @@ module _ (left : ℕ) (sequence : SequenceRole → Parser Sequence) (known : Rea
 
 abbrev protected_body_made : ProtectedBody Sequence → Declaration Sequence
 protected_body_made p = declarations.ProtectedBody p
-
-abbrev protected_made : ProtectedDeclaration → Declaration Sequence
-protected_made p = declarations.Protected p
 
 abbrev end_behind : ProtectedBody Sequence → List Written
 end_behind p = end_name_written p.named_at_end p.name ++ semicolon

@@ -62,7 +62,7 @@ task_definition_exact left name =
     (λ d ls r l. sees_word_first (codes "is") (flat_map entry_written d.entries ++ word (codes "end") ∷ end_name_written d.named_at_end name) ls r l)
     (λ r e. not-true (sees_word (codes "is") r) (first_true (not_word (codes "is") r) (not_word name.text r) e))
 
-abbrev task_made : TaskDeclaration → Declaration Sequence
+abbrev pub task_made : TaskDeclaration → Declaration Sequence
 task_made t = declarations.Task t
 
 abbrev definition_behind : TaskDeclaration → List Written
@@ -169,7 +169,7 @@ private_exact left =
     (λ xs ls r l. sees_word_first (codes "private") (flat_map component_written xs) ls r l)
     (λ r e. not-true (sees_word (codes "private") r) (first_true (not_word (codes "private") r) (not_identifier r) e))
 
-abbrev protected_made : ProtectedDeclaration → Declaration Sequence
+abbrev pub protected_made : ProtectedDeclaration → Declaration Sequence
 protected_made p = declarations.Protected p
 
 abbrev pub end_behind : ProtectedDeclaration → List Written

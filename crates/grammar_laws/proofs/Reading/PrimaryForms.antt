@@ -30,7 +30,7 @@ use Rattle.grammar_laws.proofs.Reading.Primaries.{ReadsInside, formed_is_written
 abbrev pub Inside : ℕ → Parser Expression → Type 0
 Inside m inner = Exact expression_written (λ e. expression_fits e precedence.Logical m) ends_expression inner
 
-one_level : (n m : ℕ) → suc n ≡ suc m → n ≡ m
+pub one_level : (n m : ℕ) → suc n ≡ suc m → n ≡ m
 one_level n m e = omega (arith, e)
 
 inside_at : (left : ℕ) (inner : Parser Expression) → ReadsInside left inner → (m : ℕ) → left ≡ suc m → Inside m inner

@@ -53,6 +53,8 @@ use Rattle.grammar_laws.proofs.Reading.ClausesSpecifications.{aspects_exact}
 use Rattle.grammar_laws.proofs.Reading.StatementsSteps.{placed, named, worded, delimited}
 use Rattle.grammar_laws.proofs.Reading.Bodies.{opened_is, body_exact}
 use Rattle.grammar_laws.proofs.Reading.Sequences.{ends_declarations, declarations_exact, sequence_exact, inside_exact}
+use Rattle.grammar_laws.proofs.Faults.Units.{Packages}
+use Rattle.grammar_laws.proofs.Reading.PrimaryForms.{one_level}
 
 -- ---- pragmas (2.8)
 
@@ -67,9 +69,6 @@ more_arguments r e = seen_delimiter ends_argument true (codes ",") (λ p ls. ref
 no_more : (r : List Lexeme) → sees_delimiter (codes ")") r ≡ true → sees_delimiter (codes ",") r ≡ false
 unfolding starts
 no_more r e = seen_delimiter (sees_delimiter (codes ",")) false (codes ")") (λ p ls. refl) r e
-
-one_level : (n m : ℕ) → suc n ≡ suc m → n ≡ m
-one_level n m e = omega (arith, e)
 
 abbrev argument_w : Argument Expression → List Written
 argument_w a = argument_written expression_written a
@@ -342,9 +341,6 @@ package_begins (packages.Declaration p) ls r l = sees_word_at_first (codes "pack
 package_begins (packages.Body p) ls r l = sees_word_at_first (codes "package") p.place (body_behind p) ls r l
 
 -- ---- packages, each with its context (10.1.1)
-
-abbrev pub Packages : Type 0
-Packages = List LibraryPackage × List ContextClause
 
 abbrev pub packages_written : Packages → List Written
 packages_written x = flat_map library_package_written x.0 ++ flat_map clause_written x.1

@@ -99,7 +99,7 @@ declarations-grow within before (d ∷ ds) =
 
 -- ---- all that is made
 
-abbrev behind_actions : Within → Making MadeLists
+abbrev pub behind_actions : Within → Making MadeLists
 behind_actions within = do
   task_units ← task_units_made within 0 within.names.task_units
   entries ← entries_made within [] within.names.entries

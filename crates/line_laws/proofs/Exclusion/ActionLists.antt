@@ -14,6 +14,7 @@ use Rattle.profile_machine.specs.declared.world.objects.Action.{Action}
 use Rattle.profile_machine.specs.Words.{same_who, without}
 use Rattle.ann_base.specs.Lists.{is_empty}
 use Rattle.profile_machine.specs.Protected.{is_action_of, has_open, is_read, excludes}
+use Rattle.machine_laws.proofs.QueueLemmas.{who_eq-is}
 
 -- ---- tests
 
@@ -23,13 +24,7 @@ or-on false p q e k = k e
 
 -- ---- who it is
 
-who_eq-is : (a b : Who) → who_eq a b ≡ same_who a b
-who_eq-is (who.Task a) (who.Task b) = refl
-who_eq-is (who.Task a) who.Agent = refl
-who_eq-is who.Agent (who.Task b) = refl
-who_eq-is who.Agent who.Agent = refl
-
-who_eq-self : (a : Who) → who_eq a a ≡ true
+pub who_eq-self : (a : Who) → who_eq a a ≡ true
 who_eq-self (who.Task a) = eq-eqb a.0 a.0 refl
 who_eq-self who.Agent = refl
 

@@ -1,6 +1,6 @@
 -- Every run keeps exclusion: the actions that lines show on an object of the world are those that the world has, and
 -- somebody is let in only where these allow it.
-use Rattle.std.proofs.Common.{◌≡◌, ℕ, ℤ, suc, ◌<◌, Bool, true, false, cond, not, eqb, ◌&&◌, ◌||◌, List, [], ◌∷◌, ◌++◌, map, Option, Some, None, refl, sym, ap, subst, ◌∙◌, eq-eqb, arith}
+use Rattle.std.proofs.Common.{◌≡◌, ℕ, ℤ, suc, ◌<◌, Bool, true, false, cond, not, eqb, ◌&&◌, ◌||◌, List, [], ◌∷◌, ◌++◌, Option, Some, None, refl, sym, ap, subst, ◌∙◌, eq-eqb, arith}
 use Rattle.std.specs.Prelude.{find}
 use Rattle.std.specs.List.{list_all, list_any}
 use Rattle.ann_base.specs.declared.identities.ObjectNo.{ObjectNo}
@@ -48,6 +48,7 @@ use Rattle.line_laws.specs.ExclusionLaws.{enters_rightly, EntersOk}
 use Rattle.line_laws.proofs.Exclusion.OwnLines.{told, Told, Told-append, Told-in_order}
 use Rattle.line_laws.proofs.Exclusion.ObjectLists.{object_number, changed, found-below, left-found}
 use Rattle.line_laws.proofs.Exclusion.ActionLists.{on, Once, closed-other, closed-only, closed-new, none-without, Once-without, free-beside, all-beside, held-by_other, other_excludes, shown-any}
+use Rattle.line_laws.proofs.Ticks.ReleaseLemmas.{events_of}
 
 -- ---- what an effect says of actions
 
@@ -80,9 +81,6 @@ event-told p (said.Enter name object mode) part s f h = (actions_after s (writte
 event-told p (said.Exit name object) part s f h = (actions_after s (written.Exit name object), h.1, refl, h.2)
 event-told p (said.Held name object mode) part s f h = (s, h.1, refl, h.2)
 event-told p _ part s f h = (s, refl, refl, h)
-
-abbrev events_of : Image → List Said → List Event
-events_of p xs = map (λ x. event_of p x.line) xs
 
 told-follow : (p : Image) (xs : List Said) (s t : List shown.Action) → ToldOf xs s t → RightOf s (events_of p xs) × (actions_behind s (events_of p xs) ≡ t)
 told-follow p [] s t h = (tt, h)
@@ -180,7 +178,7 @@ left-tells test w v objects drawn s h = (
 
 -- ---- actions that begin and end
 
-abbrev new_action : ObjectNo → Who → Mode → shown.Action
+abbrev pub new_action : ObjectNo → Who → Mode → shown.Action
 new_action o name mode = record { object = o.0; who = name; mode = mode }
 
 on-new : (n o : ObjectNo) (name : Who) (mode : Mode) (s : List shown.Action) → eqb n.0 o.0 ≡ false → on n.0 (new_action o name mode ∷ s) ≡ on n.0 s

@@ -7,13 +7,10 @@ use Rattle.profile_machine.specs.declared.world.objects.Object.{Object}
 use Rattle.profile_machine.specs.Words.{edit_where, edit_found, set_where}
 use Rattle.profile_machine.specs.Values.{is_object}
 use Rattle.machine_laws.proofs.ListLemmas.{Falls}
+use Rattle.machine_laws.proofs.QueueLemmas.{by_test}
 
 abbrev pub object_number : Object → ℕ
 object_number x = x.number.0
-
-pub by_test : {P : Type 0} (b : Bool) → (b ≡ true → P) → (b ≡ false → P) → P
-by_test true p q = p refl
-by_test false p q = q refl
 
 -- ---- the one that is found
 

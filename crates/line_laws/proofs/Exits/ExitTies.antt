@@ -1,6 +1,6 @@
 -- What ties lines to a world: the lines have an action of somebody on an object open at least as often as its marks do. A credit
 -- is what they have open beside: between `enter` and the mark of its action.
-use Rattle.std.proofs.Common.{◌≡◌, ℕ, ◌+◌, ◌≤◌, ◌<◌, Bool, true, false, eqb, ◌&&◌, ◌||◌, List, [], ◌∷◌, ◌++◌, map, Option, Some, None, refl, sym, ap, subst, ◌∙◌, eq-eqb, arith}
+use Rattle.std.proofs.Common.{◌≡◌, ℕ, ◌+◌, ◌≤◌, ◌<◌, Bool, true, false, eqb, ◌&&◌, ◌||◌, List, [], ◌∷◌, ◌++◌, Option, Some, None, refl, sym, ap, subst, ◌∙◌, eq-eqb, arith}
 use Rattle.std.proofs.lemmas.Bool.{false≢true}
 use Rattle.ann_base.specs.declared.identities.CallNo.{CallNo}
 use Rattle.ann_base.specs.declared.identities.ObjectNo.{ObjectNo}
@@ -39,13 +39,15 @@ use Rattle.profile_machine.specs.Serving.{close_action}
 use Rattle.machine_laws.proofs.Moves.{is_told_apart, own, lines_of}
 use Rattle.line_laws.proofs.Ticks.LineByLine.{seen_behind, Follow}
 use Rattle.line_laws.proofs.Exclusion.OwnLines.{told, Told, Told-append, Told-in_order}
-use Rattle.line_laws.proofs.Exclusion.ObjectLists.{by_test}
-use Rattle.line_laws.proofs.Exclusion.ActionLists.{closed-new}
+use Rattle.line_laws.proofs.Exclusion.ActionLists.{closed-new, who_eq-self}
 use Rattle.line_laws.specs.ExitLaws.{exits_rightly}
 use Rattle.machine_laws.proofs.FineMoves.{is_placing}
 use Rattle.machine_laws.proofs.FinestMoves.{natures, nature, action_first, top_action, is_of_region, is_apart, AreQuiet}
+use Rattle.machine_laws.proofs.QueueLemmas.{by_test}
 use Rattle.line_laws.proofs.Exits.TaskEdits.{one_of, one_of-is, same_who-path, edited, edited_to, added, gone}
-use Rattle.line_laws.proofs.Exits.OpenCounts.{bit, is_own, opened, is_same, opened-any, who_eq-self, closed-least, is_on, count, count-pop, count-top}
+use Rattle.line_laws.proofs.Exits.OpenCounts.{bit, is_own, opened, is_same, opened-any, closed-least, is_on, count, count-pop, count-top}
+use Rattle.line_laws.proofs.Ticks.ReleaseLemmas.{events_of}
+use Rattle.line_laws.proofs.Exclusion.ExclusionLemmas.{new_action}
 
 -- ---- what an effect says of actions
 
@@ -76,9 +78,6 @@ event-told : (p : Image) (x : Line) (part : Part) (s : List shown.Action) (f : L
 event-told p (said.Enter name object mode) part s f h = (actions_after s (written.Enter name object mode), h.1, refl, h.2)
 event-told p (said.Exit name object) part s f h = (actions_after s (written.Exit name object), h.1, refl, h.2)
 event-told p _ part s f h = (s, refl, refl, h)
-
-abbrev events_of : Image → List Said → List Event
-events_of p xs = map (λ x. event_of p x.line) xs
 
 told-follow : (p : Image) (xs : List Said) (s t : List shown.Action) → ToldOf xs s t → RightOf s (events_of p xs) × (actions_behind s (events_of p xs) ≡ t)
 told-follow p [] s t h = (tt, h)
@@ -167,9 +166,6 @@ opens-tied p name scope b purpose w c s h =
     pushed-tied name (new_frame (new_scope_mark (next_id w) (region_of_next text.kept w) purpose) text.first) (draw_region text.kept begun) refl c s (drawn-tied text.kept begun c s h)
 
 -- ---- an action begins: what is done between `enter` and its mark goes on with one more open than there are marks
-
-abbrev new_action : ObjectNo → Who → Mode → shown.Action
-new_action o name mode = record { object = o.0; who = name; mode = mode }
 
 same_who-eq : (a b : Who) → same_who a b ≡ who_eq a b
 same_who-eq (who.Task a) (who.Task b) = refl

@@ -1,5 +1,5 @@
 -- How often the lines have an action of somebody on an object open, and how often its marks do.
-use Rattle.std.proofs.Common.{◌≡◌, ℕ, ◌+◌, ◌≤◌, ◌<◌, Bool, true, false, cond, eqb, ◌&&◌, ◌||◌, List, [], ◌∷◌, Option, Some, None, refl, sym, ap, subst, eq-eqb, arith}
+use Rattle.std.proofs.Common.{◌≡◌, ℕ, ◌+◌, ◌≤◌, ◌<◌, Bool, true, false, cond, eqb, ◌&&◌, ◌||◌, List, [], ◌∷◌, Option, Some, None, refl, sym, ap, subst, arith}
 use Rattle.std.proofs.lemmas.Bool.{and_parts, eqb-true, false≢true}
 use Rattle.std.specs.List.{list_any}
 use Rattle.trace_text.specs.declared.events.Action as shown
@@ -42,10 +42,6 @@ who_eq-path (who.Task a) (who.Task b) e = ap (λ (n : ℕ). who.Task (record { 0
 who_eq-path (who.Task a) who.Agent e = absurd (false≢true e)
 who_eq-path who.Agent (who.Task b) e = absurd (false≢true e)
 who_eq-path who.Agent who.Agent e = refl
-
-pub who_eq-self : (a : Who) → who_eq a a ≡ true
-who_eq-self (who.Task a) = eq-eqb a.0 a.0 refl
-who_eq-self who.Agent = refl
 
 bit-least : (b : Bool) → 0 ≤ bit b
 bit-least true = omega arith

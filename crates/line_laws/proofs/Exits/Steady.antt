@@ -59,7 +59,6 @@ use Rattle.profile_machine.specs.declared.world.appointments.Due.TheVariants as 
 use Rattle.profile_machine.specs.Sending.{open_abortable, appoint_timeout, send_on, sent_call, is_to_be_cancelled, cancel_sent, is_triggering, may_begin_abortable, begin_abortable, timeout_again, sent_not_begun_by, sent_not_begun, may_time_out}
 use Rattle.profile_machine.specs.Protected.{edit_top_protected, begin_call, begun_call}
 use Rattle.profile_machine.specs.Serving.{settle_sent}
-use Rattle.line_laws.proofs.Exclusion.ObjectLists.{by_test}
 use Rattle.machine_laws.proofs.FinestMoves.{natures, nature, action_first}
 use Rattle.line_laws.proofs.Exits.TaskEdits.{one_of, same_who-path, edited}
 use Rattle.machine_laws.proofs.Kept.Combinators.{world_behind}
@@ -68,6 +67,7 @@ use Rattle.machine_laws.proofs.Kept.Dispatching.{full_quantum-who, full_quantum-
 use Rattle.machine_laws.proofs.Kept.Frames.{first-natures}
 use Rattle.machine_laws.proofs.Kept.CallEnds.{depth-natures, abortable-nature}
 use Rattle.machine_laws.proofs.Kept.Protected.{protected-nature}
+use Rattle.machine_laws.proofs.QueueLemmas.{by_test}
 
 -- a task in this state waits for no entry call; of the agent nothing is asked
 abbrev pub FreeIn : Who → State → Type 0

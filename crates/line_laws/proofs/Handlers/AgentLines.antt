@@ -76,7 +76,7 @@ or-assoc : (a b c : Bool) → (a || (b || c)) ≡ ((a || b) || c)
 or-assoc true b c = refl
 or-assoc false b c = refl
 
-or-swap : (a b c : Bool) → (a || (b || c)) ≡ (b || (a || c))
+pub or-swap : (a b c : Bool) → (a || (b || c)) ≡ (b || (a || c))
 or-swap true true c = refl
 or-swap true false c = refl
 or-swap false b c = refl
@@ -167,7 +167,7 @@ in_order-uncalled [] a = tt
 in_order-uncalled (x ∷ xs) a = put-uncalled x (in_order xs) a.0 (in_order-uncalled xs a.1)
 
 -- no line stands behind one that blocks, but of that part
-block_last : (part : Part) → is_part_before TheBlock part ≡ false
+pub block_last : (part : Part) → is_part_before TheBlock part ≡ false
 block_last TheCall = refl
 block_last TheFinish = refl
 block_last Own = refl

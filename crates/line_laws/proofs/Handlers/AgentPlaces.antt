@@ -16,16 +16,11 @@ use Rattle.profile_machine.specs.Words.{same_who}
 use Rattle.profile_machine.specs.Steps.{is_above, put_at_tail, put_at_head, put_at, take_out, places_after, places_after_all}
 use Rattle.profile_machine.specs.Dispatching.{head_of}
 use Rattle.machine_laws.specs.LineKinds.{is_of_tock, AllAre}
-use Rattle.line_laws.proofs.Handlers.AgentLines.{placed_after, placed_behind}
+use Rattle.line_laws.proofs.Handlers.AgentLines.{placed_after, placed_behind, or-swap}
 
 abbrev pub is_agent : Who → Bool
 is_agent (who.Task n) = false
 is_agent who.Agent = true
-
-or_swap : (a b c : Bool) → (a || (b || c)) ≡ (b || (a || c))
-or_swap true true c = refl
-or_swap true false c = refl
-or_swap false b c = refl
 
 -- ---- in the world
 
@@ -35,14 +30,14 @@ placed_in (x ∷ xs) = is_agent x.who || placed_in xs
 
 put-test : (x y : Placed) (xs put : List Placed) (test : Bool) → placed_in put ≡ (is_agent x.who || placed_in xs) → placed_in (cond test (x ∷ y ∷ xs) (y ∷ put)) ≡ (is_agent x.who || placed_in (y ∷ xs))
 put-test x y xs put true e = refl
-put-test x y xs put false e = ap (λ q. is_agent y.who || q) e ∙ or_swap (is_agent y.who) (is_agent x.who) (placed_in xs)
+put-test x y xs put false e = ap (λ q. is_agent y.who || q) e ∙ or-swap (is_agent y.who) (is_agent x.who) (placed_in xs)
 
 tail-placed : (x : Placed) (xs : List Placed) → placed_in (put_at_tail x xs) ≡ (is_agent x.who || placed_in xs)
 tail-placed x [] = refl
 tail-placed x (y ∷ xs) = put-test x y xs (put_at_tail x xs) (is_above x y) (tail-placed x xs)
 
 head-test : (x y : Placed) (xs put : List Placed) (test : Bool) → placed_in put ≡ (is_agent x.who || placed_in xs) → placed_in (cond test (y ∷ put) (x ∷ y ∷ xs)) ≡ (is_agent x.who || placed_in (y ∷ xs))
-head-test x y xs put true e = ap (λ q. is_agent y.who || q) e ∙ or_swap (is_agent y.who) (is_agent x.who) (placed_in xs)
+head-test x y xs put true e = ap (λ q. is_agent y.who || q) e ∙ or-swap (is_agent y.who) (is_agent x.who) (placed_in xs)
 head-test x y xs put false e = refl
 
 head-placed : (x : Placed) (xs : List Placed) → placed_in (put_at_head x xs) ≡ (is_agent x.who || placed_in xs)
@@ -134,7 +129,7 @@ task-gone t (e ∷ queue) = task-gone-test t e e.who (shown.without (who.Task t)
 present-behind : (queue : List Entry) (e : Entry) → present (queue ++ e ∷ []) ≡ (is_agent e.who || present queue)
 unfolding present
 present-behind [] e = refl
-present-behind (x ∷ queue) e = ap (λ q. is_agent x.who || q) (present-behind queue e) ∙ or_swap (is_agent x.who) (is_agent e.who) (present queue)
+present-behind (x ∷ queue) e = ap (λ q. is_agent x.who || q) (present-behind queue e) ∙ or-swap (is_agent x.who) (is_agent e.who) (present queue)
 
 put-present : (end : QueueEnd) (e : Entry) (queue : List Entry) → present (shown.placed end e queue) ≡ (is_agent e.who || present (shown.without e.who queue))
 unfolding present

@@ -19,21 +19,18 @@ use Rattle.profile_machine.specs.Run.{opening, tock, run_of}
 use Rattle.machine_laws.proofs.TimeLemmas.{instants_keep_runner, opening-runner}
 use Rattle.machine_laws.proofs.LineLemmas.{instants_say_effects, openings_say_effects, tocks_say_ticks}
 use Rattle.machine_laws.proofs.PlaceLemmas.{openings_place_by_lines, instants_place_by_lines, tocks_place_nobody}
-use Rattle.line_laws.proofs.Ticks.LineByLine.{seen_behind}
+use Rattle.machine_laws.proofs.DispatchLemmas.{tock-ran}
 use Rattle.line_laws.proofs.Ticks.ReleaseLemmas.{Pending, Pending-within}
-use Rattle.line_laws.proofs.Handlers.InTurn.{Serves, ShowsTurn, number_of, served_in_turn, runs_serve_in_turn}
+use Rattle.line_laws.proofs.Handlers.InTurn.{Serves, ShowsTurn, number_of, served_in_turn, runs_serve_in_turn, behind}
 use Rattle.line_laws.proofs.Handlers.AgentLines.{placed_behind}
 use Rattle.line_laws.proofs.Handlers.SparedMoves.{agent_runs}
 use Rattle.line_laws.proofs.Handlers.Attending.{Attending}
 use Rattle.line_laws.proofs.Handlers.AgentInstants.{instant-attended, opening-attended}
 use Rattle.line_laws.proofs.Handlers.AgentPlaces.{placed_in, places-behind, chosen-placed, queue_behind, seen-behind, tock_lines}
-use Rattle.line_laws.proofs.Handlers.AgentTocks.{runner_behind, effects-runner, tock-runner, tock-ran, tock-ticked}
+use Rattle.line_laws.proofs.Handlers.AgentTocks.{runner_behind, effects-runner, tock-runner, tock-ticked}
 use Rattle.line_laws.proofs.Handlers.TickByTick.{TicksOfRuns, run-ticks}
 
 -- ---- what lines show
-
-abbrev behind : Releases → List Event → Releases
-behind = seen_behind see_releases is_in_order
 
 abbrev seen_in : Releases → Bool
 seen_in s = is_some (entry_of who.Agent s.sight.queue)

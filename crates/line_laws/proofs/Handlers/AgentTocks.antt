@@ -1,7 +1,7 @@
 -- Tocks keep the agent ready exactly where it has something to serve; where it is chosen it serves a release behind the tock.
 use Rattle.std.proofs.Common.{◌≡◌, Bool, true, false, cond, not, ◌||◌, List, [], ◌∷◌, ◌++◌, Option, Some, None, is_some, refl, sym, ap, subst, ◌∙◌}
 use Rattle.std.specs.Prelude.{unwrap_or}
-use Rattle.std.proofs.lemmas.Bool.{false≢true, eqb-true}
+use Rattle.std.proofs.lemmas.Bool.{false≢true}
 use Rattle.trace_text.specs.declared.events.Event.{Event}
 use Rattle.trace_text.specs.declared.events.Event.TheVariants as line
 use Rattle.trace_text.specs.declared.events.Who.{Who}
@@ -18,15 +18,17 @@ use Rattle.profile_machine.specs.Dispatching.{choose}
 use Rattle.profile_machine.specs.Handlers.{charge}
 use Rattle.profile_machine.specs.Steps.{rests}
 use Rattle.profile_machine.specs.Tasks.{task_of, with_ticks}
-use Rattle.profile_machine.specs.Run.{say, says_run, serve_if_free, serve, begin_action, one_tick_less, spend_tick, says_idle, next_tick, tock}
+use Rattle.profile_machine.specs.Run.{say, says_run, serve_if_free, serve, begin_action, one_tick_less, says_idle, next_tick, tock}
 use Rattle.machine_laws.specs.LineKinds.{is_of_effect, AllAre}
 use Rattle.machine_laws.proofs.FineMoves.{natures}
 use Rattle.machine_laws.proofs.Kept.Combinators.{Alters}
 use Rattle.machine_laws.proofs.Kept.Handlers.{charge-alters}
 use Rattle.machine_laws.proofs.Kept.Run.{before_tick, tock-parts}
+use Rattle.machine_laws.proofs.DispatchLemmas.{ran-path}
 use Rattle.line_laws.proofs.Handlers.AgentMarks.{Standing}
 use Rattle.line_laws.proofs.Handlers.SparedMoves.{agent_runs, Spared, spares, spared_settings}
 use Rattle.line_laws.proofs.Handlers.Attending.{Marked, Attending, attending-spared, or_false}
+use Rattle.line_laws.proofs.Ticks.ReleaseLemmas.{charged}
 
 -- ---- who runs, by lines
 
@@ -46,16 +48,6 @@ effect-runner r _ e = refl
 pub effects-runner : (r : Option Who) (events : List Event) → AllAre is_of_effect events → runner_behind r events ≡ r
 effects-runner r [] a = refl
 effects-runner r (x ∷ xs) a = ap (λ q. runner_behind q xs) (effect-runner r x a.0) ∙ effects-runner r xs a.1
-
-same_who-path : (a b : Who) → same_who a b ≡ true → a ≡ b
-same_who-path (who.Task a) (who.Task b) e = ap (λ n. who.Task (record { 0 = n })) (eqb-true a.0 b.0 e)
-same_who-path (who.Task a) who.Agent e = cc
-same_who-path who.Agent (who.Task b) e = cc
-same_who-path who.Agent who.Agent e = refl
-
-ran-path : (ran : Option Who) (name : Who) → same_option same_who ran (Some name) ≡ true → ran ≡ Some name
-ran-path None name e = cc
-ran-path (Some other) name e = ap Some (same_who-path other name e)
 
 run-runner : (same : Bool) (ran : Option Who) (name : Who) (w : World) → same_option same_who ran (Some name) ≡ same → runner_behind ran (cond same rests (say (line.Run name)) w).1 ≡ Some name
 run-runner true ran name w e = ran-path ran name e
@@ -85,9 +77,6 @@ before_tick-runner p (Some name) w =
 
 pub tock-runner : (p : Image) (w : World) → runner_behind w.ran (tock p w).1 ≡ choose w
 tock-runner p w = ap (λ a. runner_behind w.ran a.1) (tock-parts p w) ∙ before_tick-runner p (choose w) w
-
-pub tock-ran : (p : Image) (w : World) → (tock p w).0.ran ≡ choose w
-tock-ran p w = ap (λ a. a.0.ran) (tock-parts p w)
 
 -- ---- what the agent has behind a tock
 
@@ -126,8 +115,6 @@ serve-ticked (who.Task t) w h = record { attending = h; runs_same = refl; serves
 serve-ticked who.Agent w h = serve_if_free-ticked w.serving w.agent.frames w.releases w refl refl refl h
 
 -- who is chosen begins its action, and is charged for the tick
-abbrev charged : Image → Who → World → World
-charged p name w = spend_tick name (charge p name (begin_action p name w))
 
 module _ (p : Image) (name : Who) where
   charged-spared : (w : World) → (h : Attending w) → Spared h.colour true w [] (charged p name w)

@@ -13,7 +13,7 @@ use Rattle.machine_laws.proofs.FineMoves.{Nature, natures}
 use Rattle.line_laws.proofs.Handlers.AgentLines.{placed_behind, calls_agent, are_calls, are_calls-append, NoneBlocks, NoneBlocks-append, NoneCalls, Closes, Closes-behind, Closes-before, lines-call, lines-close}
 use Rattle.line_laws.proofs.Handlers.AgentWorlds.{Colour, Apart}
 use Rattle.line_laws.proofs.Handlers.AgentMarks.{Standing}
-use Rattle.line_laws.proofs.Handlers.SparedMoves.{agent_runs, Attends_all, Spared}
+use Rattle.line_laws.proofs.Handlers.SparedMoves.{agent_runs, Attends_all, Spared, or-assoc}
 use Rattle.line_laws.proofs.Handlers.OwnMoves.{Busy, BusyStep}
 
 abbrev pub Marked : Option Release → List Nature → Type 0
@@ -35,10 +35,6 @@ pub data Placing (before : Bool) (lines : List Said) (after : Bool) : Type 0 whe
 pub placing-lines : (p : Image) (before : Bool) (lines : List Said) (after : Bool) → Placing before lines after → placed_behind before (lines_of p lines) ≡ after
 placing-lines p before lines after (calm_so calm e) = lines-call p before lines calm ∙ sym e
 placing-lines p before lines after (closes_so closed e) = lines-close p before lines closed ∙ sym e
-
-or-assoc : (a b c : Bool) → ((a || b) || c) ≡ (a || (b || c))
-or-assoc true b c = refl
-or-assoc false b c = refl
 
 pub or_false : (b : Bool) → (b || false) ≡ b
 or_false true = refl

@@ -1,6 +1,6 @@
 -- Every run serves releases in turn: the release that the agent serves is the last that was taken up, and the one behind the
 -- last that was served.
-use Rattle.std.proofs.Common.{◌≡◌, ℕ, ℤ, suc, ◌+◌, ◌≤◌, Bool, true, false, cond, ◌&&◌, if◌then◌else◌, option_map, eqb, leb, List, [], ◌∷◌, ◌++◌, map, length, Option, Some, None, refl, sym, ap, subst, ◌∙◌, eq-eqb, arith}
+use Rattle.std.proofs.Common.{◌≡◌, ℕ, ℤ, suc, ◌+◌, ◌≤◌, Bool, true, false, cond, ◌&&◌, if◌then◌else◌, option_map, eqb, leb, List, [], ◌∷◌, ◌++◌, length, Option, Some, None, refl, sym, ap, subst, ◌∙◌, eq-eqb, arith}
 use Rattle.std.specs.Prelude.{unwrap_or}
 use Rattle.std.proofs.lemmas.Bool.{and_from, le-leb}
 use Rattle.trace_text.specs.declared.events.Event.{Event}
@@ -27,7 +27,7 @@ use Rattle.profile_machine.specs.Cost.{cost}
 use Rattle.profile_machine.specs.Handlers.{charge}
 use Rattle.profile_machine.specs.Instant.{instant}
 use Rattle.profile_machine.specs.declared.world.appointments.HandlerOf.{HandlerOf}
-use Rattle.profile_machine.specs.Run.{opens, opening, blank_world, with_serving, say, serve_if_free, serve, says_idle, one_tick_less, begin_action, spend_tick, tock, run_of}
+use Rattle.profile_machine.specs.Run.{opens, opening, blank_world, with_serving, say, serve_if_free, serve, says_idle, one_tick_less, begin_action, tock, run_of}
 use Rattle.machine_laws.proofs.FinestMoves.{all_of}
 use Rattle.machine_laws.proofs.Moves.{Moves, AreOthers, own, is_told_apart}
 use Rattle.machine_laws.proofs.Kept.Combinators.{Leads, Alters, settles-leads}
@@ -35,7 +35,7 @@ use Rattle.machine_laws.proofs.Kept.Handlers.{charge-alters}
 use Rattle.machine_laws.proofs.Kept.Instant.{instant-leads}
 use Rattle.machine_laws.proofs.Kept.Run.{opens-keeps, before_tick, tock-parts}
 use Rattle.line_laws.proofs.Ticks.LineByLine.{seen_behind, seen_behind-append, Follow, Follow-append, Leads_on, OfRuns, run-at_each_line}
-use Rattle.line_laws.proofs.Ticks.ReleaseLemmas.{Pending, Pending-behind, Pending-within}
+use Rattle.line_laws.proofs.Ticks.ReleaseLemmas.{Pending, Pending-behind, Pending-within, events_of, charged}
 use Rattle.line_laws.proofs.Exclusion.OwnLines.{told, Told, Told-append, Told-in_order}
 use Rattle.line_laws.specs.HandlerLaws.{ServedInTurn}
 
@@ -90,7 +90,7 @@ pub record Fits (turn : Turn) (s : Releases) : Type 0 where
 abbrev InTurn : Releases → List Event → Type 0
 InTurn = Follow see_releases is_in_order
 
-abbrev behind : Releases → List Event → Releases
+abbrev pub behind : Releases → List Event → Releases
 behind = seen_behind see_releases is_in_order
 
 -- these lines stand in turn, and lead on to a turn; none is taken up
@@ -149,9 +149,6 @@ line-next : (p : Image) (x : Line) (part : Part) (turn : Turn) (s : Releases) (f
 line-next p (said.Release number handler) part turn s f fits h = came-next p number handler turn s f fits h.1 h.2
 line-next p (said.Served number) part turn s f fits h = ended-next p number turn s f fits h.1 h.2
 line-next p _ part turn s f fits h = record { turn = turn; right = refl; fits_next = record { all_came = fits.all_came; within = fits.within; serves = fits.serves }; begun_next = refl; onward = h }
-
-abbrev events_of : Image → List Said → List Event
-events_of p xs = map (λ x. event_of p x.line) xs
 
 told-lead : (p : Image) (xs : List Said) (turn last : Turn) (s : Releases) → Fits turn s → TellsTurn xs turn last → LeadTo s (events_of p xs) last
 told-lead p [] turn last s fits h = record { in_turn = tt; fits_behind = subst (λ q. Fits q s) h fits; begun_behind = refl }
@@ -331,8 +328,6 @@ serve-lead_on (who.Task t) w s h = record { follow = tt; shows = h }
 serve-lead_on who.Agent w s h = serve_if_free-lead_on w.serving w.agent.frames w.releases w s refl refl h
 
 -- who is chosen begins its action, and is charged for the tick
-abbrev charged : Image → Who → World → World
-charged p name w = spend_tick name (charge p name (begin_action p name w))
 
 charged-unmoved : (p : Image) (name : Who) (w : World) → Tells w [] (charged p name w)
 unfolding Alters

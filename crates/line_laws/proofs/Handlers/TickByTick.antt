@@ -11,14 +11,12 @@ use Rattle.profile_machine.specs.declared.image.Image.{Image}
 use Rattle.profile_machine.specs.declared.run_data.Item.{Item}
 use Rattle.profile_machine.specs.declared.world.World.{World}
 use Rattle.profile_machine.specs.Instant.{instant}
-use Rattle.profile_machine.specs.Run.{Ran, opening, tock, stop, at_tick, stopped, then_runs, run_from, run_of}
+use Rattle.profile_machine.specs.Run.{Ran, opening, tock, stop, at_tick, run_from, run_of}
 use Rattle.machine_laws.specs.Reached.{Comes, opened, ticked}
 use Rattle.line_laws.proofs.Ticks.LineByLine.{seen_behind, seen_behind-append}
+use Rattle.machine_laws.proofs.RunLemmas.{turn}
 
 -- one instant, what follows it, and what is left of the run
-turn : ℕ → World × List Event → World × List Event → Ran → Option Ended → Ran
-turn now i t rest (Some reason) = stopped now i.1 reason
-turn now i t rest None = then_runs now (i.1 ++ t.1) rest
 
 module _ {S : Type 0} (see : S → Event → S) (lawful : S → Event → Bool) (right : S → Bool) where
   ticks-then : (tick now : ℕ) (s : S) (events : List Event) (rest : List TraceLine) → (leb now tick || right s) ≡ true

@@ -29,16 +29,17 @@ use Rattle.profile_machine.specs.Frames.{top_of, push, pop, edit_first, goes_on}
 use Rattle.profile_machine.specs.Program.{edf_low}
 use Rattle.profile_machine.specs.Masters.{region_of_mark, waits_at_terminate}
 use Rattle.profile_machine.specs.Controlled.{top_region, region_or_none}
-use Rattle.line_laws.proofs.Leaving.FineMoves.{Alike, Free, Awake, waits, waiting_now, Caller, is_special, own_call_of, top_leaving, gone_on, ready_world, blocked_world, block_line, is_apart, AreQuiet}
+use Rattle.line_laws.proofs.Leaving.FineMoves.{Alike, Free, Awake, waits, waiting_now, Caller, is_special, own_call_of, top_leaving, ready_world, blocked_world, block_line, is_apart, AreQuiet}
 use Rattle.line_laws.proofs.Leaving.TaskLemmas.{of_edited, of_own, of_other, of_self, who_path, free-edited}
 use Rattle.line_laws.proofs.Leaving.FreeWorlds.{Inv, Good, Sound, waits_as, Below, CallerIn, good-of, good-task, edited-inv, good-same, alike-good, alike-top, gone-good, gone-top, opened-good, free-opens, special-opens, popped-good, below-top, going-free, state-good}
 use Rattle.line_laws.proofs.Leaving.PlacingLines.{is_last_part, readies, taken, taken_from, taken_from-append, still-taken, more-taken, Quiet, Early, Quiet-append, Early-append}
-use Rattle.line_laws.proofs.Leaving.RegionLines.{Told, NotLeaving, leaving, by_test}
+use Rattle.line_laws.proofs.Leaving.RegionLines.{Told, NotLeaving, leaving}
 use Rattle.line_laws.proofs.Leaving.RegionTies.{Tied, topped, top-alone}
 use Rattle.line_laws.proofs.Leaving.Telling.{Tells, then-tells, moved}
 use Rattle.line_laws.proofs.Leaving.Kept.Dispatching.{ready-awake, granted-who, granted-state}
 use Rattle.machine_laws.proofs.FinestMoves.{being_left_in}
-use Rattle.machine_laws.proofs.FineMoves.{ready_line}
+use Rattle.machine_laws.proofs.FineMoves.{ready_line, gone_on}
+use Rattle.machine_laws.proofs.QueueLemmas.{by_test}
 
 -- ---- what is said of who waits
 

@@ -36,7 +36,6 @@ use Rattle.line_laws.proofs.Leaving.ProtectedSteps.{end_in_protected-from}
 use Rattle.line_laws.proofs.Leaving.CoreMoves.{Claim, claim-then}
 use Rattle.line_laws.proofs.Leaving.TaskLemmas.{who_path}
 use Rattle.line_laws.proofs.Leaving.PlacingLines.{taken, taken_from-append}
-use Rattle.line_laws.proofs.Leaving.RegionLines.{by_test}
 use Rattle.line_laws.proofs.Leaving.Telling.{other-tells, then-tells}
 use Rattle.line_laws.proofs.Leaving.FineMoves.{block_line}
 use Rattle.line_laws.proofs.Leaving.Kept.Frames.{open_if_ready-keeps}
@@ -51,6 +50,7 @@ use Rattle.profile_machine.specs.Tasking.{block_at_terminate, take_terminates, u
 use Rattle.profile_machine.specs.Instant.{effect}
 use Rattle.machine_laws.proofs.FinestMoves.{being_left_in}
 use Rattle.machine_laws.proofs.Kept.Combinators.{From, Keeps, Kept}
+use Rattle.machine_laws.proofs.QueueLemmas.{by_test}
 
 -- ---- an action, by the mark on top
 

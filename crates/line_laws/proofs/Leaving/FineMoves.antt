@@ -47,7 +47,7 @@ use Rattle.profile_machine.specs.Words.{edit_at}
 use Rattle.profile_machine.specs.Steps.{placed_by}
 use Rattle.profile_machine.specs.Tasks.{edit_task, with_state, with_frames, waiting_in, waiting_of}
 use Rattle.profile_machine.specs.Dispatching.{word_of, keep_level, grant_quantum, without_kept_level}
-use Rattle.profile_machine.specs.Frames.{top_of, edit_top, push, pop, goes_on}
+use Rattle.profile_machine.specs.Frames.{top_of, push, pop, goes_on}
 use Rattle.profile_machine.specs.Scopes.{edit_cells, begin_scope, open_scope, end_scope}
 use Rattle.profile_machine.specs.Appointments.{appoint, drop_appointment}
 use Rattle.std.proofs.Common.{◌≤◌}
@@ -65,7 +65,7 @@ use Rattle.profile_machine.specs.Serving.{close_action, serves_nothing}
 use Rattle.profile_machine.specs.Handlers.{add_release, clear_timer, with_timer_set, edit_budget}
 use Rattle.profile_machine.specs.Instant.{with_port, with_masked, with_kept_interrupt, with_script}
 use Rattle.machine_laws.proofs.Moves.{StepRelation, MoveRelation, is_told_apart, LetsIn, FindsHeld, own, lines_of}
-use Rattle.machine_laws.proofs.FineMoves.{GoodWorld, Naming, is_placing, ready_line}
+use Rattle.machine_laws.proofs.FineMoves.{GoodWorld, Naming, is_placing, ready_line, gone_on}
 use Rattle.machine_laws.proofs.FinestMoves.{being_left_in}
 
 -- ---- what a mark is, whatever is edited in it: its region, whether it is being left, and whether nothing goes on below it when
@@ -170,8 +170,6 @@ AreQuiet [] = Unit {0}
 AreQuiet (x ∷ xs) = (is_apart x.line ≡ false) × AreQuiet xs
 
 -- somebody goes on
-abbrev pub gone_on : Who → Option StatementNo → World → World
-gone_on name onward = edit_top name (goes_on onward)
 
 -- somebody has become ready, and has blocked
 abbrev pub ready_world : Image → Who → World → World

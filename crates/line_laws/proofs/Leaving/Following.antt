@@ -29,7 +29,7 @@ use Rattle.line_laws.proofs.Leaving.FineMoves.{FineMoves, Awake, waits}
 use Rattle.line_laws.proofs.Leaving.TaskLemmas.{awake-edited}
 use Rattle.line_laws.proofs.Leaving.FreeWorlds.{Inv}
 use Rattle.line_laws.proofs.Leaving.PlacingLines.{taken, is_placed, taken_not_placed, quiet_not_placed}
-use Rattle.line_laws.proofs.Leaving.RegionLines.{Told, NotLeaving, by_test}
+use Rattle.line_laws.proofs.Leaving.RegionLines.{Told, NotLeaving}
 use Rattle.line_laws.proofs.Leaving.LeftLines.{told_event, behind}
 use Rattle.line_laws.proofs.Leaving.RegionTies.{Tied}
 use Rattle.line_laws.proofs.Leaving.Telling.{Shown, Follows, Follows-append, RightEvent, behind_all, behind_all-append, settled-tells}
@@ -43,6 +43,7 @@ use Rattle.line_laws.proofs.Leaving.Kept.Frames.{open_sequence-keeps}
 use Rattle.line_laws.proofs.Leaving.Kept.Instant.{behind_action-leads}
 use Rattle.line_laws.proofs.Leaving.Kept.Run.{TockMoves}
 use Rattle.machine_laws.proofs.Kept.Combinators.{From, Kept, Leads}
+use Rattle.machine_laws.proofs.QueueLemmas.{by_test}
 
 -- ---- whom lines place
 

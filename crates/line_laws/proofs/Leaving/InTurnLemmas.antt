@@ -6,10 +6,12 @@ use Rattle.trace_text.specs.declared.events.Event.{Event}
 use Rattle.trace_text.specs.declared.events.Event.TheVariants as line
 use Rattle.trace_text.specs.Laws.{is_left_before, is_leaving, inits_of, regions_of, is_final_before, is_rightly_left}
 use Rattle.line_laws.specs.LeavingLaws.{is_newest, is_next_in_turn, is_in_turn, RunsLeaveInTurn, RunsLeaveRightly}
-use Rattle.line_laws.proofs.Leaving.RegionLines.{Told, begun, ended, added, finalized, assigned, leaving, left, inits, regions, final, others, live, live_in, Finalizes, Right, NotLeaving, Well, Known, by_test, newest-known, newest-live, live-one, known-same, known-added, known-finalized, absent-known, well-next, well_first, rightly, eqb-sym-false}
+use Rattle.line_laws.proofs.Leaving.RegionLines.{Told, begun, ended, added, finalized, assigned, leaving, left, inits, regions, final, others, live, live_in, Finalizes, Right, NotLeaving, Well, Known, newest-known, newest-live, live-one, known-same, known-added, known-finalized, absent-known, well-next, well_first, rightly, eqb-sym-false}
 use Rattle.line_laws.proofs.Leaving.LeftLines.{told_event, tells, tells-leaving, tells-left, tells-inits, tells-regions, tells-final, all-same, rightly-same, told_rightly}
 use Rattle.line_laws.proofs.Leaving.Telling.{RightEvent}
 use Rattle.line_laws.proofs.Leaving.LeavingRuns.{at_each_line}
+use Rattle.line_laws.proofs.Leaving.RegionTies.{test-true, test-false}
+use Rattle.machine_laws.proofs.QueueLemmas.{by_test}
 
 abbrev AnyRegion : List Told → ℕ → Type 0
 AnyRegion s r = Unit {0}
@@ -24,14 +26,6 @@ unfinalized s (o ∷ os) = cond (final o s) (unfinalized s os) (o ∷ unfinalize
 record InOrder (s : List Told) : Type 0 where
   left_over : (r : ℕ) → unfinalized s (inits r s) ≡ live_in r (live s)
   known : Known s (live s)
-
-test-true : {X : Type 0} (b : Bool) (x y : X) → b ≡ true → cond b x y ≡ x
-test-true true x y e = refl
-test-true false x y e = absurd cc
-
-test-false : {X : Type 0} (b : Bool) (x y : X) → b ≡ false → cond b x y ≡ y
-test-false true x y e = absurd cc
-test-false false x y e = refl
 
 unfinalized-same : (s t : List Told) (os : List ℕ) → ((o : ℕ) → final o t ≡ final o s) → unfinalized t os ≡ unfinalized s os
 unfinalized-same s t [] k = refl

@@ -1,5 +1,5 @@
 -- Who acts in an effect is at first not known to be free; it may be free to go on; or it stays awake below the mark on top.
-use Rattle.std.proofs.Common.{◌≡◌, eq-eqb, cond, Bool, true, false, List, [], ◌∷◌, ◌++◌, Option, Some, None, refl, sym, ap, subst, ◌∙◌}
+use Rattle.std.proofs.Common.{◌≡◌, cond, Bool, true, false, List, [], ◌∷◌, ◌++◌, Option, Some, None, refl, sym, ap, subst, ◌∙◌}
 use Rattle.std.specs.Prelude.{find, unwrap_or}
 use Rattle.trace_text.specs.declared.events.Who.{Who}
 use Rattle.trace_text.specs.declared.events.Who.TheVariants as who
@@ -15,21 +15,17 @@ use Rattle.profile_machine.specs.Frames.{edit_first, goes_on}
 use Rattle.profile_machine.specs.Tasking.{add_task}
 use Rattle.machine_laws.proofs.Moves.{MoveRelation}
 use Rattle.line_laws.proofs.Leaving.FineMoves.{FineMoves, Nature, nature, Alike, Free, Awake, waits, waiting_now, top_leaving}
-use Rattle.line_laws.proofs.Leaving.TaskLemmas.{of_edited, of_other, of_same, of_added, of_forgotten, who_path, FreeTask, free-edited, awake-edited, awake-same}
+use Rattle.line_laws.proofs.Leaving.TaskLemmas.{of_edited, of_other, of_same, of_added, of_forgotten, who_path, FreeTask, free-edited, awake-edited, awake-same, same_self}
 use Rattle.line_laws.proofs.Leaving.FreeWorlds.{gone-top}
-use Rattle.line_laws.proofs.Leaving.RegionLines.{by_test}
 use Rattle.line_laws.proofs.Leaving.CoreMoves.{alike-free, pop-free, state-free}
 use Rattle.line_laws.proofs.Leaving.Moving.{Extra, Known_of, Moved, GoodAs, Ends, fine}
 use Rattle.machine_laws.proofs.FineMoves.{Naming}
+use Rattle.machine_laws.proofs.QueueLemmas.{by_test}
 
 -- who acts, and the agent, of whose places nothing is asked
 abbrev pub acting : Who → Who → Bool
 acting a (who.Task t) = same_who a (who.Task t)
 acting a who.Agent = true
-
-same_self : (a : Who) → same_who a a ≡ true
-same_self (who.Task a) = eq-eqb a.0 a.0 refl
-same_self who.Agent = refl
 
 pub acting-self : (a : Who) → acting a a ≡ true
 acting-self (who.Task a) = same_self (who.Task a)

@@ -37,7 +37,7 @@ use Rattle.profile_machine.specs.Protected.{open_action}
 use Rattle.profile_machine.specs.Serving.{close_action, serves_nothing}
 use Rattle.profile_machine.specs.Handlers.{add_release}
 use Rattle.machine_laws.proofs.Moves.{MoveRelation, own, is_told_apart, lines_of}
-use Rattle.line_laws.proofs.Leaving.FineMoves.{FineMoves, Alike, Free, Awake, waits, waiting_now, is_special, own_call_of, top_leaving, gone_on, ready_world, blocked_world, is_of_region}
+use Rattle.line_laws.proofs.Leaving.FineMoves.{FineMoves, Alike, Free, Awake, waits, waiting_now, is_special, own_call_of, top_leaving, ready_world, blocked_world, is_of_region}
 use Rattle.line_laws.proofs.Leaving.TaskLemmas.{free-edited, of_added, of_forgotten, of_same, FreeTask}
 use Rattle.line_laws.proofs.Leaving.FreeWorlds.{waits_as, Good, opened-good, edited-inv, Inv, Below, CallerIn, good-same, calls-inv, added-good, filtered-good}
 use Rattle.line_laws.proofs.Leaving.CallLemmas.{edited-caller, added-caller, gone-caller}
@@ -49,7 +49,7 @@ use Rattle.line_laws.proofs.Leaving.Kept.Frames.{alike}
 use Rattle.line_laws.proofs.Leaving.Kept.Dispatching.{granted-who, granted-state}
 use Rattle.line_laws.proofs.Leaving.CoreMoves.{quiet-early, edited-state, Core, Claim, core-then, claim-same, claim-quiet, apart-readies, quiet-lines, alike-core, goes-core, push-core, pop-base, pop-free, popped-free, free-below, special-below, onward-free, waiting-free, wakes-core, ready-claim, placed-claim, acting-claim, silent-core, blocks-core, early, edited-called, state_in}
 use Rattle.line_laws.proofs.Leaving.LeftMoves.{natures-of}
-use Rattle.machine_laws.proofs.FineMoves.{Naming, is_placing, ready_line}
+use Rattle.machine_laws.proofs.FineMoves.{Naming, is_placing, ready_line, gone_on}
 use Rattle.machine_laws.proofs.FinestMoves.{being_left_in}
 
 -- ---- small facts

@@ -16,6 +16,7 @@ use Rattle.profile_machine.specs.Words.{same_who}
 use Rattle.profile_machine.specs.Lines.{event_of}
 use Rattle.profile_machine.specs.Steps.{is_part_before, put_in_order, in_order, is_above, put_at, put_at_tail, put_at_head, take_out, places_after, places_after_all}
 use Rattle.machine_laws.proofs.Moves.{lines_of}
+use Rattle.line_laws.proofs.Handlers.AgentLines.{or-swap}
 
 -- ---- lines of an effect
 
@@ -202,11 +203,6 @@ bit_behind n b (x ∷ xs) = bit_behind n (bit_after n b x.line) xs
 bit_behind-append : (n : Who) (b : Bool) (xs ys : List Said) → bit_behind n b (xs ++ ys) ≡ bit_behind n (bit_behind n b xs) ys
 bit_behind-append n b [] ys = refl
 bit_behind-append n b (x ∷ xs) ys = bit_behind-append n (bit_after n b x.line) xs ys
-
-or-swap : (a b c : Bool) → (a || (b || c)) ≡ (b || (a || c))
-or-swap true true c = refl
-or-swap true false c = refl
-or-swap false b c = refl
 
 placed-tail : (n : Who) (x : Placed) (xs : List Placed) → is_placed n (put_at_tail x xs) ≡ (same_who n x.who || is_placed n xs)
 placed-tail n x [] = refl

@@ -4,6 +4,7 @@ use Rattle.std.proofs.Common.{◌≡◌, ℕ, Bool, true, false, cond, not, eqb,
 use Rattle.std.specs.List.{list_all}
 use Rattle.std.proofs.lemmas.Bool.{and_from, eqb-true, not_from_false, or_left, or_parts, or_right}
 use Rattle.trace_text.specs.Laws.{has, is_front_of}
+use Rattle.machine_laws.proofs.QueueLemmas.{by_test}
 
 -- a region begins to be left, and has been left; an object is initialized in a region, finalized, and assigned to
 pub data Told : Type 0 where
@@ -111,10 +112,6 @@ pub record Well (s : List Told) : Type 0 where
   pub parts : (r : ℕ) → inits r s ≡ finals (inits r s) s ++ live_in r (live s)
   pub early : (r : ℕ) → leaving r s ≡ false → finals (inits r s) s ≡ []
   pub known : Known s (live s)
-
-pub by_test : {P : Type 0} (b : Bool) → (b ≡ true → P) → (b ≡ false → P) → P
-by_test true p q = p refl
-by_test false p q = q refl
 
 pub eqb-sym-false : (a b : ℕ) → eqb a b ≡ false → eqb b a ≡ false
 eqb-sym-false a b e = by_test (eqb b a) (λ t. absurd (let same : eqb a a ≡ false = subst (λ n. eqb a n ≡ false) (eqb-true b a t) e in let yes : eqb a a ≡ true = eq-eqb a a refl in cc)) (λ f. f)

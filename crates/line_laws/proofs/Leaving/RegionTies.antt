@@ -25,8 +25,11 @@ use Rattle.profile_machine.specs.Masters.{forget_task}
 use Rattle.profile_machine.specs.Controlled.{registered_as, no_longer_registered, edit_top_scope, edit_scope_mark, next_to_finalize, is_number}
 use Rattle.profile_machine.specs.Tasking.{add_task, being_left_mark, left_so_frame}
 use Rattle.line_laws.proofs.Leaving.FineMoves.{Nature, nature, natures}
-use Rattle.line_laws.proofs.Leaving.RegionLines.{Told, begun, ended, added, finalized, assigned, leaving, left, regions, final, others, live, live_in, is_live, Finalizes, by_test, eqb-sym-false, absent-others}
+use Rattle.line_laws.proofs.Leaving.RegionLines.{Told, begun, ended, added, finalized, assigned, leaving, left, regions, final, others, live, live_in, is_live, Finalizes, eqb-sym-false, absent-others}
 use Rattle.line_laws.proofs.Leaving.RegionWorlds.{with_flag, flags_in, flags_of, flags, Single, single-on, single-none, single-alone, Alone, Fewer, fewer-same, fewer-by, fewer-natures, fewer-filter, fewer-before, around, edited-fewer}
+use Rattle.machine_laws.proofs.QueueLemmas.{by_test}
+use Rattle.machine_laws.proofs.FineMoves.{edit_found-drawn}
+use Rattle.machine_laws.proofs.Kept.Controlled.{edit_found-registered}
 
 -- ---- the tie
 
@@ -162,11 +165,11 @@ top-flags name w r b q t =
     ∙ ap (λ k. with_flag q k (nature t.first.mark).leaving (flags_in q (natures t.below))) t.region
     ∙ ap (λ c. with_flag q (Some r) c (flags_in q (natures t.below))) t.leaving
 
-test-true : {X : Type 0} (b : Bool) (x y : X) → b ≡ true → cond b x y ≡ x
+pub test-true : {X : Type 0} (b : Bool) (x y : X) → b ≡ true → cond b x y ≡ x
 test-true true x y e = refl
 test-true false x y e = absurd cc
 
-test-false : {X : Type 0} (b : Bool) (x y : X) → b ≡ false → cond b x y ≡ y
+pub test-false : {X : Type 0} (b : Bool) (x y : X) → b ≡ false → cond b x y ≡ y
 test-false true x y e = absurd cc
 test-false false x y e = refl
 
@@ -179,16 +182,6 @@ top-alone s name w r b t h =
     (subst (Single (Flag r.0 s w.drawn.regions)) (a.whole ∙ ap (λ bs. a.before ++ (bs ++ a.behind)) here) (h.marks r.0))
 
 -- ---- an edit of a task, with what it leaves of all else
-
-edit_found-drawn : (name : Who) (f : Task → Task) (w : World) (found : Option Task) → (edit_task_found name f w found).drawn ≡ w.drawn
-edit_found-drawn name f w None = refl
-edit_found-drawn (who.Task n) f w (Some t) = refl
-edit_found-drawn who.Agent f w (Some t) = refl
-
-edit_found-registered : (name : Who) (f : Task → Task) (w : World) (found : Option Task) → (edit_task_found name f w found).registered ≡ w.registered
-edit_found-registered name f w None = refl
-edit_found-registered (who.Task n) f w (Some t) = refl
-edit_found-registered who.Agent f w (Some t) = refl
 
 retied : (s : List Told) (name : Who) (f : Task → Task) (w : World) → let v = edit_task name f w in ((r : ℕ) → Single (Flag r s w.drawn.regions) (flags r v.tasks v.agent)) → Drawn_to s w.registered w.drawn.regions w.drawn.controlled → Tied s v
 retied s name f w marks rest =

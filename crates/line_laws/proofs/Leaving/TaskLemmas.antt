@@ -46,7 +46,7 @@ pub own-list : (test : Task → Bool) (xs : List Task) (t u : Task) → find tes
 own-list test [] t u found fits = absurd cc
 own-list test (z ∷ zs) t u found fits = own-step test z t u zs (test z) refl found fits (λ e. own-list test zs t u e fits)
 
-found-step : (test : Task → Bool) (z t : Task) (zs : List Task) (b : Bool) → test z ≡ b → cond b (Some z) (find test zs) ≡ Some t → (find test zs ≡ Some t → test t ≡ true) → test t ≡ true
+pub found-step : (test : Task → Bool) (z t : Task) (zs : List Task) (b : Bool) → test z ≡ b → cond b (Some z) (find test zs) ≡ Some t → (find test zs ≡ Some t → test t ≡ true) → test t ≡ true
 found-step test z t zs true is found onward = let same : z ≡ t = cc in subst (λ (x : Task). test x ≡ true) same is
 found-step test z t zs false is found onward = onward found
 
@@ -143,7 +143,7 @@ same_who-path (who.Task a) who.Agent e = absurd cc
 same_who-path who.Agent (who.Task b) e = absurd cc
 same_who-path who.Agent who.Agent e = refl
 
-same_self : (a : Who) → same_who a a ≡ true
+pub same_self : (a : Who) → same_who a a ≡ true
 same_self (who.Task a) = eq-eqb a.0 a.0 refl
 same_self who.Agent = refl
 
@@ -159,7 +159,7 @@ gone-all Pr n m (z ∷ zs) same none =
       all-step Pr n m z left_over true e h = h
       all-step Pr n m z left_over false e h = subst (λ d. Of Pr (cond d (Some z) (find (is_who n) left_over))) (sym e) h
 
-other-gone : (Pr : Task → Type 0) (n m : Who) (xs : List Task) → same_who n m ≡ false → Of Pr (find (is_who n) xs) → Of Pr (find (is_who n) (without (is_who m) xs))
+pub other-gone : (Pr : Task → Type 0) (n m : Who) (xs : List Task) → same_who n m ≡ false → Of Pr (find (is_who n) xs) → Of Pr (find (is_who n) (without (is_who m) xs))
 other-gone Pr n m [] apart h = h
 other-gone Pr n m (z ∷ zs) apart h = step Pr n m z zs (without (is_who m) zs) (same_who m z.who) (same_who n z.who) refl refl apart (λ g. other-gone Pr n m zs apart g) h where
   step : (Pr : Task → Type 0) (n m : Who) (z : Task) (zs left_over : List Task) (b c : Bool) → same_who m z.who ≡ b → same_who n z.who ≡ c → same_who n m ≡ false → (Of Pr (find (is_who n) zs) → Of Pr (find (is_who n) left_over)) → Of Pr (cond c (Some z) (find (is_who n) zs))

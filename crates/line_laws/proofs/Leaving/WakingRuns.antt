@@ -20,13 +20,13 @@ use Rattle.machine_laws.proofs.TimeLemmas.{opening-runner}
 use Rattle.line_laws.proofs.Leaving.FineMoves.{waits}
 use Rattle.line_laws.proofs.Leaving.FreeWorlds.{Inv}
 use Rattle.line_laws.proofs.Leaving.PlacingLines.{is_placed}
-use Rattle.line_laws.proofs.Leaving.RegionLines.{by_test}
 use Rattle.line_laws.proofs.Leaving.CoreMoves.{state_in}
 use Rattle.line_laws.proofs.Leaving.Kept.Run.{before_tick-leads}
 use Rattle.line_laws.proofs.Leaving.Following.{Following, RanAwake, resting, tock_moves, instant-following, opening-following}
 use Rattle.machine_laws.specs.Reached.{Comes, opened, ticked, before}
 use Rattle.machine_laws.proofs.Kept.Combinators.{Leads}
 use Rattle.machine_laws.proofs.Kept.Run.{before_tick, tock-parts}
+use Rattle.machine_laws.proofs.QueueLemmas.{by_test}
 
 -- nobody waits for a meeting and is placed
 abbrev pub NobodyWaits : World → Type 0
@@ -52,11 +52,11 @@ tock-following p w inv =
     record { shown = λ s h. let f = k.shown s h in (f.0, f.1); placed = λ t e places g. k.placed t e places g; inv = k.inv })
 
 -- whom a tock chooses is placed
-same_self : (a : Who) → same_who a a ≡ true
+pub same_self : (a : Who) → same_who a a ≡ true
 same_self who.Agent = refl
 same_self (who.Task t) = eq-eqb t.0 t.0 refl
 
-head-placed : (places : List Placed) (name : Who) → head_of places ≡ Some name → is_placed name places ≡ true
+pub head-placed : (places : List Placed) (name : Who) → head_of places ≡ Some name → is_placed name places ≡ true
 head-placed [] name e = absurd cc
 head-placed (x ∷ xs) name e = let same : x.who ≡ name = cc in subst (λ n. (same_who n x.who || is_placed n xs) ≡ true) same (ap (λ b. b || is_placed x.who xs) (same_self x.who))
 

@@ -1,5 +1,5 @@
 -- Two runs of one program and script under two bounds, by induction over their ticks.
-use Rattle.std.proofs.Common.{◌≡◌, ℕ, ℤ, zero, suc, ◌+◌, ◌<◌, ◌≤◌, Bool, true, false, cond, eqb, leb, ◌&&◌, List, [], ◌∷◌, ◌++◌, Option, Some, None, refl, sym, ap, subst, ◌∙◌, append_assoc, arith}
+use Rattle.std.proofs.Common.{◌≡◌, ℕ, ℤ, zero, suc, ◌+◌, ◌<◌, ◌≤◌, Bool, true, false, cond, eqb, ◌&&◌, List, [], ◌∷◌, ◌++◌, Option, Some, None, refl, sym, ap, subst, ◌∙◌, append_assoc, arith}
 use Rattle.std.specs.Prelude.{◌≢◌, nat_le, if◌then◌else◌}
 use Rattle.std.proofs.lemmas.Bool.{eqb-true}
 use Rattle.ann_base.specs.declared.exceptions.Raised.{Raised}
@@ -16,14 +16,11 @@ use Rattle.profile_machine.specs.Instant.{instant}
 use Rattle.profile_machine.specs.Run.{Ran, opening, tock, stop, stop_by_end, stop_by_stuck, at_tick, stopped, then_runs, run_from, run, run_of}
 use Rattle.std.specs.Option.{option_or}
 use Rattle.machine_laws.proofs.TimeLemmas.{instants_take_no_time, tocks_take_one_tick, opening_now}
-use Rattle.machine_laws.proofs.RunLemmas.{below_bound, run_from-rises}
+use Rattle.machine_laws.proofs.RunLemmas.{below_bound, run_from-rises, turn, at_tick-append}
+use Rattle.machine_laws.proofs.DispatchLemmas.{up_to-later}
 use Rattle.line_laws.specs.Bounds.{AreCutAt, GoesOn}
 
 -- ---- lines of one tick
-
-at_tick-append : (n : ℕ) (xs ys : List Event) → at_tick n (xs ++ ys) ≡ at_tick n xs ++ at_tick n ys
-at_tick-append n [] ys = refl
-at_tick-append n (x ∷ xs) ys = ap (λ rest. (n, x) ∷ rest) (at_tick-append n xs ys)
 
 rises-sooner : (n : ℕ) (rest : List TraceLine) → RisesFrom (suc n) rest → RisesFrom n rest
 rises-sooner n [] h = tt
@@ -34,10 +31,6 @@ rises-then n [] rest h = rises-sooner n rest h
 rises-then n (x ∷ xs) rest h = (omega arith, rises-then n xs rest h)
 
 -- ---- one instant, what follows it, and what is left of the run
-
-turn : ℕ → World × List Event → World × List Event → Ran → Option Ended → Ran
-turn now i t rest (Some reason) = stopped now i.1 reason
-turn now i t rest None = then_runs now (i.1 ++ t.1) rest
 
 by_end-other : (p : Image) (ended : Option (Option Raised)) → stop_by_end p ended ≢ Some why.Bound
 by_end-other p None e = cc
@@ -134,10 +127,6 @@ longer_runs_go_on p script bound more =
 up_to-front : (tick : ℕ) (front xs : List TraceLine) → up_to tick xs ≡ [] → up_to tick (front ++ xs) ≡ up_to tick front
 up_to-front tick [] xs e = e
 up_to-front tick (x ∷ front) xs e = ap (λ (rest : List TraceLine). if nat_le x.0 tick then x ∷ rest else []) (up_to-front tick front xs e)
-
-up_to-later : (tick later : ℕ) (rest : List TraceLine) → tick < later → RisesFrom later rest → up_to tick rest ≡ []
-up_to-later tick later [] a h = refl
-up_to-later tick later (x ∷ xs) a h = let beyond : leb x.0 tick ≡ false = grind (arith, h.0) in rw beyond refl
 
 cut-same : (bound tick : ℕ) (short long : List TraceLine) → tick < bound → AreCutAt bound short long → up_to tick long ≡ up_to tick short
 cut-same bound tick short long a c =

@@ -8,8 +8,9 @@ use Rattle.profile_machine.specs.declared.image.Image.{Image}
 use Rattle.profile_machine.specs.declared.run_data.Item.{Item}
 use Rattle.profile_machine.specs.declared.world.World.{World}
 use Rattle.profile_machine.specs.Instant.{instant}
-use Rattle.profile_machine.specs.Run.{Ran, opening, tock, stop, at_tick, stopped, then_runs, run_from, run_of}
+use Rattle.profile_machine.specs.Run.{Ran, opening, tock, stop, at_tick, run_from, run_of}
 use Rattle.line_laws.specs.Names.{EachEvent}
+use Rattle.machine_laws.proofs.RunLemmas.{turn}
 
 -- each of these lines, at whatever tick
 abbrev pub AllOf : (Event → Type 0) → List Event → Type 0
@@ -34,9 +35,6 @@ EachEvent-then P now [] rest a b = b
 EachEvent-then P now (x ∷ xs) rest a b = (a.0, EachEvent-then P now xs rest a.1 b)
 
 -- one instant, what follows it, and what is left of the run
-turn : ℕ → World × List Event → World × List Event → Ran → Option Ended → Ran
-turn now i t rest (Some reason) = stopped now i.1 reason
-turn now i t rest None = then_runs now (i.1 ++ t.1) rest
 
 turn-each : (P : Event → Type 0) (now : ℕ) (i t : World × List Event) (rest : Ran) (reason : Option Ended) → AllOf P i.1 → AllOf P t.1 → OfEnd P reason → EachEvent P rest.lines → EachEvent P (turn now i t rest reason).lines
 unfolding turn

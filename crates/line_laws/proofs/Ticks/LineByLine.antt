@@ -14,12 +14,10 @@ use Rattle.profile_machine.specs.declared.run_data.Item.{Item}
 use Rattle.profile_machine.specs.declared.world.World.{World}
 use Rattle.profile_machine.specs.Instant.{instant}
 use Rattle.machine_laws.specs.LineKinds.{AllAre}
-use Rattle.profile_machine.specs.Run.{Ran, opening, tock, stop, at_tick, stopped, then_runs, run_from, run_of}
+use Rattle.profile_machine.specs.Run.{Ran, opening, tock, stop, at_tick, run_from, run_of}
+use Rattle.machine_laws.proofs.RunLemmas.{turn}
 
 -- one instant, what follows it, and what is left of the run
-turn : ℕ → World × List Event → World × List Event → Ran → Option Ended → Ran
-turn now i t rest (Some reason) = stopped now i.1 reason
-turn now i t rest None = then_runs now (i.1 ++ t.1) rest
 
 module _ {S : Type 0} (see : S → Event → S) (lawful : S → Event → Bool) where
   -- what is shown behind these lines

@@ -17,11 +17,11 @@ use Rattle.profile_machine.specs.Words.{same_who, same_option}
 use Rattle.profile_machine.specs.Steps.{rests}
 use Rattle.profile_machine.specs.Dispatching.{choose}
 use Rattle.profile_machine.specs.Instant.{instant}
-use Rattle.profile_machine.specs.Run.{Ran, opening, tock, stop, say, says_run, serve_if_free, serve, says_idle, at_tick, stopped, then_runs, run_from, run_of}
+use Rattle.profile_machine.specs.Run.{Ran, opening, tock, stop, say, says_run, serve_if_free, serve, says_idle, at_tick, run_from, run_of}
 use Rattle.machine_laws.specs.LineKinds.{is_of_effect, AllAre}
 use Rattle.machine_laws.proofs.TimeLemmas.{instants_take_no_time, tocks_take_one_tick}
 use Rattle.machine_laws.proofs.LineLemmas.{instants_say_effects, openings_say_effects}
-use Rattle.machine_laws.proofs.RunLemmas.{run_from-rises}
+use Rattle.machine_laws.proofs.RunLemmas.{run_from-rises, turn, at_tick-append}
 use Rattle.machine_laws.proofs.Kept.Run.{before_tick, tock-parts}
 use Rattle.line_laws.specs.TickLaws.{is_run, is_serve, may_follow, stands_rightly, follows_tick_order}
 
@@ -106,14 +106,6 @@ tock-ordered : (p : Image) (w : World) (n : ℕ) (rest : List TraceLine) → Ris
 tock-ordered p w n rest r h = subst (λ (a : World × List Event). Ordered (at_tick n a.1 ++ rest)) (sym (tock-parts p w)) (before_tick-ordered p (choose w) w n rest r h)
 
 -- ---- what is left of a run
-
-at_tick-append : (n : ℕ) (xs ys : List Event) → at_tick n (xs ++ ys) ≡ at_tick n xs ++ at_tick n ys
-at_tick-append n [] ys = refl
-at_tick-append n (x ∷ xs) ys = ap (λ rest. (n, x) ∷ rest) (at_tick-append n xs ys)
-
-turn : ℕ → World × List Event → World × List Event → Ran → Option Ended → Ran
-turn now i t rest (Some reason) = stopped now i.1 reason
-turn now i t rest None = then_runs now (i.1 ++ t.1) rest
 
 turn-ordered : (now : ℕ) (i t : World × List Event) (rest : Ran) (reason : Option Ended) → AllAre is_of_effect i.1 → Ordered (at_tick now t.1 ++ rest.lines) → Ordered (turn now i t rest reason).lines
 unfolding turn

@@ -128,7 +128,7 @@ event-told : (p : Image) (x : Line) (part : Part) (a b : ℕ) (f : ℕ → Type 
 event-told p (said.Release number handler) part a b f h = (suc a, eq-eqb number (suc a) h.1, refl, h.2)
 event-told p _ part a b f h = (a, refl, refl, h)
 
-abbrev events_of : Image → List Said → List Event
+abbrev pub events_of : Image → List Said → List Event
 events_of p xs = map (λ x. event_of p x.line) xs
 
 told-lead : (p : Image) (xs : List Said) (a b last : ℕ) → Told xs a last → LeadTo (counts a b) (events_of p xs) (counts last b)
@@ -283,7 +283,7 @@ serve-lead_on (who.Task t) w c h = record { follow = tt; shows = h }
 serve-lead_on who.Agent w c h = serve_if_free-lead_on w.serving w.agent.frames w.releases w c refl h
 
 -- who is chosen begins its action, and is charged for the tick
-abbrev charged : Image → Who → World → World
+abbrev pub charged : Image → Who → World → World
 charged p name w = spend_tick name (charge p name (begin_action p name w))
 
 charged-unmoved : (p : Image) (name : Who) (w : World) → TellsReleases w [] (charged p name w)

@@ -66,7 +66,7 @@ tocks-lead_on p queue w h =
 
 -- ---- why a run stops
 
-first_of_three : (a b c : Bool) → (a && b && c) ≡ true → a ≡ true
+pub first_of_three : (a b c : Bool) → (a && b && c) ≡ true → a ≡ true
 first_of_three true b c e = refl
 first_of_three false b c e = cc
 

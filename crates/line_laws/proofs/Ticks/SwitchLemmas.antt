@@ -1,6 +1,5 @@
 -- Every run keeps the law of switches: the runner that lines show is the one that the world has, and a tock compares with it.
 use Rattle.std.proofs.Common.{◌≡◌, ℕ, ℤ, Bool, true, false, not, cond, List, [], ◌∷◌, ◌++◌, Option, Some, None, refl, sym, ap, subst, ◌∙◌}
-use Rattle.std.proofs.lemmas.Bool.{eqb-true}
 use Rattle.trace_text.specs.declared.events.Event.{Event}
 use Rattle.trace_text.specs.declared.events.Event.TheVariants as line
 use Rattle.trace_text.specs.declared.events.Who.{Who}
@@ -20,6 +19,7 @@ use Rattle.machine_laws.specs.LineKinds.{is_of_effect, AllAre}
 use Rattle.machine_laws.proofs.TimeLemmas.{instants_keep_runner, opening-runner}
 use Rattle.machine_laws.proofs.LineLemmas.{instants_say_effects, openings_say_effects}
 use Rattle.machine_laws.proofs.Kept.Run.{before_tick, tock-parts}
+use Rattle.machine_laws.proofs.DispatchLemmas.{effect-runner, ran-path, tock-ran}
 use Rattle.line_laws.specs.TickLaws.{is_switch, SwitchesOk}
 use Rattle.line_laws.proofs.Ticks.LineByLine.{seen_behind, seen_behind-append, Follow, Follow-append, Leads_on, OfRuns, run-at_each_line}
 
@@ -35,11 +35,6 @@ ShowsRunner : Option Who → World → Type 0
 ShowsRunner runner w = w.ran ≡ runner
 
 -- ---- the lines of effects
-
-effect-runner : (r : Option Who) (event : Event) → is_of_effect event ≡ true → runner_after r event ≡ r
-effect-runner r (line.Run name) e = cc
-effect-runner r line.Idle e = cc
-effect-runner r _ e = refl
 
 effect-switch : (r : Option Who) (event : Event) → is_of_effect event ≡ true → is_switch r event ≡ true
 effect-switch r (line.Run name) e = cc
@@ -68,16 +63,6 @@ somebody_eq-is (Some (who.Task a)) (Some (who.Task b)) = refl
 somebody_eq-is (Some (who.Task a)) (Some who.Agent) = refl
 somebody_eq-is (Some who.Agent) (Some (who.Task b)) = refl
 somebody_eq-is (Some who.Agent) (Some who.Agent) = refl
-
-same_who-path : (a b : Who) → same_who a b ≡ true → a ≡ b
-same_who-path (who.Task a) (who.Task b) e = ap (λ n. who.Task (record { 0 = n })) (eqb-true a.0 b.0 e)
-same_who-path (who.Task a) who.Agent e = cc
-same_who-path who.Agent (who.Task b) e = cc
-same_who-path who.Agent who.Agent e = refl
-
-ran-path : (ran : Option Who) (name : Who) → same_option same_who ran (Some name) ≡ true → ran ≡ Some name
-ran-path None name e = cc
-ran-path (Some other) name e = ap Some (same_who-path other name e)
 
 -- these lines lead from one runner to another
 abbrev Passes : Option Who → List Event → Option Who → Type 0
@@ -117,9 +102,6 @@ before_tick-passes p (Some name) w =
 
 tock-passes : (p : Image) (w : World) → Passes w.ran (tock p w).1 (choose w)
 tock-passes p w = subst (λ (a : World × List Event). Passes w.ran a.1 (choose w)) (sym (tock-parts p w)) (before_tick-passes p (choose w) w)
-
-tock-ran : (p : Image) (w : World) → (tock p w).0.ran ≡ choose w
-tock-ran p w = ap (λ a. a.0.ran) (tock-parts p w)
 
 tocks-lead_on : (p : Image) (r : Option Who) (w : World) → ShowsRunner r w → Leads_on runner_after is_switch ShowsRunner r (tock p w).1 (tock p w).0
 unfolding ShowsRunner

@@ -52,7 +52,7 @@ scope-nature f same (InInitialize l) = refl
 scope-nature f same (InFinalize o) = refl
 scope-nature f same (InAssign m) = refl
 
-edit_found-registered : (name : Who) (f : Task → Task) (w : World) (found : Option Task) → (edit_task_found name f w found).registered ≡ w.registered
+pub edit_found-registered : (name : Who) (f : Task → Task) (w : World) (found : Option Task) → (edit_task_found name f w found).registered ≡ w.registered
 edit_found-registered name f w None = refl
 edit_found-registered (who.Task n) f w (Some t) = refl
 edit_found-registered who.Agent f w (Some t) = refl

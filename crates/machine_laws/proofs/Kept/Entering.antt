@@ -53,7 +53,7 @@ entering-held p w name o mode e = held-found p w name o mode (object_of w o) ref
 pub LetsIn-same : (name : Who) (o : ObjectNo) (mode : Mode) (w v : World) → v.objects ≡ w.objects → LetsIn name o mode w → LetsIn name o mode v
 LetsIn-same name o mode w v e h = record { object = h.object; found = ap (find (is_object o)) e ∙ h.found; outside = h.outside; free = h.free }
 
-edit_found-objects : (name : Who) (f : Task → Task) (w : World) (found : Option Task) → (edit_task_found name f w found).objects ≡ w.objects
+pub edit_found-objects : (name : Who) (f : Task → Task) (w : World) (found : Option Task) → (edit_task_found name f w found).objects ≡ w.objects
 edit_found-objects name f w None = refl
 edit_found-objects (who.Task n) f w (Some t) = refl
 edit_found-objects who.Agent f w (Some t) = refl

@@ -39,11 +39,11 @@ use Rattle.machine_laws.proofs.Kept.Serving.{Stays, stays_anyhow}
 use Rattle.profile_machine.specs.Values.{budget_of}
 use Rattle.profile_machine.specs.Handlers.{clear_timer}
 
-abbrev is_there : {X : Type 0} → Option X → Bool
+abbrev pub is_there : {X : Type 0} → Option X → Bool
 is_there (Some x) = true
 is_there None = false
 
-abbrev or_that : {X : Type 0} → X → Option X → X
+abbrev pub or_that : {X : Type 0} → X → Option X → X
 or_that x (Some y) = y
 or_that x None = x
 

@@ -30,7 +30,7 @@ use Rattle.machine_laws.proofs.Kept.Inheritance.{lose-alters}
 use Rattle.machine_laws.proofs.Kept.Appointments.{drop_delay-alters}
 use Rattle.machine_laws.proofs.Kept.CallEnds.{end_call-keeps, gone-keeps}
 
-some-is : (t u : Task) → Some t ≡ Some u → t ≡ u
+pub some-is : (t u : Task) → Some t ≡ Some u → t ≡ u
 some-is t u e = cc
 
 found-others : (Other : Naming) (test : Bool) (t : Task) (rest : Option Task) (u : Task) → Other t.who → (rest ≡ Some u → Other u.who) → cond test (Some t) rest ≡ Some u → Other u.who

@@ -40,10 +40,10 @@ use Rattle.profile_machine.specs.declared.world.World.{World}
 use Rattle.ann_base.specs.declared.identities.TaskNo.{TaskNo}
 use Rattle.profile_machine.specs.Tasks.{found_task, is_who}
 
-abbrev well : world.Task → Valued world.Task
+abbrev pub well : world.Task → Valued world.Task
 well t = Ok t
 
-ok-is : (v u : world.Task) → well v ≡ Ok u → v ≡ u
+pub ok-is : (v u : world.Task) → well v ≡ Ok u → v ≡ u
 ok-is v u e = cc
 
 module _ {G : GoodWorld} {May Other : Naming} {R : StepRelation} {Q : MoveRelation} (moves : FinestMoves G May Other R Q) where

@@ -29,7 +29,7 @@ use Rattle.profile_machine.specs.Program.{form_of}
 use Rattle.profile_machine.specs.Frames.{new_frame}
 
 -- of a test that fails, unless the first part is why
-last_is_false : (a b c d : Bool) → (not a && (b || c || d)) ≡ false → a ≡ false → d ≡ false
+pub last_is_false : (a b c d : Bool) → (not a && (b || c || d)) ≡ false → a ≡ false → d ≡ false
 last_is_false true b c d h k = absurd (false≢true (sym k))
 last_is_false false true c d h k = absurd (false≢true (sym h))
 last_is_false false false true d h k = absurd (false≢true (sym h))

@@ -55,10 +55,10 @@ use Rattle.profile_machine.specs.Dispatching.{active_of}
 use Rattle.profile_machine.specs.Unwinding.{any_struck}
 use Rattle.profile_machine.specs.Masters.{region_of_mark, has_dependents, may_terminate, leave_by_terminate, has_activating}
 
-same_region_in : (r q : RegionNo) (region : Option RegionNo) → region ≡ Some r → region ≡ Some q → q ≡ r
+pub same_region_in : (r q : RegionNo) (region : Option RegionNo) → region ≡ Some r → region ≡ Some q → q ≡ r
 same_region_in r q region a b = let one : Some q ≡ Some r = sym b ∙ a in cc
 
-no_region : {P : Type 0} (q : RegionNo) (region : Option RegionNo) → region ≡ None → region ≡ Some q → P
+pub no_region : {P : Type 0} (q : RegionNo) (region : Option RegionNo) → region ≡ None → region ≡ Some q → P
 no_region q region a b = absurd (let one : None ≡ Some q = sym a ∙ b in cc)
 
 module _ {G : GoodWorld} {May Other : Naming} {R : StepRelation} {Q : MoveRelation} (moves : FinestMoves G May Other R Q) where

@@ -15,10 +15,10 @@ use Rattle.source_laws.proofs.Names.Denoting.{same_place-path}
 use Rattle.source_laws.proofs.Sources.Counting.{one_if, count}
 
 -- where one stands in a source is of a type that ada_lex keeps to itself
-abbrev type_of : {A : Type 0} → A → Type 0
+abbrev pub type_of : {A : Type 0} → A → Type 0
 type_of {A} a = A
 
-abbrev Spot : Type 0
+abbrev pub Spot : Type 0
 Spot = type_of start
 
 abbrev OnLine : Place → Type 0

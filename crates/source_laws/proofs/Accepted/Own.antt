@@ -4,7 +4,6 @@ use Rattle.std.specs.Prelude.{map}
 use Rattle.std.specs.List.{flat_map}
 use Rattle.std.proofs.lemmas.Bool.{and_from}
 use Rattle.ann_base.specs.declared.places.Place.{Place}
-use Rattle.ada_lex.specs.declared.tokens.Token.{Token}
 use Rattle.ada_tree.specs.Written.{Written, Lexeme, StandsAt, AllSpell, lexemes_of}
 use Rattle.ada_tree.specs.Spelling.{unit_written}
 use Rattle.ada_tree.specs.Shape.{is_shaped}
@@ -28,6 +27,7 @@ use Rattle.source_laws.proofs.Accepted.Positions.{position, position-of, places-
 use Rattle.source_laws.proofs.Accepted.Counting.{begun-counted, stands_at, tokens_at}
 use Rattle.source_laws.proofs.Accepted.Units.{begins-unit}
 use Rattle.source_laws.proofs.Accepted.Lines.{none-on_no_line}
+use Rattle.source_laws.proofs.Sources.Apart.{lexemes-placed}
 
 -- ---- places of a spelling are those of tokens
 
@@ -40,10 +40,6 @@ spelt-counted p [] [] s = omega arith
 spelt-counted p [] (l ∷ ls) s = absurd s
 spelt-counted p (w ∷ ws) [] s = absurd s
 spelt-counted p (w ∷ ws) (l ∷ ls) s = let h = one-spelt p w.place l.place s.0.place in let g = spelt-counted p ws ls s.1 in omega arith
-
-lexemes-placed : (source : List ℕ) (tokens : List Token) → map (λ l. l.place) (lexemes_of source tokens) ≡ map (λ t. t.place) tokens
-lexemes-placed source [] = refl
-lexemes-placed source (t ∷ ts) = ap (λ ps. t.place ∷ ps) (lexemes-placed source ts)
 
 -- ---- the scope of the environment stands at no place, where no token stands
 

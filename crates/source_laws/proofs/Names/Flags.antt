@@ -282,7 +282,7 @@ flags-settled last (mentions_entry i) before fits here k = public-flags last (me
 flags-settled last (with_unit name) before fits here k = public-flags last (with_unit name) before tt k (ap (λ x. exports_of x.opened) (known-withed name (library_unit (table_at last before) name) (table_at last before)))
 flags-settled last (use_package name) before fits here k = public-flags last (use_package name) before tt k (ap (λ x. exports_of x.opened) (known-used name (table_at last before)))
 
-some-region : (a b : Region) → Some a ≡ Some b → a ≡ b
+pub some-region : (a b : Region) → Some a ≡ Some b → a ≡ b
 some-region a b e = cc
 
 flags-next : (last : ℕ) (d : Occurrence) (b : Before) (r : Region) → region_behind_it d ≡ Some r → FlagsKept last (d ∷ b) → FlagsKept last (begins r ∷ d ∷ b)

@@ -35,6 +35,7 @@ use Rattle.source_laws.proofs.Names.KeptBegun.{kept-own}
 use Rattle.source_laws.proofs.Names.KeptWaiting.{region-here, kept-task, kept-protected, kept-derived, kept-package}
 use Rattle.source_laws.proofs.Names.KeptBodies.{joined, bound-said, found-nearest, no_start}
 use Rattle.source_laws.proofs.Names.KeptUnits.{kept-package_body, kept-context_of, task-opens, protected-opens, kept-unit_body}
+use Rattle.source_laws.proofs.Names.Flags.{some-region}
 
 -- ---- at the start
 
@@ -388,9 +389,6 @@ kept-settled last (with_unit name) before behind-it here complete t settled k =
     quiet last (with_unit name) before settled k (known-withed name (library_unit (table_at last before) name) (table_at last before)) refl refl (λ region n. refl) (λ region n. refl) (not_package _ refl)
 kept-settled last (use_package name) before behind-it here complete t settled k =
     quiet last (use_package name) before settled k (known-used name (table_at last before)) refl refl (λ region n. refl) (λ region n. refl) (not_package _ refl)
-
-some-region : (a b : Region) → Some a ≡ Some b → a ≡ b
-some-region a b e = cc
 
 -- a region begins behind its declaration
 kept-next : (last : ℕ) (d : Occurrence) (b : Before) (r : Region) → region_behind_it d ≡ Some r → Kept last b → Kept last (d ∷ b) → Kept last (begins r ∷ d ∷ b)

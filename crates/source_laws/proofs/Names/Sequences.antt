@@ -1,11 +1,10 @@
 -- What a sequence tells, its declarations, its labels and its statements, leaves the regions around as they were.
-use Rattle.std.proofs.Common.{true, [], ◌∷◌, ◌++◌, Option, Some, None, is_some, sym, ap, subst, ◌∙◌}
+use Rattle.std.proofs.Common.{true, ◌∷◌, ◌++◌, Option, Some, None, is_some, sym, ap, subst, ◌∙◌}
 use Rattle.ann_base.specs.declared.places.Place.{Place}
 use Rattle.ada_tree.specs.declared.statements.Sequence.{Sequence}
 use Rattle.ada_tree.specs.declared.statements.Sequence.TheOpen.{Sequence-F}
 use Rattle.ada_tree.specs.declared.statements.Sequence.TheViews.{roll-Sequence, out-roll-Sequence}
-use Rattle.ada_tree.specs.declared.statements.Sequence.TheFolds.{ind-Sequence, map-Sequence}
-use Rattle.ada_tree.specs.declared.statements.Sequence.TheShapes.{former-Sequence-parts-at-26, former-Sequence-parts-at-32, former-Sequence-parts-at-124}
+use Rattle.ada_tree.specs.declared.statements.Sequence.TheFolds.{ind-Sequence}
 use Rattle.ada_tree.specs.declared.statements.SequenceParts.{SequenceParts}
 use Rattle.ada_tree.specs.declared.statements.Statement.{Statement}
 use Rattle.ada_tree.specs.declared.statements.Statement.TheVariants as statement
@@ -36,6 +35,7 @@ use Rattle.ada_regions.proofs.SequenceFolds.{sequence_tells}
 use Rattle.source_laws.proofs.Names.Texts.{Inside, inside-none, inside-append, inside-one, inside-cons, inside-region, inside-flat, inside-in_all, inside-if_there}
 use Rattle.source_laws.proofs.Names.Expressions.{inside-expression, inside-flat_of_map}
 use Rattle.source_laws.proofs.Names.Insides.{inside-optional, inside-declares_all, inside-parameters, inside-assignment, inside-call, inside-delay, inside-choice, inside-iteration, inside-exit, inside-exceptions, inside-guard, inside-trigger, inside-label, inside-object, inside-definition, inside-subtype, inside-profile, inside-specification, inside-task, inside-protected}
+use Rattle.image_laws.proofs.Images.Layers.{mapped, mapped_statement, mapped_alternative, mapped_operation, mapped_declaration}
 
 pub record InsideAll (s : SequenceNames) : Type 0 where
   pub declarations : Inside s.declarations
@@ -44,21 +44,6 @@ pub record InsideAll (s : SequenceNames) : Type 0 where
 
 pub inside-body : (s : SequenceNames) → InsideAll s → Inside (in_body s)
 inside-body s all = inside-append _ _ all.declarations (inside-append _ _ all.labels all.statements)
-
-abbrev mapped : {A B : Type 0} (f : A → B) → SequenceParts A → SequenceParts B
-mapped {A} {B} f s = (map-Sequence A B f (record { parts = s })).parts
-
-abbrev mapped_statement : {A B : Type 0} (f : A → B) → Statement A → Statement B
-mapped_statement f s = (mapped f (record { declarations = []; statements = record { first = s; others = [] }; handlers = [] })).statements.first
-
-abbrev mapped_alternative : {A B : Type 0} (f : A → B) → SelectAlternative A → SelectAlternative B
-mapped_alternative {A} {B} f x = former-Sequence-parts-at-124.map A B f x
-
-abbrev mapped_operation : {A B : Type 0} (f : A → B) → OperationBody A → OperationBody B
-mapped_operation {A} {B} f x = former-Sequence-parts-at-26.map A B f x
-
-abbrev mapped_declaration : {A B : Type 0} (f : A → B) → Declaration A → Declaration B
-mapped_declaration {A} {B} f d = former-Sequence-parts-at-32.map A B f d
 
 pub inside-subprogram : (s : SubprogramSpecification) (b : SequenceNames) → InsideAll b → Inside (heads s.name ∷ within_region (subprogram_body s.place (is_some s.result)) (names_in_profile true s ++ (completes s.name s ∷ in_body b)))
 inside-subprogram s b all =

@@ -1,6 +1,6 @@
 -- No two names of a source stand at one place: there are no more of them there than identifiers of its spelling, so no more than
 -- tokens.
-use Rattle.std.proofs.Common.{◌≡◌, ℕ, ◌+◌, ◌≤◌, Bool, true, false, ◌||◌, List, [], ◌∷◌, ◌++◌, Option, Some, None, refl, ap, arith}
+use Rattle.std.proofs.Common.{◌≡◌, ℕ, ◌+◌, ◌≤◌, Bool, true, false, ◌||◌, List, [], ◌∷◌, Option, Some, None, refl, ap, arith}
 use Rattle.std.specs.Prelude.{map}
 use Rattle.ann_base.specs.declared.places.Place.{Place}
 use Rattle.ada_lex.specs.declared.tokens.Token.{Token}
@@ -19,6 +19,7 @@ use Rattle.source_laws.specs.SourceLaws.{NamesStandApart, ReadNamesByPosition}
 use Rattle.source_laws.proofs.Sources.Counting.{one_if, count, names_at, identifier_at, written_at}
 use Rattle.source_laws.proofs.Sources.Units.{covers-unit}
 use Rattle.source_laws.proofs.Sources.Rising.{tokens-rise, rising-apart}
+use Rattle.source_laws.proofs.Accepted.Counting.{count-append}
 
 -- ---- identifiers of a spelling are tokens
 
@@ -33,15 +34,11 @@ spelt-counted p [] (l ∷ ls) s = absurd s
 spelt-counted p (w ∷ ws) [] s = absurd s
 spelt-counted p (w ∷ ws) (l ∷ ls) s = let h = one-spelt p w.identifier w.place l.place s.0.place in let g = spelt-counted p ws ls s.1 in omega arith
 
-lexemes-placed : (source : List ℕ) (tokens : List Token) → map (λ l. l.place) (lexemes_of source tokens) ≡ map (λ t. t.place) tokens
+pub lexemes-placed : (source : List ℕ) (tokens : List Token) → map (λ l. l.place) (lexemes_of source tokens) ≡ map (λ t. t.place) tokens
 lexemes-placed source [] = refl
 lexemes-placed source (t ∷ ts) = ap (λ ps. t.place ∷ ps) (lexemes-placed source ts)
 
 -- ---- what stands at a place once at most differs
-
-count-append : (p : Place) (xs ys : List Place) → count p (xs ++ ys) ≡ count p xs + count p ys
-count-append p [] ys = omega arith
-count-append p (x ∷ xs) ys = let h = count-append p xs ys in omega arith
 
 read-counted : (p : Place) (os : Occurrences) (before : Before) → count p (places_before (read_on os before)) ≡ names_at p os + count p (places_before before)
 read-counted p [] before = omega arith

@@ -19,6 +19,7 @@ use Rattle.ada_regions.specs.NamesInUnits.{names_in_unit}
 use Rattle.ada_regions.specs.Numbered.{names_of}
 use Rattle.source_laws.specs.Bodies.{one_if}
 use Rattle.source_laws.proofs.Sources.Quiet.{Weights, value, worth}
+use Rattle.image_laws.proofs.Forms.Nothing.{none-of}
 
 -- ---- no fault is told, so none is found
 
@@ -42,16 +43,6 @@ ordered-none (f ∷ fs) e = absurd (put-some f (in_order_of_text fs) (first-none
 pub none-found : (unit : Tree) → first_fault_of unit ≡ None → faults_in (found_of unit (names_of unit) (names_in_unit unit)) ≡ []
 unfolding faults_of faults_where
 none-found unit e = ordered-none (faults_in (found_of unit (names_of unit) (names_in_unit unit))) e
-
-pub none-of : (a b : Found) → faults_in (a ++ b) ≡ [] → (faults_in a ≡ []) × (faults_in b ≡ [])
-unfolding faults_in
-none-of [] b e = (refl, e)
-none-of (f ∷ a) b e = go (fault_in f) refl e (none-of a b)
-  where
-    go : (xs : List Fault) → fault_in f ≡ xs → (xs ++ flat_map fault_in (a ++ b)) ≡ [] → (flat_map fault_in (a ++ b) ≡ [] → (flat_map fault_in a ≡ []) × (flat_map fault_in b ≡ []))
-        → ((fault_in f ++ flat_map fault_in a) ≡ []) × (flat_map fault_in b ≡ [])
-    go [] q r rest = let h = rest r in (ap (λ ys. ys ++ flat_map fault_in a) q ∙ h.0, h.1)
-    go (x ∷ xs) q r rest = absurd cc
 
 -- ---- what is worth something
 

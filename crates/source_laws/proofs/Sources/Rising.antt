@@ -13,13 +13,9 @@ use Rattle.ada_lex.specs.Reading.{behind, made, start, kind_of, token_at, piece_
 use Rattle.ada_regions.specs.Words.{same_place}
 use Rattle.source_laws.proofs.Names.Denoting.{same_place-path}
 use Rattle.source_laws.proofs.Sources.Counting.{one_if, count}
+use Rattle.source_laws.proofs.Accepted.Lines.{Spot}
 
 -- where one stands in a source is of a type that ada_lex keeps to itself
-abbrev type_of : {A : Type 0} → A → Type 0
-type_of {A} a = A
-
-abbrev Spot : Type 0
-Spot = type_of start
 
 -- ---- places by line and column
 

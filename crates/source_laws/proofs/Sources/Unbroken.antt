@@ -38,7 +38,8 @@ use Rattle.source_laws.proofs.Sources.KnownBodies.{bodies_complete_where_known, 
 use Rattle.source_laws.proofs.Sources.Quiet.{Weights, worth, if_denoted, if_no_unit, body_tells, declared_tells, tells, told}
 use Rattle.source_laws.proofs.Sources.ToldUnits.{tells-unit}
 use Rattle.source_laws.proofs.Sources.Founded.{unit-founded}
-use Rattle.source_laws.proofs.Sources.Faultless.{none-found, none-of, broken_weights, is_this, completed_weights, declared_weights, broken-worth, completed-worth, declared-once}
+use Rattle.source_laws.proofs.Sources.Faultless.{none-found, broken_weights, is_this, completed_weights, declared_weights, broken-worth, completed-worth, declared-once}
+use Rattle.image_laws.proofs.Forms.Nothing.{none-of}
 
 abbrev of_unit : UnitKind → BodyKind
 of_unit unit.Task = completing.Task

@@ -27,8 +27,8 @@ use Rattle.profile_machine.specs.Instant.{instant}
 use Rattle.profile_machine.specs.Run.{opening, tock}
 use Rattle.profile_machine.specs.WellFormed.{everybody, is_mark_of, has_action_mark, holds_rightly, has_action, actions_are_right}
 use Rattle.machine_laws.specs.Reached.{Comes, opened, ticked, Reached, before, behind}
-use Rattle.line_laws.proofs.Exclusion.ObjectLists.{by_test}
 use Rattle.line_laws.proofs.Exits.TaskEdits.{one_of, one_of-is}
+use Rattle.line_laws.proofs.Leaving.Modes.{Nobody}
 use Rattle.ceiling_laws.specs.RunLaws.{Tells, told_first, told_on}
 use Rattle.ceiling_laws.proofs.Places.StandingRuns.{runs_show_who_is_ready}
 use Rattle.world_laws.specs.ActionWorlds.{ReachedActionsAreRight}
@@ -36,10 +36,10 @@ use Rattle.world_laws.proofs.Actions.Natures.{Nature, natures, guards, marks, ma
 use Rattle.world_laws.proofs.Actions.Sound.{Hold, EachObject, has_ceiling, marks_of, Sound, Good}
 use Rattle.world_laws.proofs.Actions.SoundLists.{each-on}
 use Rattle.world_laws.proofs.Actions.SoundActions.{who-self}
-use Rattle.world_laws.proofs.Actions.GoodMoves.{Nobody}
 use Rattle.world_laws.proofs.Actions.MadeTasks.{Member, member-self}
 use Rattle.world_laws.proofs.Actions.Kept.Instant.{RunnerAwake, instant-good}
 use Rattle.world_laws.proofs.Actions.Kept.Run.{opening-good, tock-good}
+use Rattle.machine_laws.proofs.QueueLemmas.{by_test}
 
 -- ---- lists
 

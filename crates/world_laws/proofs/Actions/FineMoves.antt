@@ -8,7 +8,6 @@ use Rattle.trace_text.specs.declared.events.Who.{Who}
 use Rattle.profile_machine.specs.declared.image.Image.{Image}
 use Rattle.profile_machine.specs.declared.numbers.ProtectedUnitNo.{ProtectedUnitNo}
 use Rattle.profile_machine.specs.declared.numbers.ScopeNo.{ScopeNo}
-use Rattle.profile_machine.specs.declared.numbers.StatementNo.{StatementNo}
 use Rattle.profile_machine.specs.declared.run_data.Item.{Item}
 use Rattle.profile_machine.specs.declared.run_data.Leaving.{Leaving}
 use Rattle.profile_machine.specs.declared.values.Value.{Value}
@@ -29,7 +28,7 @@ use Rattle.profile_machine.specs.declared.world.appointments.Budget.{Budget}
 use Rattle.profile_machine.specs.declared.world.appointments.HandlerOf.{HandlerOf}
 use Rattle.profile_machine.specs.Words.{edit_at}
 use Rattle.profile_machine.specs.Tasks.{edit_task, with_state, with_frames}
-use Rattle.profile_machine.specs.Frames.{top_of, edit_top, push, pop, goes_on, is_protected}
+use Rattle.profile_machine.specs.Frames.{top_of, push, pop, is_protected}
 use Rattle.profile_machine.specs.Scopes.{edit_cells, begin_scope, open_scope, end_scope}
 use Rattle.profile_machine.specs.Appointments.{appoint, drop_appointment}
 use Rattle.profile_machine.specs.Inheritance.{inherit, lose}
@@ -43,13 +42,11 @@ use Rattle.profile_machine.specs.Serving.{serves_nothing}
 use Rattle.profile_machine.specs.Handlers.{add_release, clear_timer, with_timer_set, edit_budget}
 use Rattle.profile_machine.specs.Instant.{with_port, with_masked, with_kept_interrupt, with_script}
 use Rattle.world_laws.proofs.Actions.Natures.{nature, natures, plain}
-use Rattle.world_laws.proofs.Actions.Sound.{GoodWorld, Naming}
 use Rattle.world_laws.proofs.Actions.SoundMarks.{bare}
 use Rattle.world_laws.proofs.Actions.SoundActions.{is_ceiling}
+use Rattle.machine_laws.proofs.FineMoves.{GoodWorld, Naming}
 
 -- somebody goes on
-abbrev pub gone_on : Who → Option StatementNo → World → World
-gone_on name onward = edit_top name (goes_on onward)
 
 pub record FineMoves (G : GoodWorld) (F : Naming) : Type 0 where
   -- tasks: an edit of anybody that leaves alone who it is, its marks, its state, its master and what it inherits; one of marks alone

@@ -20,14 +20,15 @@ use Rattle.profile_machine.specs.Tasking.{add_task}
 use Rattle.profile_machine.specs.declared.numbers.StatementNo.{StatementNo}
 use Rattle.line_laws.proofs.Exits.TaskEdits.{one_of, one_of-is, same_who-path, edited}
 use Rattle.world_laws.proofs.Actions.Natures.{Nature, nature, natures, guards, any_protected-is, no_action, guards-plain}
-use Rattle.world_laws.proofs.Actions.Sound.{Naming, Clean, MarksSound, marks_of, Sound, Free, Good}
+use Rattle.world_laws.proofs.Actions.Sound.{Clean, MarksSound, marks_of, Sound, Free, Good}
 use Rattle.world_laws.proofs.Actions.SoundEdits.{others-edited, steady-good, same-good, same-sure, same-marks}
 use Rattle.world_laws.proofs.Actions.SoundMarks.{push-good, open_scope-good, first_action, pop-good}
 use Rattle.world_laws.proofs.Actions.SoundWorlds.{top-clean, add_task-good, forget_task-good, end_scope-good, edit_object-good, add_object-good, edit_call-good, forget_call-good, add_call-good}
 use Rattle.world_laws.proofs.Actions.SoundActions.{inherit-good, lose-good}
-use Rattle.world_laws.proofs.Actions.FineMoves.{gone_on, FineMoves}
+use Rattle.world_laws.proofs.Actions.FineMoves.{FineMoves}
+use Rattle.machine_laws.proofs.FineMoves.{Naming, gone_on}
 
-first-natures : (f : Frame → Frame) (fs : List Frame) → ((x : Frame) → nature (f x).mark ≡ nature x.mark) → natures (edit_first f fs) ≡ natures fs
+pub first-natures : (f : Frame → Frame) (fs : List Frame) → ((x : Frame) → nature (f x).mark ≡ nature x.mark) → natures (edit_first f fs) ≡ natures fs
 first-natures f [] same = refl
 first-natures f (x ∷ xs) same = ap (λ n. n ∷ natures xs) (same x)
 
@@ -90,8 +91,6 @@ module _ (name : Who) (f : Frame) (w : World) (h : Sound w) (top : top_of w name
   no-action-on_top = ap first_action marks-here ∙ no_action f.mark plain
 
 -- of nobody
-abbrev pub Nobody : Naming
-Nobody n = ⊥
 
 -- ---- a task that is added has the next number and the region of its creator, who goes on first and has no action open
 

@@ -8,11 +8,12 @@ use Rattle.profile_machine.specs.Program.{scope_of}
 use Rattle.profile_machine.specs.Scopes.{draw_region, begin_scope}
 use Rattle.line_laws.proofs.Leaving.FreeWorlds.{CallerIn}
 use Rattle.line_laws.proofs.Leaving.CallLemmas.{edited-caller, added-caller, gone-caller}
-use Rattle.world_laws.proofs.Actions.Sound.{GoodWorld, Naming, Good}
+use Rattle.world_laws.proofs.Actions.Sound.{Good}
 use Rattle.world_laws.proofs.Actions.SoundEdits.{others-edited}
 use Rattle.world_laws.proofs.Actions.FineMoves.{FineMoves}
 use Rattle.world_laws.proofs.Actions.GoodMoves.{good_moves}
 use Rattle.profile_machine.specs.Tasks.{edit_task}
+use Rattle.machine_laws.proofs.FineMoves.{GoodWorld, Naming}
 
 abbrev pub Known : Who → CallNo → GoodWorld
 Known name c w = CallerIn w.calls w.drawn.calls c name

@@ -9,12 +9,13 @@ use Rattle.profile_machine.specs.Tasks.{edit_task}
 use Rattle.profile_machine.specs.Masters.{forget_task}
 use Rattle.profile_machine.specs.Program.{scope_of}
 use Rattle.profile_machine.specs.Scopes.{draw_region, begin_scope}
-use Rattle.line_laws.proofs.Exclusion.ObjectLists.{by_test}
-use Rattle.world_laws.proofs.Actions.Sound.{GoodWorld, Naming, Good, dependents}
+use Rattle.world_laws.proofs.Actions.Sound.{Good, dependents}
 use Rattle.world_laws.proofs.Actions.SoundEdits.{dependents-edited}
 use Rattle.world_laws.proofs.Actions.SoundWorlds.{dependents-without}
 use Rattle.world_laws.proofs.Actions.FineMoves.{FineMoves}
 use Rattle.world_laws.proofs.Actions.GoodMoves.{good_moves}
+use Rattle.machine_laws.proofs.QueueLemmas.{by_test}
+use Rattle.machine_laws.proofs.FineMoves.{GoodWorld, Naming}
 
 abbrev pub Lonely : RegionNo → GoodWorld
 Lonely r w = dependents w.tasks r ≡ false

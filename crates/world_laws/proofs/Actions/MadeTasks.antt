@@ -13,7 +13,7 @@ use Rattle.profile_machine.specs.Words.{same_who}
 use Rattle.profile_machine.specs.Tasks.{is_who, nobody, is_made, is_made_state, is_runnable_state}
 use Rattle.profile_machine.specs.WellFormed.{number_in}
 use Rattle.machine_laws.proofs.ListLemmas.{Rises}
-use Rattle.line_laws.proofs.Exclusion.ObjectLists.{by_test}
+use Rattle.machine_laws.proofs.QueueLemmas.{by_test}
 use Rattle.line_laws.proofs.Exits.TaskEdits.{one_of, one_of-is, same_who-path}
 use Rattle.world_laws.proofs.Actions.Sound.{task_key, EachListed, Sound, Free}
 use Rattle.world_laws.proofs.Actions.SoundActions.{who-self}

@@ -22,15 +22,11 @@ use Rattle.profile_machine.specs.Inheritance.{same_cause}
 use Rattle.profile_machine.specs.Protected.{has_open}
 use Rattle.profile_machine.specs.WellFormed.{number_in}
 use Rattle.machine_laws.proofs.ListLemmas.{Falls, Rises}
+use Rattle.machine_laws.proofs.FineMoves.{GoodWorld, Naming}
 use Rattle.line_laws.proofs.Exits.TaskEdits.{one_of}
 use Rattle.line_laws.proofs.Leaving.FreeWorlds.{CallerIn}
 use Rattle.world_laws.proofs.Actions.Natures.{Nature, natures, guards, marks, in_region}
-
-abbrev pub GoodWorld : Type 1
-GoodWorld = World → Type 0
-
-abbrev pub Naming : Type 1
-Naming = Who → Type 0
+use Rattle.world_laws.proofs.Queues.Standing.{object_key}
 
 -- ---- marks
 
@@ -101,9 +97,6 @@ marks_of tasks agent name = natures (one_of tasks agent name).frames
 -- a region is one's
 abbrev pub OneOwner : List Task → Task → Type 0
 OneOwner tasks agent = (a b : Who) (r : RegionNo) → in_region r (marks_of tasks agent a) ≡ true → in_region r (marks_of tasks agent b) ≡ true → a ≡ b
-
-abbrev pub object_key : Object → ℕ
-object_key x = x.number.0
 
 abbrev pub task_key : Task → ℕ
 task_key t = number_in t.who

@@ -31,12 +31,15 @@ use Rattle.profile_machine.specs.Protected.{is_action_of, has_open, new_protecte
 use Rattle.profile_machine.specs.Serving.{close_action}
 use Rattle.machine_laws.proofs.ListLemmas.{Falls, Falls-edit_where}
 use Rattle.machine_laws.proofs.Moves.{LetsIn}
-use Rattle.line_laws.proofs.Exclusion.ObjectLists.{by_test, found-below}
+use Rattle.machine_laws.proofs.QueueLemmas.{by_test}
+use Rattle.machine_laws.proofs.FineMoves.{Naming}
+use Rattle.line_laws.proofs.Exclusion.ObjectLists.{found-below}
 use Rattle.line_laws.proofs.Exits.TaskEdits.{one_of, same_who-path, edited_to}
 use Rattle.world_laws.proofs.Actions.Natures.{Nature, nature, natures, guards, marks, is_on, in_region}
-use Rattle.world_laws.proofs.Actions.Sound.{Naming, ReleaseSound, ActionSound, OwnSound, Hold, EachObject, has_ceiling, dependents, SureOn, SureOf, marks_of, object_key, SoundOf, Sound, Free, Good}
+use Rattle.world_laws.proofs.Actions.Sound.{ReleaseSound, ActionSound, OwnSound, Hold, EachObject, has_ceiling, dependents, SureOn, SureOf, marks_of, SoundOf, Sound, Free, Good}
 use Rattle.world_laws.proofs.Actions.SoundEdits.{others-edited, found-tasks, dependents-edited, fewer-sure, less-owner, edit-free, steady-good}
-use Rattle.world_laws.proofs.Actions.SoundLists.{each-on, each-found, each-edited, each-one}
+use Rattle.world_laws.proofs.Actions.SoundLists.{each-on, each-found, each-edited, each-one, some-object}
+use Rattle.world_laws.proofs.Queues.Standing.{object_key}
 
 -- ---- levels that are inherited and lost
 
@@ -271,9 +274,6 @@ found-set test x y (z ∷ zs) own e = found-set-step test x y z zs (set_where te
 
 found-edited : (test : Object → Bool) (f : Object → Object) (x : Object) (zs : List Object) → test (f x) ≡ true → find test zs ≡ Some x → find test (edit_where test f zs) ≡ Some (f x)
 found-edited test f x zs own e = ap (λ found. find test (edit_found test f zs found)) e ∙ found-set test x (f x) zs own e
-
-some-object : (x y : Object) → Some x ≡ Some y → x ≡ y
-some-object x y e = cc
 
 module _ (name : Who) (o : ObjectNo) (mode : Mode) (call : Option CallNo) (release : Option ℕ) (w : World) (lets : LetsIn name o mode w) (awake : is_runnable_state (one_of w.tasks w.agent name).state ≡ true) where
   abbrev opens : Object → Object

@@ -14,9 +14,11 @@ use Rattle.profile_machine.specs.Words.{same_who, same_region, is_the, set_where
 use Rattle.profile_machine.specs.Tasks.{is_who, nobody, task_at, edit_task_found, edit_task, is_runnable_state}
 use Rattle.profile_machine.specs.WellFormed.{number_in}
 use Rattle.machine_laws.proofs.ListLemmas.{Rises, Rises-set_where}
+use Rattle.machine_laws.proofs.FineMoves.{Naming}
+use Rattle.machine_laws.proofs.Kept.Masters.{some-is}
 use Rattle.line_laws.proofs.Exits.TaskEdits.{one_of, same_who-path, edited_to}
 use Rattle.world_laws.proofs.Actions.Natures.{natures, guards, in_region}
-use Rattle.world_laws.proofs.Actions.Sound.{Naming, dependents, SureOn, SureOf, marks_of, OneOwner, task_key, EachListed, Listed, SoundOf, Sound, Free, Good}
+use Rattle.world_laws.proofs.Actions.Sound.{dependents, SureOn, SureOf, marks_of, OneOwner, task_key, EachListed, Listed, SoundOf, Sound, Free, Good}
 
 -- ---- what an edit of somebody leaves alone
 
@@ -27,9 +29,6 @@ others-found P who.Agent f w (Some t) h = h
 
 pub others-edited : (P : Drawn → List Call → List Object → Type 0) (name : Who) (f : Task → Task) (w : World) → P w.drawn w.calls w.objects → let v = edit_task name f w in P v.drawn v.calls v.objects
 others-edited P name f w h = others-found P name f w (task_at w name) h
-
-some-is : (t u : Task) → Some t ≡ Some u → t ≡ u
-some-is t u e = cc
 
 -- ---- the list of tasks: who is in it, and whose masters
 

@@ -11,10 +11,11 @@ use Rattle.profile_machine.specs.declared.world.objects.Object.{Object}
 use Rattle.profile_machine.specs.Words.{same_object, set_where, edit_found, edit_where}
 use Rattle.profile_machine.specs.Values.{is_object}
 use Rattle.machine_laws.proofs.ListLemmas.{Falls}
-use Rattle.line_laws.proofs.Exclusion.ObjectLists.{by_test}
+use Rattle.machine_laws.proofs.QueueLemmas.{by_test}
 use Rattle.line_laws.proofs.Leaving.FreeWorlds.{CallerIn}
 use Rattle.world_laws.proofs.Actions.Natures.{Nature, marks, is_on}
-use Rattle.world_laws.proofs.Actions.Sound.{RegionSound, ActionSound, OwnSound, MarksSound, EachObject, object_key}
+use Rattle.world_laws.proofs.Actions.Sound.{RegionSound, ActionSound, OwnSound, MarksSound, EachObject}
+use Rattle.world_laws.proofs.Queues.Standing.{object_key}
 
 -- ---- objects
 
@@ -30,7 +31,7 @@ pub each-filter : (P : Object → Type 0) (keep : Object → Bool) (xs : List Ob
 each-filter P keep [] h = tt
 each-filter P keep (x ∷ xs) h = kept-one P (keep x) x xs (filter keep xs) h.0 (each-filter P keep xs h.1)
 
-some-object : (x y : Object) → Some x ≡ Some y → x ≡ y
+pub some-object : (x y : Object) → Some x ≡ Some y → x ≡ y
 some-object x y e = cc
 
 -- an edit that keeps it of each

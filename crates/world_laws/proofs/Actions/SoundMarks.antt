@@ -23,11 +23,12 @@ use Rattle.profile_machine.specs.Tasks.{with_frames}
 use Rattle.profile_machine.specs.Frames.{push, pop, new_frame}
 use Rattle.profile_machine.specs.Scopes.{begin_scope, draw_region, region_drawn, open_scope, next_id, region_of_next, new_scope_mark}
 use Rattle.profile_machine.specs.Tasking.{is_task_scope}
-use Rattle.line_laws.proofs.Exclusion.ObjectLists.{by_test}
 use Rattle.line_laws.proofs.Exits.TaskEdits.{one_of, same_who-path, edited_to}
 use Rattle.world_laws.proofs.Actions.Natures.{Nature, nature, natures, guards, in_region, guards-plain, marks-plain}
-use Rattle.world_laws.proofs.Actions.Sound.{Naming, RegionSound, MarksSound, Hold, EachObject, dependents, SureOn, SureOf, marks_of, Sound, Good}
+use Rattle.world_laws.proofs.Actions.Sound.{RegionSound, MarksSound, Hold, EachObject, dependents, SureOn, SureOf, marks_of, Sound, Good}
 use Rattle.world_laws.proofs.Actions.SoundEdits.{edit-sound, edit-free, less-owner}
+use Rattle.machine_laws.proofs.QueueLemmas.{by_test}
+use Rattle.machine_laws.proofs.FineMoves.{Naming}
 
 -- no action and no region
 abbrev pub bare : Bool → Nature

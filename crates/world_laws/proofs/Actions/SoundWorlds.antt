@@ -1,6 +1,6 @@
 -- What else changes in a world: tasks that come and go, objects, and calls.
 use Rattle.std.proofs.Common.{◌≡◌, ℕ, suc, ◌≤◌, ◌<◌, Bool, true, false, cond, not, ◌||◌, ◌⊎◌, inl, inr, List, [], ◌∷◌, ◌++◌, Option, Some, None, refl, sym, ap, subst, ◌∙◌, eq-eqb, arith}
-use Rattle.std.specs.Prelude.{find, option_and_then, is_some, unwrap_or}
+use Rattle.std.specs.Prelude.{find, option_and_then, is_some}
 use Rattle.std.proofs.lemmas.Bool.{eqb-true, false≢true}
 use Rattle.ann_base.specs.declared.identities.CallNo.{CallNo}
 use Rattle.ann_base.specs.declared.identities.ObjectNo.{ObjectNo}
@@ -35,20 +35,19 @@ use Rattle.profile_machine.specs.Tasking.{add_task}
 use Rattle.profile_machine.specs.Protected.{has_open}
 use Rattle.profile_machine.specs.WellFormed.{number_in}
 use Rattle.machine_laws.proofs.ListLemmas.{Falls, Falls-without, Falls-edit_where, Rises, Rises-behind, Rises-without}
-use Rattle.line_laws.proofs.Exclusion.ObjectLists.{by_test}
-use Rattle.line_laws.proofs.Exits.TaskEdits.{one_of, one_of-is, same_who-path}
+use Rattle.machine_laws.proofs.QueueLemmas.{by_test}
+use Rattle.machine_laws.proofs.FineMoves.{Naming}
+use Rattle.line_laws.proofs.Exits.TaskEdits.{one_of, one_of-is, same_who-path, seen}
 use Rattle.world_laws.proofs.Actions.Natures.{Nature, nature, natures, guards, marks, in_region, marks-none}
-use Rattle.world_laws.proofs.Actions.Sound.{Naming, Hold, EachObject, has_ceiling, dependents, Clean, SureOn, SureOf, marks_of, object_key, task_key, EachListed, Sound, Free, Good}
+use Rattle.world_laws.proofs.Actions.Sound.{Hold, EachObject, has_ceiling, dependents, Clean, SureOn, SureOf, marks_of, task_key, EachListed, Sound, Free, Good}
 use Rattle.world_laws.proofs.Actions.SoundMarks.{in-drawn}
 use Rattle.world_laws.proofs.Actions.SoundEdits.{fewer-sure}
 use Rattle.world_laws.proofs.Actions.SoundLists.{each-on, each-filter, each-edited, marks-new, marks-on}
+use Rattle.world_laws.proofs.Queues.Standing.{object_key}
 use Rattle.line_laws.proofs.Leaving.FreeWorlds.{CallerIn}
 use Rattle.line_laws.proofs.Leaving.CallLemmas.{edited-caller, added-caller, gone-caller}
 
 -- ---- tasks that come and go, of one that is found or of nobody
-
-abbrev seen : (Task → Type 0) → Option Task → Type 0
-seen P found = P (unwrap_or found nobody)
 
 tail-step : (P Q : Task → Type 0) (c : Bool) (z : Task) (rest other : Option Task) → ((t : Task) → P t → Q t) → (seen P rest → seen Q other) → seen P (cond c (Some z) rest) → seen Q (cond c (Some z) other)
 tail-step P Q true z rest other on k h = on z h

@@ -57,16 +57,16 @@ use Rattle.profile_machine.specs.declared.world.appointments.Due.TheVariants as 
 use Rattle.profile_machine.specs.Sending.{open_abortable, appoint_timeout, send_on, sent_call, is_to_be_cancelled, cancel_sent, is_triggering, may_begin_abortable, begin_abortable, timeout_again, sent_not_begun_by, sent_not_begun, may_time_out}
 use Rattle.profile_machine.specs.Protected.{edit_top_protected, begin_call, begun_call}
 use Rattle.profile_machine.specs.Serving.{settle_sent}
-use Rattle.line_laws.proofs.Exclusion.ObjectLists.{by_test}
 use Rattle.world_laws.proofs.Actions.Natures.{Nature, natures, nature}
 use Rattle.world_laws.proofs.Actions.SoundActions.{top_nature}
 use Rattle.line_laws.proofs.Exits.TaskEdits.{one_of, same_who-path, edited}
-use Rattle.world_laws.proofs.Actions.Kept.Combinators.{world_behind}
 use Rattle.line_laws.specs.ExitLaws.{is_at_call}
-use Rattle.world_laws.proofs.Actions.Kept.Frames.{first-natures}
 use Rattle.world_laws.proofs.Actions.Kept.CallEnds.{depth-natures, abortable-nature}
 use Rattle.world_laws.proofs.Actions.Kept.Protected.{protected-nature}
+use Rattle.world_laws.proofs.Actions.GoodMoves.{first-natures}
 use Rattle.machine_laws.proofs.Kept.Dispatching.{full_quantum-frames, full_quantum-state, full_quantum-who}
+use Rattle.machine_laws.proofs.QueueLemmas.{by_test}
+use Rattle.machine_laws.proofs.Kept.Combinators.{world_behind}
 use Rattle.line_laws.proofs.Exits.Steady.{Apart, FreeIn, call-waits, end-waits, free-runnable}
 
 -- this mark is on top, and no entry call is waited for

@@ -25,27 +25,24 @@ use Rattle.profile_machine.specs.Steps.{◌▷◌, looks, changes, Step}
 use Rattle.profile_machine.specs.Tasks.{with_state, waiting_of, waiting_in, task_at, is_who, edit_task_found, edit_task}
 use Rattle.profile_machine.specs.WellFormed.{waits_for_delay}
 use Rattle.profile_machine.specs.Words.{same_who}
-use Rattle.world_laws.proofs.Appointments.DelayEdits.{put-any, plain-owned, edited-numbered, edited-delayed, by_test}
+use Rattle.world_laws.proofs.Appointments.DelayEdits.{put-any, plain-owned, edited-numbered, edited-delayed}
 use Rattle.world_laws.proofs.Appointments.DelayMoves.{nobody_excused, fine, MovedOn, Moved, Lasting, GoodAs, Excuse}
 use Rattle.world_laws.proofs.Appointments.Delays.{idle-later, delayed, Idle, Good, Awaited}
-use Rattle.world_laws.proofs.Appointments.FineMoves.{Naming, GoodWorld, FineMoves}
-use Rattle.world_laws.proofs.Appointments.Kept.Combinators.{Keeps}
+use Rattle.world_laws.proofs.Appointments.FineMoves.{FineMoves}
 use Rattle.world_laws.proofs.Appointments.Kept.Frames.{raises-keeps}
 use Rattle.world_laws.proofs.Appointments.Led.{to-from, moved-from, looks_to-from, Led}
-use Rattle.machine_laws.proofs.Kept.Combinators.{From, Kept}
+use Rattle.world_laws.proofs.Sequences.FineMoves.{Nobody}
+use Rattle.machine_laws.proofs.Kept.Combinators.{From, Kept, Keeps}
+use Rattle.machine_laws.proofs.QueueLemmas.{by_test}
+use Rattle.machine_laws.proofs.FineMoves.{GoodWorld, Naming, AnyWorld}
 use Rattle.line_laws.proofs.Leaving.TaskLemmas.{found-holds, of_other, of_self, own-list, who_path}
 
 -- ---- of nobody in particular
-
-abbrev pub AnyWorld : GoodWorld
-AnyWorld w = Unit {0}
 
 pub any_lasting : Lasting AnyWorld
 any_lasting w v later h = tt
 
 -- nobody acts
-abbrev pub Nobody : Naming
-Nobody name = ⊥
 
 module _ (a : Who) where
   -- who waits at an open terminate alternative has not said yet that it blocks

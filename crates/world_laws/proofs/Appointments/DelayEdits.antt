@@ -22,14 +22,11 @@ use Rattle.profile_machine.specs.Tasks.{task_at, task_of, is_who, nobody, edit_t
 use Rattle.profile_machine.specs.WellFormed.{number_in, waits_for_delay}
 use Rattle.profile_machine.specs.Words.{same_who, without}
 use Rattle.machine_laws.proofs.ListLemmas.{Rises, Rises-set_where, Rises-without, Rises-behind}
-use Rattle.world_laws.proofs.Appointments.Delays.{delayed, Idle, Awaited, nature, natures, Caller, OwnIn, Owned, task_number, Numbered, Later, own-on, is_false, EachTask}
-use Rattle.world_laws.proofs.Appointments.TaskLemmas.{other-gone, of_forgotten}
-use Rattle.line_laws.proofs.Leaving.TaskLemmas.{of_added, of_edited, of_other, who_path}
+use Rattle.machine_laws.proofs.QueueLemmas.{by_test}
+use Rattle.machine_laws.proofs.NumberLemmas.{task_number}
+use Rattle.world_laws.proofs.Appointments.Delays.{delayed, Idle, Awaited, nature, natures, Caller, OwnIn, Owned, Numbered, Later, own-on, is_false, EachTask}
+use Rattle.line_laws.proofs.Leaving.TaskLemmas.{of_added, of_edited, of_other, who_path, other-gone, of_forgotten}
 use Rattle.ceiling_laws.proofs.Runs.Kept.Scopes.{or-step, without-any}
-
-pub by_test : {P : Type 0} (b : Bool) → (b ≡ true → P) → (b ≡ false → P) → P
-by_test true p q = p refl
-by_test false p q = q refl
 
 -- ---- what leaves delays and states
 

@@ -1,6 +1,5 @@
 -- What each change keeps of delays, and of the places of those for whom the end of one is appointed.
 use Rattle.std.proofs.Common.{◌≡◌, ◌⊎◌, inl, inr, suc, Bool, true, false, List, [], ◌∷◌, ◌++◌, Option, refl, sym, ap, ◌∙◌}
-use Rattle.std.proofs.lemmas.Bool.{and_right}
 use Rattle.ann_base.specs.declared.identities.CallNo.{CallNo}
 use Rattle.ann_base.specs.declared.identities.TaskNo.{TaskNo}
 use Rattle.trace_text.specs.declared.events.Event.{Event}
@@ -22,11 +21,13 @@ use Rattle.profile_machine.specs.EntryCalls.{add_call}
 use Rattle.profile_machine.specs.Steps.{places_after_all, placed_by}
 use Rattle.profile_machine.specs.Tasks.{task_of, waiting_of, with_frames, with_state}
 use Rattle.machine_laws.proofs.Moves.{lines_of}
+use Rattle.machine_laws.proofs.FineMoves.{GoodWorld, Naming, ready_line}
 use Rattle.world_laws.proofs.Appointments.CallLemmas.{edited-caller, added-caller, gone-caller}
 use Rattle.world_laws.proofs.Appointments.DelayEdits.{Steady, awaited-on, edited-steady, edited-numbered, plain-owned, pushed-owned, popped-owned, state-steady, added-steady, added-numbered, added-owned, gone-steady, gone-numbered, gone-owned, dropped-steady, appointed-steady, apart_from, asleep-idle, each-asleep, each-found}
 use Rattle.world_laws.proofs.Appointments.Delays.{delayed, Idle, Owned, Numbered, Good, Later, later_then, own-on, idle-later, natures}
-use Rattle.world_laws.proofs.Appointments.FineMoves.{GoodWorld, Naming, FineMoves, is_apart, ready_line}
-use Rattle.line_laws.proofs.Leaving.PlacingLines.{Quiet, Early, Quiet-append, taken, taken_from, taken_from-append, still-taken, more-taken, readies, is_last_part, is_placed, quiet_not_placed, taken_not_placed}
+use Rattle.world_laws.proofs.Appointments.FineMoves.{FineMoves, is_apart}
+use Rattle.line_laws.proofs.Leaving.PlacingLines.{Quiet, Quiet-append, taken, taken_from, taken_from-append, still-taken, more-taken, readies, is_placed, quiet_not_placed, taken_not_placed}
+use Rattle.line_laws.proofs.Leaving.CoreMoves.{quiet-early}
 
 -- ---- whoever waits for the end of a delay is not placed, unless it is excused
 
@@ -40,10 +41,6 @@ nobody_excused t waiting = false
 -- of whom a delay is appointed behind these lines one was appointed before, and none of them places it; or they take it out
 abbrev pub Follows : Excuse → Excuse → World → List Said → World → Type 0
 Follows first last w xs v = (t : TaskNo) → delayed t v ≡ true → last t (waiting_of v (who.Task t)) ≡ false → ((delayed t w ≡ true) × (first t (waiting_of w (who.Task t)) ≡ false) × Quiet (who.Task t) xs) ⊎ (taken (who.Task t) xs ≡ true)
-
-pub quiet-early : (n : Who) (xs : List Said) → Quiet n xs → Early n xs
-quiet-early n [] h = tt
-quiet-early n (x ∷ xs) h = (and_right (is_last_part x.part) (readies n x.line) h.0, quiet-early n xs h.1)
 
 taken-either : (n : Who) (b : Bool) (ys : List Said) → taken n ys ≡ true → taken_from n b ys ≡ true
 taken-either n true ys e = more-taken n ys e

@@ -1,6 +1,6 @@
 -- Effects, instants and tocks: nobody for whom the end of a delay is appointed is placed behind them, so whom a tock chooses has none.
-use Rattle.std.proofs.Common.{arith, ◌≡◌, inl, inr, Bool, true, false, List, [], ◌∷◌, ◌++◌, Option, Some, None, refl, sym, ap, subst, ◌∙◌, append-nil, cond, eq-eqb}
-use Rattle.std.specs.Prelude.{◌||◌, ◌&&◌, ℤ, ℕ, filter, unwrap_or}
+use Rattle.std.proofs.Common.{arith, ◌≡◌, inl, inr, Bool, true, false, List, [], ◌∷◌, ◌++◌, Option, Some, None, refl, sym, ap, subst, ◌∙◌, append-nil, cond}
+use Rattle.std.specs.Prelude.{◌&&◌, ℤ, ℕ, filter, unwrap_or}
 use Rattle.ann_base.specs.declared.identities.TaskNo.{TaskNo}
 use Rattle.trace_text.specs.declared.events.Created.TheVariants as created
 use Rattle.trace_text.specs.declared.events.Event.{Event}
@@ -15,11 +15,10 @@ use Rattle.profile_machine.specs.declared.world.lines.Line.TheVariants as said
 use Rattle.profile_machine.specs.declared.world.lines.Part.TheVariants.{TheBlock, Own}
 use Rattle.profile_machine.specs.declared.world.marks.Frame.{Frame}
 use Rattle.profile_machine.specs.declared.world.marks.Purpose.TheVariants as opened_for
-use Rattle.profile_machine.specs.declared.world.tasks.Placed.{Placed}
 use Rattle.profile_machine.specs.declared.world.tasks.Waiting.{Waiting}
 use Rattle.profile_machine.specs.Act.{act}
 use Rattle.profile_machine.specs.Cost.{cost}
-use Rattle.profile_machine.specs.Dispatching.{word_of, without_kept_level, says_block, head_of, choose}
+use Rattle.profile_machine.specs.Dispatching.{word_of, without_kept_level, says_block, choose}
 use Rattle.profile_machine.specs.Frames.{open_if_ready}
 use Rattle.profile_machine.specs.Handlers.{charge}
 use Rattle.profile_machine.specs.Instant.{timers_due, script_items, quantum_spent, moments_due, is_over, instant, finish_action, events_due, effect_of_runner, effect, budgets_due}
@@ -35,13 +34,12 @@ use Rattle.machine_laws.proofs.Moves.{StepRelation, lines_of}
 use Rattle.machine_laws.proofs.PlaceLemmas.{openings_place_by_lines, instants_place_by_lines, tocks_place_nobody}
 use Rattle.machine_laws.proofs.TimeLemmas.{opening-runner}
 use Rattle.machine_laws.specs.Reached.{Comes, opened, ticked, Reached, before, behind}
-use Rattle.world_laws.proofs.Appointments.ActingEnds.{excused, any_lasting, acting, Nobody, AnyWorld, Acting}
-use Rattle.world_laws.proofs.Appointments.DelayEdits.{by_test}
+use Rattle.world_laws.proofs.Appointments.ActingEnds.{excused, any_lasting, acting, Acting}
 use Rattle.world_laws.proofs.Appointments.DelayMoves.{fine, unplaces_then, settled-unplaces, nobody_excused, follows_then, Unplaces, MovedOn, Moved, GoodAs}
 use Rattle.world_laws.proofs.Appointments.DelaySteps.{act-ends}
 use Rattle.world_laws.proofs.Appointments.Delays.{natures, is_false, delayed, OwnIn, Idle, Good}
 use Rattle.world_laws.proofs.Appointments.FineMoves.{FineMoves}
-use Rattle.world_laws.proofs.Appointments.Kept.Combinators.{then-keeps, settles-leads, says-keeps, changes-keeps, Leads, Keeps, Alters}
+use Rattle.world_laws.proofs.Appointments.Kept.Combinators.{then-keeps, settles-leads, says-keeps, changes-keeps}
 use Rattle.world_laws.proofs.Appointments.Kept.Dispatching.{to_tail-keeps}
 use Rattle.world_laws.proofs.Appointments.Kept.Frames.{open_sequence-keeps, open_if_ready-keeps}
 use Rattle.world_laws.proofs.Appointments.Kept.Handlers.{charge-alters}
@@ -50,9 +48,13 @@ use Rattle.world_laws.proofs.Appointments.Kept.Scopes.{open_scope-alters}
 use Rattle.world_laws.proofs.Appointments.Kept.Tasking.{unwind_all-keeps, all_terminate-keeps}
 use Rattle.world_laws.proofs.Appointments.Kept.Tasks.{edit_task-alters}
 use Rattle.world_laws.proofs.Appointments.Led.{then_to-from, moved-led, moved-from, looks_to-from, led_then-from, Led}
+use Rattle.world_laws.proofs.Sequences.FineMoves.{Nobody}
 use Rattle.line_laws.proofs.Leaving.PlacingLines.{is_placed}
-use Rattle.machine_laws.proofs.Kept.Combinators.{From, Kept}
+use Rattle.machine_laws.proofs.Kept.Combinators.{From, Kept, Keeps, Alters, Leads}
+use Rattle.machine_laws.proofs.QueueLemmas.{by_test}
+use Rattle.machine_laws.proofs.FineMoves.{AnyWorld}
 use Rattle.line_laws.proofs.Leaving.TaskLemmas.{who_path}
+use Rattle.line_laws.proofs.Leaving.WakingRuns.{head-placed}
 
 -- ---- of nobody in particular, and of who may wait at a terminate alternative
 
@@ -230,14 +232,6 @@ instant-good : (p : Image) (w : World) → Between w → Good (instant p w).0 ×
 instant-good p w h =
     let k = instant-came p w h.good h.idle in
     (k.good, λ t d. ap (is_placed (who.Task t)) (instants_place_by_lines p w) ∙ k.unplaces t d refl w.places (λ e x. h.unplaced t e))
-
-same_self : (a : Who) → same_who a a ≡ true
-same_self who.Agent = refl
-same_self (who.Task t) = eq-eqb t.0 t.0 refl
-
-head-placed : (places : List Placed) (name : Who) → head_of places ≡ Some name → is_placed name places ≡ true
-head-placed [] name e = absurd cc
-head-placed (x ∷ xs) name e = let same : x.who ≡ name = cc in subst (λ n. (same_who n x.who || is_placed n xs) ≡ true) same (ap (λ b. b || is_placed x.who xs) (same_self x.who))
 
 chosen-idle : (name : Who) (w : World) → Unplaced w → choose w ≡ Some name → Idle name w
 chosen-idle (who.Task t) w h e = is_false (delayed t w) (λ d. sym (head-placed w.places (who.Task t) e) ∙ h t d)

@@ -38,14 +38,15 @@ use Rattle.machine_laws.proofs.Moves.{StepRelation}
 use Rattle.world_laws.proofs.Appointments.ActingEnds.{wait_until-ends, select_waits-ends, raise_if-ends, present-edited, plain, looks_at-ends, given-ends, excused, acting, Present, IsActor, Ends, Acting}
 use Rattle.world_laws.proofs.Appointments.DelayMoves.{nobody_excused, follows_then, fine, MovedOn, Moved, Lasting, GoodAs}
 use Rattle.world_laws.proofs.Appointments.Delays.{natures, nature, idle-later, OwnIn, Idle, Good, CallerIn, Caller}
-use Rattle.world_laws.proofs.Appointments.FineMoves.{is_apart, GoodWorld, FineMoves}
+use Rattle.world_laws.proofs.Appointments.FineMoves.{is_apart, FineMoves}
 use Rattle.world_laws.proofs.Appointments.Kept.Act.{is_delay_form, end_mark-keeps, act_without-keeps, act_plain-keeps}
-use Rattle.world_laws.proofs.Appointments.Kept.Combinators.{unchanged-alters, then-keeps, nothing-keeps, changes-keeps, Alters}
+use Rattle.world_laws.proofs.Appointments.Kept.Combinators.{unchanged-alters, then-keeps, nothing-keeps, changes-keeps}
 use Rattle.world_laws.proofs.Appointments.Kept.Dispatching.{to_tail-keeps}
 use Rattle.world_laws.proofs.Appointments.Kept.Frames.{goes-keeps, edit_top-alters}
 use Rattle.world_laws.proofs.Appointments.Kept.Rendezvous.{wait_at_select-keeps, accept_chosen-keeps}
 use Rattle.world_laws.proofs.Appointments.Led.{to-from, then_to-from, moved-from, Led}
-use Rattle.machine_laws.proofs.Kept.Combinators.{From, Kept}
+use Rattle.machine_laws.proofs.Kept.Combinators.{From, Kept, Alters}
+use Rattle.machine_laws.proofs.FineMoves.{GoodWorld}
 
 module _ (a : Who) where
   -- who acts is there still, and none is appointed for it

@@ -15,8 +15,9 @@ use Rattle.profile_machine.specs.declared.world.tasks.Task.{Task}
 use Rattle.profile_machine.specs.Appointments.{is_appointed, is_delay_of}
 use Rattle.profile_machine.specs.Calls.{is_call}
 use Rattle.profile_machine.specs.Tasks.{task_of, waiting_of}
-use Rattle.profile_machine.specs.WellFormed.{number_in, waits_for_delay}
+use Rattle.profile_machine.specs.WellFormed.{waits_for_delay}
 use Rattle.machine_laws.proofs.ListLemmas.{Rises}
+use Rattle.machine_laws.proofs.NumberLemmas.{task_number}
 
 -- ---- the end of a delay is appointed for a task
 
@@ -64,9 +65,6 @@ abbrev pub Owned : World → Type 0
 Owned w = (name : Who) → OwnIn w.calls w.drawn.calls name (natures (task_of w name).frames)
 
 -- ---- what every world keeps
-
-abbrev pub task_number : Task → ℕ
-task_number t = number_in t.who
 
 abbrev pub Numbered : World → Type 0
 Numbered w = Rises task_number 0 w.drawn.tasks w.tasks

@@ -37,7 +37,7 @@ use Rattle.profile_machine.specs.Appointments.{appoint, drop_appointment, is_del
 use Rattle.profile_machine.specs.Calls.{edit_call, forget_call, edit_object}
 use Rattle.profile_machine.specs.Controlled.{registered_as, no_longer_registered}
 use Rattle.profile_machine.specs.Declarations.{new_object, object_drawn, event_drawn, with_budget, with_timer}
-use Rattle.profile_machine.specs.Dispatching.{active, deadline_shown, word_of}
+use Rattle.profile_machine.specs.Dispatching.{word_of}
 use Rattle.profile_machine.specs.EntryCalls.{add_call}
 use Rattle.profile_machine.specs.Frames.{push, pop}
 use Rattle.profile_machine.specs.Handlers.{add_release, clear_timer, with_timer_set, edit_budget}
@@ -48,17 +48,12 @@ use Rattle.profile_machine.specs.Scopes.{edit_cells, begin_scope, region_drawn, 
 use Rattle.profile_machine.specs.Serving.{close_action, serves_nothing}
 use Rattle.profile_machine.specs.Steps.{placed_by}
 use Rattle.profile_machine.specs.Tasking.{add_task, end_environment}
-use Rattle.profile_machine.specs.Tasks.{task_of, edit_task, with_state, with_frames, waiting_in, waiting_of}
+use Rattle.profile_machine.specs.Tasks.{edit_task, with_state, with_frames, waiting_in, waiting_of}
 use Rattle.profile_machine.specs.WellFormed.{waits_for_delay}
 use Rattle.profile_machine.specs.Words.{edit_at}
 use Rattle.machine_laws.proofs.Moves.{StepRelation, MoveRelation, lines_of}
+use Rattle.machine_laws.proofs.FineMoves.{GoodWorld, Naming, ready_line}
 use Rattle.world_laws.proofs.Appointments.Delays.{Idle, Caller, nature, natures, EachTask}
-
-abbrev pub GoodWorld : Type 1
-GoodWorld = World → Type 0
-
-abbrev pub Naming : Type 1
-Naming = Who → Type 0
 
 -- ---- lines that place somebody or take it out, which are said only together with what they tell
 
@@ -66,9 +61,6 @@ abbrev pub is_apart : Line → Bool
 is_apart (said.Ready name level end deadline) = true
 is_apart (said.Block name why) = true
 is_apart _ = false
-
-abbrev pub ready_line : Image → Part → Who → QueueEnd → World → Said
-ready_line p part name end w = record { part = part; line = said.Ready name (active p (task_of w name)) end (deadline_shown p (task_of w name)) }
 
 pub record FineMoves (G : GoodWorld) (May : Naming) (R : StepRelation) (Q : MoveRelation) : Type 0 where
   -- what is done leads from good worlds to good worlds

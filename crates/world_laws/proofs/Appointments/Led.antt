@@ -7,9 +7,8 @@ use Rattle.profile_machine.specs.Steps.{Step, Done, done, goes_on_with, looks, â
 use Rattle.machine_laws.proofs.Moves.{StepRelation}
 use Rattle.world_laws.proofs.Appointments.DelayMoves.{Excuse, Follows, follows_then, GoodAs, Moved}
 use Rattle.world_laws.proofs.Appointments.Delays.{Good}
-use Rattle.world_laws.proofs.Appointments.FineMoves.{GoodWorld}
-use Rattle.world_laws.proofs.Appointments.Kept.Combinators.{Keeps}
-use Rattle.machine_laws.proofs.Kept.Combinators.{From, Kept}
+use Rattle.machine_laws.proofs.Kept.Combinators.{From, Kept, Keeps}
+use Rattle.machine_laws.proofs.FineMoves.{GoodWorld}
 
 pub record Led (first last : Excuse) (w : World) (xs : List Said) (v : World) : Type 0 where
   pub good : Good v

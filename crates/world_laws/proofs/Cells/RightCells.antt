@@ -15,14 +15,13 @@ use Rattle.profile_machine.specs.Operators.{Valued}
 use Rattle.profile_machine.specs.Values.{Seen, seen_by}
 use Rattle.profile_machine.specs.Statements.{sees}
 use Rattle.profile_machine.specs.WellFormed.{has_its_cells}
+use Rattle.machine_laws.proofs.Kept.Combinators.{world_behind}
 
 -- each scope in use has as many cells as its text says
 unfoldable pub Right : Image → World → Type 0
 Right p w = list_all (has_its_cells p) w.scopes ≡ true
 
 -- the world to which a step has led
-abbrev pub world_behind : Done → World
-world_behind (done w said) = w
 
 -- a change, a step and a move lead from worlds with right cells to such worlds; a value is such a world, or an exception
 pub record Alters (p : Image) (f : World → World) : Type 0 where

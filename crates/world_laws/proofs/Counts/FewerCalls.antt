@@ -57,8 +57,11 @@ use Rattle.profile_machine.specs.CallEnds.{go_by_outcome, onward_when_done, onwa
 use Rattle.profile_machine.specs.declared.world.appointments.Due.TheVariants as due_for
 use Rattle.profile_machine.specs.Sending.{appoint_timeout, cancel_sent, may_begin_abortable, begin_abortable, is_to_be_cancelled, sent_not_begun_by, sent_not_begun, may_time_out}
 use Rattle.machine_laws.proofs.Kept.Combinators.{world_behind}
+use Rattle.machine_laws.proofs.Kept.Entering.{edit_found-objects}
 use Rattle.world_laws.proofs.Counts.NumberedLists.{edited, left-found}
-use Rattle.world_laws.proofs.Counts.CallLists.{call_number, counted, counted-edited, counted-without, taken-at}
+use Rattle.world_laws.proofs.Counts.CallLists.{counted, counted-edited, counted-without}
+use Rattle.world_laws.proofs.Queues.Standing.{object_key}
+use Rattle.world_laws.proofs.Queues.CallLists.{call_number, taken-at}
 
 -- ---- what is left
 
@@ -85,18 +88,10 @@ Lessens o step = (w : World) (said : List Said) → Fewer o w (world_behind (ste
 unfoldable pub Reduces : ObjectNo → (World → World) → Type 0
 Reduces o f = (w : World) → Fewer o w (f w)
 
-abbrev pub object_key : Object → ℕ
-object_key x = x.number.0
-
 edit_found-calls : (name : Who) (f : Task → Task) (w : World) (found : Option Task) → (edit_task_found name f w found).calls ≡ w.calls
 edit_found-calls name f w None = refl
 edit_found-calls (who.Task n) f w (Some t) = refl
 edit_found-calls who.Agent f w (Some t) = refl
-
-edit_found-objects : (name : Who) (f : Task → Task) (w : World) (found : Option Task) → (edit_task_found name f w found).objects ≡ w.objects
-edit_found-objects name f w None = refl
-edit_found-objects (who.Task n) f w (Some t) = refl
-edit_found-objects who.Agent f w (Some t) = refl
 
 module _ (o : ObjectNo) where
   pub fewer-then : (a b c : World) → Fewer o a b → Fewer o b c → Fewer o a c

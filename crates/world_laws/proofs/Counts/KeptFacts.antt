@@ -17,20 +17,16 @@ use Rattle.profile_machine.specs.Serving.{serves_nothing}
 use Rattle.profile_machine.specs.Handlers.{add_release}
 use Rattle.profile_machine.specs.Run.{opens, blank_world, with_serving, next_tick}
 use Rattle.machine_laws.specs.Reached.{Reached}
-use Rattle.machine_laws.proofs.Moves.{StepRelation, MoveRelation, Puts}
+use Rattle.machine_laws.proofs.Moves.{Puts}
 use Rattle.machine_laws.proofs.FineMoves.{GoodWorld, FineMoves, Openings, Exits, Anybody, AnyRegion, AnyRelease, nature}
 use Rattle.machine_laws.proofs.FinestMoves.{AllMoves, TockChanges, Anyhow, finest, begun, setting_moves, mark_openings, own_regions, action_ends}
 use Rattle.machine_laws.proofs.ReachedLemmas.{Lasts, reached-lasts}
 use Rattle.machine_laws.proofs.Kept.Combinators.{Leads, settles-leads}
 use Rattle.machine_laws.proofs.Kept.Instant.{instant-leads}
 use Rattle.machine_laws.proofs.Kept.Run.{before_tick, tock-parts, opens-keeps, before_tick-leads}
+use Rattle.world_laws.proofs.Sequences.FineMoves.{Behind, BehindMove}
 
 -- the fact holds of the world behind
-abbrev pub Behind : GoodWorld → StepRelation
-Behind G before lines after = G after
-
-abbrev pub BehindMove : GoodWorld → MoveRelation
-BehindMove G before lines after = G after
 
 -- what a fact needs: it is kept by each change, of whomever; by the release that comes, is served and ends, and by the tick
 pub record KeepsFact (G : GoodWorld) : Type 0 where

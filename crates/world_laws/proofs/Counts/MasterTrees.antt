@@ -22,7 +22,7 @@ use Rattle.profile_machine.specs.Controlled.{region_or_none, top_region}
 use Rattle.profile_machine.specs.Tasking.{add_task}
 use Rattle.profile_machine.specs.Program.{scope_of}
 use Rattle.profile_machine.specs.Scopes.{begin_scope, draw_region, region_of_next, new_scope_mark, next_id}
-use Rattle.machine_laws.proofs.FineMoves.{Nature, nature, natures, EachIs, Anybody, edit_task-drawn}
+use Rattle.machine_laws.proofs.FineMoves.{Nature, nature, natures, edit_task-drawn, each-anybody}
 use Rattle.world_laws.specs.MasterLaws.{MastersEnd}
 use Rattle.world_laws.proofs.Counts.KeptFacts.{KeepsFact, reached-has}
 
@@ -199,10 +199,6 @@ tree-added name onward t w h none master =
     (on.0, append-branch gone.drawn.regions gone.tasks t on.1 (subst (λ d. TaskBranches d.regions t) (sym same) (created-branches name t w h none master)))
 
 -- ---- so it is kept
-
-each-anybody : (ts : List Task) → EachIs Anybody ts
-each-anybody [] = tt
-each-anybody (t ∷ ts) = (tt, each-anybody ts)
 
 tree_is_kept : KeepsFact Tree
 tree_is_kept = record {

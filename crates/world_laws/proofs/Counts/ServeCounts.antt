@@ -36,8 +36,10 @@ use Rattle.profile_machine.specs.Priorities.{is_queued}
 use Rattle.machine_laws.proofs.Kept.Combinators.{world_behind}
 use Rattle.world_laws.specs.ServeLaws.{queues_are_its_own, ServesEnd, RightQueuesAreOwn}
 use Rattle.world_laws.proofs.Counts.NumberedLists.{found-key, edited-same}
-use Rattle.world_laws.proofs.Counts.CallLists.{call_number, counted, counted-length, counted-less, same-call, in_queues, AtSome, at-some, some-at, gone-at}
-use Rattle.world_laws.proofs.Counts.FewerCalls.{object_key, queue_in, directed, directed_in, Fewer, Lessens, Reduces, fewer-then, edit_call-reduces, unqueued-reduces, nothing-lessens, deliver-lessens, sent_not_begun-lessens}
+use Rattle.world_laws.proofs.Counts.CallLists.{counted, counted-length, counted-less, some-at}
+use Rattle.world_laws.proofs.Counts.FewerCalls.{queue_in, directed, directed_in, Fewer, Lessens, Reduces, fewer-then, edit_call-reduces, unqueued-reduces, nothing-lessens, deliver-lessens, sent_not_begun-lessens}
+use Rattle.world_laws.proofs.Queues.Standing.{object_key}
+use Rattle.world_laws.proofs.Queues.CallLists.{call_number, same-call, in_queues, AtSome, at-some, gone-at}
 
 -- ---- the queues of the object are its own
 

@@ -12,10 +12,10 @@ use Rattle.profile_machine.specs.Frames.{with_mark}
 use Rattle.profile_machine.specs.Unwinding.{struck_frame}
 use Rattle.profile_machine.specs.CallEnds.{is_abortable_of, depth_of_abortable, edit_depth, edit_abortable, triggered_mark, waited_mark}
 use Rattle.profile_machine.specs.WellFormed.{awaits_trigger, awaits_trigger_at, is_triggered}
-use Rattle.line_laws.proofs.Exclusion.ObjectLists.{by_test}
 use Rattle.world_laws.proofs.Marks.MarkFacts.{finalized_in, frame_at, triggered_part, top_awaits, StruckRightly, FinalizesRightly, below_finalizes, finalizes_here}
 use Rattle.world_laws.proofs.Marks.DepthLemmas.{of_call-below}
 use Rattle.machine_laws.proofs.FineMoves.{is_abortable}
+use Rattle.machine_laws.proofs.QueueLemmas.{by_test}
 
 -- ---- any edit at a depth
 

@@ -10,9 +10,9 @@ use Rattle.profile_machine.specs.Words.{same_call, is_the}
 use Rattle.profile_machine.specs.Frames.{with_mark}
 use Rattle.profile_machine.specs.CallEnds.{is_abortable_of, depth_of_abortable, edit_depth, edit_abortable, waited_mark}
 use Rattle.profile_machine.specs.WellFormed.{awaits_trigger, awaits_trigger_at, is_triggered}
-use Rattle.line_laws.proofs.Exclusion.ObjectLists.{by_test}
 use Rattle.world_laws.proofs.Marks.MarkFacts.{frame_at, top_awaits}
 use Rattle.machine_laws.proofs.FineMoves.{is_abortable}
+use Rattle.machine_laws.proofs.QueueLemmas.{by_test}
 
 -- ---- a depth is below the number of frames
 

@@ -1,6 +1,6 @@
 -- The changes that steps are made of, with what each needs for marks to stay right: whether a mark that ends awaits a trigger, what
 -- may be struck, where a Finalize is opened, and which trigger is appointed. May is said of who acts, and Other of the others.
-use Rattle.std.proofs.Common.{◌≡◌, ℕ, ℤ, suc, Bool, true, false, ◌||◌, List, [], ◌∷◌, ◌++◌, Option, Some, None}
+use Rattle.std.proofs.Common.{◌≡◌, ℕ, ℤ, suc, Bool, true, false, List, [], ◌∷◌, ◌++◌, Option, Some, None}
 use Rattle.std.specs.Prelude.{int_le, pos}
 use Rattle.profile_machine.specs.WellFormed.{awaits_trigger, is_triggered}
 use Rattle.profile_machine.specs.declared.world.tasks.Waiting.TheVariants as waits_for
@@ -69,29 +69,17 @@ use Rattle.profile_machine.specs.Handlers.{add_release, clear_timer, with_timer_
 use Rattle.profile_machine.specs.Instant.{with_port, with_masked, with_kept_interrupt, with_script}
 use Rattle.machine_laws.specs.LineKinds.{is_of_tock}
 use Rattle.profile_machine.specs.Run.{with_serving}
-use Rattle.machine_laws.proofs.Moves.{StepRelation, MoveRelation, is_told_apart, LetsIn, FindsHeld, own, lines_of}
-use Rattle.machine_laws.proofs.FineMoves.{AnyRegion, Anybody, EachIs, GoodWorld, Naming, is_abortable, is_placing, ready_line}
+use Rattle.machine_laws.proofs.Moves.{StepRelation, MoveRelation, LetsIn, FindsHeld, own, lines_of}
+use Rattle.machine_laws.proofs.FineMoves.{AnyRegion, Anybody, EachIs, GoodWorld, Naming, is_abortable, ready_line, gone_on}
+use Rattle.line_laws.proofs.Leaving.FineMoves.{is_apart}
 
 -- ---- lines that are said only together with what they tell
-
-abbrev pub is_of_region : Line → Bool
-is_of_region (said.Leave name region how) = true
-is_of_region (said.Init name object region declared) = true
-is_of_region (said.Final name object) = true
-is_of_region (said.Left name region) = true
-is_of_region (said.Replace name object) = true
-is_of_region _ = false
-
-abbrev pub is_apart : Line → Bool
-is_apart line = is_told_apart line || is_placing line || is_of_region line
 
 abbrev pub AreQuiet : List Said → Type 0
 AreQuiet [] = Unit {0}
 AreQuiet (x ∷ xs) = (is_apart x.line ≡ false) × AreQuiet xs
 
 -- somebody goes on
-abbrev pub gone_on : Who → Option StatementNo → World → World
-gone_on name onward = edit_top name (goes_on onward)
 
 pub record FineMoves (G : GoodWorld) (May Other : Naming) (R : StepRelation) (Q : MoveRelation) : Type 0 where
   -- what is done leads from good worlds to good worlds

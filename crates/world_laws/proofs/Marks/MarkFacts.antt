@@ -31,6 +31,7 @@ use Rattle.profile_machine.specs.WellFormed.{awaits_trigger, awaits_trigger_at, 
 use Rattle.line_laws.proofs.Exits.TaskEdits.{one_of}
 use Rattle.line_laws.proofs.Exits.Steady.{FreeIn}
 use Rattle.machine_laws.proofs.FineMoves.{is_abortable}
+use Rattle.world_laws.proofs.Queues.Listed.{AllTasks}
 
 -- ---- what a mark is, whatever is edited in it: the call and the trigger of an abortable part, and the object of a Finalize
 
@@ -239,10 +240,6 @@ abbrev pub WaitsOf : Task → Type 0
 WaitsOf t = WaitsRightly (waiting_in t.state) t.frames
 
 -- ---- a world
-
-abbrev pub AllTasks : (Task → Type 0) → List Task → Type 0
-AllTasks P [] = Unit {0}
-AllTasks P (t ∷ ts) = P t × AllTasks P ts
 
 -- no two tasks have one name
 abbrev pub Distinct : List Task → Type 0

@@ -38,14 +38,15 @@ use Rattle.profile_machine.specs.Controlled.{is_number, assigns_to, is_assigning
 use Rattle.profile_machine.specs.Tasking.{is_task_scope, add_task, being_left_mark, left_so_frame}
 use Rattle.profile_machine.specs.WellFormed.{awaits_trigger}
 use Rattle.machine_laws.proofs.Moves.{MoveRelation}
-use Rattle.machine_laws.proofs.FineMoves.{edit_task-drawn, Anybody, each-anybody}
-use Rattle.line_laws.proofs.Exclusion.ObjectLists.{by_test}
+use Rattle.machine_laws.proofs.FineMoves.{edit_task-drawn, Anybody, each-anybody, gone_on}
 use Rattle.machine_laws.proofs.FinestMoves.{natures, action_first, action_in}
+use Rattle.machine_laws.proofs.QueueLemmas.{by_test}
 use Rattle.line_laws.proofs.Exits.TaskEdits.{one_of}
-use Rattle.world_laws.proofs.Marks.MarkFacts.{Begun, Calm, DrawnTo, HasBegun, StandsAt, Unarmed, AwaitsAt, AllTasks, AllDrawn, own_scope_in, RightMarks, FinalizesRightly, below_finalizes, finalizes_here, is_a_trigger, nature, GoodMarks, Still}
-use Rattle.world_laws.proofs.Marks.FineMoves.{FineMoves, RegionMoves, TockMoves, gone_on}
+use Rattle.world_laws.proofs.Marks.MarkFacts.{Begun, Calm, DrawnTo, HasBegun, StandsAt, Unarmed, AwaitsAt, AllDrawn, own_scope_in, RightMarks, FinalizesRightly, below_finalizes, finalizes_here, is_a_trigger, nature, GoodMarks, Still}
+use Rattle.world_laws.proofs.Marks.FineMoves.{FineMoves, RegionMoves, TockMoves}
 use Rattle.world_laws.proofs.Marks.TaskFacts.{all-map, all-both, found-test, fewer-any, all-found}
 use Rattle.world_laws.proofs.Marks.TaskMoves.{LeadsTo, still-same, stays-good, leads-then, task-leads, abort-leads, runnable-leads, blocked-leads, waiting-leads, top-leads, push-leads, part-leads, finalize-leads, own_scope-leads, pop-leads, strike-leads, triggered-leads, waited-leads, added-leads, forgotten-leads}
+use Rattle.world_laws.proofs.Queues.Listed.{AllTasks}
 
 abbrev pub GoodBehind : MoveRelation
 GoodBehind w xs v = GoodMarks v

@@ -1,6 +1,6 @@
 -- What is known of marks holds of every world that a run reaches: the opening has it, and instants and tocks keep it, since who acts
 -- waits for no entry call.
-use Rattle.std.proofs.Common.{◌≡◌, ℕ, ℤ, true, false, List, ◌++◌, refl, sym, subst, arith}
+use Rattle.std.proofs.Common.{◌≡◌, ℕ, ℤ, true, false, List, refl, sym, subst, arith}
 use Rattle.std.proofs.lemmas.Bool.{false≢true}
 use Rattle.trace_text.specs.declared.events.Event.{Event}
 use Rattle.trace_text.specs.declared.events.Who.TheVariants as who
@@ -13,7 +13,6 @@ use Rattle.profile_machine.specs.Instant.{instant}
 use Rattle.profile_machine.specs.Run.{opens, opening, blank_world, tock}
 use Rattle.profile_machine.specs.declared.world.tasks.State.{State}
 use Rattle.profile_machine.specs.declared.world.tasks.State.TheVariants.{Made, Runnable, Blocked}
-use Rattle.ceiling_laws.specs.RunLaws.{Tells, told_first, told_on}
 use Rattle.ceiling_laws.proofs.Places.StandingRuns.{runs_show_who_is_ready}
 use Rattle.machine_laws.specs.Reached.{Comes, opened, ticked, Reached, before, behind}
 use Rattle.line_laws.proofs.Leaving.WakingRuns.{comes-awake}
@@ -23,6 +22,7 @@ use Rattle.world_laws.proofs.Marks.Kept.Combinators.{settles-from}
 use Rattle.world_laws.proofs.Marks.Kept.Instant.{HasRunnerBegun, instant-leads}
 use Rattle.world_laws.proofs.Marks.Kept.Run.{before_tick-leads, opens-from}
 use Rattle.world_laws.proofs.Marks.MarkMoves.{moves, tock_moves}
+use Rattle.world_laws.proofs.Scopes.Runs.{told-lines}
 use Rattle.machine_laws.proofs.Kept.Combinators.{Leads}
 use Rattle.machine_laws.proofs.Kept.Run.{tock-parts}
 use Rattle.line_laws.proofs.Exits.AwakeRuns.{awake-free}
@@ -33,9 +33,6 @@ runner-free : (p : Image) (script : List (ℤ × Item)) (bound : ℕ) (w : World
 runner-free p script bound w c n ran over = let h = comes-awake p script bound w c in awake-free (waiting_of w (who.Task n)) (h.awake (who.Task n) ran)
 
 -- the lines up to a world before an instant
-told-lines : (p : Image) (script : List (ℤ × Item)) (bound : ℕ) (w : World) → Comes p script bound w → (lines : List Event) × Tells p script bound lines w
-told-lines p script bound _ opened = ((opening p script).1, told_first)
-told-lines p script bound _ (ticked w c e) = let t = told-lines p script bound w c in ((t.0 ++ (instant p w).1) ++ (tock p (instant p w).0).1, told_on t.0 w t.1 e)
 
 -- who is ready has begun
 ready-begun : (state : State) → is_runnable_state state ≡ true → is_made_state state ≡ false

@@ -10,8 +10,9 @@ use Rattle.profile_machine.specs.declared.world.tasks.Task.{Task}
 use Rattle.ann_base.specs.Lists.{is_empty}
 use Rattle.profile_machine.specs.WellFormed.{is_triggered, is_struck_rightly, finalizes_on, finalizes_above, finalizes_rightly, frames_are_right, marks_are_right}
 use Rattle.world_laws.specs.MarkWorlds.{frames_are_struck_rightly, marks_are_struck_rightly, ReachedMarksAreStruckRightly, stands_on, stands_above, stands_rightly, frames_stand_rightly, finalizes_stand_rightly, ReachedFinalizesStandRightly, ReachedMarksAreRight}
-use Rattle.world_laws.proofs.Marks.MarkFacts.{AllTasks, RightMarks, StruckRightly, FinalizesRightly, below_finalizes, finalizes_here, finalized_in, GoodMarks}
+use Rattle.world_laws.proofs.Marks.MarkFacts.{RightMarks, StruckRightly, FinalizesRightly, below_finalizes, finalizes_here, finalized_in, GoodMarks}
 use Rattle.world_laws.proofs.Marks.MarkRuns.{reached-good}
+use Rattle.world_laws.proofs.Queues.Listed.{AllTasks}
 
 -- ---- tests
 

@@ -13,8 +13,9 @@ use Rattle.profile_machine.specs.Tasks.{nobody, is_who, edit_task}
 use Rattle.profile_machine.specs.Tasking.{abnormal_task}
 use Rattle.machine_laws.proofs.FineMoves.{edit_task-drawn}
 use Rattle.line_laws.proofs.Exits.TaskEdits.{edited_to, same_who-path}
-use Rattle.world_laws.proofs.Marks.MarkFacts.{AllTasks, Distinct, Drawn, DrawnTo, Marked, AbnormalAs}
-use Rattle.world_laws.proofs.Marks.TopLemmas.{same_self}
+use Rattle.line_laws.proofs.Leaving.WakingRuns.{same_self}
+use Rattle.world_laws.proofs.Marks.MarkFacts.{Distinct, Drawn, DrawnTo, Marked, AbnormalAs}
+use Rattle.world_laws.proofs.Queues.Listed.{AllTasks}
 
 -- ---- what is found
 

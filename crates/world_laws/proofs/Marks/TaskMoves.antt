@@ -25,17 +25,18 @@ use Rattle.profile_machine.specs.Tasking.{abnormal_task, add_task}
 use Rattle.profile_machine.specs.Masters.{forget_task}
 use Rattle.profile_machine.specs.WellFormed.{awaits_trigger, awaits_trigger_at, is_triggered}
 use Rattle.machine_laws.proofs.Moves.{StepRelation}
-use Rattle.line_laws.proofs.Exclusion.ObjectLists.{by_test}
+use Rattle.machine_laws.proofs.QueueLemmas.{by_test}
 use Rattle.line_laws.specs.ExitLaws.{is_at_call}
 use Rattle.line_laws.proofs.Exits.TaskEdits.{one_of, one_of-is, same_who-path, edited, edited_to, added, gone}
 use Rattle.line_laws.proofs.Exits.Steady.{FreeIn}
-use Rattle.world_laws.proofs.Marks.MarkFacts.{Calm, NoTrigger, Unarmed, Unappointed, Ends, CanTrigger, DrawnTo, AbnormalAs, Marked, AwaitsAt, AllTasks, RightMarks, Distinct, WaitsOf, StruckRightly, FinalizesRightly, WaitsRightly, below_finalizes, finalizes_here, may_finalize, finalized_in, apart_in, own_scopes, is_clear_above, StandsAt, ends_call, nature, frame_at, triggered_part, top_awaits, GoodIn, GoodMarks, StillIn, Still}
-use Rattle.world_laws.proofs.Marks.TopLemmas.{same_self}
+use Rattle.line_laws.proofs.Leaving.WakingRuns.{same_self}
+use Rattle.world_laws.proofs.Marks.MarkFacts.{Calm, NoTrigger, Unarmed, Unappointed, Ends, CanTrigger, DrawnTo, AbnormalAs, Marked, AwaitsAt, RightMarks, Distinct, WaitsOf, StruckRightly, FinalizesRightly, WaitsRightly, below_finalizes, finalizes_here, may_finalize, finalized_in, apart_in, own_scopes, is_clear_above, StandsAt, ends_call, nature, frame_at, triggered_part, top_awaits, GoodIn, GoodMarks, StillIn, Still}
 use Rattle.world_laws.proofs.Marks.DepthLemmas.{of_call-found, of_call-awaits, frame-awaits}
 use Rattle.world_laws.proofs.Marks.FrameEdits.{first-struck, first-finalizes, first-waits, first-awaits, pushed-struck, pushed-finalizes, pushed-waits, popped-struck, popped-finalizes, last-struck, last-marks, depth-marks, same_marks-awaits, same_marks-waits, same_marks-finalizes}
 use Rattle.world_laws.proofs.Marks.DepthEdits.{edited_part, depth-finalizes, other-awaits, edited-frame, part-triggered, triggered-struck, depth-struck, triggered-top, triggered-part, waited-struck}
 use Rattle.world_laws.proofs.Marks.StandingLemmas.{apart-own, apart-finalized, first-own, last-own, depth-own, edited_part-own, stands-same, stands-pushed, clear-below}
 use Rattle.world_laws.proofs.Marks.TaskFacts.{all-found, all-set, all-filter, all-added, all-map, distinct-set, distinct-filter, distinct-added, left-other, found-test, no_name}
+use Rattle.world_laws.proofs.Queues.Listed.{AllTasks}
 
 -- the world behind is good, and what was drawn or abnormal stays so
 abbrev pub LeadsTo : StepRelation

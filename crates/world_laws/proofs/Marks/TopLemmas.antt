@@ -1,5 +1,5 @@
 -- The marks and the state of somebody behind an edit of the same one.
-use Rattle.std.proofs.Common.{◌≡◌, true, ◌&&◌, eqb, List, [], ◌∷◌, Some, None, refl, sym, ap, subst, ◌∙◌, eq-eqb}
+use Rattle.std.proofs.Common.{◌≡◌, true, ◌&&◌, eqb, List, [], ◌∷◌, Some, None, refl, sym, ap, subst, ◌∙◌}
 use Rattle.std.proofs.lemmas.Bool.{false≢true}
 use Rattle.std.specs.Prelude.{slice_index_or, option_map}
 use Rattle.trace_text.specs.declared.events.Who.{Who}
@@ -13,16 +13,14 @@ use Rattle.profile_machine.specs.Words.{same_who}
 use Rattle.world_tables.specs.Lists.{first_of}
 use Rattle.profile_machine.specs.Program.{is_robin_level, edf_low}
 use Rattle.profile_machine.specs.Tasks.{nobody, is_made_state, task_of, edit_task, with_state, with_frames}
-use Rattle.profile_machine.specs.Dispatching.{active, level_kept_by, keep_level, granted, grant_quantum}
+use Rattle.profile_machine.specs.Dispatching.{active, level_kept_by, keep_level, granted}
 use Rattle.profile_machine.specs.Frames.{frames_of, top_of, edit_first, edit_top, push}
 use Rattle.line_laws.proofs.Exits.TaskEdits.{one_of-is, edited_to}
 use Rattle.line_laws.proofs.Exits.Steady.{FreeIn}
+use Rattle.line_laws.proofs.Leaving.FineMoves.{ready_world}
+use Rattle.line_laws.proofs.Leaving.WakingRuns.{same_self}
 use Rattle.machine_laws.proofs.Kept.Dispatching.{full_quantum-who, full_quantum-frames, full_quantum-state}
 use Rattle.world_laws.proofs.Marks.MarkFacts.{Calm, HasBegun, Begun}
-
-pub same_self : (a : Who) → same_who a a ≡ true
-same_self who.Agent = refl
-same_self (who.Task t) = eq-eqb t.0 t.0 refl
 
 -- from P of somebody before to R of the same one behind
 pub at_same : (P R : Task → Type 0) (name : Who) (f : Task → Task) (w : World) → ((t : Task) → (f t).who ≡ t.who) → ((t : Task) → P t → R (f t)) → (P nobody → R nobody) → P (task_of w name) → R (task_of (edit_task name f w) name)
@@ -82,9 +80,6 @@ calm_runnable name w =
     at_same (λ t. Unit {0}) (λ t. FreeIn name t.state) name (with_state Runnable) w (λ t. refl) (λ t u. free-runnable name) (λ u. free-nobody name) tt
 
 -- ---- who has become ready
-
-abbrev pub ready_world : Image → Who → World → World
-ready_world p name w = grant_quantum p name (keep_level p name (edit_task name (with_state Runnable) w))
 
 module _ (p : Image) (name : Who) (w : World) where
   granted-who : (v : World) (t : Task) → (granted p v.quanta t).who ≡ t.who

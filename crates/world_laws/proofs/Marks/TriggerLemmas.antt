@@ -34,15 +34,16 @@ use Rattle.profile_machine.specs.Act.{drop_trigger, below}
 use Rattle.profile_machine.specs.Instant.{is_the_same_due}
 use Rattle.profile_machine.specs.WellFormed.{awaits_trigger, awaits_trigger_at}
 use Rattle.std.specs.Prelude.{find, int_le, pos, unwrap_or}
-use Rattle.line_laws.proofs.Exclusion.ObjectLists.{by_test}
 use Rattle.line_laws.proofs.Exits.TaskEdits.{one_of, one_of-is, edited}
 use Rattle.line_laws.proofs.Exits.Steady.{FreeIn}
-use Rattle.world_laws.proofs.Marks.MarkFacts.{AllTasks, Calm, Unarmed, Unappointed, CanTrigger, GoodMarks, WaitsOf, is_own_scope, top_awaits}
+use Rattle.world_laws.proofs.Marks.MarkFacts.{Calm, Unarmed, Unappointed, CanTrigger, GoodMarks, WaitsOf, is_own_scope, top_awaits}
 use Rattle.world_laws.proofs.Marks.StandingLemmas.{own_top-stands}
 use Rattle.world_laws.proofs.Marks.TopLemmas.{at_same, calm_edited}
 use Rattle.world_laws.proofs.Marks.DepthLemmas.{waited-top, of_call-found, of_call-awaits, of_call-part, awaits-found, awaits-part, awaits-uncalled, frame-awaits}
 use Rattle.world_laws.proofs.Marks.TaskFacts.{all-found, all-map, distinct-found, found-test, found-any, none-without}
+use Rattle.world_laws.proofs.Queues.Listed.{AllTasks}
 use Rattle.machine_laws.proofs.Kept.Combinators.{world_behind}
+use Rattle.machine_laws.proofs.QueueLemmas.{by_test}
 
 -- ---- somebody
 

@@ -2,7 +2,7 @@
 use Rattle.ann_base.specs.declared.exceptions.Raised.TheVariants as exception
 use Rattle.ann_base.specs.declared.identities.ObjectNo.{ObjectNo}
 use Rattle.ann_base.specs.declared.identities.TaskNo.{TaskNo}
-use Rattle.world_laws.proofs.Places.LevelMoves.{BaseMoves, Naming, Silences}
+use Rattle.world_laws.proofs.Places.LevelMoves.{BaseMoves, Silences}
 use Rattle.ceiling_laws.proofs.Runs.Triples.{Alters, Keeps, Leads, State, With}
 use Rattle.world_laws.proofs.Places.Cores.{Same}
 use Rattle.profile_machine.specs.Appointments.{appoint}
@@ -45,6 +45,8 @@ use Rattle.trace_text.specs.declared.events.Mode.{Mode}
 use Rattle.trace_text.specs.declared.events.Who.{Who}
 use Rattle.trace_text.specs.declared.events.Who.TheVariants as who
 use Rattle.ceiling_laws.proofs.Runs.LevelMoves.{EachTask, FitsAll, Fitting, Sleeping, is_blocked}
+use Rattle.ceiling_laws.proofs.Runs.ActingMoves.{Admitting}
+use Rattle.machine_laws.proofs.FineMoves.{Naming}
 
 -- what holds since a world, of whose tasks those of a list have only been made, and where one of these has ended
 abbrev pub Lasting : Type 1
@@ -54,8 +56,6 @@ abbrev pub LastingOf : Type 1
 LastingOf = World → List Task → Who → State
 
 -- who may enter an object in a world
-abbrev pub Admitting : Type 1
-Admitting = World → ObjectNo → Type 0
 
 -- a task as it is created, with the next number
 pub record IsNew (p : Image) (t : Task) (w : World) : Type 0 where

@@ -1,11 +1,10 @@
 -- What holds of everybody, by what of it decides where it is placed, and by what an effect has said last of its place.
-use Rattle.ceiling_laws.proofs.Places.BesideLemmas.{same-self}
 use Rattle.world_laws.proofs.Places.PutLemmas.{puts-apart, unsaid}
 use Rattle.world_laws.proofs.Places.PartOrder.{last_put-append}
 use Rattle.world_laws.proofs.Places.SoundWorlds.{IsAbsent, Sound, sound-edit, sound-plain, sound-same}
 use Rattle.world_laws.proofs.Places.Puts.{Spot, last_put, puts, with_put}
 use Rattle.world_laws.proofs.Places.CoreLemmas.{core-same}
-use Rattle.ceiling_laws.proofs.Runs.FoundLemmas.{by_test, set-other}
+use Rattle.ceiling_laws.proofs.Runs.FoundLemmas.{set-other}
 use Rattle.world_laws.proofs.Places.LevelMoves.{Silences}
 use Rattle.world_laws.proofs.Places.SameLemmas.{edit_task-same}
 use Rattle.ceiling_laws.proofs.Runs.Triples.{Ends, Keeps, Leads, State, changes-leads, then-leads}
@@ -35,6 +34,10 @@ use Rattle.ceiling_laws.proofs.Places.SoundWorlds.{is_agent}
 use Rattle.ceiling_laws.proofs.Runs.Kept.Waking.{who-is}
 use Rattle.ceiling_laws.proofs.Runs.LevelMoves.{said_so}
 use Rattle.ceiling_laws.proofs.Runs.SameLemmas.{found_is_who, set_where-found}
+use Rattle.ceiling_laws.proofs.Places.EditLemmas.{named-apart}
+use Rattle.ceiling_laws.proofs.Places.CorePoints.{absent_as, edit-drawn}
+use Rattle.ceiling_laws.proofs.Places.PartOrder.{by_test}
+use Rattle.line_laws.proofs.Leaving.TaskLemmas.{same_self}
 
 -- what may hold of somebody: by how many task numbers were drawn, who it is, what it is, and what was said last of it
 abbrev pub Point : Type 1
@@ -76,9 +79,6 @@ pub core-plain : (a b : World) (n : Who) → b.tasks ≡ a.tasks → b.agent ≡
 core-plain a b (who.Task t) tasks agent = ap (λ ts. core (unwrap_or (find (is_who (who.Task t)) ts) nobody)) tasks
 core-plain a b who.Agent tasks agent = ap core agent
 
-named-apart : (m k : Who) (x y : Task) → is_who m x ≡ true → y.who ≡ x.who → same_who k m ≡ false → is_who k y ≡ false
-named-apart m k x y is same apart = ap (same_who k) (same ∙ sym (who-is m x.who is)) ∙ apart
-
 other_found : (name : Who) (f : Task → Task) (w : World) (n : Who) (found : Option Task) → task_at w name ≡ found → ((t : Task) → (f t).who ≡ t.who) → same_who n name ≡ false → core (task_of (edit_task_found name f w found) n) ≡ core (task_of w n)
 other_found name f w n None is named apart = refl
 other_found (who.Task m) f w (who.Task k) (Some x) is named apart =
@@ -90,10 +90,6 @@ other_found who.Agent f w who.Agent (Some x) is named apart = absurd cc
 
 pub edit-other : (name : Who) (f : Task → Task) (w : World) (n : Who) → ((t : Task) → (f t).who ≡ t.who) → same_who n name ≡ false → core (task_of (edit_task name f w) n) ≡ core (task_of w n)
 edit-other name f w n named apart = other_found name f w n (task_at w name) refl named apart
-
-absent_as : {P : Type 0} (name : Who) → name ≡ who.Agent → is_agent name ≡ false → P
-absent_as who.Agent is task = absurd cc
-absent_as (who.Task t) is task = absurd cc
 
 -- a task that is edited was found under its name
 pub record Edited (name : Who) (f : Task → Task) (before behind : Core) : Type 0 where
@@ -121,14 +117,6 @@ own_found who.Agent f w (Some x) is named = let one : w.agent ≡ x = cc in inl 
 
 pub edit-own : (name : Who) (f : Task → Task) (w : World) → ((t : Task) → (f t).who ≡ t.who) → Edited name f (core (task_of w name)) (core (task_of (edit_task name f w) name)) ⊎ Missed name (core (task_of w name)) (core (task_of (edit_task name f w) name))
 edit-own name f w named = own_found name f w (task_at w name) refl named
-
-drawn_found : (name : Who) (f : Task → Task) (w : World) (found : Option Task) → (edit_task_found name f w found).drawn.tasks ≡ w.drawn.tasks
-drawn_found name f w None = refl
-drawn_found (who.Task n) f w (Some t) = refl
-drawn_found who.Agent f w (Some t) = refl
-
-pub edit-drawn : (name : Who) (f : Task → Task) (w : World) → (edit_task name f w).drawn.tasks ≡ w.drawn.tasks
-edit-drawn name f w = drawn_found name f w (task_at w name)
 
 -- who is there is not absent, whatever becomes of it
 pub not-absent : {P : Type 0} (name : Who) (t : Task) (f : Task → Task) → (is_agent name ≡ false → same_who name t.who ≡ true) → (f t).who ≡ t.who → IsAbsent name (core (f t)) → P
@@ -243,7 +231,7 @@ module _ (p : Image) where
   says_ready-holds P Q name part end places = record {
     runs = λ w said h.
         holds-put P Q name part at_active (line.Ready name (active p (task_of w name)) end (deadline_shown p (task_of w name))) w said
-        (ap (λ b. cond b (Some (Some (active p (task_of w name), deadline_shown p (task_of w name)))) None) (same-self name)) (λ n apart. ap (λ b. cond b (Some (Some (active p (task_of w name), deadline_shown p (task_of w name)))) None) apart) places h;
+        (ap (λ b. cond b (Some (Some (active p (task_of w name), deadline_shown p (task_of w name)))) None) (same_self name)) (λ n apart. ap (λ b. cond b (Some (Some (active p (task_of w name), deadline_shown p (task_of w name)))) None) apart) places h;
   }
 
   granted-core : (b : Bool) (n : ℕ) (t : Task) → core (cond b (record t { quantum = n }) t) ≡ core t
@@ -280,15 +268,15 @@ module _ (p : Image) where
     unfolding Between
     first-turn = record {
       others = λ d n c l apart h. ((λ e. readies.others d n c l apart h), (λ same. absurd (let clash : false ≡ true = sym apart ∙ same in cc)));
-      own = λ d t l named h. ((λ apart. absurd (let clash : true ≡ false = sym (same-self name) ∙ apart in cc)), (λ same. readies.own d t l h));
-      missed = λ d l task h. ((λ apart. absurd (let clash : true ≡ false = sym (same-self name) ∙ apart in cc)), (λ same. readies.missed d l task h));
+      own = λ d t l named h. ((λ apart. absurd (let clash : true ≡ false = sym (same_self name) ∙ apart in cc)), (λ same. readies.own d t l h));
+      missed = λ d l task h. ((λ apart. absurd (let clash : true ≡ false = sym (same_self name) ∙ apart in cc)), (λ same. readies.missed d l task h));
     }
 
     keep-turn : (level : Task → Option ℕ) → Turns Between Between name (λ t. record t { kept_level = level t })
     unfolding Between
     keep-turn level = record {
       others = λ d n c l apart h. h;
-      own = λ d t l named h. ((λ apart. absurd (let clash : true ≡ false = sym (same-self name) ∙ apart in cc)), (λ same. readies.keeps d t l (level t) named (h.1 same)));
+      own = λ d t l named h. ((λ apart. absurd (let clash : true ≡ false = sym (same_self name) ∙ apart in cc)), (λ same. readies.keeps d t l (level t) named (h.1 same)));
       missed = λ d l task h. h;
     }
 
@@ -296,7 +284,7 @@ module _ (p : Image) where
     unfolding Between
     last-place = record {
       others = λ d n c l apart h. h.0 apart;
-      own = λ d c l h. readies.places d c l (h.1 (same-self name));
+      own = λ d c l h. readies.places d c l (h.1 (same_self name));
     }
 
     pub ready-holds : Leads (Holds P) (Holds Q) (ready p part name)

@@ -1,14 +1,15 @@
 -- What holds of everybody where a task is forgotten or added, and behind lines that take somebody out.
 use Rattle.ann_base.specs.declared.identities.TaskNo.{TaskNo}
-use Rattle.ceiling_laws.proofs.Places.BesideLemmas.{same-self}
 use Rattle.world_laws.proofs.Places.CorePoints.{Holds, Places, Point, holds-put}
 use Rattle.world_laws.proofs.Places.SoundWorlds.{sound-forget}
 use Rattle.ceiling_laws.proofs.Places.SoundWorlds.{is_agent}
 use Rattle.world_laws.proofs.Places.Standing.{Last}
 use Rattle.world_laws.proofs.Places.Puts.{Spot, last_put, puts}
-use Rattle.ceiling_laws.proofs.Runs.FoundLemmas.{by_test, kept-others, none-left}
+use Rattle.ceiling_laws.proofs.Runs.FoundLemmas.{kept-others, none-left}
 use Rattle.ceiling_laws.proofs.Runs.Kept.Waking.{who-is}
 use Rattle.ceiling_laws.proofs.Runs.Triples.{Ends, Leads, changes-leads}
+use Rattle.ceiling_laws.proofs.Places.EffectKeeps.{or_found, find-behind}
+use Rattle.ceiling_laws.proofs.Places.PartOrder.{by_test}
 use Rattle.world_laws.proofs.Places.Cores.{Core, core}
 use Rattle.profile_machine.specs.Masters.{forget_task}
 use Rattle.profile_machine.specs.Steps.{changes, says}
@@ -21,10 +22,11 @@ use Rattle.profile_machine.specs.declared.world.lines.Part.{Part}
 use Rattle.profile_machine.specs.declared.world.lines.Part.TheVariants.{TheBlock}
 use Rattle.profile_machine.specs.declared.world.tasks.Task.{Task}
 use Rattle.std.proofs.Common.{ap, cond, inl, inr, refl, subst, sym, ◌++◌, ◌∷◌, ◌≡◌, ◌⊎◌}
-use Rattle.std.specs.Prelude.{Bool, List, None, Option, Some, [], false, find, suc, true, ℕ, unwrap_or}
+use Rattle.std.specs.Prelude.{Bool, None, Option, Some, [], false, find, true, ℕ, unwrap_or}
 use Rattle.trace_text.specs.declared.events.Waits.{Waits}
 use Rattle.trace_text.specs.declared.events.Who.{Who}
 use Rattle.trace_text.specs.declared.events.Who.TheVariants as who
+use Rattle.line_laws.proofs.Leaving.TaskLemmas.{same_self}
 
 -- ---- somebody is no longer there
 
@@ -65,20 +67,6 @@ pub record AddedAs (t : Task) (n : Who) (before behind : Core) : Type 0 where
   pub was : before ≡ core nobody
   pub is : behind ≡ core t
 
-or_found : Option Task → Option Task → Option Task
-or_found None other = other
-or_found (Some x) other = Some x
-
-behind_if : (b : Bool) (x : Task) (found behind other : Option Task) → behind ≡ or_found found other → cond b (Some x) behind ≡ or_found (cond b (Some x) found) other
-unfolding or_found
-behind_if true x found behind other e = refl
-behind_if false x found behind other e = e
-
-find-behind : (test : Task → Bool) (t : Task) (xs : List Task) → find test (xs ++ t ∷ []) ≡ or_found (find test xs) (cond (test t) (Some t) None)
-unfolding or_found
-find-behind test t [] = refl
-find-behind test t (x ∷ xs) = behind_if (test x) x (find test xs) (find test (xs ++ t ∷ [])) (cond (test t) (Some t) None) (find-behind test t xs)
-
 added_by : (t : Task) (n : Who) (found behind : Option Task) (b : Bool) → same_who n t.who ≡ b → behind ≡ or_found found (cond b (Some t) None)
     → (core (unwrap_or behind nobody) ≡ core (unwrap_or found nobody)) ⊎ AddedAs t n (core (unwrap_or found nobody)) (core (unwrap_or behind nobody))
 unfolding or_found
@@ -101,11 +89,11 @@ nowhere c = None
 pub done-holds : (P Q : Point) (part : Part) (t : TaskNo) → Places P Q (who.Task t) part nowhere → Leads (Holds P) (Holds Q) (says_done part (who.Task t))
 unfolding says_done Ends nowhere
 done-holds P Q part t places = record {
-  runs = λ w said h. holds-put P Q (who.Task t) part nowhere (line.Done t) w said (ap (λ b. cond b (Some None) None) (same-self (who.Task t))) (λ n apart. done_puts n t apart) places h;
+  runs = λ w said h. holds-put P Q (who.Task t) part nowhere (line.Done t) w said (ap (λ b. cond b (Some None) None) (same_self (who.Task t))) (λ n apart. done_puts n t apart) places h;
 }
 
 pub block-holds : (P Q : Point) (name : Who) (waits : Waits) → Places P Q name TheBlock nowhere → Leads (Holds P) (Holds Q) (says TheBlock (line.Block name waits))
 unfolding Ends nowhere
 block-holds P Q name waits places = record {
-  runs = λ w said h. holds-put P Q name TheBlock nowhere (line.Block name waits) w said (ap (λ b. cond b (Some None) None) (same-self name)) (λ n apart. ap (λ b. cond b (Some None) None) apart) places h;
+  runs = λ w said h. holds-put P Q name TheBlock nowhere (line.Block name waits) w said (ap (λ b. cond b (Some None) None) (same_self name)) (λ n apart. ap (λ b. cond b (Some None) None) apart) places h;
 }

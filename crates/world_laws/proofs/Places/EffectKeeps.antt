@@ -1,15 +1,13 @@
 -- Effects leave whoever is ready at its active priority and with its deadline, and who is not ready nowhere.
 use Rattle.ann_base.specs.declared.exceptions.Raised.TheVariants as exception
 use Rattle.ann_base.specs.declared.identities.TaskNo.{TaskNo}
-use Rattle.ceiling_laws.proofs.Places.BesideLemmas.{same-self}
 use Rattle.world_laws.proofs.Places.CorePoints.{Except, Holds, IsAt, Knowing, Places, Point, Readies, Turns, holds-also, holds-edit, holds-knowing, holds-of, holds-plain, holds-sound, holds_quiet, keeps_says, not-absent, ready-holds, spot_for, to_tail-holds}
 use Rattle.world_laws.proofs.Places.EditPoints.{holds-forget, AddedAs, add-found, nowhere, done-holds, block-holds}
-use Rattle.world_laws.proofs.Places.EffectMoves.{Sleeping_in, Wakeful, actor_places, base_moves, base_set_or_deferred, ceases_resting, clash_of, dates, deadline_set_or_deferred, deferred_set, gained_later, dying_wakeful, ended_resting, ending_wakeful, gone_wakeful, good-choosing, good_wakeful, keeps_turns, later-kept, later-rises, later-wakes, later_wakeful, lost_later, nobody-acts, owed_loses, owes_since, owing_wakeful, made-asleep, paid, rests_choosing, self_apart, since_wakeful, starts_later, tails_later, undated_loose}
+use Rattle.world_laws.proofs.Places.EffectMoves.{Wakeful, actor_places, base_moves, base_set_or_deferred, ceases_resting, dates, deadline_set_or_deferred, deferred_set, gained_later, dying_wakeful, ended_resting, ending_wakeful, gone_wakeful, good-choosing, good_wakeful, keeps_turns, later-kept, later-rises, later-wakes, later_wakeful, lost_later, nobody-acts, owed_loses, owes_since, owing_wakeful, made-asleep, paid, rests_choosing, self_apart, since_wakeful, starts_later, tails_later, undated_loose}
 use Rattle.world_laws.proofs.Places.SoundWorlds.{IsAbsent, Sound, all-apart, all_there, known, sound-add, sound-appoint, sound-edit, sound-plain, sound-task}
-use Rattle.world_laws.proofs.Places.Standing.{Choosing, ChoosingSince, Dying, Ending, First, Fits, FreeFor, Gone, Good, IsShownRightly, IsUnmade, Last, Later, Loose, Owing, Resting, Since, Undated, apart-sym, at-out, awake, begun_awake, block-put, blocked-good, fits_finish, fits_other, fits_own, free-may, is_among, limit, limit-other, nobody-runs, nobody-sleeps, none-free, place, placed-good, put-free, put-late, put-out, runs_in, sleeps_in}
+use Rattle.world_laws.proofs.Places.Standing.{Choosing, ChoosingSince, Dying, Ending, First, Fits, FreeFor, Gone, Good, IsShownRightly, IsUnmade, Last, Later, Loose, Owing, Resting, Since, Undated, at-out, awake, begun_awake, block-put, blocked-good, fits_finish, fits_other, fits_own, free-may, is_among, limit, limit-other, nobody-runs, nobody-sleeps, none-free, place, placed-good, put-free, put-late, put-out, runs_in, sleeps_in}
 use Rattle.world_laws.proofs.Places.Puts.{MayBePlaced, last_put, spot_in, with_put}
 use Rattle.world_laws.proofs.Places.ActingMoves.{ActingMoves, IsNew, LaterMoves, SelectMoves}
-use Rattle.ceiling_laws.proofs.Runs.FoundLemmas.{by_test}
 use Rattle.ceiling_laws.proofs.Runs.FreeMoves.{anywhere}
 use Rattle.world_laws.proofs.Places.Kept.CallEnds.{deliver-keeps}
 use Rattle.world_laws.proofs.Places.Kept.Declarations.{set_thing-same}
@@ -61,20 +59,14 @@ use Rattle.std.proofs.lemmas.Bool.{or_right}
 use Rattle.trace_text.specs.declared.events.Created.TheVariants as created
 use Rattle.trace_text.specs.declared.events.Who.{Who}
 use Rattle.trace_text.specs.declared.events.Who.TheVariants as who
-use Rattle.ceiling_laws.proofs.Places.EffectKeeps.{drawn-more, fresh-less, fresh-next}
+use Rattle.ceiling_laws.proofs.Places.EffectKeeps.{drawn-more, fresh-less, fresh-next, made-apart, made-unblocked}
 use Rattle.ceiling_laws.proofs.Places.SoundWorlds.{IsThere, Unactivated, each-on, is_agent, is_fresh, unactivated-loses, unactivated_without}
 use Rattle.ceiling_laws.proofs.Runs.Kept.Waking.{waiting-blocked, who-is}
 use Rattle.ceiling_laws.proofs.Runs.LevelMoves.{EachTask, Fitting, is_blocked}
-
-made-apart : {P : Type 0} (state : tasks.State) → is_made_state state ≡ true → is_runnable_state state ≡ true → P
-made-apart Made made runs = absurd cc
-made-apart Runnable made runs = absurd cc
-made-apart (Blocked waiting) made runs = absurd cc
-
-made-unblocked : (state : tasks.State) → is_made_state state ≡ true → is_blocked state ≡ false
-made-unblocked Made made = refl
-made-unblocked Runnable made = absurd cc
-made-unblocked (Blocked waiting) made = absurd cc
+use Rattle.ceiling_laws.proofs.Places.EffectMoves.{Sleeping_in, clash_of}
+use Rattle.ceiling_laws.proofs.Places.PartOrder.{by_test}
+use Rattle.ceiling_laws.proofs.Places.Standing.{apart-sym}
+use Rattle.line_laws.proofs.Leaving.TaskLemmas.{same_self}
 
 running-awake : (state : tasks.State) → is_runnable_state state ≡ true → is_blocked state ≡ false
 running-awake Made runs = absurd cc
@@ -122,9 +114,9 @@ module _ (p : Image) (s : List Placed) (a : Who) where
   block_places = record {
     others = λ d n c l apart h. ((h.0 apart).0, λ same. clash_of (same_who n a) same apart);
     own = λ d c l h.
-        let k = h.1 (same-self a) in
+        let k = h.1 (same_self a) in
         let out = block-put l in
-        (subst (Good p s a d a c) (sym out) (blocked-good p s a d a c (Some (TheBlock, None)) (same-self a) k.1 refl), λ same. k.2);
+        (subst (Good p s a d a c) (sym out) (blocked-good p s a d a c (Some (TheBlock, None)) (same_self a) k.1 refl), λ same. k.2);
   }
 
   blocks_from : (P : Point) (waiting : Waiting) → Turns P Blocking a (with_state (Blocked waiting)) → Leads (Held P) (Held Rested) (block TheBlock a waiting)
@@ -147,7 +139,7 @@ module _ (p : Image) (s : List Placed) (a : Who) where
   }
 
   dated_acts : (d : ℕ) (c : Core) (l : Last) → Undated p s a a d a c l → is_fresh d a ≡ false
-  dated_acts d c l h = ((h.1 (same-self a)).0.acting (same-self a)).0
+  dated_acts d c l h = ((h.1 (same_self a)).0.acting (same_self a)).0
 
   dated_tail : Leads (Held (Undated p s a a)) (Held Whole) (to_tail p ThePlacing a)
   dated_tail = from-leads (to_tail p ThePlacing a) (undated_loose p s a a) (to_tail-holds p (Loose p s a a) Whole a ThePlacing (actor_places p s a))
@@ -220,7 +212,7 @@ module _ (p : Image) (s : List Placed) (a : Who) where
           at = h.0.at;
           shown = inl (inl refl);
           fresh = h.0.fresh;
-          ready = λ runs. h.2 (same-self a) waits;
+          ready = λ runs. h.2 (same_self a) waits;
           calm = λ apart. self_apart p s a a apart;
           waits = λ same none. absurd (let clash : false ≡ true = none in cc);
         },
@@ -255,7 +247,7 @@ module _ (p : Image) (s : List Placed) (a : Who) where
   unfolding Unsaid nowhere
   unsaid_places = record {
     others = λ d n c l apart h. h.0 apart;
-    own = λ d c l h. subst (Good p s a d a c) (sym (block-put l)) (blocked-good p s a d a c (Some (TheBlock, None)) (same-self a) (h.1 (same-self a)) refl);
+    own = λ d c l h. subst (Good p s a d a c) (sym (block-put l)) (blocked-good p s a d a c (Some (TheBlock, None)) (same_self a) (h.1 (same_self a)) refl);
   }
 
   says_blocked_choosing : (waiting : Waiting) → Leads (With (Held (Choosing p s a)) (λ w. waits_at_terminate (waiting_of w a) ≡ true)) (Held (Good p s a)) (says_block TheBlock a waiting)
@@ -310,13 +302,13 @@ module _ (p : Image) (s : List Placed) (a : Who) where
     own = λ d t l is h. record {
       late = h.0.late;
       at = h.0.at;
-      shown = inr (same-self a, waits);
+      shown = inr (same_self a, waits);
       fresh = h.0.fresh;
       ready = λ runs. absurd (let clash : false ≡ true = runs in cc);
       calm = λ apart. self_apart p s a a apart;
-      waits = λ same at_select. h.0.ready (h.1 (same-self a)).1;
+      waits = λ same at_select. h.0.ready (h.1 (same_self a)).1;
     };
-    missed = λ d l task h. nobody-runs (h.1 (same-self a)).1;
+    missed = λ d l task h. nobody-runs (h.1 (same_self a)).1;
   }
 
   selects : (waiting : Waiting) → waits_at_terminate (Some waiting) ≡ true → Leads (Held (First p s a)) (Held (Choosing p s a)) (changes (edit_task a (with_state (Blocked waiting))))
@@ -383,7 +375,7 @@ module _ (p : Image) (s : List Placed) (a : Who) where
   made-alters v rest who.Agent f made among named same = clash_of (is_agent who.Agent) refl made.task
 
   first-among : (t : Task) (rest : List Task) → is_among t.who (t ∷ rest) ≡ true
-  first-among t rest = ap (λ b. b || is_among t.who rest) (same-self t.who)
+  first-among t rest = ap (λ b. b || is_among t.who rest) (same_self t.who)
 
   activation-alters : (v : World) (t : Task) (rest : List Task) (level : ℕ) → IsUnmade p s a v t.who → Alters (Held (Since p s a v (t ∷ rest))) (inherit t.who inherited_by.Activation level)
   activation-alters v t rest level made = made-alters v (t ∷ rest) t.who (λ u. record u { inherited = record { cause = inherited_by.Activation; level = level } ∷ u.inherited }) made (first-among t rest) (λ u. refl) (λ u. refl)
@@ -429,7 +421,7 @@ module _ (p : Image) (s : List Placed) (a : Who) where
   ended_loses v rest name w said h =
       holds-edit (Ending p s a v rest name) (Ending p s a v rest name) name less w said (λ t. refl) (sound-edit name less w (λ t. refl) (λ t k. unactivated_without (λ i. same_cause inherited_by.Activation i.cause) t.inherited k) (holds-sound (Ending p s a v rest name) w said h))
       (keeps_turns p s a (Ending p s a v rest name) name less (λ d t l is k. (
-        (later-kept p s a d name t (core (less t)) l is refl (at-out p (place p s a name l) (core (less t)) (k.1 (same-self name))) k.0.0, k.0.1, k.0.2, k.0.3),
+        (later-kept p s a d name t (core (less t)) l is refl (at-out p (place p s a name l) (core (less t)) (k.1 (same_self name))) k.0.0, k.0.1, k.0.2, k.0.3),
         k.1,
         k.2,
       ))) h
@@ -439,7 +431,7 @@ module _ (p : Image) (s : List Placed) (a : Who) where
       holds-forget (Ending p s a v rest name) (Since p s a v rest) name (record {
         others = λ d n c l apart h. h.0;
         task = λ d c l task h.
-            let hidden = h.1 (same-self name) in (
+            let hidden = h.1 (same_self name) in (
               (
                 record { late = h.0.0.0.late; at = at-out p (place p s a name l) (core nobody) hidden; shown = inr (inl hidden); fresh = λ e. hidden; ready = λ runs. nobody-runs runs; calm = λ apart. ((h.0.0.0.calm apart).0, λ sleeps. nobody-sleeps sleeps) },
                 λ same. clash_of (same_who name a) same h.2.other,
@@ -458,8 +450,8 @@ module _ (p : Image) (s : List Placed) (a : Who) where
   last_places t is = record {
     others = λ d n c l apart h. ((λ e. h.0), (λ same. clash_of (same_who n a) same (ap (same_who n) (sym is) ∙ apart)));
     own = λ d c l h.
-        let acts = h.1 (ap (same_who (who.Task t)) (sym is) ∙ same-self (who.Task t)) in (
-          (λ apart. clash_of (same_who (who.Task t) a) (ap (same_who (who.Task t)) (sym is) ∙ same-self (who.Task t)) apart),
+        let acts = h.1 (ap (same_who (who.Task t)) (sym is) ∙ same_self (who.Task t)) in (
+          (λ apart. clash_of (same_who (who.Task t) a) (ap (same_who (who.Task t)) (sym is) ∙ same_self (who.Task t)) apart),
           (λ same. record {
             late = put-late (limit p s a (who.Task t)) Own l None (fits_own p s a (who.Task t)) h.0.late;
             runs = acts.1;
@@ -485,7 +477,7 @@ module _ (p : Image) (s : List Placed) (a : Who) where
   dying_loses (who.Task n) is w said h =
       holds-edit (Dying p s a) (Dying p s a) (who.Task n) less w said (λ t. refl) (sound-task n less w (λ t. refl) (holds-sound (Dying p s a) w said h))
       (keeps_turns p s a (Dying p s a) (who.Task n) less (λ d t l named k. (
-        (λ apart. clash_of (same_who (who.Task n) a) (ap (same_who (who.Task n)) (sym is) ∙ same-self (who.Task n)) apart),
+        (λ apart. clash_of (same_who (who.Task n) a) (ap (same_who (who.Task n)) (sym is) ∙ same_self (who.Task n)) apart),
         (λ same. let o = k.1 same in record { late = o.late; runs = o.runs; fresh = o.fresh; task = o.task; agent = λ agent. absurd (let clash : false ≡ true = agent in cc) }),
       ))) h
   dying_loses who.Agent is w said h =
@@ -504,11 +496,11 @@ module _ (p : Image) (s : List Placed) (a : Who) where
       holds-forget (Dying p s a) (Gone p s a) a (record {
         others = λ d n c l apart h. (h.0 apart, λ same. clash_of (same_who n a) same apart);
         task = λ d c l task h.
-            let o = h.1 (same-self a) in
+            let o = h.1 (same_self a) in
             let hidden = o.task task in
             (record { late = o.late; at = at-out p (place p s a a l) (core nobody) hidden; shown = inr (inl hidden); fresh = λ e. hidden; ready = λ runs. nobody-runs runs; calm = λ apart. self_apart p s a a apart }, λ same. refl);
         agent = λ d c l agent h.
-            let o = h.1 (same-self a) in (
+            let o = h.1 (same_self a) in (
               record { late = o.late; at = (o.agent agent).0; shown = inl o.runs; fresh = λ e. clash_of (is_fresh d a) e o.fresh; ready = λ runs. (o.agent agent).1; calm = λ apart. self_apart p s a a apart },
               λ same. running-awake c.state o.runs,
             );
@@ -619,8 +611,8 @@ module _ (p : Image) (s : List Placed) (a : Who) where
   met t = record {
     between = Met (who.Task t);
     others = λ d n c l apart h. h.0;
-    own = λ d u l h. let k = h.1 (same-self (who.Task t)) in record { late = h.0.0.late; may = k.0; free = λ apart. (h.0.0.calm apart).0; drawn = k.1; runs = inl refl; acts = λ same. refl };
-    missed = λ d l task h. let k = h.1 (same-self (who.Task t)) in record { late = h.0.0.late; may = k.0; free = λ apart. (h.0.0.calm apart).0; drawn = k.1; runs = inr (task, refl); acts = λ same. nobody-acts p s a l (h.0.1 same).1 };
+    own = λ d u l h. let k = h.1 (same_self (who.Task t)) in record { late = h.0.0.late; may = k.0; free = λ apart. (h.0.0.calm apart).0; drawn = k.1; runs = inl refl; acts = λ same. refl };
+    missed = λ d l task h. let k = h.1 (same_self (who.Task t)) in record { late = h.0.0.late; may = k.0; free = λ apart. (h.0.0.calm apart).0; drawn = k.1; runs = inr (task, refl); acts = λ same. nobody-acts p s a l (h.0.1 same).1 };
     keeps = λ d u l level named h. record { late = h.late; may = h.may; free = h.free; drawn = h.drawn; runs = begun_runs (who.Task t) u level named h.runs; acts = h.acts };
     places = λ d c l h. (placed-good p s a d (who.Task t) c l TheFinish (fits_finish p s a (who.Task t)) h.drawn h.late h.may h.runs h.free, λ same. (h.drawn, h.acts same));
   }
@@ -671,8 +663,8 @@ module _ (p : Image) (s : List Placed) (a : Who) where
     blocks = blocks_later;
     tails = tails_later p s a;
     waits_at_select = λ accepts delay. selects (waits_for.Select accepts delay true) refl;
-    appoints_first = λ t moment is. appoints-holds (First p s a) (λ d c l h. (h.1 (same-self a)).0) t moment is;
-    appoints = λ t moment is. appoints-holds Whole (λ d c l h. (h.1 (same-self a)).0) t moment is;
+    appoints_first = λ t moment is. appoints-holds (First p s a) (λ d c l h. (h.1 (same_self a)).0) t moment is;
+    appoints = λ t moment is. appoints-holds Whole (λ d c l h. (h.1 (same_self a)).0) t moment is;
     loses = lost_later p s a;
     sets_deferred = deferred_set p s a;
     sets_base = λ t level. from-leads (set_or_defer_base p a (who.Task t) level) (starts_later p s a) (base_set_or_deferred p s a (who.Task t) level);

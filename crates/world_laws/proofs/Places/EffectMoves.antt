@@ -1,13 +1,11 @@
 -- What each step by which priorities and deadlines change or somebody wakes makes of places.
-use Rattle.ceiling_laws.proofs.Places.BesideLemmas.{same-self}
 use Rattle.world_laws.proofs.Places.ActiveLemmas.{edit-part, active-falls, inherit-rises, lose-falls}
 use Rattle.world_laws.proofs.Places.CorePoints.{Holds, IsAt, Knowing, Places, Point, Readies, Turns, active_in, at_active, core-plain, holds-also, holds-edit, holds-knowing, holds-of, holds-sound, holds_quiet, keeps_says, not-absent, ready-holds, spot_for, state-kept, to_head-holds, to_tail-holds}
 use Rattle.world_laws.proofs.Places.SoundWorlds.{IsAbsent, Sound, known, sound-edit}
-use Rattle.world_laws.proofs.Places.Standing.{Acting, AtLevel, Bare, Choosing, Dying, Ending, First, Fits, Gone, Good, IsCalm, IsShown, IsShownRightly, IsUnmade, Last, Later, Loose, Owes, Owing, Resting, Since, Undated, acting-placed, apart-sym, asleep-hidden, at-out, at-still, awake, deadline-kept, fits_limit, limit, limit-actor, nobody-runs, nobody-sleeps, place, placed-good, runs_in, shown-free, sleeps_in, woken-good}
+use Rattle.world_laws.proofs.Places.Standing.{Acting, AtLevel, Bare, Choosing, Dying, Ending, First, Fits, Gone, Good, IsCalm, IsShown, IsShownRightly, IsUnmade, Last, Later, Loose, Owes, Owing, Resting, Since, Undated, acting-placed, asleep-hidden, at-out, at-still, awake, deadline-kept, fits_limit, limit, limit-actor, nobody-runs, nobody-sleeps, place, placed-good, runs_in, shown-free, sleeps_in, woken-good}
 use Rattle.world_laws.proofs.Places.Puts.{Spot, last_put, spot_in, with_put}
 use Rattle.world_laws.proofs.Places.ActingMoves.{OfOthers}
 use Rattle.world_laws.proofs.Places.CoreLemmas.{core-same}
-use Rattle.ceiling_laws.proofs.Runs.FoundLemmas.{by_test}
 use Rattle.world_laws.proofs.Places.Kept.Priorities.{reprioritize_own-keeps, says_deadline-keeps}
 use Rattle.world_laws.proofs.Places.Kept.Tasks.{edit_task-alters}
 use Rattle.world_laws.proofs.Places.LevelMoves.{BaseMoves}
@@ -44,10 +42,11 @@ use Rattle.trace_text.specs.declared.events.Who.{Who}
 use Rattle.trace_text.specs.declared.events.Who.TheVariants as who
 use Rattle.ceiling_laws.proofs.Places.SoundWorlds.{Unactivated, is_agent, is_fresh, unactivated_without}
 use Rattle.ceiling_laws.proofs.Runs.Kept.Waking.{who-is}
-use Rattle.ceiling_laws.proofs.Runs.LevelMoves.{Fitting, Sleeping, is_blocked}
-
-abbrev pub Sleeping_in : Sleeping
-Sleeping_in w name = is_blocked (task_of w name).state ≡ true
+use Rattle.ceiling_laws.proofs.Runs.LevelMoves.{Fitting, is_blocked}
+use Rattle.ceiling_laws.proofs.Places.EffectMoves.{Sleeping_in, clash_of}
+use Rattle.ceiling_laws.proofs.Places.PartOrder.{by_test}
+use Rattle.ceiling_laws.proofs.Places.Standing.{apart-sym}
+use Rattle.line_laws.proofs.Leaving.TaskLemmas.{same_self}
 
 -- by who sleeps and inherits a priority, and by who wakes
 pub record Wakeful (p : Image) (Parts : Fitting) (P : Point) : Type 0 where
@@ -59,9 +58,6 @@ made-asleep Made made sleeps = absurd cc
 made-asleep Runnable made sleeps = absurd cc
 made-asleep (Blocked waiting) made sleeps = absurd cc
 
-pub clash_of : {P : Type 0} (b : Bool) → b ≡ true → b ≡ false → P
-clash_of b is apart = absurd (let clash : true ≡ false = sym is ∙ apart in cc)
-
 module _ {p : Image} {Parts : Fitting} (P : Point) (wakeful : Wakeful p Parts P) where
   pub Dozing : Who → Point
   Dozing name = Knowing P name (λ d c. sleeps_in c ≡ true)
@@ -70,7 +66,7 @@ module _ {p : Image} {Parts : Fitting} (P : Point) (wakeful : Wakeful p Parts P)
   unfolding Dozing
   inherit-turns name cause level = record {
     others = λ d n c l apart h. h.0;
-    own = λ d t l named h. wakeful.rises d name t l (record { cause = cause; level = level }) named (h.1 (same-self name)) h.0;
+    own = λ d t l named h. wakeful.rises d name t l (record { cause = cause; level = level }) named (h.1 (same_self name)) h.0;
     missed = λ d l task h. h.0;
   }
 
@@ -97,8 +93,8 @@ module _ {p : Image} {Parts : Fitting} (P : Point) (wakeful : Wakeful p Parts P)
   waking name part fits = record {
     between = Woken name;
     others = λ d n c l apart h. h.0;
-    own = λ d t l h. record { before = core t; held = h.0; slept = (h.1 (same-self name)).1; drawn = (h.1 (same-self name)).0; runs = refl };
-    missed = λ d l task h. nobody-sleeps (h.1 (same-self name)).1;
+    own = λ d t l h. record { before = core t; held = h.0; slept = (h.1 (same_self name)).1; drawn = (h.1 (same_self name)).0; runs = refl };
+    missed = λ d l task h. nobody-sleeps (h.1 (same_self name)).1;
     keeps = λ d t l level named h. record { before = h.before; held = h.held; slept = h.slept; drawn = h.drawn; runs = h.runs };
     places = λ d c l h. wakeful.wakes part d name h.before c l fits h.drawn h.slept h.runs h.held;
   }
@@ -284,7 +280,7 @@ module _ (p : Image) (s : List Placed) (a : Who) where
   -- ---- who is edited or placed is somebody, and others are as they were
 
   pub self_apart : {P : Type 0} (n : Who) → same_who n n ≡ false → P
-  self_apart n apart = clash_of (same_who n n) (same-self n) apart
+  self_apart n apart = clash_of (same_who n n) (same_self n) apart
 
   pub keeps_turns : (P : Point) (name : Who) (f : Task → Task) → ((d : ℕ) (t : Task) (l : Last) → Named name t → P d name (core t) l → P d name (core (f t)) l) → Turns P P name f
   keeps_turns P name f own = record { others = λ d n c l apart h. h; own = own; missed = λ d l task h. h }
@@ -300,7 +296,7 @@ module _ (p : Image) (s : List Placed) (a : Who) where
   pub actor_places : Places (Loose p s a a) (Later p s a) a ThePlacing (at_active p)
   actor_places = record {
     others = λ d n c l apart h. h.0 apart;
-    own = λ d c l h. let b = h.1 (same-self a) in acting-placed p s a d a c l ThePlacing (same-self a) refl b.late (b.ready (b.acting (same-self a)).1) (b.acting (same-self a));
+    own = λ d c l h. let b = h.1 (same_self a) in acting-placed p s a d a c l ThePlacing (same_self a) refl b.late (b.ready (b.acting (same_self a)).1) (b.acting (same_self a));
   }
 
   pub later-bare : (d : ℕ) (n : Who) (c : Core) (l : Last) → Later p s a d n c l → Bare p s a d n c l
@@ -345,7 +341,7 @@ module _ (p : Image) (s : List Placed) (a : Who) where
     h.0,
     λ n. by_test (same_who n name)
         (λ same. subst (λ m. Later p s a w.drawn.tasks m (core (task_of w m)) (last_put m said)) (sym (who-is n name same))
-        (tight w.drawn.tasks name (core (task_of w name)) (last_put name said) ((h.1 name).1 (same-self name)) at))
+        (tight w.drawn.tasks name (core (task_of w name)) (last_put name said) ((h.1 name).1 (same_self name)) at))
         (λ apart. (h.1 n).0 apart),
   )
 
@@ -357,7 +353,7 @@ module _ (p : Image) (s : List Placed) (a : Who) where
 
   pub unready : (name : Who) (w : World) (said : List Said) → runs_in (core (task_of w name)) ≡ false → Holds (Loose p s a name) w said → Holds (Later p s a) w said
   unready name w said idle h =
-      let b = (holds-of (Loose p s a name) w said name h).1 (same-self name) in
+      let b = (holds-of (Loose p s a name) w said name h).1 (same_self name) in
       tightened name w said h (unready-at w.drawn.tasks name (core (task_of w name)) (last_put name said) idle b.shown b.absent)
 
   -- who is ready is placed in the last part that fits
@@ -369,8 +365,8 @@ module _ (p : Image) (s : List Placed) (a : Who) where
   ready_places name = record {
     others = λ d n c l apart h. h.0.0 apart;
     own = λ d c l h.
-        let b = h.0.1 (same-self name) in
-        let k = h.1 (same-self name) in
+        let b = h.0.1 (same_self name) in
+        let k = h.1 (same_self name) in
         (placed-good p s a d name c l (limit p s a name) (fits_limit p s a name) k.1 b.late (shown-free (limit p s a name) l (spot_in name s) b.late (b.ready k.0)) (inl k.0) (λ apart. (b.calm apart).0), λ acts. (k.1, k.0));
   }
 
@@ -457,7 +453,7 @@ module _ (p : Image) (s : List Placed) (a : Who) where
   undated_loose name w said h = holds-also (Undated p s a name) (Loose p s a name) (λ d n c l k. (k.0, λ same. (k.1 same).0)) w said h
 
   pub dated_level : (name : Who) (w : World) (said : List Said) → Holds (Undated p s a name) w said → AtLevel p s a (place p s a name (last_put name said)) (core (task_of w name))
-  dated_level name w said h = ((holds-of (Undated p s a name) w said name h).1 (same-self name)).1
+  dated_level name w said h = ((holds-of (Undated p s a name) w said name h).1 (same_self name)).1
 
   pub dated_unready : (name : Who) (v : World) (state : tasks.State) → (task_of v name).state ≡ state → is_runnable_state state ≡ false → (w : World) (said : List Said) → At (Holds (Undated p s a name)) v w said → Holds (Later p s a) w said
   dated_unready name v state is idle w said h = unready name w said (ap is_runnable_state (at_state name v w state is h.1) ∙ idle) (undated_loose name w said h.0)
@@ -486,10 +482,10 @@ module _ (p : Image) (s : List Placed) (a : Who) where
 
   -- what was deferred is set behind an action
   pub base_set_placing : (level : ℕ) → Keeps (Holds (Later p s a)) (set_base p ThePlacing ThePlacing a level)
-  base_set_placing level = subst (λ part. Keeps (Holds (Later p s a)) (set_base p ThePlacing part a level)) (limit-actor p s a a (same-self a)) (base_set ThePlacing a level)
+  base_set_placing level = subst (λ part. Keeps (Holds (Later p s a)) (set_base p ThePlacing part a level)) (limit-actor p s a a (same_self a)) (base_set ThePlacing a level)
 
   pub deadline_set_placing : (deadline : ℤ) → Keeps (Holds (Later p s a)) (set_deadline p ThePlacing ThePlacing a deadline)
-  deadline_set_placing deadline = subst (λ part. Keeps (Holds (Later p s a)) (set_deadline p ThePlacing part a deadline)) (limit-actor p s a a (same-self a)) (deadline_set ThePlacing a deadline)
+  deadline_set_placing deadline = subst (λ part. Keeps (Holds (Later p s a)) (set_deadline p ThePlacing part a deadline)) (limit-actor p s a a (same_self a)) (deadline_set ThePlacing a deadline)
 
   pub base_taken : (deferred : Option ℕ) → Keeps (Holds (Later p s a)) (take_base p a deferred)
   unfolding take_base
@@ -604,7 +600,7 @@ module _ (p : Image) (s : List Placed) (a : Who) where
   pub paid_places : (before : World) → Places (Owing p s a before) (Later p s a) a ThePlacing (at_active p)
   paid_places before = record {
     others = λ d n c l apart h. (h.0 apart, λ same. clash_of (same_who n a) same apart);
-    own = λ d c l h. let o = h.1 (same-self a) in acting-placed p s a d a c l ThePlacing (same-self a) refl o.late o.ready o.acting;
+    own = λ d c l h. let o = h.1 (same_self a) in acting-placed p s a d a c l ThePlacing (same_self a) refl o.late o.ready o.acting;
   }
 
   pub owed-at : (before : World) (n : Who) (c : Core) (l : Last) → active_of p before a ≤ active_in p c → (active_in p c ≤ active_of p before a) × (c.deadline ≡ (task_of before a).deadline) → IsAt p (place p s a n l) (core (task_of before a)) → IsAt p (place p s a n l) c

@@ -25,8 +25,6 @@ pub record Silences (X : State) : Type 0 where
   pub ends_scope : (id : ScopeId) (w : World) (said : List Said) → X w said → X (end_scope id w) said
 
 -- of some names alone
-abbrev pub Naming : Type 1
-Naming = Who → Type 0
 
 -- the same, and by who waits and becomes ready, or inherits a priority, but by its activation
 pub record BaseMoves (p : Image) (Fits : Fitting) (Sleeps : Sleeping) (X : State) : Type 0 where

@@ -1,6 +1,4 @@
 -- In every world that a run reaches the ready queues are as they should be.
-use Rattle.ceiling_laws.proofs.Places.BesideLemmas.{same-self}
-use Rattle.ceiling_laws.proofs.Runs.FoundLemmas.{by_test}
 use Rattle.machine_laws.specs.Reached.{Reached, before, behind}
 use Rattle.machine_laws.proofs.PlaceLemmas.{nobody_is_placed_twice, places_are_in_order}
 use Rattle.world_laws.proofs.Places.CorePoints.{IsAt, not-absent}
@@ -29,6 +27,8 @@ use Rattle.trace_text.specs.declared.events.Who.TheVariants as who
 use Rattle.ceiling_laws.proofs.Runs.Kept.Waking.{who-is}
 use Rattle.ceiling_laws.proofs.Runs.LevelMoves.{EachTask}
 use Rattle.ceiling_laws.proofs.Places.SoundWorlds.{IsThere, each-on, is_agent}
+use Rattle.ceiling_laws.proofs.Places.PartOrder.{by_test}
+use Rattle.line_laws.proofs.Leaving.TaskLemmas.{same_self}
 
 pub reached_stand : (p : Image) (script : List (ℤ × Item)) (bound : ℕ) (w : World) → Reached p script bound w → AllStand p w.places w
 reached_stand p script bound _ (before w comes) = comes-stands p script bound w comes
@@ -71,7 +71,7 @@ there-shown w t n named (inr (inr absent)) = not-absent n t (λ u. u) named refl
 task-there : (p : Image) (w : World) (t : Task) → IsThere w t → AllStand p w.places w → cond (is_runnable t) (is_placed w t) (not (is_placed w t)) ≡ true
 task-there p w t there h =
     ready_there w t (λ runs. (h.1 t.who).ready (ap is_runnable there.found ∙ runs))
-    (there-shown w t t.who (λ task. same-self t.who) (subst (λ u. (runs_in (core u) ≡ true) ⊎ ((spot_in t.who w.places ≡ None) ⊎ IsAbsent t.who (core u))) there.found (h.1 t.who).shown))
+    (there-shown w t t.who (λ task. same_self t.who) (subst (λ u. (runs_in (core u) ≡ true) ⊎ ((spot_in t.who w.places ≡ None) ⊎ IsAbsent t.who (core u))) there.found (h.1 t.who).shown))
 
 agent-there : (p : Image) (w : World) → w.agent.who ≡ who.Agent → AllStand p w.places w → cond (is_runnable w.agent) (is_placed w w.agent) (not (is_placed w w.agent)) ≡ true
 agent-there p w is h =
@@ -101,7 +101,7 @@ entries-hold : (P : Placed → Bool) (places : List Placed) → all_differ (λ x
 entries-hold P [] differ h = refl
 entries-hold P (x ∷ xs) differ h =
     let apart = and_parts (not (list_any (λ y. same_who x.who y.who) xs)) (all_differ (λ y z. same_who y.who z.who) xs) differ in
-    ap (λ b. b && list_all P xs) (h x (ap (λ b. cond b (Some (x.level, x.deadline)) (spot_in x.who xs)) (same-self x.who)))
+    ap (λ b. b && list_all P xs) (h x (ap (λ b. cond b (Some (x.level, x.deadline)) (spot_in x.who xs)) (same_self x.who)))
     ∙ entries-hold P xs apart.1 (λ y found. h y (later-spot y.who x xs (y.level, y.deadline) (not-true (list_any (λ z. same_who x.who z.who) xs) apart.0) found))
 
 entry-stands : (p : Image) (w : World) (x : Placed) → AllStand p w.places w → spot_in x.who w.places ≡ Some (x.level, x.deadline)

@@ -1,5 +1,5 @@
 -- What each effect keeps of the lines and of what they show, what comes about in an instant beside the effect of who acts keeps.
-use Rattle.world_laws.proofs.Places.Kept.Instant.{Appointing, OtherMoves, appointments_due-keeps, budgets_due-keeps, quantum_spent-keeps, script_items-keeps, timers_due-keeps}
+use Rattle.world_laws.proofs.Places.Kept.Instant.{OtherMoves, appointments_due-keeps, budgets_due-keeps, quantum_spent-keeps, script_items-keeps, timers_due-keeps}
 use Rattle.ceiling_laws.proofs.Runs.Triples.{Ends, Keeps, Leads, State}
 use Rattle.machine_laws.proofs.Moves.{lines_of}
 use Rattle.profile_machine.specs.Instant.{budgets_due, events_due, moments_due, quantum_spent, script_items, timers_due}
@@ -12,6 +12,7 @@ use Rattle.std.specs.Prelude.{Bool, List, [], false, true}
 use Rattle.line_laws.proofs.Ticks.LineByLine.{Follow-append, Leads_on, seen_behind, seen_behind-append}
 use Rattle.trace_text.specs.declared.events.Event.{Event}
 use Rattle.ceiling_laws.proofs.Runs.LevelMoves.{Sleeping}
+use Rattle.ceiling_laws.proofs.Runs.Kept.Instant.{Appointing}
 
 module _ {S : Type 0} (see : S → Event → S) (lawful : S → Event → Bool) (Shows : S → World → Type 0) where
   abbrev pub Onward : S → World × List Event → Type 0

@@ -1,7 +1,6 @@
 -- What of a world stays sound: its tasks bear numbers of tasks, each another, and only numbers that were drawn; for no other task a
 -- moment is appointed; and the agent bears its name and was activated by nobody.
 use Rattle.ann_base.specs.declared.identities.TaskNo.{TaskNo}
-use Rattle.ceiling_laws.proofs.Places.BesideLemmas.{same-self}
 use Rattle.world_laws.proofs.Places.ActingMoves.{AreApart}
 use Rattle.world_laws.proofs.Places.Cores.{Core, Same, core, is_delayed}
 use Rattle.profile_machine.specs.Appointments.{appoint, is_delay_of}
@@ -9,51 +8,24 @@ use Rattle.profile_machine.specs.Masters.{forget_task}
 use Rattle.profile_machine.specs.Tasking.{add_task}
 use Rattle.profile_machine.specs.Tasks.{edit_task, edit_task_found, is_who, nobody, task_at, task_of}
 use Rattle.profile_machine.specs.WellFormed.{number_in}
-use Rattle.profile_machine.specs.Words.{same_task, same_who, without}
+use Rattle.profile_machine.specs.Words.{same_task, same_who}
 use Rattle.profile_machine.specs.declared.world.World.{World}
 use Rattle.profile_machine.specs.declared.world.appointments.Due.TheVariants as due_for
 use Rattle.profile_machine.specs.declared.world.tasks.Task.{Task}
-use Rattle.std.proofs.Common.{ap, arith, cond, inl, inr, map, refl, subst, sym, ◌++◌, ◌||◌, ◌∙◌, ◌∷◌, ◌≡◌, ◌≤◌, ◌⊎◌}
+use Rattle.std.proofs.Common.{ap, arith, cond, inl, inr, map, refl, subst, sym, ◌++◌, ◌||◌, ◌∙◌, ◌∷◌, ◌≡◌, ◌⊎◌}
 use Rattle.std.specs.List.{list_any}
-use Rattle.std.specs.Prelude.{Bool, List, None, Option, Some, [], eqb, false, find, leb, not, suc, true, ℕ, ℤ, unwrap_or}
-use Rattle.std.proofs.lemmas.Bool.{le-leb}
+use Rattle.std.specs.Prelude.{List, None, Option, Some, [], eqb, false, find, leb, suc, true, ℕ, ℤ, unwrap_or}
 use Rattle.trace_text.specs.declared.events.Who.{Who}
 use Rattle.trace_text.specs.declared.events.Who.TheVariants as who
 use Rattle.ceiling_laws.proofs.Runs.Kept.Waking.{found-each, who-is}
 use Rattle.ceiling_laws.proofs.Runs.LevelMoves.{EachTask}
 use Rattle.ceiling_laws.proofs.Runs.SameLemmas.{set_where-seen}
-use Rattle.ceiling_laws.proofs.Places.SoundWorlds.{IsThere, Known, NamesFrom, Unactivated, drawn-on, each-on, earlier-low, found_as, is_agent, is_fresh, later-apart, lower-suc, names_behind, names_head, names_lower, not-yet, put-either, whose, whose-append}
+use Rattle.ceiling_laws.proofs.Places.SoundWorlds.{IsThere, Known, NamesFrom, Unactivated, drawn-on, each-on, earlier-low, found_as, is_agent, is_fresh, later-apart, names_behind, put-either, whose, whose-append, never, names_without, head-known}
 
 -- ---- names
 
-never : {P : Type 0} → false ≡ true → P
-never e = absurd cc
-
-names_tail : (n : Who) (low drawn : ℕ) (ns fewer : List Who) → NamesFrom low drawn (n ∷ ns) → ((l : ℕ) → NamesFrom l drawn ns → NamesFrom l drawn fewer) → NamesFrom low drawn fewer
-names_tail (who.Task t) low drawn ns fewer h onward = names_lower low (suc t.0) drawn fewer (lower-suc low t.0 h.0) (onward (suc t.0) h.1)
-names_tail who.Agent low drawn ns fewer h onward = never h
-
-names_if : (b : Bool) (low drawn : ℕ) (t : Task) (ns : List Who) (fewer : List Task) → NamesFrom low drawn (t.who ∷ ns) → ((l : ℕ) → NamesFrom l drawn ns → NamesFrom l drawn (map whose fewer)) → NamesFrom low drawn (map whose (cond b (t ∷ fewer) fewer))
-names_if true low drawn t ns fewer h onward = names_head t.who low drawn ns (map whose fewer) h onward
-names_if false low drawn t ns fewer h onward = names_tail t.who low drawn ns (map whose fewer) h onward
-
-names_without : (name : Who) (low drawn : ℕ) (ts : List Task) → NamesFrom low drawn (map whose ts) → NamesFrom low drawn (map whose (without (is_who name) ts))
-names_without name low drawn [] h = h
-names_without name low drawn (t ∷ ts) h = names_if (not (is_who name t)) low drawn t (map whose ts) (without (is_who name) ts) h (λ l k. names_without name l drawn ts k)
-
 -- ---- each task of the list is found by its name
 
-drawn-number : (low drawn : ℕ) (ns : List Who) → NamesFrom low drawn ns → low ≤ drawn
-drawn-number low drawn [] h = h
-drawn-number low drawn (who.Task t ∷ ns) h = let k = drawn-number (suc t.0) drawn ns h.1 in omega (arith, h.0, k)
-drawn-number low drawn (who.Agent ∷ ns) h = never h
-
-head-known : (n : Who) (low drawn : ℕ) (t : Task) (ts : List Task) (ns : List Who) → t.who ≡ n → NamesFrom low drawn (n ∷ ns) → Known low drawn (t ∷ ts) t
-head-known (who.Task k) low drawn t ts ns is h = record {
-  found = ap (λ b. cond b (Some t) (find (is_who t.who) ts)) (same-self t.who);
-  drawn_before = ap (is_fresh drawn) is ∙ not-yet k.0 drawn (drawn-number (suc k.0) drawn ns h.1);
-  behind_it = ap (is_fresh low) is ∙ le-leb low k.0 h.0;
-  no_agent = ap is_agent is;
 }
 head-known who.Agent low drawn t ts ns is h = never h
 

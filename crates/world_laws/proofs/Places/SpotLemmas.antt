@@ -1,5 +1,4 @@
 -- The entry of somebody in the ready queues, behind lines.
-use Rattle.ceiling_laws.proofs.Runs.FoundLemmas.{by_test}
 use Rattle.world_laws.proofs.Places.PartOrder.{place-in_order}
 use Rattle.world_laws.proofs.Places.Puts.{Spot, last_put, over, place_behind, place_by, puts, spot_in}
 use Rattle.profile_machine.specs.Lines.{event_of}
@@ -17,6 +16,7 @@ use Rattle.trace_text.specs.declared.events.QueueEnd.TheVariants.{Head, Tail}
 use Rattle.trace_text.specs.declared.events.Who.{Who}
 use Rattle.trace_text.specs.declared.events.Who.TheVariants as who
 use Rattle.ceiling_laws.proofs.Runs.Kept.Waking.{who-is}
+use Rattle.ceiling_laws.proofs.Places.PartOrder.{by_test}
 
 abbrev spot : Placed → Spot
 spot x = (x.level, x.deadline)

@@ -1,27 +1,23 @@
 -- Where an effect leaves somebody: at its active priority and with its deadline, where it is ready; and nowhere where it is not.
-use Rattle.ceiling_laws.proofs.Places.ActingLemmas.{block-last}
-use Rattle.ceiling_laws.proofs.Places.BesideLemmas.{same-self}
 use Rattle.world_laws.proofs.Places.CorePoints.{Except, IsAt, Point, active_in, deadline_in, spot_for}
 use Rattle.world_laws.proofs.Places.SoundWorlds.{IsAbsent}
 use Rattle.world_laws.proofs.Places.Puts.{MayBePlaced, Spot, place_by, spot_in, with_put}
-use Rattle.ceiling_laws.proofs.Runs.FoundLemmas.{by_test}
 use Rattle.world_laws.proofs.Places.Cores.{Core, core}
 use Rattle.profile_machine.specs.Dispatching.{active_of}
 use Rattle.profile_machine.specs.Masters.{part_of, waits_at_terminate}
 use Rattle.profile_machine.specs.Priorities.{placing_of}
-use Rattle.profile_machine.specs.Steps.{is_numbered_before, is_part_before}
+use Rattle.profile_machine.specs.Steps.{is_part_before}
 use Rattle.profile_machine.specs.Tasks.{is_made_state, is_runnable_state, nobody, task_of, waiting_in, waiting_of}
 use Rattle.profile_machine.specs.Program.{is_edf_level}
 use Rattle.profile_machine.specs.Words.{same_who}
 use Rattle.profile_machine.specs.declared.image.Image.{Image}
 use Rattle.profile_machine.specs.declared.world.World.{World}
 use Rattle.profile_machine.specs.declared.world.lines.Part.{Part}
-use Rattle.profile_machine.specs.declared.world.lines.Part.TheVariants.{OfOther, Own, TheBlock, TheCall, TheFinish, ThePlacing}
+use Rattle.profile_machine.specs.declared.world.lines.Part.TheVariants.{OfOther, Own, TheBlock, TheFinish, ThePlacing}
 use Rattle.profile_machine.specs.declared.world.tasks.Placed.{Placed}
 use Rattle.profile_machine.specs.declared.world.tasks.Task.{Task}
 use Rattle.profile_machine.specs.declared.world.tasks.State as tasks
-use Rattle.profile_machine.specs.declared.world.tasks.State.TheVariants.{Blocked, Made, Runnable}
-use Rattle.std.proofs.Common.{ap, arith, cond, inl, inr, ltb, refl, subst, sym, ◌∙◌, ◌≡◌, ◌⊎◌}
+use Rattle.std.proofs.Common.{ap, cond, inl, inr, refl, subst, sym, ◌∙◌, ◌≡◌, ◌⊎◌}
 use Rattle.std.specs.Bool.{then_some}
 use Rattle.std.specs.List.{list_any}
 use Rattle.std.specs.Prelude.{Bool, List, None, Option, Some, false, is_some, true, ℕ, ◌≤◌}
@@ -30,6 +26,9 @@ use Rattle.trace_text.specs.declared.events.Who.TheVariants as who
 use Rattle.ceiling_laws.proofs.Places.SoundWorlds.{is_agent, is_fresh}
 use Rattle.ceiling_laws.proofs.Runs.Kept.Waking.{who-is}
 use Rattle.ceiling_laws.proofs.Runs.LevelMoves.{Fitting, is_blocked}
+use Rattle.ceiling_laws.proofs.Places.Standing.{self-before, part-self, apart-sym, awake_state}
+use Rattle.line_laws.proofs.Handlers.AgentLines.{block_last}
+use Rattle.line_laws.proofs.Leaving.TaskLemmas.{same_self}
 
 abbrev pub Last : Type 0
 Last = Option (Part × Option Spot)
@@ -117,27 +116,9 @@ put-out part (Some last) shown late = out_if (is_part_before part last.0) part l
 -- behind a block nothing is said
 pub block-put : (last : Last) → with_put last TheBlock (Some None) ≡ Some (TheBlock, None)
 block-put None = refl
-block-put (Some last) = ap (λ b. cond b (Some last) (Some (TheBlock, None))) (block-last last.0)
+block-put (Some last) = ap (λ b. cond b (Some last) (Some (TheBlock, None))) (block_last last.0)
 
 -- ---- parts
-
-less_self : (n : ℕ) → ltb n n ≡ false
-less_self n = grind arith
-
-pub self-before : (name : Who) → is_numbered_before name name ≡ false
-self-before (who.Task t) = less_self t.0
-self-before who.Agent = refl
-
-part-self : (part : Part) → is_part_before part part ≡ false
-part-self TheCall = refl
-part-self TheFinish = refl
-part-self Own = refl
-part-self (OfOther name) = self-before name
-part-self ThePlacing = refl
-part-self TheBlock = refl
-
-pub apart-sym : (x y : Who) → same_who x y ≡ false → same_who y x ≡ false
-apart-sym x y apart = by_test (same_who y x) (λ same. absurd (let clash : false ≡ true = sym apart ∙ ap (same_who x) (who-is y x same) ∙ same-self x in cc)) (λ e. e)
 
 -- ---- states of a task
 
@@ -156,11 +137,6 @@ nobody-runs e = absurd cc
 
 pub nobody-sleeps : {P : Type 0} → sleeps_in (core nobody) ≡ true → P
 nobody-sleeps e = absurd cc
-
-awake_state : {P : Type 0} (state : tasks.State) → is_runnable_state state ≡ true → is_blocked state ≡ true → P
-awake_state Made runs sleeps = absurd cc
-awake_state Runnable runs sleeps = absurd cc
-awake_state (Blocked waiting) runs sleeps = absurd cc
 
 pub awake : {P : Type 0} (c : Core) → runs_in c ≡ true → sleeps_in c ≡ true → P
 awake c runs sleeps = awake_state c.state runs sleeps
@@ -296,7 +272,7 @@ module _ (p : Image) (s : List Placed) (a : Who) where
   -- ---- parts in which lines place
 
   pub limit-own : limit a ≡ ThePlacing
-  limit-own = ap (λ b. cond b ThePlacing (part_of a a)) (same-self a)
+  limit-own = ap (λ b. cond b ThePlacing (part_of a a)) (same_self a)
 
   pub limit-other : (n : Who) → same_who n a ≡ false → limit n ≡ OfOther n
   limit-other n apart =

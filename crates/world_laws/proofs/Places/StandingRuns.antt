@@ -1,16 +1,14 @@
 -- Before each instant of every run, and behind it, whoever is ready is in the ready queues, at its active priority and with its
 -- deadline, and nobody else is there.
 use Rattle.ann_base.specs.declared.identities.TaskNo.{TaskNo}
-use Rattle.ceiling_laws.proofs.Places.BesideLemmas.{same-self}
 use Rattle.world_laws.proofs.Places.CorePoints.{Except, Holds, IsAt, Knowing, Places, Point, Readies, at_active, core-plain, holds-also, holds-knowing, holds-sound, holds_quiet, keeps_says, not-absent, ready-holds, spot_for, to_tail-holds}
 use Rattle.world_laws.proofs.Places.EffectKeeps.{begun_runs, effect_moves}
-use Rattle.world_laws.proofs.Places.EffectMoves.{Sleeping_in, Wakeful, base_moves, good-rises, runs-drawn}
+use Rattle.world_laws.proofs.Places.EffectMoves.{Wakeful, base_moves, good-rises, runs-drawn}
 use Rattle.world_laws.proofs.Places.SoundWorlds.{IsAbsent, Sound, known, sound-plain, sound-same}
 use Rattle.world_laws.proofs.Places.Standing.{First, Fits, FreeFor, Good, Last, fits_own, limit, nobody-runs, none-free, place, placed-good, runs_in}
 use Rattle.world_laws.proofs.Places.Puts.{MayBePlaced, Spot, last_put, spot_in, with_put}
 use Rattle.world_laws.proofs.Places.SpotLemmas.{spot-in_order}
 use Rattle.world_laws.proofs.Places.CoreLemmas.{core-same}
-use Rattle.ceiling_laws.proofs.Runs.FoundLemmas.{by_test}
 use Rattle.ann_base.specs.declared.identities.CallNo.{CallNo}
 use Rattle.world_laws.proofs.Appointments.DelayRuns.{reached-good}
 use Rattle.world_laws.proofs.Appointments.Delays as own
@@ -23,7 +21,7 @@ use Rattle.line_laws.proofs.Handlers.AgentTocks.{tock-ticked}
 use Rattle.machine_laws.proofs.FineMoves.{natures, release_in}
 use Rattle.world_laws.proofs.Places.Kept.Act.{AgentInside, InsideOrNone, MayAct, effect-leads}
 use Rattle.world_laws.proofs.Places.Kept.Frames.{open_sequence-keeps}
-use Rattle.world_laws.proofs.Places.Kept.Instant.{Appointing, OtherMoves}
+use Rattle.world_laws.proofs.Places.Kept.Instant.{OtherMoves}
 use Rattle.world_laws.proofs.Places.Kept.Scopes.{open_scope-alters}
 use Rattle.world_laws.proofs.Places.RunLemmas.{Others, Settles, behind_onward, settles_onward}
 use Rattle.world_laws.proofs.Places.TockLemmas.{tock-same}
@@ -58,9 +56,10 @@ use Rattle.profile_machine.specs.declared.world.marks.Mark.TheVariants.{InProtec
 use Rattle.profile_machine.specs.declared.world.marks.ProtectedMark.{ProtectedMark}
 use Rattle.profile_machine.specs.declared.world.tasks.Placed.{Placed}
 use Rattle.profile_machine.specs.declared.world.tasks.Task.{Task}
-use Rattle.std.proofs.Common.{ap, cond, inl, inr, le_refl, refl, subst, sym, ◌++◌, ◌∙◌, ◌∷◌, ◌≡◌, ◌⊎◌}
+use Rattle.std.proofs.Common.{ap, cond, inl, inr, le_refl, refl, subst, sym, ◌∙◌, ◌∷◌, ◌≡◌, ◌⊎◌}
 use Rattle.std.specs.Prelude.{Bool, List, None, Option, Some, [], false, is_some, true, ℕ, ℤ, unwrap_or}
 use Rattle.line_laws.proofs.Ticks.LineByLine.{Follow, seen_behind}
+use Rattle.line_laws.proofs.Leaving.TaskLemmas.{same_self}
 use Rattle.trace_text.specs.declared.events.Created.TheVariants as created
 use Rattle.trace_text.specs.declared.events.Event.{Event}
 use Rattle.trace_text.specs.declared.events.Who.{Who}
@@ -68,6 +67,10 @@ use Rattle.trace_text.specs.declared.events.Who.TheVariants as who
 use Rattle.ceiling_laws.proofs.Places.SoundWorlds.{is_fresh}
 use Rattle.ceiling_laws.proofs.Runs.Kept.Waking.{who-is}
 use Rattle.ceiling_laws.proofs.Runs.SameLemmas.{found_is_who}
+use Rattle.ceiling_laws.proofs.Places.EffectMoves.{Sleeping_in}
+use Rattle.ceiling_laws.proofs.Places.PartOrder.{by_test}
+use Rattle.ceiling_laws.proofs.Runs.Kept.Instant.{Appointing}
+use Rattle.ceiling_laws.proofs.Runs.ShownPlaces.{places-append}
 
 -- ---- where the ready queues have somebody
 
@@ -93,10 +96,6 @@ any_follow places (x ∷ xs) = (refl, any_follow (places_after x places) xs)
 seen-placed : (places : List Placed) (lines : List Event) → seen_behind placed_behind any_event places lines ≡ places_after_all lines places
 seen-placed places [] = refl
 seen-placed places (x ∷ xs) = seen-placed (places_after x places) xs
-
-places-append : (places : List Placed) (xs ys : List Event) → places_after_all (xs ++ ys) places ≡ places_after_all ys (places_after_all xs places)
-places-append places [] ys = refl
-places-append places (x ∷ xs) ys = places-append (places_after x places) xs ys
 
 -- what was said last of somebody is of the own part
 abbrev OwnPut : Last → Type 0
@@ -211,8 +210,8 @@ module _ (p : Image) where
   coming sight n = record {
     between = Coming sight n;
     others = λ d m c l apart h. h.0;
-    own = λ d t l h. record { late = h.0.0.late; own = h.0.1; free = λ apart. (h.0.0.calm apart).0; drawn = h.1 (same-self n); runs = inl refl };
-    missed = λ d l task h. record { late = h.0.0.late; own = h.0.1; free = λ apart. (h.0.0.calm apart).0; drawn = h.1 (same-self n); runs = inr (task, refl) };
+    own = λ d t l h. record { late = h.0.0.late; own = h.0.1; free = λ apart. (h.0.0.calm apart).0; drawn = h.1 (same_self n); runs = inl refl };
+    missed = λ d l task h. record { late = h.0.0.late; own = h.0.1; free = λ apart. (h.0.0.calm apart).0; drawn = h.1 (same_self n); runs = inr (task, refl) };
     keeps = λ d t l level named h. record { late = h.late; own = h.own; free = h.free; drawn = h.drawn; runs = begun_runs p sight who.Agent n t level named h.runs };
     places = λ d c l h. (placed-good p sight who.Agent d n c l Own (fits_own p sight who.Agent n) h.drawn h.late (own-free l h.own) h.runs h.free, own-put l Own (Some (spot_for p c)) refl h.own);
   }
@@ -232,7 +231,7 @@ module _ (p : Image) where
   running_places sight n = record {
     others = λ d m c l apart h. h.0;
     own = λ d c l h.
-        let k = h.1 (same-self n) in
+        let k = h.1 (same_self n) in
         (placed-good p sight who.Agent d n c l Own (fits_own p sight who.Agent n) k.1 h.0.0.late (own-free l h.0.1) (inl k.0) (λ apart. (h.0.0.calm apart).0), own-put l Own (Some (spot_for p c)) refl h.0.1);
   }
 
@@ -294,7 +293,7 @@ module _ (p : Image) where
   opening_places = record {
     others = λ d n c l apart h. h.0 apart;
     own = λ d c l h.
-        let k = h.1 (same-self environment) in (
+        let k = h.1 (same_self environment) in (
           placed-good p [] who.Agent d environment c l Own (fits_own p [] who.Agent environment) k.2 (subst (MayBePlaced (limit p [] who.Agent environment)) (sym k.0) tt) (none-free Own l k.0) (inl k.1) (λ apart. none-free (limit p [] who.Agent environment) l k.0),
           own-put l Own (Some (spot_for p c)) refl (subst OwnPut (sym k.0) tt),
         );
@@ -367,7 +366,7 @@ head-spot : (name : Who) (places : List Placed) → head_of places ≡ Some name
 head-spot name [] e = absurd cc
 head-spot name (x ∷ xs) e =
     let one : x.who ≡ name = cc in
-    ((x.level, x.deadline), ap (λ b. cond b (Some (x.level, x.deadline)) (spot_in name xs)) (ap (same_who name) one ∙ same-self name))
+    ((x.level, x.deadline), ap (λ b. cond b (Some (x.level, x.deadline)) (spot_in name xs)) (ap (same_who name) one ∙ same_self name))
 
 -- the agent acts where it attends to a release, so inside a protected action
 comes-attends : (p : Image) (script : List (ℤ × Item)) (bound : ℕ) (w : World) → Comes p script bound w → Attending w

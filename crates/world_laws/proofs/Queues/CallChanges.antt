@@ -24,16 +24,13 @@ use Rattle.profile_machine.specs.Calls.{is_call, call_of, edit_call, edit_object
 use Rattle.profile_machine.specs.Priorities.{is_queued}
 use Rattle.profile_machine.specs.WellFormed.{same_owner}
 use Rattle.machine_laws.proofs.ListLemmas.{Falls-edit_where}
+use Rattle.machine_laws.proofs.QueueLemmas.{by_test}
 use Rattle.world_laws.proofs.Queues.NumberedLists as numbered
 use Rattle.line_laws.proofs.Exits.TaskEdits as edits_of
 use Rattle.world_laws.proofs.Queues.CallLists.{call_number, gone-at, left-at, same-call, taken-at}
 use Rattle.world_laws.proofs.Queues.Calming.{Softens, StandsAt, appointed-same, calm-from, came-same, edit_task-calls, edit_task-drawn, edit_task-fall, edit_task-objects, found-appointments, named-edited, softens-same, task-edited, task_of-same, there-same, unfirm-same}
 use Rattle.world_laws.proofs.Queues.Softening.{softens-plain}
-use Rattle.world_laws.proofs.Queues.Standing.{Awaited, Calm, Came, GoodBut, Idle, Kind, Open, Out, Stands, Unfirm, Waited, any_kind, none_late, object_key, served}
-
-by_test : {P : Type 0} (b : Bool) → (b ≡ true → P) → (b ≡ false → P) → P
-by_test true p q = p refl
-by_test false p q = q refl
+use Rattle.world_laws.proofs.Queues.Standing.{Awaited, Calm, Came, GoodBut, Idle, Kind, Open, Out, Stands, Unfirm, Waited, any_kind, none_late, object_key, served, either}
 
 -- ---- one of a list is edited: another is as it was
 
@@ -293,10 +290,6 @@ put-step test a x xs put false onward h = put-rest test a x xs (onward-or onward
 put-any : (test : Appointment → Bool) (a : Appointment) (xs : List Appointment) → list_any test (put_appointment a xs) ≡ true → (test a ≡ true) ⊎ (list_any test xs ≡ true)
 put-any test a [] h = or_cases (test a) false h
 put-any test a (x ∷ xs) h = put-step test a x xs (put_appointment a xs) (int_lt a.moment x.moment) (put-any test a xs) h
-
-either : {A B C : Type 0} → A ⊎ B → (A → C) → (B → C) → C
-either (inl a) f g = f a
-either (inr b) f g = g b
 
 -- a time-out is set of a call that nobody serves and that may time out, and a trigger for who waits for it
 pub appoint-calm : {E : Kind} (due : Due) (moment : ℤ) (w : World) → ((c : CallNo) → is_timeout_of c due ≡ true → Idle c w × Awaited c w) → ((t : TaskNo) (depth : ℕ) → is_trigger_of t depth due ≡ true → (t.0 < w.drawn.tasks) × Waited t depth w) → Calm E w (appoint due moment w)

@@ -21,10 +21,10 @@ in_queues queues c = list_any (λ queue. has same_call queue c) queues
 abbrev pub AtSome : List (List CallNo) → CallNo → Type 0
 AtSome queues c = (k : ℕ) × (has same_call (queue_at queues k) c ≡ true)
 
-one-on : (queue : List CallNo) (queues : List (List CallNo)) (c : CallNo) → AtSome queues c → AtSome (queue ∷ queues) c
+pub one-on : (queue : List CallNo) (queues : List (List CallNo)) (c : CallNo) → AtSome queues c → AtSome (queue ∷ queues) c
 one-on queue queues c h = (suc h.0, h.1)
 
-some-step : (queue : List CallNo) (queues : List (List CallNo)) (c : CallNo) (b : Bool) → has same_call queue c ≡ b → (b || in_queues queues c) ≡ true → (in_queues queues c ≡ true → AtSome queues c) → AtSome (queue ∷ queues) c
+pub some-step : (queue : List CallNo) (queues : List (List CallNo)) (c : CallNo) (b : Bool) → has same_call queue c ≡ b → (b || in_queues queues c) ≡ true → (in_queues queues c ≡ true → AtSome queues c) → AtSome (queue ∷ queues) c
 some-step queue queues c true is e onward = (0, is)
 some-step queue queues c false is e onward = one-on queue queues c (onward e)
 
@@ -33,15 +33,15 @@ at-some [] c e = absurd (true≢false (sym e))
 at-some (queue ∷ queues) c e = some-step queue queues c (has same_call queue c) refl e (at-some queues c)
 
 -- a call that is taken out stands there no more, and nobody comes
-or-on : (a b c : Bool) → (a || b) ≡ true → (b ≡ true → c ≡ true) → (a || c) ≡ true
+pub or-on : (a b c : Bool) → (a || b) ≡ true → (b ≡ true → c ≡ true) → (a || c) ≡ true
 or-on true b c h onward = refl
 or-on false b c h onward = onward h
 
-has-step : (b : Bool) (x c : CallNo) (left queue : List CallNo) → has same_call (cond b (x ∷ left) left) c ≡ true → (has same_call left c ≡ true → has same_call queue c ≡ true) → (same_call x c || has same_call queue c) ≡ true
+pub has-step : (b : Bool) (x c : CallNo) (left queue : List CallNo) → has same_call (cond b (x ∷ left) left) c ≡ true → (has same_call left c ≡ true → has same_call queue c ≡ true) → (same_call x c || has same_call queue c) ≡ true
 has-step true x c left queue h onward = or-on (same_call x c) (has same_call left c) (has same_call queue c) h onward
 has-step false x c left queue h onward = or_right (same_call x c) (has same_call queue c) (onward h)
 
-taken-has : (out : CallNo) (queue : List CallNo) (c : CallNo) → has same_call (take_call out queue) c ≡ true → has same_call queue c ≡ true
+pub taken-has : (out : CallNo) (queue : List CallNo) (c : CallNo) → has same_call (take_call out queue) c ≡ true → has same_call queue c ≡ true
 taken-has out [] c h = h
 taken-has out (x ∷ queue) c h = has-step (not (same_call out x)) x c (take_call out queue) queue h (taken-has out queue c)
 
@@ -77,7 +77,7 @@ taken-at (queue ∷ queues) zero (suc k) out c h = h
 taken-at (queue ∷ queues) (suc place) zero out c h = h
 taken-at (queue ∷ queues) (suc place) (suc k) out c h = taken-at queues place k out c h
 
-gone-step : (b d : Bool) (c x : CallNo) (left : List CallNo) → same_call c x ≡ b → same_call x c ≡ d → has same_call left c ≡ false → has same_call (cond (not b) (x ∷ left) left) c ≡ false
+pub gone-step : (b d : Bool) (c x : CallNo) (left : List CallNo) → same_call c x ≡ b → same_call x c ≡ d → has same_call left c ≡ false → has same_call (cond (not b) (x ∷ left) left) c ≡ false
 gone-step true d c x left is back h = h
 gone-step false true c x left is back h =
     let one : x ≡ c = same-call x c back in
@@ -85,7 +85,7 @@ gone-step false true c x left is back h =
     absurd (true≢false (sym self ∙ is))
 gone-step false false c x left is back h = ap (λ t. t || has same_call left c) back ∙ h
 
-gone-has : (c : CallNo) (queue : List CallNo) → has same_call (take_call c queue) c ≡ false
+pub gone-has : (c : CallNo) (queue : List CallNo) → has same_call (take_call c queue) c ≡ false
 gone-has c [] = refl
 gone-has c (x ∷ queue) = gone-step (same_call c x) (same_call x c) c x (take_call c queue) refl refl (gone-has c queue)
 

@@ -19,7 +19,7 @@ in-first x c xs queues is = or_left (has same_call (x ∷ xs) c) (list_any (λ q
 in-rest : (q : List CallNo) (queues : List (List CallNo)) (c : CallNo) → InSome queues c → InSome (q ∷ queues) c
 in-rest q queues c h = or_right (has same_call q c) (list_any (λ r. has same_call r c) queues) h
 
-some-same : (a b : CallNo) → Some a ≡ Some b → a ≡ b
+pub some-same : (a b : CallNo) → Some a ≡ Some b → a ≡ b
 some-same a b e = cc
 
 none-some : (a : CallNo) → None ≡ Some a → ⊥

@@ -80,7 +80,7 @@ listed-each p w good =
     map-all (λ t. (find (is_who t.who) w.tasks ≡ Some t) × (is_named t ≡ true)) (λ t. (task_of w t.who ≡ t) × (is_named t ≡ true)) (λ t x. (at-name w t t.who x.1 x.0, x.1)) w.tasks
     (pair-all (λ t. find (is_who t.who) w.tasks ≡ Some t) (λ t. is_named t ≡ true) w.tasks (found-each 0 w.drawn.tasks w.tasks good.objects.1 good.named) (named-each w.tasks good.named))
 
-none-waits : (c : CallNo) → None ≡ waits_end c → ⊥
+pub none-waits : (c : CallNo) → None ≡ waits_end c → ⊥
 none-waits c e = cc
 
 made-waiting : (s : State) → is_made_state s ≡ true → waiting_in s ≡ None

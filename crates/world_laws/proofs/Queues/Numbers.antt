@@ -5,7 +5,6 @@ use Rattle.trace_text.specs.declared.events.Who.TheVariants as who
 use Rattle.profile_machine.specs.declared.image.Image.{Image}
 use Rattle.profile_machine.specs.declared.run_data.Item.{Item}
 use Rattle.profile_machine.specs.declared.world.World.{World}
-use Rattle.profile_machine.specs.declared.world.calls.Call.{Call}
 use Rattle.profile_machine.specs.declared.world.tasks.Task.{Task}
 use Rattle.profile_machine.specs.Tasks.{task_at, edit_task_found, edit_task}
 use Rattle.profile_machine.specs.Calls.{is_call}
@@ -20,9 +19,7 @@ use Rattle.machine_laws.proofs.Moves.{Moves, TockMoves}
 use Rattle.machine_laws.proofs.Kept.Combinators.{Leads, settles-leads}
 use Rattle.machine_laws.proofs.Kept.Instant.{instant-leads}
 use Rattle.machine_laws.proofs.Kept.Run.{tock-parts, before_tick-leads, opens-keeps}
-
-abbrev call_number : Call → ℕ
-call_number c = c.number.0
+use Rattle.machine_laws.proofs.NumberLemmas.{call_number}
 
 abbrev Numbered : World → Type 0
 Numbered w = Falls call_number (suc w.drawn.calls) w.calls

@@ -322,7 +322,7 @@ more : {E : Kind} (w v : World) → Calm E w v → (a : Who) (c : CallNo) → 0 
 more w v calm a c h = let few : served c v a ≤ served c w a = calm.fewer a c in omega (arith, few, h)
 
 -- the ways in which a fact of the world behind has come about
-either : {A B C : Type 0} → A ⊎ B → (A → C) → (B → C) → C
+pub either : {A B C : Type 0} → A ⊎ B → (A → C) → (B → C) → C
 either (inl a) f g = f a
 either (inr b) f g = g b
 

@@ -14,8 +14,8 @@ use Rattle.profile_machine.specs.Masters.{forget_task}
 use Rattle.profile_machine.specs.Scopes.{open_scope}
 use Rattle.profile_machine.specs.Rendezvous.{open_accept}
 use Rattle.profile_machine.specs.Tasking.{add_task}
-use Rattle.world_laws.proofs.Scopes.FineMoves.{FineMoves, Live, Openings, gone_on, natures}
-use Rattle.world_laws.proofs.Scopes.ScopeKeys.{by_test, scope_keys}
+use Rattle.world_laws.proofs.Scopes.FineMoves.{FineMoves, Live, Openings, natures}
+use Rattle.world_laws.proofs.Scopes.ScopeKeys.{scope_keys}
 use Rattle.world_laws.proofs.Scopes.TaskMarks.{marks_of, owns_in}
 use Rattle.world_laws.proofs.Scopes.Likeness.{Same, like_at, opened-same}
 use Rattle.world_laws.proofs.Scopes.QuietMoves.{gone-same}
@@ -23,7 +23,8 @@ use Rattle.world_laws.proofs.Scopes.TaskLists.{adds-good, gone-other, forgets-go
 use Rattle.world_laws.proofs.Scopes.GoodWorlds.{GoodWorld, nobody_free, same-good}
 use Rattle.world_laws.proofs.Scopes.ScopeSteps.{There, live-there, there-is, opens-good, opens-live, accepts-good, accepts-live}
 use Rattle.world_laws.proofs.Scopes.Lifting.{Lifts, MoveOf, StepOf, lifted}
-use Rattle.machine_laws.proofs.FineMoves.{Anybody}
+use Rattle.machine_laws.proofs.FineMoves.{Anybody, gone_on}
+use Rattle.machine_laws.proofs.QueueLemmas.{by_test}
 use Rattle.line_laws.proofs.Exits.TaskEdits.{one_of-is}
 
 abbrev pub ActingWorld : Who → World → Type 0

@@ -42,7 +42,7 @@ use Rattle.profile_machine.specs.Words.{edit_at}
 use Rattle.profile_machine.specs.Steps.{placed_by}
 use Rattle.profile_machine.specs.Tasks.{task_of, edit_task, with_state, with_frames, waiting_of, is_made}
 use Rattle.profile_machine.specs.Dispatching.{word_of}
-use Rattle.profile_machine.specs.Frames.{top_of, edit_top, push, pop, goes_on, is_protected}
+use Rattle.profile_machine.specs.Frames.{top_of, push, pop, goes_on, is_protected}
 use Rattle.profile_machine.specs.Scopes.{id_in, edit_cells, open_scope}
 use Rattle.profile_machine.specs.Appointments.{appoint, drop_appointment}
 use Rattle.profile_machine.specs.Calls.{edit_call, forget_call, edit_object}
@@ -57,7 +57,7 @@ use Rattle.profile_machine.specs.Serving.{close_action, serves_nothing}
 use Rattle.profile_machine.specs.Handlers.{add_release, clear_timer, with_timer_set, edit_budget}
 use Rattle.profile_machine.specs.Instant.{with_port, with_masked, with_kept_interrupt, with_script}
 use Rattle.machine_laws.proofs.Moves.{StepRelation, MoveRelation}
-use Rattle.machine_laws.proofs.FineMoves.{EachIs, GoodWorld, Naming, ready_line}
+use Rattle.machine_laws.proofs.FineMoves.{EachIs, GoodWorld, Naming, ready_line, gone_on}
 
 -- ---- what a mark is, whatever is edited in it: its scope, whether that is a task's own, and whether it is a protected action
 
@@ -84,8 +84,6 @@ natures [] = []
 natures (f ∷ fs) = nature f.mark ∷ natures fs
 
 -- somebody goes on
-abbrev pub gone_on : Who → Option StatementNo → World → World
-gone_on name onward = edit_top name (goes_on onward)
 
 -- somebody is there, and is not only made
 abbrev pub Live : Who → World → Type 0

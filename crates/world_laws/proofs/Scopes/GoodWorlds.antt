@@ -9,11 +9,13 @@ use Rattle.profile_machine.specs.declared.world.tasks.Task.{Task}
 use Rattle.profile_machine.specs.Words.{same_who}
 use Rattle.profile_machine.specs.Tasks.{is_made}
 use Rattle.machine_laws.proofs.ListLemmas.{Falls}
-use Rattle.world_laws.proofs.Scopes.ScopeKeys.{Key, number, falls-dropped, Weights, by_test, bit, weigh, of_number, except, drop_number, dropped-weigh, dropped-less, absent-weigh, scope_keys}
+use Rattle.machine_laws.proofs.QueueLemmas.{by_test}
+use Rattle.world_laws.proofs.Scopes.ScopeKeys.{Key, number, falls-dropped, Weights, weigh, of_number, except, drop_number, dropped-weigh, dropped-less, absent-weigh, scope_keys}
 use Rattle.world_laws.proofs.Scopes.TaskMarks.{Own, marks_of, keys_by, task_keys, bottomed}
 use Rattle.world_laws.proofs.Scopes.Likeness.{Like, AllLike, Same, all-found, all-keys, all-named, like-keys, named, keys_of, everybody_keys}
 use Rattle.world_laws.proofs.Scopes.TaskPuts.{Put}
 use Rattle.line_laws.proofs.Exits.TaskEdits.{one_of, same_who-path}
+use Rattle.line_laws.proofs.Exits.OpenCounts.{bit}
 
 -- a name that was not drawn for a task
 abbrev pub IsNew : ℕ → Who → Type 0

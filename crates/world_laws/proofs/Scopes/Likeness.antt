@@ -13,8 +13,9 @@ use Rattle.profile_machine.specs.Tasks.{is_who, is_made, nobody, task_at, task_o
 use Rattle.profile_machine.specs.Frames.{push, pop, top_of, is_protected}
 use Rattle.profile_machine.specs.Scopes.{id_in}
 use Rattle.world_laws.proofs.Scopes.FineMoves.{nature, natures}
-use Rattle.world_laws.proofs.Scopes.ScopeKeys.{Key, bit, scope_keys}
+use Rattle.world_laws.proofs.Scopes.ScopeKeys.{Key, scope_keys}
 use Rattle.world_laws.proofs.Scopes.TaskMarks.{owns_in, marks_of, keys_by, task_keys, shielded, opened-owns, opened-shielded, popped-owns, popped-shielded}
+use Rattle.line_laws.proofs.Exits.OpenCounts.{bit}
 
 -- ---- a task
 

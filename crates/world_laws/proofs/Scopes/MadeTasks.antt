@@ -9,7 +9,6 @@ use Rattle.profile_machine.specs.declared.world.tasks.Task.{Task}
 use Rattle.profile_machine.specs.Words.{same_who}
 use Rattle.profile_machine.specs.Tasks.{is_who, is_made, nobody, task_of}
 use Rattle.world_laws.proofs.Scopes.FineMoves.{Live}
-use Rattle.world_laws.proofs.Scopes.ScopeKeys.{by_test, bit}
 use Rattle.world_laws.proofs.Scopes.TaskMarks.{marks_of}
 use Rattle.world_laws.proofs.Scopes.Likeness.{Same, named, all-named}
 use Rattle.world_laws.proofs.Scopes.TaskPuts.{same_who-self, same_who-flip}
@@ -17,6 +16,8 @@ use Rattle.world_laws.proofs.Scopes.GoodWorlds.{GoodWorld}
 use Rattle.world_laws.proofs.Scopes.ScopeSteps.{There}
 use Rattle.world_laws.proofs.Scopes.ActingMoves.{ActingWorld, NoScopes}
 use Rattle.line_laws.proofs.Exits.TaskEdits.{one_of-is, same_who-path}
+use Rattle.line_laws.proofs.Exits.OpenCounts.{bit}
+use Rattle.machine_laws.proofs.QueueLemmas.{by_test}
 
 -- ---- a task that is there, by its name
 

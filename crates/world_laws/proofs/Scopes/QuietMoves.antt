@@ -10,12 +10,12 @@ use Rattle.profile_machine.specs.declared.world.tasks.Task.{Task}
 use Rattle.profile_machine.specs.Frames.{edit_first, goes_on, push}
 use Rattle.profile_machine.specs.Tasks.{is_made_state, with_frames, with_state}
 use Rattle.machine_laws.proofs.Moves.{StepRelation, MoveRelation}
-use Rattle.world_laws.proofs.Scopes.FineMoves.{FineMoves, gone_on, natures}
+use Rattle.world_laws.proofs.Scopes.FineMoves.{FineMoves, natures}
 use Rattle.world_laws.proofs.Scopes.Kept.Frames.{first-natures}
 use Rattle.world_laws.proofs.Scopes.ScopeKeys.{scope_keys, scope_keys-edited}
 use Rattle.world_laws.proofs.Scopes.TaskMarks.{owns_in, shielded}
 use Rattle.world_laws.proofs.Scopes.Likeness.{Like, AllLike, like-self, like-frames, all-self, Same, same-then, edited-same, opened-same, popped-same}
-use Rattle.machine_laws.proofs.FineMoves.{AnyWorld, Anybody, each-anybody}
+use Rattle.machine_laws.proofs.FineMoves.{AnyWorld, Anybody, each-anybody, gone_on}
 
 abbrev pub SameStep : StepRelation
 SameStep w xs v = Same w v

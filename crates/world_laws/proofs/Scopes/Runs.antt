@@ -24,7 +24,6 @@ use Rattle.profile_machine.specs.Run.{agent_at_first, blank_world, environment, 
 use Rattle.machine_laws.specs.Reached.{Comes, opened, ticked, Reached, before, behind}
 use Rattle.ceiling_laws.specs.RunLaws.{Tells, told_first, told_on}
 use Rattle.ceiling_laws.proofs.Places.StandingRuns.{runs_show_who_is_ready}
-use Rattle.world_laws.proofs.Scopes.ScopeKeys.{bit}
 use Rattle.world_laws.proofs.Scopes.TaskMarks.{bottomed, marks_of}
 use Rattle.world_laws.proofs.Scopes.Likeness.{named}
 use Rattle.world_laws.proofs.Scopes.QuietMoves.{same-lists}
@@ -38,6 +37,7 @@ use Rattle.world_laws.proofs.Scopes.Kept.Frames.{open_sequence-keeps}
 use Rattle.world_laws.proofs.Scopes.Kept.Instant.{behind_action-leads}
 use Rattle.world_laws.proofs.Scopes.Kept.Run.{before_tick-leads}
 use Rattle.line_laws.proofs.Exits.TaskEdits.{one_of}
+use Rattle.line_laws.proofs.Exits.OpenCounts.{bit}
 use Rattle.machine_laws.proofs.Kept.Combinators.{Leads}
 use Rattle.machine_laws.proofs.Kept.Run.{before_tick, tock-parts}
 
@@ -129,7 +129,7 @@ tock-good p w g =
 -- ---- a run
 
 -- the lines up to a world before an instant
-told-lines : (p : Image) (script : List (ℤ × Item)) (bound : ℕ) (w : World) → Comes p script bound w → (lines : List Event) × Tells p script bound lines w
+pub told-lines : (p : Image) (script : List (ℤ × Item)) (bound : ℕ) (w : World) → Comes p script bound w → (lines : List Event) × Tells p script bound lines w
 told-lines p script bound _ opened = ((opening p script).1, told_first)
 told-lines p script bound _ (ticked w c e) = let t = told-lines p script bound w c in ((t.0 ++ (instant p w).1) ++ (tock p (instant p w).0).1, told_on t.0 w t.1 e)
 

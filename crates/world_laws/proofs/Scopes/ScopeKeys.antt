@@ -8,14 +8,7 @@ use Rattle.profile_machine.specs.declared.world.scopes.ScopeInUse.{ScopeInUse}
 use Rattle.profile_machine.specs.Words.{without, set_where, edit_found, edit_where}
 use Rattle.profile_machine.specs.Scopes.{is_id, with_cells}
 use Rattle.machine_laws.proofs.ListLemmas.{Falls, Falls-higher}
-
-pub by_test : {P : Type 0} (b : Bool) → (b ≡ true → P) → (b ≡ false → P) → P
-by_test true p q = p refl
-by_test false p q = q refl
-
-abbrev pub bit : Bool → ℕ
-bit true = 1
-bit false = 0
+use Rattle.line_laws.proofs.Exits.OpenCounts.{bit}
 
 -- ---- keys, and what they weigh
 

@@ -24,11 +24,13 @@ use Rattle.profile_machine.specs.Scopes.{begin_scope, draw_region, end_scope, id
 use Rattle.profile_machine.specs.Rendezvous.{accept_scope, open_accept}
 use Rattle.profile_machine.specs.Tasking.{is_task_scope}
 use Rattle.world_laws.proofs.Scopes.FineMoves.{Live, is_task_mark, natures}
-use Rattle.world_laws.proofs.Scopes.ScopeKeys.{by_test, drop_number, scope_keys, scope_keys-without}
+use Rattle.world_laws.proofs.Scopes.ScopeKeys.{drop_number, scope_keys, scope_keys-without}
 use Rattle.world_laws.proofs.Scopes.TaskMarks.{bottomed, marks_of, owns_in, with_own-some, ended-owns}
-use Rattle.world_laws.proofs.Scopes.TaskPuts.{Put, put-edit, found-holds, edited-rest}
+use Rattle.world_laws.proofs.Scopes.TaskPuts.{Put, put-edit, edited-rest}
 use Rattle.world_laws.proofs.Scopes.GoodWorlds.{Good, GoodBut, begins-good, ends-good, own-alone}
 use Rattle.line_laws.proofs.Exits.TaskEdits.{one_of, one_of-is, same_who-path}
+use Rattle.line_laws.proofs.Leaving.TaskLemmas.{found-holds}
+use Rattle.machine_laws.proofs.QueueLemmas.{by_test}
 
 -- ---- who is there
 

@@ -15,13 +15,14 @@ use Rattle.profile_machine.specs.WellFormed.{all_adjacent, everybody, frames_wit
 use Rattle.machine_laws.proofs.ListLemmas.{Falls-adjacent}
 use Rattle.world_laws.specs.ScopeWorlds.{ReachedScopesAreRight}
 use Rattle.world_laws.proofs.Scopes.FineMoves.{natures, is_task_mark}
-use Rattle.world_laws.proofs.Scopes.ScopeKeys.{Key, Weights, bit, number, of_number, scope_keys, weigh, weigh-append}
+use Rattle.world_laws.proofs.Scopes.ScopeKeys.{Key, Weights, number, of_number, scope_keys, weigh, weigh-append}
 use Rattle.world_laws.proofs.Scopes.TaskMarks.{keys_by, owns_in, task_keys, with_own}
 use Rattle.world_laws.proofs.Scopes.Likeness.{everybody_keys, keys_of}
 use Rattle.world_laws.proofs.Scopes.TaskPuts.{same_who-self}
 use Rattle.world_laws.proofs.Scopes.GoodWorlds.{GoodWorld}
 use Rattle.world_laws.proofs.Scopes.Runs.{reached-good}
 use Rattle.line_laws.proofs.Exits.TaskEdits.{same_who-path}
+use Rattle.line_laws.proofs.Exits.OpenCounts.{bit}
 
 -- ---- they stand by number
 

@@ -31,7 +31,7 @@ use Rattle.profile_machine.specs.Scopes.{open_scope, plainly}
 use Rattle.profile_machine.specs.Unwinding.{strike_outermost}
 use Rattle.profile_machine.specs.Tasking.{abnormal_task, abort_all, abort_one, abort_statement, activate, activate_group, activate_one, activated_task, await_group, begin_task, being_left_mark, end_made, fail_to_begin, group_fails, is_made_in, is_to_abort, is_to_activate, leave_region, leaves_as, left_so_frame, named_tasks, no_failure, says_abort, says_done, top_region_of_scope, unit_of_task, unwind_one}
 use Rattle.world_laws.proofs.Scopes.FineMoves.{FineMoves, Live}
-use Rattle.world_laws.proofs.Scopes.ScopeKeys.{by_test, scope_keys}
+use Rattle.world_laws.proofs.Scopes.ScopeKeys.{scope_keys}
 use Rattle.world_laws.proofs.Scopes.TaskMarks.{marks_of}
 use Rattle.world_laws.proofs.Scopes.Likeness.{Same, same-then, edited-same}
 use Rattle.world_laws.proofs.Scopes.QuietMoves.{quiet, like-edit, like-state}
@@ -53,6 +53,7 @@ use Rattle.world_laws.proofs.Scopes.Kept.Controlled.{edit_top_scope-alters}
 use Rattle.world_laws.proofs.Scopes.Kept.Tasking.{await_group-keeps, complete_if_task-keeps, says_abort-keeps, says_done-keeps, unwind_one-keeps, wait_for_dependents-keeps}
 use Rattle.world_laws.proofs.Scopes.Kept.Act.{Groups}
 use Rattle.machine_laws.proofs.FineMoves.{Anybody}
+use Rattle.machine_laws.proofs.QueueLemmas.{by_test}
 use Rattle.line_laws.proofs.Exits.TaskEdits.{one_of-is, same_who-path}
 
 -- ---- what is done with one task of some that were only made in a first world

@@ -6,11 +6,12 @@ use Rattle.trace_text.specs.declared.events.Who.TheVariants as who
 use Rattle.profile_machine.specs.declared.world.tasks.Task.{Task}
 use Rattle.profile_machine.specs.Words.{same_who, without}
 use Rattle.profile_machine.specs.Tasks.{is_who, is_made, nobody}
-use Rattle.world_laws.proofs.Scopes.ScopeKeys.{Key, Weights, bit, weigh, weigh-append}
+use Rattle.world_laws.proofs.Scopes.ScopeKeys.{Key, Weights, weigh, weigh-append}
 use Rattle.world_laws.proofs.Scopes.TaskMarks.{marks_of, keys_by, task_keys, bottomed}
 use Rattle.world_laws.proofs.Scopes.Likeness.{named, keys_of}
 use Rattle.world_laws.proofs.Scopes.GoodWorlds.{IsNew, Good, fresh-number}
 use Rattle.line_laws.proofs.Exits.TaskEdits.{added-among, apart-names, left-where, one_of, others-left, same_who-path}
+use Rattle.line_laws.proofs.Exits.OpenCounts.{bit}
 
 -- ---- one that comes
 

@@ -9,10 +9,13 @@ use Rattle.profile_machine.specs.declared.world.World.{World}
 use Rattle.profile_machine.specs.declared.world.tasks.Task.{Task}
 use Rattle.profile_machine.specs.Words.{same_who, set_where}
 use Rattle.profile_machine.specs.Tasks.{is_who, is_made, nobody, task_at, edit_task_found, edit_task}
-use Rattle.world_laws.proofs.Scopes.ScopeKeys.{Weights, by_test, bit, weigh, weigh-append}
+use Rattle.world_laws.proofs.Scopes.ScopeKeys.{Weights, weigh, weigh-append}
 use Rattle.world_laws.proofs.Scopes.TaskMarks.{task_keys}
 use Rattle.world_laws.proofs.Scopes.Likeness.{named, keys_of, everybody_keys}
 use Rattle.line_laws.proofs.Exits.TaskEdits.{one_of, same_who-path}
+use Rattle.line_laws.proofs.Exits.OpenCounts.{bit}
+use Rattle.line_laws.proofs.Leaving.TaskLemmas.{found-holds}
+use Rattle.machine_laws.proofs.QueueLemmas.{by_test}
 
 -- ---- names
 
@@ -26,14 +29,6 @@ same_who-flip a b e = by_test (same_who b a)
     (λ apart. apart)
 
 -- ---- who has a name among these tasks, or the agent
-
-found-step : (test : Task → Bool) (z t : Task) (zs : List Task) (b : Bool) → test z ≡ b → cond b (Some z) (find test zs) ≡ Some t → (find test zs ≡ Some t → test t ≡ true) → test t ≡ true
-found-step test z t zs true is found onward = let same : z ≡ t = cc in subst (λ (x : Task). test x ≡ true) same is
-found-step test z t zs false is found onward = onward found
-
-pub found-holds : (test : Task → Bool) (xs : List Task) (t : Task) → find test xs ≡ Some t → test t ≡ true
-found-holds test [] t e = absurd cc
-found-holds test (z ∷ zs) t e = found-step test z t zs (test z) refl e (λ k. found-holds test zs t k)
 
 -- ---- in the list
 

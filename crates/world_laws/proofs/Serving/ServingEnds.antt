@@ -40,7 +40,7 @@ use Rattle.world_laws.proofs.Counts.ServeCounts.{serves_end}
 use Rattle.world_laws.proofs.Queues.QueueWorlds.{all-from}
 use Rattle.world_laws.proofs.Queues.Kept.Actions.{begun-out, sent-none, unserved-idle, unserving-calm}
 use Rattle.world_laws.proofs.Queues.Kept.CallEnds.{found-number}
-use Rattle.world_laws.proofs.Queues.Kept.Combinators.{From, world_behind}
+use Rattle.world_laws.proofs.Queues.Kept.Combinators.{From}
 use Rattle.world_laws.proofs.Queues.Kept.Ends.{deliver-from}
 use Rattle.world_laws.proofs.Queues.Kept.Frames.{edit_top-alters}
 use Rattle.world_laws.proofs.Queues.Kept.Onward.{Onward, nothing-onward}
@@ -48,6 +48,7 @@ use Rattle.world_laws.proofs.Queues.Kept.Queued.{enqueue_then-onward}
 use Rattle.world_laws.proofs.Queues.Kept.Sending.{no-steady, send_on_then-onward, sent-calm}
 use Rattle.world_laws.proofs.Queues.Standing.{Awake, Calm, Good, Idle, Kind, Out, any_kind, calm-awake, calm-good, calm-idle, calm-out, calm-then, natures, one_if, quiet_kind, served, served_in, service, Stands}
 use Rattle.world_laws.specs.ServingWorlds.{serve_calls_more, go_on_by_mode_more, end_operation_more, finish_raised_more, finish_well_more, finish_call_more, end_entry_body_more, end_in_protected_by_more, end_in_protected_more}
+use Rattle.machine_laws.proofs.Kept.Combinators.{world_behind}
 
 -- ---- a step does and says in a world what another does and says
 

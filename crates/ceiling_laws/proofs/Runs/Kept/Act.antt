@@ -18,7 +18,7 @@ use Rattle.ceiling_laws.proofs.Runs.Kept.Statements.{assign-keeps, assign_array-
 use Rattle.ceiling_laws.proofs.Runs.Kept.Subprograms.{call_subprogram-keeps, return-keeps, return_value-keeps}
 use Rattle.ceiling_laws.proofs.Runs.Kept.Tasking.{abort_statement-keeps, activate-keeps, create-leads, end_own_activation-keeps, end_scope_mark-leads, take_terminates-leads, unwind_all-keeps}
 use Rattle.ceiling_laws.proofs.Runs.Kept.Tasks.{edit_task-alters}
-use Rattle.ceiling_laws.proofs.Runs.LevelMoves.{Fitting, Naming, Silences, Sleeping}
+use Rattle.ceiling_laws.proofs.Runs.LevelMoves.{Fitting, Silences, Sleeping}
 use Rattle.ceiling_laws.proofs.Runs.Triples.{Alters, Ends, Keeps, Leads, State, changes-keeps, cond-keeps, from-leads, looks-keeps, looks-leads, nothing-keeps, option-keeps, sees-keeps, then-keeps, then-leads, to-leads, unchanged-alters}
 use Rattle.profile_machine.specs.Act.{act, act_frame, act_statement, act_top, act_without, behind_handled, below, call, call_main, drop_trigger, end_abortable_by, end_handled, end_in_abortable, end_mark, end_top, handle_or_pass, handler_for, keeping, wait_for_trigger, waiting_mark}
 use Rattle.profile_machine.specs.Appointments.{is_trigger_of}
@@ -58,6 +58,7 @@ use Rattle.std.proofs.Common.{inl, inr, refl, ◌≡◌}
 use Rattle.std.specs.Prelude.{List, None, Option, Some, ℕ}
 use Rattle.trace_text.specs.declared.events.Who.{Who}
 use Rattle.trace_text.specs.declared.events.Who.TheVariants as who
+use Rattle.machine_laws.proofs.FineMoves.{Naming}
 
 module _ {X : State} (quiet : Silences X) where
   handle_or_pass-keeps : (p : Image) (name : Who) (e : Raised) (next : Option StatementNo) → Keeps X (handle_or_pass p name e next)

@@ -14,7 +14,7 @@ use Rattle.ceiling_laws.proofs.Runs.Kept.Scopes.{appoint-alters}
 use Rattle.ceiling_laws.proofs.Runs.Kept.Sending.{not_accepted-keeps, open_abortable-alters}
 use Rattle.ceiling_laws.proofs.Runs.Kept.Tasks.{plain-alters, says-keeps}
 use Rattle.ceiling_laws.proofs.Runs.Kept.Waking.{asleep_at, asleep_quiet}
-use Rattle.ceiling_laws.proofs.Runs.LevelMoves.{Fitting, Naming, Silences, Sleeping}
+use Rattle.ceiling_laws.proofs.Runs.LevelMoves.{Fitting, Silences, Sleeping}
 use Rattle.ceiling_laws.proofs.Runs.SameLemmas.{edit_task-same}
 use Rattle.ceiling_laws.proofs.Runs.Triples.{Alters, At, Keeps, Leads, State, With, branch-leads, changes-keeps, from-leads, from_at, looks-keeps, looks-leads, looks-with, nothing-keeps, sees-keeps, sees-leads, then-keeps, then-leads, unchanged-alters}
 use Rattle.profile_machine.specs.Calls.{is_full, says_call}
@@ -52,6 +52,7 @@ use Rattle.std.specs.Prelude.{Bool, None, Option, Some, false, int_lt, length, p
 use Rattle.trace_text.specs.declared.events.Mode.TheVariants.{Write}
 use Rattle.trace_text.specs.declared.events.Who.{Who}
 use Rattle.trace_text.specs.declared.events.Who.TheVariants as who
+use Rattle.machine_laws.proofs.FineMoves.{Naming}
 
 module _ {X : State} (quiet : Silences X) where
   pub add_call-alters : (c : Call) → Alters X (add_call c)

@@ -9,7 +9,7 @@ use Rattle.ceiling_laws.proofs.Runs.Kept.Serving.{end_release-keeps}
 use Rattle.ceiling_laws.proofs.Runs.Kept.Statements.{store-gives}
 use Rattle.ceiling_laws.proofs.Runs.Kept.Tasks.{edit_task-alters, plain-alters, says-keeps}
 use Rattle.ceiling_laws.proofs.Runs.Kept.Waking.{ready-at}
-use Rattle.ceiling_laws.proofs.Runs.LevelMoves.{BaseMoves, Fitting, Naming, Silences, Sleeping, is_blocked}
+use Rattle.ceiling_laws.proofs.Runs.LevelMoves.{BaseMoves, Fitting, Silences, Sleeping, is_blocked}
 use Rattle.ceiling_laws.proofs.Runs.Triples.{Alters, At, Keeps, Leads, State, branch-leads, changes-keeps, for_some-keeps, from-leads, from_at, looks-keeps, looks-leads, looks-with, nothing-keeps, sees-keeps, then-keeps, then-leads}
 use Rattle.profile_machine.specs.CallEnds.{store}
 use Rattle.profile_machine.specs.Frames.{has_room}
@@ -49,6 +49,7 @@ use Rattle.std.specs.Prelude.{Bool, None, Option, Some, [], false, int_lt, not, 
 use Rattle.trace_text.specs.declared.events.Mode.TheVariants.{Write}
 use Rattle.trace_text.specs.declared.events.Who.{Who}
 use Rattle.trace_text.specs.declared.events.Who.TheVariants as who
+use Rattle.machine_laws.proofs.FineMoves.{Naming}
 
 module _ {X : State} (quiet : Silences X) where
   with_room_for_release-keeps : (name : Who) (needed : Bool) (step : Step) → Keeps X step → Keeps X (with_room_for_release name needed step)

@@ -60,7 +60,7 @@ pub record OtherMoves (p : Image) (Sleeps : Sleeping) (Drawn : Appointing) (N : 
   pub readies : (t : TaskNo) → Leads (With N (λ w. Drawn w t)) N (ready p Own (who.Task t))
   pub tails : (t : TaskNo) → Leads (With N (λ w. is_runnable (task_of w (who.Task t)) ≡ true)) N (to_tail p Own (who.Task t))
 
-first_of_six : (a b c d e f : Bool) → (a && b && c && d && e && f) ≡ true → a ≡ true
+pub first_of_six : (a b c d e f : Bool) → (a && b && c && d && e && f) ≡ true → a ≡ true
 first_of_six true b c d e f h = refl
 first_of_six false b c d e f h = cc
 

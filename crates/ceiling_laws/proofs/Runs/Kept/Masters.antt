@@ -7,7 +7,7 @@ use Rattle.ceiling_laws.proofs.Runs.Kept.Frames.{leaves-keeps, open_sequence-kee
 use Rattle.ceiling_laws.proofs.Runs.Kept.Scopes.{drop_delay-alters}
 use Rattle.ceiling_laws.proofs.Runs.Kept.Tasks.{edit_task-alters}
 use Rattle.ceiling_laws.proofs.Runs.Kept.Waking.{asleep_at, found-each, ready-at, waiting-blocked, who-is}
-use Rattle.ceiling_laws.proofs.Runs.LevelMoves.{BaseMoves, EachTask, Fitting, Naming, Sleeping, is_blocked}
+use Rattle.ceiling_laws.proofs.Runs.LevelMoves.{BaseMoves, EachTask, Fitting, Sleeping, is_blocked}
 use Rattle.ceiling_laws.proofs.Runs.Triples.{At, Keeps, Leads, State, With, changes-keeps, for_each-keeps, for_some-keeps, from_at, looks-keeps, looks-leads, looks-with, nothing-keeps, then-keeps, then-leads, when-keeps, when-leads}
 use Rattle.profile_machine.specs.Appointments.{drop_delay}
 use Rattle.profile_machine.specs.Dispatching.{ready}
@@ -31,6 +31,7 @@ use Rattle.std.specs.Prelude.{Bool, List, None, Option, Some, cond, false, find,
 use Rattle.std.proofs.lemmas.Bool.{and_parts}
 use Rattle.trace_text.specs.declared.events.Who.{Who}
 use Rattle.trace_text.specs.declared.events.Who.TheVariants as who
+use Rattle.machine_laws.proofs.FineMoves.{Naming}
 
 module _ {p : Image} {Fits : Fitting} {Sleeps : Sleeping} {X : State} (moves : BaseMoves p Fits Sleeps X) (actor : Who) (fits : (name : Who) → Fits (part_of actor name) name) where
   pub gone_by_completion-keeps : (c : Call) → Keeps X (gone_by_completion p actor c)

@@ -7,7 +7,7 @@ use Rattle.ceiling_laws.proofs.Runs.Kept.Calls.{edit_call-alters, edit_queue-alt
 use Rattle.ceiling_laws.proofs.Runs.Kept.Frames.{given-keeps, given-through, goes-keeps, raise_if-keeps, raise_if-through, weakly}
 use Rattle.ceiling_laws.proofs.Runs.Kept.Tasks.{edit_task-alters, plain-alters, says-keeps}
 use Rattle.ceiling_laws.proofs.Runs.Kept.Waking.{each-any, found-each, inherit-alters}
-use Rattle.ceiling_laws.proofs.Runs.LevelMoves.{Fitting, Naming, Silences, Sleeping}
+use Rattle.ceiling_laws.proofs.Runs.LevelMoves.{Fitting, Silences, Sleeping}
 use Rattle.ceiling_laws.proofs.Runs.Triples.{Alters, Keeps, Leads, State, changes-keeps, for_some-keeps, looks-keeps, nothing-keeps, sees-keeps, sees-leads, then-keeps, then-leads, unchanged-alters, when-keeps}
 use Rattle.profile_machine.specs.Calls.{place_of_entry, put_call, take_call}
 use Rattle.profile_machine.specs.Dispatching.{active_of, to_tail}
@@ -39,6 +39,7 @@ use Rattle.std.proofs.Common.{refl, subst, sym, ◌≡◌}
 use Rattle.std.specs.Prelude.{Bool, List, None, Option, Some, false, int_lt, pos, true, ℕ, ℤ, ◌+ℤ◌, ◌||◌}
 use Rattle.trace_text.specs.declared.events.Who.{Who}
 use Rattle.trace_text.specs.declared.events.Who.TheVariants as who
+use Rattle.machine_laws.proofs.FineMoves.{Naming}
 
 module _ {X : State} (quiet : Silences X) where
   set_level-alters : (level ticks : ℕ) → Alters X (λ w. record w { quanta = edit_at level (λ _. ticks) w.quanta })

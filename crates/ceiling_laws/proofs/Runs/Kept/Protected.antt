@@ -10,7 +10,7 @@ use Rattle.ceiling_laws.proofs.Runs.Kept.Priorities.{inherit_running-keeps}
 use Rattle.ceiling_laws.proofs.Runs.Kept.Scopes.{open_scope-alters}
 use Rattle.ceiling_laws.proofs.Runs.Kept.Subprograms.{begin_body-keeps, handing-keeps, handing-through}
 use Rattle.ceiling_laws.proofs.Runs.Kept.Tasks.{edit_object-alters, says-keeps}
-use Rattle.ceiling_laws.proofs.Runs.LevelMoves.{Fitting, Naming, Silences, Sleeping, is_apart}
+use Rattle.ceiling_laws.proofs.Runs.LevelMoves.{Fitting, Silences, Sleeping, is_apart}
 use Rattle.ceiling_laws.proofs.Runs.SameLemmas.{edit_task-same}
 use Rattle.ceiling_laws.proofs.Runs.Triples.{Alters, At, Ends, Keeps, Leads, State, With, branch-keeps, changes-keeps, changes-leads, from-leads, from_at, looks-keeps, looks-leads, looks-with, sees-keeps, sees-leads, then-keeps, then-leads, to-leads}
 use Rattle.ceiling_laws.specs.Cores.{Same}
@@ -47,6 +47,7 @@ use Rattle.std.proofs.Common.{inl, inr, refl, subst, sym, ◌≡◌}
 use Rattle.std.specs.Prelude.{List, None, Option, Some, false, ℕ, ◌+◌, ◌∷◌}
 use Rattle.trace_text.specs.declared.events.Mode.{Mode}
 use Rattle.trace_text.specs.declared.events.Who.{Who}
+use Rattle.machine_laws.proofs.FineMoves.{Naming}
 
 module _ {X : State} (quiet : Silences X) where
   pub edit_top_protected-alters : (name : Who) (f : ProtectedMark → ProtectedMark) → Alters X (edit_top_protected name f)

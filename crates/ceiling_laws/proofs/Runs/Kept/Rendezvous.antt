@@ -12,7 +12,7 @@ use Rattle.ceiling_laws.proofs.Runs.Kept.Scopes.{begin_scope-alters, drop_delay-
 use Rattle.ceiling_laws.proofs.Runs.Kept.Sending.{begin_abortable-keeps, send_on-keeps, sent_not_begun-keeps}
 use Rattle.ceiling_laws.proofs.Runs.Kept.Tasks.{says-keeps}
 use Rattle.ceiling_laws.proofs.Runs.Kept.Waking.{Asleep, asleep_at, asleep_quiet, waiting-blocked}
-use Rattle.ceiling_laws.proofs.Runs.LevelMoves.{BaseMoves, Fitting, Naming, Silences, Sleeping}
+use Rattle.ceiling_laws.proofs.Runs.LevelMoves.{BaseMoves, Fitting, Silences, Sleeping}
 use Rattle.ceiling_laws.proofs.Runs.Triples.{Alters, At, Keeps, Leads, State, With, branch-leads, changes-keeps, for_some-keeps, from-leads, from_at, looks-keeps, looks-leads, looks-with, nothing-keeps, sees-leads, then-keeps, then-leads, to-leads, unchanged-alters}
 use Rattle.profile_machine.specs.Appointments.{drop_delay}
 use Rattle.profile_machine.specs.CallEnds.{deliver}
@@ -55,6 +55,7 @@ use Rattle.std.proofs.Common.{ap, refl, ◌≡◌}
 use Rattle.std.specs.Prelude.{Bool, List, None, Option, Some, [], false, int_le, is_some, pos, true, ℕ, ℤ, ◌∷◌}
 use Rattle.trace_text.specs.declared.events.Who.{Who}
 use Rattle.trace_text.specs.declared.events.Who.TheVariants as who
+use Rattle.machine_laws.proofs.FineMoves.{Naming}
 
 module _ {X : State} (quiet : Silences X) where
   pub open_accept-alters : (p : Image) (name : Who) (s : StatementNo) (c : Call) → Alters X (open_accept p name s c)

@@ -7,7 +7,7 @@ use Rattle.ceiling_laws.proofs.Runs.Kept.Frames.{push-alters}
 use Rattle.ceiling_laws.proofs.Runs.Kept.Scopes.{appoint-alters}
 use Rattle.ceiling_laws.proofs.Runs.Kept.Tasks.{says-keeps}
 use Rattle.ceiling_laws.proofs.Runs.Kept.Waking.{asleep_at, asleep_quiet, waiting-blocked}
-use Rattle.ceiling_laws.proofs.Runs.LevelMoves.{Fitting, Naming, Silences, Sleeping}
+use Rattle.ceiling_laws.proofs.Runs.LevelMoves.{Fitting, Silences, Sleeping}
 use Rattle.ceiling_laws.proofs.Runs.Triples.{Alters, At, Keeps, Leads, State, changes-keeps, from_at, looks-keeps, looks-with, nothing-keeps, then-keeps, then-leads, unchanged-alters}
 use Rattle.profile_machine.specs.Act.{call}
 use Rattle.profile_machine.specs.CallEnds.{abortable_depth, resume, waits_for_call}
@@ -39,6 +39,7 @@ use Rattle.std.specs.Prelude.{is_none}
 use Rattle.std.proofs.lemmas.Bool.{and_parts}
 use Rattle.trace_text.specs.declared.events.Who.{Who}
 use Rattle.trace_text.specs.declared.events.Who.TheVariants as who
+use Rattle.machine_laws.proofs.FineMoves.{Naming}
 
 module _ {X : State} (quiet : Silences X) where
   pub open_abortable-alters : (p : Image) (name : Who) (select : StatementNo) (call : Option CallNo) → Alters X (open_abortable p name select call)

@@ -10,7 +10,7 @@ use Rattle.ceiling_laws.proofs.Runs.Kept.Frames.{edit_top-alters, leaves-keeps, 
 use Rattle.ceiling_laws.proofs.Runs.Kept.Protected.{edit_top_protected-alters, serve_call-keeps}
 use Rattle.ceiling_laws.proofs.Runs.Kept.Sending.{begin_abortable-keeps, open_abortable-alters, send_on-keeps, sent_not_begun-keeps, wait_for_call-keeps}
 use Rattle.ceiling_laws.proofs.Runs.Kept.Tasks.{edit_object-alters, plain-alters, says-keeps}
-use Rattle.ceiling_laws.proofs.Runs.LevelMoves.{FitsAll, Fitting, Naming, Silences, Sleeping}
+use Rattle.ceiling_laws.proofs.Runs.LevelMoves.{FitsAll, Fitting, Silences, Sleeping}
 use Rattle.ceiling_laws.proofs.Runs.Triples.{Alters, Keeps, State, changes-keeps, looks-keeps, nothing-keeps, then-keeps, when-keeps}
 use Rattle.profile_machine.specs.Act.{call}
 use Rattle.profile_machine.specs.Calls.{forget_call, formals_count}
@@ -46,6 +46,7 @@ use Rattle.trace_text.specs.declared.events.Mode.{Mode}
 use Rattle.trace_text.specs.declared.events.Mode.TheVariants.{Read, Write}
 use Rattle.trace_text.specs.declared.events.Who.{Who}
 use Rattle.trace_text.specs.declared.events.Who.TheVariants as who
+use Rattle.machine_laws.proofs.FineMoves.{Naming}
 
 module _ {X : State} (quiet : Silences X) where
   pub keep_values-keeps : (p : Image) (c : CallNo) (cells : List Value) → Keeps X (keep_values p c cells)

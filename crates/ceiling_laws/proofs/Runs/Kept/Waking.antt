@@ -29,7 +29,7 @@ waiting-blocked test none Runnable e = let never : false ≡ true = sym none ∙
 waiting-blocked test none (Blocked waiting) e = refl
 
 -- what holds of each task of a list holds of one that is found, and the test does
-found-step : (P : Task → Type 0) (test : Task → Bool) (t u : Task) (rest : Option Task) (b : Bool) → test t ≡ b → cond b (Some t) rest ≡ Some u → P t → (rest ≡ Some u → P u × (test u ≡ true)) → P u × (test u ≡ true)
+pub found-step : (P : Task → Type 0) (test : Task → Bool) (t u : Task) (rest : Option Task) (b : Bool) → test t ≡ b → cond b (Some t) rest ≡ Some u → P t → (rest ≡ Some u → P u × (test u ≡ true)) → P u × (test u ≡ true)
 found-step P test t u rest true is e a onward = let one : t ≡ u = cc in subst (λ v. P v × (test v ≡ true)) one (a, is)
 found-step P test t u rest false is e a onward = onward e
 

@@ -50,7 +50,7 @@ use Rattle.profile_machine.specs.Appointments.{drop_delay}
 use Rattle.machine_laws.proofs.Moves.{StepRelation, MoveRelation}
 use Rattle.line_laws.proofs.Leaving.FineMoves.{FineMoves, Free, waits}
 use Rattle.line_laws.proofs.Leaving.Kept.Combinators.{changes-from, free_then-from, either-from, looks_at-from, changes-keeps, for_some-keeps, keeps-from, looks-from, looks-keeps, nothing-keeps, says-keeps, then-from, then-keeps, unchanged-alters, looks_at-from}
-use Rattle.line_laws.proofs.Leaving.Kept.Serving.{keeps_sending-number, keeps_sending-caller}
+use Rattle.line_laws.proofs.Leaving.Kept.Serving.{keeps_sending-caller}
 use Rattle.line_laws.proofs.Leaving.Kept.Dispatching.{ready-keeps, block-keeps, block-keeps}
 use Rattle.line_laws.proofs.Leaving.Kept.Frames.{no_call, goes-from, goes-keeps, raises-keeps, open_sequence-keeps, pass_on-keeps, raise_if-keeps, goes_then-from, given-from, raise_if-from}
 use Rattle.line_laws.proofs.Leaving.Kept.Inheritance.{inherit-alters, inherit_running-keeps}
@@ -63,6 +63,7 @@ use Rattle.profile_machine.specs.Values.{seen_by}
 use Rattle.profile_machine.specs.declared.world.lines.Part.TheVariants.{Own}
 use Rattle.machine_laws.proofs.FineMoves.{GoodWorld, Naming}
 use Rattle.machine_laws.proofs.Kept.Combinators.{Alters, From, Keeps}
+use Rattle.machine_laws.proofs.Kept.Serving.{keeps_sending-number}
 
 pub finished_call-number : (p : Image) (cells : List Value) (leaving : Leaving) (c : Call) → (finished_call p cells leaving c).number ≡ c.number
 finished_call-number p cells leaving c = keeps_sending-number leaving (with_values cells (formals_count p c) c)

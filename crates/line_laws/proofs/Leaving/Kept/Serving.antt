@@ -35,6 +35,7 @@ use Rattle.line_laws.proofs.Leaving.Kept.CallEnds.{resume-keeps}
 use Rattle.line_laws.proofs.Leaving.Kept.Sending.{open_abortable-alters, wait_for_call-keeps, begin_abortable-keeps, sent_not_begun-keeps}
 use Rattle.machine_laws.proofs.FineMoves.{GoodWorld, Naming}
 use Rattle.machine_laws.proofs.Kept.Combinators.{From, Keeps, Kept}
+use Rattle.machine_laws.proofs.Kept.Serving.{keeps_sending-number}
 
 module _ {G : GoodWorld} {May Acts Pushes : Naming} {Stops : Type 0} {R : StepRelation} {Q : MoveRelation} (moves : FineMoves G May Acts Pushes Stops R Q) where
   -- the release that the agent serves ends, and is told
@@ -96,14 +97,6 @@ module _ {G : GoodWorld} {May Acts Pushes : Naming} {Stops : Type 0} {R : StepRe
   begins_part-keeps p false c = search (nothing-keeps)
 
 -- ---- the scope of an entry body has ended
-
-pub keeps_sending-number : (leaving : Leaving) (c : Call) → (keeps_sending leaving c).number ≡ c.number
-keeps_sending-number how.Return c = refl
-keeps_sending-number how.End c = refl
-keeps_sending-number (how.Exit loop) c = refl
-keeps_sending-number (how.Exception e) c = refl
-keeps_sending-number how.Abort c = refl
-keeps_sending-number how.Terminate c = refl
 
 pub keeps_sending-caller : (leaving : Leaving) (c : Call) → (keeps_sending leaving c).caller ≡ c.caller
 keeps_sending-caller how.Return c = refl

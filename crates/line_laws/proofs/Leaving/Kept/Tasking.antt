@@ -55,12 +55,12 @@ use Rattle.machine_laws.proofs.FineMoves.{GoodWorld, Naming}
 use Rattle.machine_laws.proofs.Kept.Combinators.{Alters, From, Keeps}
 
 -- an edit of a task draws nothing
-edit_found-drawn : (name : Who) (f : world.Task → world.Task) (w : World) (found : Option world.Task) → (edit_task_found name f w found).drawn ≡ w.drawn
+pub edit_found-drawn : (name : Who) (f : world.Task → world.Task) (w : World) (found : Option world.Task) → (edit_task_found name f w found).drawn ≡ w.drawn
 edit_found-drawn name f w None = refl
 edit_found-drawn (who.Task n) f w (Some t) = refl
 edit_found-drawn who.Agent f w (Some t) = refl
 
-edit_task-drawn : (name : Who) (f : world.Task → world.Task) (w : World) → (edit_task name f w).drawn ≡ w.drawn
+pub edit_task-drawn : (name : Who) (f : world.Task → world.Task) (w : World) → (edit_task name f w).drawn ≡ w.drawn
 edit_task-drawn name f w = edit_found-drawn name f w (task_at w name)
 
 module _ {G : GoodWorld} {May Acts Pushes : Naming} {Stops : Type 0} {R : StepRelation} {Q : MoveRelation} (moves : FineMoves G May Acts Pushes Stops R Q) where

@@ -27,7 +27,7 @@ use Rattle.profile_machine.specs.Frames.{frames_of, top_of, pop, leaving_of, is_
 use Rattle.profile_machine.specs.Calls.{with_call, attempt_with}
 use Rattle.profile_machine.specs.Act.{call_main, call, handle_or_pass, behind_handled, end_handled, end_top, wait_for_trigger, drop_trigger, below, end_abortable_by, end_in_abortable, act_statement, end_mark, act_frame, act_without, act_top, act, keeping, waiting_mark}
 use Rattle.world_laws.proofs.Actions.FineMoves.{FineMoves}
-use Rattle.world_laws.proofs.Actions.Sound.{GoodWorld, Naming, Free, Good}
+use Rattle.world_laws.proofs.Actions.Sound.{Free, Good}
 use Rattle.std.proofs.lemmas.Bool.{false≢true}
 use Rattle.profile_machine.specs.declared.world.tasks.State.{State}
 use Rattle.profile_machine.specs.declared.world.tasks.State.TheVariants.{Made, Runnable, Blocked}
@@ -44,7 +44,7 @@ use Rattle.world_laws.proofs.Actions.Kept.Appointments.{drop_appointment-alters}
 use Rattle.world_laws.proofs.Actions.Kept.Calls.{with_call-keeps, attempt_with-keeps}
 use Rattle.world_laws.proofs.Actions.Kept.Statements.{null-keeps, assign-keeps, assign_array-keeps, if_statement-keeps, case_statement-keeps, while_turn-keeps, for_bounds-keeps, first_turn-keeps, later_turn-keeps, exit_statement-keeps, block_statement-keeps, raise_again-keeps, delay_until-keeps, put_line-keeps}
 use Rattle.world_laws.proofs.Actions.Kept.Subprograms.{call_subprogram-keeps, return_value-keeps, return-keeps}
-use Rattle.world_laws.proofs.Actions.Kept.Protected.{call_own_operation-keeps, call_operation-from}
+use Rattle.world_laws.proofs.Actions.Kept.Protected.{call_own_operation-keeps, call_operation-from, beside}
 use Rattle.world_laws.proofs.Actions.Kept.Priorities.{set_priority-keeps, set_quantum-keeps, set_deadline_of-keeps, delay_and_set_deadline-keeps}
 use Rattle.world_laws.proofs.Actions.Kept.Serving.{end_in_protected-from, Stands}
 use Rattle.world_laws.proofs.Actions.Kept.Rendezvous.{accept-keeps, selective_accept-keeps, end_in_accept-from}
@@ -57,7 +57,7 @@ use Rattle.profile_machine.specs.declared.world.World.{World}
 use Rattle.profile_machine.specs.declared.world.marks.ProtectedMark.{ProtectedMark}
 use Rattle.world_laws.proofs.Actions.Kept.CallEnds.{end_found_abortable-keeps, abortable-nature}
 use Rattle.profile_machine.specs.CallEnds.{edit_abortable}
-use Rattle.world_laws.proofs.Actions.GoodMoves.{Awake, Nobody, free-floor, good_moves}
+use Rattle.world_laws.proofs.Actions.GoodMoves.{Awake, free-floor, good_moves}
 use Rattle.ann_base.specs.declared.identities.CallNo.{CallNo}
 use Rattle.world_laws.proofs.Actions.Kept.Switching.{Only, only-from}
 use Rattle.profile_machine.specs.declared.world.calls.CallKind.TheVariants as call_kind
@@ -66,6 +66,8 @@ use Rattle.profile_machine.specs.Statements.{relative_moment}
 use Rattle.profile_machine.specs.Notation.{task}
 use Rattle.world_laws.proofs.Actions.SoundActions.{top_nature}
 use Rattle.line_laws.proofs.Exits.Steady.{FreeIn}
+use Rattle.line_laws.proofs.Leaving.Modes.{Nobody}
+use Rattle.machine_laws.proofs.FineMoves.{GoodWorld, Naming}
 
 -- a mark that keeps an exception is what it was
 keeping-nature : (e : Raised) (mark : Mark) → nature (keeping e mark) ≡ nature mark
@@ -132,9 +134,6 @@ module _ {G : GoodWorld} {F : Naming} (moves : FineMoves G F) where
   call_main-keeps p name s = search (with_room-keeps, goes-keeps, then-keeps, looks-keeps, changes-keeps, opens-alters)
 
 -- ---- of who acts, which is ready
-
-abbrev beside : FineMoves (Good Nobody) Nobody
-beside = good_moves Nobody
 
 call-from : (p : Image) (name : Who) (s : StatementNo) (callee : Callee) (actuals : List Actual) (to : Destination) (w : World) → Good Nobody w → Awake name w → From (Good Nobody) w (call p name s callee actuals to)
 unfolding call

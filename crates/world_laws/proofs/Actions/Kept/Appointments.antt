@@ -7,8 +7,8 @@ use Rattle.profile_machine.specs.declared.world.appointments.Due.{Due}
 use Rattle.profile_machine.specs.Steps.{changes}
 use Rattle.profile_machine.specs.Appointments.{appoint, drop_appointment, drop_delay}
 use Rattle.world_laws.proofs.Actions.FineMoves.{FineMoves}
-use Rattle.world_laws.proofs.Actions.Sound.{GoodWorld, Naming}
 use Rattle.world_laws.proofs.Actions.Kept.Combinators.{Alters, From, changes-from, unchanged-alters}
+use Rattle.machine_laws.proofs.FineMoves.{GoodWorld, Naming}
 
 module _ {G : GoodWorld} {F : Naming} (moves : FineMoves G F) where
   pub appoint-from : (due : Due) (moment : ℤ) (w : World) → G w → From G w (changes (appoint due moment))

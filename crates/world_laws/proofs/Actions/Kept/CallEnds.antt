@@ -27,7 +27,6 @@ use Rattle.profile_machine.specs.Operators.{Valued, checked}
 use Rattle.profile_machine.specs.CallEnds.{go_by_outcome, resume, store, or_stored, copy_back, with_results, edit_depth, edit_frame, edit_abortable, edit_abortable_at, trigger_at, trigger_outcome, forget_trigger, run_triggered, ended_by_itself, behind_abortable, end_abortable, end_abortable_in, end_top_abortable, end_wait, waits_for_end, end_for_abortable, end_for_caller, end_for, end_with, end_call, deliver, gone, waited_mark, is_cancelled}
 use Rattle.std.proofs.Common.{◌≡◌, refl, ap}
 use Rattle.world_laws.proofs.Actions.FineMoves.{FineMoves}
-use Rattle.world_laws.proofs.Actions.Sound.{GoodWorld, Naming}
 use Rattle.world_laws.proofs.Actions.Natures.{nature, natures}
 use Rattle.world_laws.proofs.Actions.Kept.Combinators.{Keeps, Alters, Gives, bind-gives, branch-keeps, changes-keeps, looks-keeps, nothing-keeps, ok-gives, says-keeps, then-keeps, unchanged-alters, when-keeps, changes_then-from, keeps-from, looks-from, looks_at-from, From}
 use Rattle.world_laws.proofs.Actions.Kept.Tasks.{edit_frames-alters}
@@ -36,6 +35,7 @@ use Rattle.world_laws.proofs.Actions.Kept.Frames.{goes-keeps, popped, leaves-kee
 use Rattle.world_laws.proofs.Actions.Kept.Calls.{edit_call-alters, forget_call-alters, with_call-keeps, unqueued-alters}
 use Rattle.world_laws.proofs.Actions.Kept.Unwinding.{unwind-keeps}
 use Rattle.profile_machine.specs.Dispatching.{ready}
+use Rattle.machine_laws.proofs.FineMoves.{GoodWorld, Naming}
 
 -- an edit of a mark somewhere, and of an abortable part
 at_depth-natures : (test : Bool) (f : Frame → Frame) (x : Frame) (xs ys : List Frame) → nature (f x).mark ≡ nature x.mark → natures ys ≡ natures xs → natures (cond test (f x ∷ xs) (x ∷ ys)) ≡ natures (x ∷ xs)

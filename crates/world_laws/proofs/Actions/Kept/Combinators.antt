@@ -12,12 +12,11 @@ use Rattle.profile_machine.specs.Steps.{Step, Move, Done, done, goes_on_with, no
 use Rattle.profile_machine.specs.Operators.{Valued}
 use Rattle.profile_machine.specs.Values.{Seen, seen_by}
 use Rattle.profile_machine.specs.Statements.{sees}
-use Rattle.world_laws.proofs.Actions.Sound.{GoodWorld, Naming}
 use Rattle.world_laws.proofs.Actions.FineMoves.{FineMoves}
+use Rattle.machine_laws.proofs.FineMoves.{GoodWorld, Naming}
+use Rattle.machine_laws.proofs.Kept.Combinators.{world_behind}
 
 -- the world to which a step has led
-abbrev pub world_behind : Done → World
-world_behind (done w said) = w
 
 -- a step leads from each good world, whatever was said before, to a good one
 unfoldable pub Keeps : GoodWorld → Step → Type 0

@@ -21,7 +21,6 @@ use Rattle.profile_machine.specs.Statements.{cells_from}
 use Rattle.profile_machine.specs.Scopes.{put_cells}
 use Rattle.profile_machine.specs.Controlled.{open_operation, registered_as, register, initialize_by, initialize, end_in_initialize, edit_top_scope, finalize_has_raised, open_finalize, has_room_to_finalize, finalize_by, no_longer_registered, finalize_now, finalize, behind_finalize, end_in_finalize, begin_assignment, assign_registered, assign_located, assign_controlled, edit_top_assign, leave_without_room, finalize_target_by, has_room_to_adjust, adjust_by, copy_components_of, copy_object, do_step, step_with, end_in_assign, edit_scope_mark, edit_assign, registered_object, registers, is_assignment, registered_at, same_located}
 use Rattle.world_laws.proofs.Actions.FineMoves.{FineMoves}
-use Rattle.world_laws.proofs.Actions.Sound.{GoodWorld, Naming}
 use Rattle.world_laws.proofs.Actions.Natures.{nature}
 use Rattle.world_laws.proofs.Actions.Kept.Combinators.{Keeps, Alters, branch-keeps, changes-from, changes-keeps, cond-keeps, looks-keeps, nothing-keeps, sees-keeps, then-keeps, From, changes_then-from, keeps-from, looks_at-from, says-keeps, when-keeps}
 use Rattle.world_laws.proofs.Actions.Kept.Frames.{edit_top-alters, goes-keeps, push-alters, leaves-keeps, raises-keeps, pass_on-keeps, given-keeps, with_room-keeps, popped}
@@ -34,6 +33,7 @@ use Rattle.profile_machine.specs.declared.world.marks.Frame.{Frame}
 use Rattle.profile_machine.specs.declared.world.marks.Mark.{Mark}
 use Rattle.profile_machine.specs.declared.world.marks.Mark.TheVariants.{Scope, Handled, InProtected, InAccept, Abortable, InInitialize, InFinalize, InAssign}
 use Rattle.profile_machine.specs.Frames.{top_of, pop, with_mark, is_protected, pass_on, goes}
+use Rattle.machine_laws.proofs.FineMoves.{GoodWorld, Naming}
 
 -- the region of a scope's mark is not edited, nor what another mark is
 scope-nature : (f : ScopeMark → ScopeMark) → ((m : ScopeMark) → nature (Scope (f m)) ≡ nature (Scope m)) → (mark : Mark) → nature (edit_scope_mark f mark) ≡ nature mark

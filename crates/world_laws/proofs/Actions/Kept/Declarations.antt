@@ -32,12 +32,12 @@ use Rattle.profile_machine.specs.Scopes.{put_cells}
 use Rattle.profile_machine.specs.CallEnds.{store}
 use Rattle.profile_machine.specs.Declarations.{default_cells, set_defaults, initialized, initial_of, components_initialized, located_here, set_thing, object_declared, object_drawn, new_object, with_object, says_object, declare_protected, controlled_declared, event_drawn, event_declared, with_budget, budget_declared, timed_task, with_timer, timer_declared, declared, declare_quietly, declare_by, declare}
 use Rattle.world_laws.proofs.Actions.FineMoves.{FineMoves}
-use Rattle.world_laws.proofs.Actions.Sound.{GoodWorld, Naming}
 use Rattle.world_laws.proofs.Actions.Kept.Combinators.{Keeps, Alters, Gives, bind-gives, changes-keeps, looks-from, next-gives, ok-gives, then-keeps, looks-keeps, says-keeps}
 use Rattle.world_laws.proofs.Actions.Kept.Frames.{given-from, given_world-from, goes-keeps}
 use Rattle.world_laws.proofs.Actions.Kept.Scopes.{write_cell-alters}
 use Rattle.world_laws.proofs.Actions.Kept.CallEnds.{store-gives}
 use Rattle.world_laws.proofs.Actions.Kept.Statements.{copy_cells-alters}
+use Rattle.machine_laws.proofs.FineMoves.{GoodWorld, Naming}
 
 module _ {G : GoodWorld} {F : Naming} (moves : FineMoves G F) where
   set_defaults-alters : (p : Image) (v : Variable) → Alters G (set_defaults p v)

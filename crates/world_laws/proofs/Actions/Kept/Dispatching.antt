@@ -14,10 +14,10 @@ use Rattle.profile_machine.specs.Tasks.{task_of, edit_task, with_state}
 use Rattle.profile_machine.specs.Dispatching.{active, level_kept_by, keep_level, deadline_shown, says_ready, granted, grant_quantum, to_tail, to_head, ready, word_of, says_block, block, without_kept_level}
 use Rattle.std.proofs.Common.{◌≡◌, refl}
 use Rattle.world_laws.proofs.Actions.FineMoves.{FineMoves}
-use Rattle.world_laws.proofs.Actions.Sound.{GoodWorld, Naming}
 use Rattle.world_laws.proofs.Actions.Kept.Combinators.{Keeps, Alters, changes-keeps, looks-keeps, says-keeps, then-keeps}
 use Rattle.world_laws.proofs.Actions.Kept.Tasks.{edit_task-alters}
 use Rattle.machine_laws.proofs.Kept.Dispatching.{full_quantum-frames, full_quantum-master, full_quantum-state, full_quantum-who}
+use Rattle.machine_laws.proofs.FineMoves.{GoodWorld, Naming}
 
 full_quantum-inherited : (b : Bool) (n : ℕ) (t : Task) → (cond b (record t { quantum = n }) t).inherited ≡ t.inherited
 full_quantum-inherited true n t = refl

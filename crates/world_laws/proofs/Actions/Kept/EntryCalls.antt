@@ -37,24 +37,26 @@ use Rattle.profile_machine.specs.EntryCalls.{numbered, marks_if_queued, add_call
 use Rattle.machine_laws.proofs.Moves.{LetsIn}
 use Rattle.profile_machine.specs.declared.world.tasks.Task.{Task}
 use Rattle.world_laws.proofs.Actions.FineMoves.{FineMoves}
-use Rattle.world_laws.proofs.Actions.Sound.{GoodWorld, Naming, Free, Good}
+use Rattle.world_laws.proofs.Actions.Sound.{Free, Good}
 use Rattle.machine_laws.proofs.Kept.Entering.{LetsIn-same, edit_task-objects}
+use Rattle.machine_laws.proofs.FineMoves.{GoodWorld, Naming}
 use Rattle.world_laws.proofs.Actions.Kept.Combinators.{Keeps, From, Alters, either-from, then-from, changes-keeps, keeps-from, looks-from, looks-keeps, looks_at-from, nothing-keeps, sees-keeps, then-keeps, unchanged-alters, changes_then-from, says-keeps, says_then-from}
 use Rattle.world_laws.proofs.Actions.Kept.Dispatching.{block-keeps}
-use Rattle.world_laws.proofs.Actions.Kept.Frames.{goes-keeps, leaves-keeps, raises-keeps, given-from, given-keeps, raise_if-from, with_room-from, with_room-keeps, goes_then-from, first-natures}
+use Rattle.world_laws.proofs.Actions.Kept.Frames.{goes-keeps, leaves-keeps, raises-keeps, given-from, given-keeps, raise_if-from, with_room-from, with_room-keeps, goes_then-from}
 use Rattle.world_laws.proofs.Actions.Kept.Appointments.{appoint-from}
 use Rattle.world_laws.proofs.Actions.Kept.Calls.{edit_call-alters, forget_call-alters, says_call-keeps, enqueue-keeps}
 use Rattle.world_laws.proofs.Actions.Kept.CallEnds.{gone-keeps}
-use Rattle.world_laws.proofs.Actions.Kept.Protected.{begin_action_on-from, serve_call-keeps, where_let_inside-from}
+use Rattle.world_laws.proofs.Actions.Kept.Protected.{begin_action_on-from, serve_call-keeps, where_let_inside-from, beside}
 use Rattle.world_laws.proofs.Actions.Kept.Sending.{open_abortable-alters, not_accepted-keeps}
 use Rattle.world_laws.proofs.Actions.Kept.Rendezvous.{meet-keeps}
 use Rattle.profile_machine.specs.Rendezvous.{delay_moment, accept_for, is_callable}
 use Rattle.profile_machine.specs.Values.{seen_by, Seen}
-use Rattle.world_laws.proofs.Actions.GoodMoves.{Awake, Nobody, awake-edited, free-by_test, good_moves}
+use Rattle.world_laws.proofs.Actions.GoodMoves.{Awake, awake-edited, free-by_test, good_moves, first-natures}
 use Rattle.world_laws.proofs.Actions.KnownMoves.{Known}
 use Rattle.world_laws.proofs.Actions.Kept.Switching.{Only, less-from}
 use Rattle.profile_machine.specs.Dispatching.{active_of, block}
 use Rattle.profile_machine.specs.declared.world.tasks.Waiting.TheVariants as waits_for
+use Rattle.line_laws.proofs.Leaving.Modes.{Nobody}
 
 module _ {G : GoodWorld} {F : Naming} (moves : FineMoves G F) where
   add_call-alters : (c : Call) → Alters G (add_call c)
@@ -159,9 +161,6 @@ module _ {G : GoodWorld} {F : Naming} (moves : FineMoves G F) where
 
 abbrev outside : (c : Call) → FineMoves (Good (Only (who.Task c.caller))) (Only (who.Task c.caller))
 outside c = good_moves (Only (who.Task c.caller))
-
-abbrev beside : FineMoves (Good Nobody) Nobody
-beside = good_moves Nobody
 
 -- who is outside all protected actions, is ready, and made this call
 pub record Calling (o : ObjectNo) (c : Call) (w : World) : Type 0 where

@@ -19,16 +19,14 @@ use Rattle.profile_machine.specs.Steps.{Step, changes, ◌▷◌}
 use Rattle.profile_machine.specs.Frames.{top_of, new_frame, edit_first, edit_top, goes, push, pop, leaves, raises, has_room, open_handled, open_at, open_sequence, open_if_ready, stands_in, exit_loop, pass_on, is_protected, given, raise_if, with_room, goes_on, onward_of}
 use Rattle.profile_machine.specs.Operators.{Valued}
 use Rattle.world_laws.proofs.Actions.FineMoves.{FineMoves}
-use Rattle.world_laws.proofs.Actions.Sound.{GoodWorld, Naming}
-use Rattle.world_laws.proofs.Actions.Natures.{nature, natures, plain}
+use Rattle.world_laws.proofs.Actions.Natures.{nature, plain}
 use Rattle.world_laws.proofs.Actions.Kept.Combinators.{Keeps, From, Alters, Gives, branch-keeps, changes-keeps, keeps-from, looks-keeps, looks_at-from, nothing-keeps, says-keeps, then-keeps, when-keeps, changes-from, changes_then-from}
 use Rattle.world_laws.proofs.Actions.Kept.Tasks.{edit_frames-alters}
-use Rattle.std.proofs.Common.{◌≡◌, List, [], ◌∷◌, refl, ap}
+use Rattle.world_laws.proofs.Actions.GoodMoves.{first-natures}
+use Rattle.std.proofs.Common.{◌≡◌, refl}
+use Rattle.machine_laws.proofs.FineMoves.{GoodWorld, Naming}
 
 -- an edit of a mark on top
-pub first-natures : (f : Frame → Frame) (fs : List Frame) → ((x : Frame) → nature (f x).mark ≡ nature x.mark) → natures (edit_first f fs) ≡ natures fs
-first-natures f [] same = refl
-first-natures f (x ∷ xs) same = ap (λ n. n ∷ natures xs) (same x)
 
 module _ {G : GoodWorld} {F : Naming} (moves : FineMoves G F) where
   pub edit_top-alters : (name : Who) (f : Frame → Frame) → ((x : Frame) → nature (f x).mark ≡ nature x.mark) → Alters G (edit_top name f)

@@ -40,8 +40,8 @@ use Rattle.profile_machine.specs.Handlers.{add_release, says_release, wake_agent
 use Rattle.std.proofs.Common.{◌≡◌, refl, []}
 use Rattle.machine_laws.proofs.Moves.{LetsIn}
 use Rattle.world_laws.proofs.Actions.FineMoves.{FineMoves}
-use Rattle.world_laws.proofs.Actions.Sound.{GoodWorld, Naming, Free, Good}
-use Rattle.world_laws.proofs.Actions.Kept.Protected.{begin_action_on-from, find_held-keeps}
+use Rattle.world_laws.proofs.Actions.Sound.{Free, Good}
+use Rattle.world_laws.proofs.Actions.Kept.Protected.{begin_action_on-from, find_held-keeps, beside}
 use Rattle.world_laws.proofs.Actions.Kept.Serving.{end_release-keeps}
 use Rattle.world_laws.proofs.Actions.Kept.Combinators.{Keeps, From, Alters, either-from, looks_at-from, then-from, changes-keeps, for_some-keeps, keeps-from, looks-from, looks-keeps, nothing-keeps, says-keeps, sees-keeps, then-keeps, unchanged-alters}
 use Rattle.world_laws.proofs.Actions.Kept.Frames.{becomes-from, goes-keeps, given-keeps, raise_if-keeps}
@@ -51,10 +51,12 @@ use Rattle.world_laws.proofs.Actions.Kept.Scopes.{opens-alters}
 use Rattle.world_laws.proofs.Actions.Kept.Appointments.{drop_appointment-alters}
 use Rattle.world_laws.proofs.Actions.Kept.CallEnds.{store-gives}
 use Rattle.machine_laws.proofs.Kept.Entering.{entering-inside}
-use Rattle.world_laws.proofs.Actions.GoodMoves.{Awake, Nobody, good_moves}
+use Rattle.world_laws.proofs.Actions.GoodMoves.{Awake, good_moves}
 use Rattle.world_laws.proofs.Actions.Kept.Switching.{Only, only-from}
 use Rattle.profile_machine.specs.Appointments.{appoint}
 use Rattle.machine_laws.proofs.Kept.Handlers.{spent-frames, spent-master, spent-state, spent-who}
+use Rattle.machine_laws.proofs.FineMoves.{GoodWorld, Naming}
+use Rattle.line_laws.proofs.Leaving.Modes.{Nobody}
 
 spent-inherited : (robin : Bool) (t : world.Task) → (cond robin (record t { quantum = t.quantum - 1 }) t).inherited ≡ t.inherited
 spent-inherited true t = refl
@@ -221,9 +223,6 @@ module _ {G : GoodWorld} {F : Naming} (moves : FineMoves G F) where
   set_timer-keeps p name s d set named = search (sees-keeps, given-keeps, setting_of-keeps, goes-keeps, then-keeps, changes-keeps, clear_timer-alters, timer_set_to-keeps) depth 9
 
 -- ---- the handler of a release: of the agent, which is ready and has no marks
-
-abbrev beside : FineMoves (Good Nobody) Nobody
-beside = good_moves Nobody
 
 begin_handler-from : (p : Image) (r : Release) (w : World) → Good Nobody w → Awake who.Agent w → Free who.Agent w → LetsIn who.Agent r.handler.object Write w → From (Good Nobody) w (begin_handler p r)
 unfolding begin_handler

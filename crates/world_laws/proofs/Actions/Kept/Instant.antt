@@ -20,8 +20,8 @@ use Rattle.profile_machine.specs.Act.{act}
 use Rattle.profile_machine.specs.Appointments.{first_due}
 use Rattle.profile_machine.specs.Instant.{effect, is_over, effect_of_runner, finish_action, with_port, with_masked, with_kept_interrupt, interrupt_comes, deliver_kept_interrupt, script_item, with_script, take_item, items_due, script_items, take_delay, end_delay, time_out, come_due, take_due, all_due, appointments_due, events_due, moments_due, expire, expire_timer, no_timers_due, timers_due, run_out, no_budget_due, budgets_due, spend_quantum, quantum_spent, instant}
 use Rattle.world_laws.proofs.Actions.FineMoves.{FineMoves}
-use Rattle.world_laws.proofs.Actions.Sound.{GoodWorld, Naming, Good}
-use Rattle.world_laws.proofs.Actions.Kept.Combinators.{Keeps, From, Leads, Alters, changes-from, changes_then-from, changes-keeps, for_each-keeps, for_some-keeps, keeps-from, looks-from, looks-keeps, nothing-keeps, says-keeps, then-from, then-keeps, then-leads, when-keeps, world_behind}
+use Rattle.world_laws.proofs.Actions.Sound.{Good}
+use Rattle.world_laws.proofs.Actions.Kept.Combinators.{Keeps, From, Leads, Alters, changes-from, changes_then-from, changes-keeps, for_each-keeps, for_some-keeps, keeps-from, looks-from, looks-keeps, nothing-keeps, says-keeps, then-from, then-keeps, then-leads, when-keeps}
 use Rattle.world_laws.proofs.Actions.Kept.Dispatching.{to_tail-keeps, ready-keeps}
 use Rattle.world_laws.proofs.Actions.Kept.Frames.{goes-keeps, open_sequence-keeps, open_if_ready-keeps}
 use Rattle.world_laws.proofs.Actions.Kept.Appointments.{drop_appointment-alters}
@@ -33,10 +33,14 @@ use Rattle.world_laws.proofs.Actions.Kept.Handlers.{interrupt-keeps, clear_timer
 use Rattle.world_laws.proofs.Actions.Kept.Act.{act-from}
 use Rattle.profile_machine.specs.Values.{budget_of}
 use Rattle.profile_machine.specs.Handlers.{clear_timer}
-use Rattle.world_laws.proofs.Actions.GoodMoves.{Awake, Nobody, awake-edited, good_moves}
+use Rattle.world_laws.proofs.Actions.GoodMoves.{Awake, awake-edited}
+use Rattle.world_laws.proofs.Actions.Kept.Protected.{beside}
 use Rattle.trace_text.specs.declared.events.Event.{Event}
 use Rattle.profile_machine.specs.Lines.{event_of}
 use Rattle.profile_machine.specs.Masters.{terminate}
+use Rattle.machine_laws.proofs.FineMoves.{GoodWorld, Naming}
+use Rattle.machine_laws.proofs.Kept.Combinators.{world_behind}
+use Rattle.line_laws.proofs.Leaving.Modes.{Nobody}
 
 settled-good : (G : GoodWorld) → ((lines : List Event) (v : World) → G v → G (placed_by lines v)) → (p : Image) (d : Done) → G (world_behind d) → G (settled p d).0
 settled-good G placed p (done v said) good = placed (map (λ x. event_of p x.line) (in_order said)) v good
@@ -178,9 +182,6 @@ module _ {G : GoodWorld} {F : Naming} (moves : FineMoves G F) (placed : (lines :
   behind_action-leads p = search (then-leads, script_items-leads, events_due-leads, moments_due-leads, timers_due-leads, budgets_due-leads, quantum_spent-leads) depth 8
 
 -- ---- the effect of who is ready, and the instant
-
-abbrev beside : FineMoves (Good Nobody) Nobody
-beside = good_moves Nobody
 
 effect-from : (p : Image) (name : Who) (w : World) → Good Nobody w → Awake name w → From (Good Nobody) w (effect p name)
 unfolding effect

@@ -17,7 +17,6 @@ use Rattle.profile_machine.specs.Frames.{leaves}
 use Rattle.profile_machine.specs.Appointments.{drop_delay}
 use Rattle.profile_machine.specs.Masters.{gone_by_completion, wake_activator, end_group, end_activation_by, end_activation, complete_with, complete, wake_master, forget_task, terminate, leave_by_terminate}
 use Rattle.world_laws.proofs.Actions.FineMoves.{FineMoves}
-use Rattle.world_laws.proofs.Actions.Sound.{GoodWorld, Naming}
 use Rattle.world_laws.proofs.Actions.Kept.Combinators.{Keeps, Alters, changes-keeps, cond-keeps, for_each-keeps, for_some-keeps, looks-keeps, nothing-keeps, then-keeps, when-keeps}
 use Rattle.world_laws.proofs.Actions.Kept.Tasks.{edit_task-alters}
 use Rattle.world_laws.proofs.Actions.Kept.Dispatching.{runnable-keeps, ready-keeps}
@@ -25,6 +24,7 @@ use Rattle.world_laws.proofs.Actions.Kept.Frames.{leaves-keeps, raises-keeps, op
 use Rattle.world_laws.proofs.Actions.Kept.Inheritance.{lose-alters}
 use Rattle.world_laws.proofs.Actions.Kept.Appointments.{drop_delay-alters}
 use Rattle.world_laws.proofs.Actions.Kept.CallEnds.{end_call-keeps, gone-keeps}
+use Rattle.machine_laws.proofs.FineMoves.{GoodWorld, Naming}
 
 module _ {G : GoodWorld} {F : Naming} (moves : FineMoves G F) where
   pub gone_by_completion-keeps : (p : Image) (actor : Who) (c : Call) → Keeps G (gone_by_completion p actor c)

@@ -24,8 +24,8 @@ use Rattle.profile_machine.specs.Calls.{place_of_entry, take_call, put_call}
 use Rattle.profile_machine.specs.Masters.{part_of}
 use Rattle.profile_machine.specs.Priorities.{placed_anew, reprioritize, reprioritize_own, replace_in, says_base, set_base, says_deadline, set_deadline, take_base, take_deadline, set_deferred, placing_of, defer_base, set_or_defer_base, set_base_of, priority_in_range, set_priority, quantum_of, set_quantum, defer_deadline, set_or_defer_deadline, set_deadline_of, delay_with_deadline, delay_and_set_deadline, is_edf_base}
 use Rattle.world_laws.proofs.Actions.FineMoves.{FineMoves}
-use Rattle.world_laws.proofs.Actions.Sound.{GoodWorld, Naming, Good}
-use Rattle.world_laws.proofs.Actions.GoodMoves.{Nobody, good_moves, free-by_test}
+use Rattle.world_laws.proofs.Actions.Sound.{Good}
+use Rattle.world_laws.proofs.Actions.GoodMoves.{good_moves, free-by_test}
 use Rattle.world_laws.proofs.Actions.Kept.Switching.{Only, only-from}
 use Rattle.world_laws.proofs.Actions.Kept.Combinators.{Keeps, Alters, branch-keeps, changes-keeps, for_some-keeps, looks-keeps, nothing-keeps, says-keeps, sees-keeps, then-keeps, when-keeps, looks-from}
 use Rattle.world_laws.proofs.Actions.Kept.Tasks.{edit_task-alters}
@@ -34,6 +34,8 @@ use Rattle.world_laws.proofs.Actions.Kept.Frames.{goes-keeps, given-keeps, raise
 use Rattle.world_laws.proofs.Actions.Kept.Calls.{edit_call-alters, with_call-keeps, edit_queue-alters}
 use Rattle.world_laws.proofs.Actions.Kept.Statements.{delay_to-keeps}
 use Rattle.std.proofs.Common.{refl}
+use Rattle.machine_laws.proofs.FineMoves.{GoodWorld, Naming}
+use Rattle.line_laws.proofs.Leaving.Modes.{Nobody}
 
 module _ {G : GoodWorld} {F : Naming} (moves : FineMoves G F) where
   pub placed_anew-alters : (queuing : Queuing) (p : Image) (c : Call) (level : ℕ) → Alters G (placed_anew queuing p c level)

@@ -36,13 +36,15 @@ use Rattle.profile_machine.specs.declared.world.marks.Purpose.TheVariants as ope
 use Rattle.profile_machine.specs.Protected.{entering, ceiling_of, new_protected_mark, mode_of, find_held, enter_or, where_let_inside, open_action, begin_action_on, begin_operation, call_operation_of, call_operation, begin_own_operation, call_own_operation, edit_top_protected, begin_call, body_opens, has_room_for_body, serve_call, edit_protected, has_object_open, body_of_object}
 use Rattle.machine_laws.proofs.Moves.{LetsIn}
 use Rattle.world_laws.proofs.Actions.FineMoves.{FineMoves}
-use Rattle.world_laws.proofs.Actions.Sound.{GoodWorld, Naming, Free, Good, ReleaseSound, OwnSound}
+use Rattle.world_laws.proofs.Actions.Sound.{Free, Good, ReleaseSound, OwnSound}
 use Rattle.world_laws.proofs.Actions.SoundActions.{begin-good}
-use Rattle.world_laws.proofs.Actions.GoodMoves.{Nobody, good_moves, Awake, awake-edited}
+use Rattle.world_laws.proofs.Actions.GoodMoves.{good_moves, Awake, awake-edited}
 use Rattle.std.proofs.lemmas.Bool.{false≢true}
 use Rattle.world_laws.proofs.Actions.Natures.{nature}
 use Rattle.machine_laws.proofs.Kept.Entering.{entering-inside, LetsIn-same, edit_task-objects}
-use Rattle.world_laws.proofs.Actions.Kept.Combinators.{Keeps, From, Alters, branch-keeps, changes-keeps, keeps-from, looks-keeps, says-keeps, sees-keeps, then-from, then-keeps, looks_at-from, world_behind}
+use Rattle.machine_laws.proofs.FineMoves.{GoodWorld, Naming}
+use Rattle.machine_laws.proofs.Kept.Combinators.{world_behind}
+use Rattle.world_laws.proofs.Actions.Kept.Combinators.{Keeps, From, Alters, branch-keeps, changes-keeps, keeps-from, looks-keeps, says-keeps, sees-keeps, then-from, then-keeps, looks_at-from}
 use Rattle.world_laws.proofs.Actions.Kept.Dispatching.{to_tail-keeps}
 use Rattle.world_laws.proofs.Actions.Kept.Frames.{edit_top-alters, goes_then-from, raises-keeps, with_room-keeps, raise_if-from, given-from, with_room-from}
 use Rattle.world_laws.proofs.Actions.Kept.Scopes.{opens-alters}
@@ -51,6 +53,7 @@ use Rattle.world_laws.proofs.Actions.Kept.Subprograms.{begin_body-keeps, handing
 use Rattle.profile_machine.specs.declared.world.marks.Mark.{Mark}
 use Rattle.profile_machine.specs.declared.world.marks.Mark.TheVariants.{Scope, Handled, InProtected, InAccept, Abortable, InInitialize, InFinalize, InAssign}
 use Rattle.profile_machine.specs.Subprograms.{result_to, handed, handing}
+use Rattle.line_laws.proofs.Leaving.Modes.{Nobody}
 
 -- a protected action's object is not edited, nor the release and the call of one's own that end with it
 pub protected-nature : (f : ProtectedMark → ProtectedMark) → ((m : ProtectedMark) → nature (InProtected (f m)) ≡ nature (InProtected m)) → (mark : Mark) → nature (edit_protected f mark) ≡ nature mark
@@ -123,7 +126,7 @@ begin_action_on-from p name o mode call release w good awake lets low rel self s
     head-behind (Good Nobody) p name (rises p name v heir) (changes (push name (new_frame (new_protected_mark o mode call release) None))) heir _
     (λ ys. begin-good name o mode call release w lets awake Nobody (λ n. n) low rel self good)
 
-abbrev beside : FineMoves (Good Nobody) Nobody
+abbrev pub beside : FineMoves (Good Nobody) Nobody
 beside = good_moves Nobody
 
 begin_operation-from : (p : Image) (name : Who) (s : StatementNo) (f : SubprogramNo) (o : ObjectNo) (h : Handed) (to : ResultTo) (w : World) → Good Nobody w → Awake name w → LetsIn name o (mode_of (subprogram_of p f)) w → From (Good Nobody) w (begin_operation p name s f o h to)

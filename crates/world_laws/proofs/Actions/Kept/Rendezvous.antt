@@ -12,7 +12,6 @@ use Rattle.profile_machine.specs.declared.run_data.Leaving.{Leaving}
 use Rattle.profile_machine.specs.declared.run_data.Leaving.TheVariants as how
 use Rattle.profile_machine.specs.declared.statements.SelectAlternative.{SelectAlternative}
 use Rattle.profile_machine.specs.declared.statements.SelectKind.{SelectKind}
-use Rattle.profile_machine.specs.declared.values.Value.{Value}
 use Rattle.profile_machine.specs.declared.world.World.{World}
 use Rattle.profile_machine.specs.declared.world.marks.Mark.{Mark}
 use Rattle.profile_machine.specs.declared.world.marks.AcceptMark.{AcceptMark}
@@ -31,14 +30,12 @@ use Rattle.profile_machine.specs.Steps.{Step, changes, ◌▷◌, looks, says}
 use Rattle.profile_machine.specs.Frames.{new_frame, pop, top_of, is_protected, in_protected}
 use Rattle.profile_machine.specs.Scopes.{begin_scope, next_id, plainly, innermost, end_scope, cells_of, scope_in_use}
 use Rattle.profile_machine.specs.Appointments.{drop_delay}
-use Rattle.profile_machine.specs.Calls.{formals_count, parameters_of, edit_call, with_call, next_call, place_of_entry, enqueue}
-use Rattle.profile_machine.specs.Serving.{with_values}
+use Rattle.profile_machine.specs.Calls.{parameters_of, edit_call, with_call, next_call, place_of_entry, enqueue}
 use Rattle.profile_machine.specs.Rendezvous.{accept_scope, open_accept, has_room_for_accept, begin_accept, finish_without_room, accept_with_room, accept_call, meet_with_room, meet_without_room, meet, accept_or_wait, accept, accept_chosen, wait_at_select, appoint_delay, select_delay, select_wait, select_otherwise, select_by_call, select_open, selective_accept, gone_sent, meet_sent, arrive_at, arrive, finish_accept, finish_rendezvous, behind_accept, finished_call, end_in_accept, own_queue, open_alternatives, open_delays, accept_for, is_callable}
 use Rattle.std.proofs.Common.{◌≡◌, refl}
 use Rattle.world_laws.proofs.Actions.FineMoves.{FineMoves}
-use Rattle.world_laws.proofs.Actions.Sound.{GoodWorld, Naming, Good}
+use Rattle.world_laws.proofs.Actions.Sound.{Good}
 use Rattle.world_laws.proofs.Actions.Kept.Combinators.{Keeps, From, Alters, branch-keeps, changes-keeps, for_some-keeps, keeps-from, looks-from, looks-keeps, nothing-keeps, says-keeps, then-from, then-keeps, unchanged-alters, changes_then-from, looks_at-from}
-use Rattle.world_laws.proofs.Actions.Kept.Serving.{keeps_sending-number, keeps_sending-caller}
 use Rattle.world_laws.proofs.Actions.Kept.Dispatching.{ready-keeps, block-keeps, blocked-keeps}
 use Rattle.world_laws.proofs.Actions.Kept.Frames.{goes-keeps, raises-keeps, open_sequence-keeps, pass_on-keeps, raise_if-keeps, goes_then-from, popped, given-from, raise_if-from}
 use Rattle.world_laws.proofs.Actions.Kept.Scopes.{end_scope-alters}
@@ -46,14 +43,15 @@ use Rattle.world_laws.proofs.Actions.Kept.Inheritance.{inherit-alters, inherit_r
 use Rattle.world_laws.proofs.Actions.Kept.Appointments.{appoint-from, drop_delay-alters}
 use Rattle.world_laws.proofs.Actions.Kept.Calls.{edit_call-alters, with_call-keeps, enqueue-keeps}
 use Rattle.world_laws.proofs.Actions.Kept.CallEnds.{deliver-keeps, gone-keeps}
-use Rattle.world_laws.proofs.Actions.Kept.Protected.{begin_call-keeps}
+use Rattle.world_laws.proofs.Actions.Kept.Protected.{begin_call-keeps, beside}
 use Rattle.world_laws.proofs.Actions.Kept.Sending.{send_on-keeps, begin_abortable-keeps, sent_not_begun-keeps}
 use Rattle.profile_machine.specs.Values.{seen_by}
 use Rattle.profile_machine.specs.Inheritance.{lose_running}
 use Rattle.profile_machine.specs.declared.world.marks.Frame.{Frame}
 use Rattle.profile_machine.specs.declared.world.lines.Part.TheVariants.{Own, TheFinish}
-use Rattle.world_laws.proofs.Actions.GoodMoves.{Nobody, free-by_test, good_moves}
+use Rattle.world_laws.proofs.Actions.GoodMoves.{free-by_test, good_moves}
 use Rattle.world_laws.proofs.Actions.Kept.Switching.{Only, only-from}
+use Rattle.world_laws.proofs.Appointments.Kept.Rendezvous.{finished_call-caller}
 use Rattle.profile_machine.specs.declared.world.lines.Line.{Line}
 use Rattle.profile_machine.specs.Sending.{begin_abortable, send_on}
 use Rattle.profile_machine.specs.declared.world.calls.Outcome.TheVariants as call_ended
@@ -61,12 +59,9 @@ use Rattle.profile_machine.specs.CallEnds.{deliver}
 use Rattle.profile_machine.specs.declared.world.lines.Line.TheVariants as line
 use Rattle.profile_machine.specs.declared.world.lines.MeetingEnd.TheVariants as meeting
 use Rattle.profile_machine.specs.Tasks.{waiting_of}
-
-finished_call-number : (p : Image) (cells : List Value) (leaving : Leaving) (c : Call) → (finished_call p cells leaving c).number ≡ c.number
-finished_call-number p cells leaving c = keeps_sending-number leaving (with_values cells (formals_count p c) c)
-
-finished_call-caller : (p : Image) (cells : List Value) (leaving : Leaving) (c : Call) → (finished_call p cells leaving c).caller ≡ c.caller
-finished_call-caller p cells leaving c = keeps_sending-caller leaving (with_values cells (formals_count p c) c)
+use Rattle.machine_laws.proofs.FineMoves.{GoodWorld, Naming}
+use Rattle.line_laws.proofs.Leaving.Kept.Rendezvous.{finished_call-number}
+use Rattle.line_laws.proofs.Leaving.Modes.{Nobody}
 
 module _ {G : GoodWorld} {F : Naming} (moves : FineMoves G F) where
   open_accept-alters : (p : Image) (name : Who) (s : StatementNo) (c : Call) → Alters G (open_accept p name s c)
@@ -162,9 +157,6 @@ module _ {G : GoodWorld} {F : Naming} (moves : FineMoves G F) where
   behind_accept-keeps p name (how.Exception e) = search (pass_on-keeps)
   behind_accept-keeps p name how.Abort = search (pass_on-keeps)
   behind_accept-keeps p name how.Terminate = search (pass_on-keeps)
-
-abbrev beside : FineMoves (Good Nobody) Nobody
-beside = good_moves Nobody
 
 -- ---- an accept ends; a call that is sent on may begin an abortable part
 

@@ -24,11 +24,12 @@ use Rattle.profile_machine.specs.Scopes.{open_scope, plainly}
 use Rattle.profile_machine.specs.Run.{begin_action, blank_world, environment, environment_task, one_tick_less, opening, opens, say, says_idle, serve, serve_if_free, silently, spend_tick, tock}
 use Rattle.profile_machine.specs.Handlers.{charge}
 use Rattle.line_laws.proofs.Exits.TaskEdits.{one_of}
+use Rattle.line_laws.proofs.Leaving.Modes.{Nobody}
 use Rattle.machine_laws.proofs.Kept.Run.{before_tick, tock-parts}
 use Rattle.world_laws.proofs.Actions.Natures.{natures, guards, in_region}
 use Rattle.world_laws.proofs.Actions.Sound.{SureOf, SureOn, OneOwner, Sound, Good, marks_of}
 use Rattle.world_laws.proofs.Actions.FineMoves.{FineMoves}
-use Rattle.world_laws.proofs.Actions.GoodMoves.{Nobody, good_moves}
+use Rattle.world_laws.proofs.Actions.GoodMoves.{good_moves}
 use Rattle.world_laws.proofs.Actions.Kept.Combinators.{Alters, Leads, Keeps, changes-keeps, keeps-from, says-keeps, then-keeps, then-leads, watches-leads, rests-leads}
 use Rattle.world_laws.proofs.Actions.Kept.Dispatching.{to_tail-keeps}
 use Rattle.world_laws.proofs.Actions.Kept.Frames.{open_sequence-keeps}
@@ -36,6 +37,7 @@ use Rattle.world_laws.proofs.Actions.Kept.Handlers.{charge-alters}
 use Rattle.world_laws.proofs.Actions.Kept.Instant.{settles-good}
 use Rattle.world_laws.proofs.Actions.Kept.Scopes.{open_scope-alters}
 use Rattle.world_laws.proofs.Actions.Kept.Switching.{Only, less-from}
+use Rattle.world_laws.proofs.Actions.Kept.Protected.{beside}
 
 -- ---- at first nobody has a mark
 
@@ -83,9 +85,6 @@ opening-good p script =
     settles-good (Good Nobody) (λ lines v g. g) p (opens p) (blank_world p script) (less-from (Only environment) (opens p) (blank_world p script) (keeps-from first (opens p) (blank_world p script) (blank-good p script) (opens-keeps p)))
 
 -- ---- tocks
-
-abbrev beside : FineMoves (Good Nobody) Nobody
-beside = good_moves Nobody
 
 silently-leads : (f : World → World) → Alters (Good Nobody) f → Leads (Good Nobody) (silently f)
 unfolding Leads Alters

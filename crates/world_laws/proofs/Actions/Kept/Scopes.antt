@@ -12,8 +12,8 @@ use Rattle.world_laws.proofs.Actions.FineMoves.{FineMoves}
 use Rattle.profile_machine.specs.Tasking.{is_task_scope}
 use Rattle.std.proofs.Common.{◌≡◌, true, false, sym, ◌∙◌}
 use Rattle.std.proofs.lemmas.Bool.{false≢true}
-use Rattle.world_laws.proofs.Actions.Sound.{GoodWorld, Naming}
 use Rattle.world_laws.proofs.Actions.Kept.Combinators.{Alters}
+use Rattle.machine_laws.proofs.FineMoves.{GoodWorld, Naming}
 
 module _ {G : GoodWorld} {F : Naming} (moves : FineMoves G F) where
   pub edit_cells-alters : (id : ScopeId) (f : List Value → List Value) → Alters G (edit_cells id f)

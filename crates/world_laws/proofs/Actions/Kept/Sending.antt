@@ -16,8 +16,8 @@ use Rattle.profile_machine.specs.Calls.{call_of}
 use Rattle.profile_machine.specs.Appointments.{appoint}
 use Rattle.profile_machine.specs.Sending.{open_abortable, is_not_future, is_to_be_cancelled, cancel_at_once, appoint_timeout, wait_for_call, wait_or_cancel, not_accepted, send_on, cancel_sent, begin_abortable, timeout_again, sent_not_begun_by, sent_not_begun, new_abortable_mark, abortable_in, may_begin_abortable, is_triggering, may_time_out}
 use Rattle.world_laws.proofs.Actions.FineMoves.{FineMoves}
-use Rattle.world_laws.proofs.Actions.Sound.{GoodWorld, Naming, Good}
-use Rattle.world_laws.proofs.Actions.GoodMoves.{Nobody, good_moves, free-waiting}
+use Rattle.world_laws.proofs.Actions.Sound.{Good}
+use Rattle.world_laws.proofs.Actions.GoodMoves.{good_moves, free-waiting}
 use Rattle.trace_text.specs.declared.events.Who.TheVariants as who
 use Rattle.profile_machine.specs.declared.world.tasks.Waiting.{Waiting}
 use Rattle.world_laws.proofs.Actions.Kept.Switching.{Only, only-from}
@@ -32,6 +32,8 @@ use Rattle.profile_machine.specs.Dispatching.{ready}
 use Rattle.profile_machine.specs.CallEnds.{waits_for_call, abortable_depth}
 use Rattle.profile_machine.specs.Tasks.{waiting_of}
 use Rattle.profile_machine.specs.declared.world.tasks.Waiting.TheVariants as waits_for
+use Rattle.machine_laws.proofs.FineMoves.{GoodWorld, Naming}
+use Rattle.line_laws.proofs.Leaving.Modes.{Nobody}
 
 module _ {G : GoodWorld} {F : Naming} (moves : FineMoves G F) where
   pub open_abortable-alters : (p : Image) (name : Who) (select : StatementNo) (call : Option CallNo) → F name → Alters G (open_abortable p name select call)

@@ -36,29 +36,34 @@ use Rattle.profile_machine.specs.Dispatching.{to_head}
 use Rattle.profile_machine.specs.Steps.{Step, Done, done, goes_on_with, says, changes, when, for_some, ◌▷◌}
 use Rattle.profile_machine.specs.Protected.{served_next, edit_top_protected, begin_call, body_opens, serve_call, has_room_for_body}
 use Rattle.profile_machine.specs.Values.{object_of}
-use Rattle.profile_machine.specs.Serving.{serves_nothing, is_served_now, serve_ends, end_release, close_action, wait_or_unwind, wait_for_own, resume_own, behind_action, release_object, settle_sent, begins_part, chosen_is_sent, serve_chosen, serve_next, serve_calls, go_on_by_mode, end_operation, finish_raised, finish_well, finish_call, end_entry_body, end_in_protected_by, end_in_protected, keep_values, keeps_sending, end_body_of_entry, part_of_start, with_body_left, no_longer_serves, not_left, outcome_by, is_own_call, may_open_abortable}
+use Rattle.profile_machine.specs.Serving.{serves_nothing, is_served_now, serve_ends, end_release, close_action, wait_or_unwind, wait_for_own, resume_own, behind_action, release_object, settle_sent, begins_part, chosen_is_sent, serve_chosen, serve_next, serve_calls, go_on_by_mode, end_operation, finish_raised, finish_well, finish_call, end_entry_body, end_in_protected_by, end_in_protected, keep_values, end_body_of_entry, part_of_start, with_body_left, no_longer_serves, not_left, outcome_by, is_own_call, may_open_abortable}
 use Rattle.std.proofs.Common.{◌≡◌, refl, sym, subst}
 use Rattle.std.proofs.lemmas.Bool.{or_right}
 use Rattle.world_tables.specs.Lists.{rest_of}
 use Rattle.machine_laws.proofs.Moves.{own}
+use Rattle.machine_laws.proofs.FineMoves.{GoodWorld, Naming}
+use Rattle.machine_laws.proofs.Kept.Combinators.{world_behind}
+use Rattle.machine_laws.proofs.Kept.Serving.{keeps_sending-number}
 use Rattle.world_laws.proofs.Actions.FineMoves.{FineMoves}
-use Rattle.world_laws.proofs.Actions.Sound.{GoodWorld, Naming, Sound, Free, Good, MarksSound, ReleaseSound, OwnSound, marks_of}
+use Rattle.world_laws.proofs.Actions.Sound.{Sound, Free, Good, MarksSound, ReleaseSound, OwnSound, marks_of}
 use Rattle.world_laws.proofs.Actions.SoundEdits.{others-edited}
 use Rattle.world_laws.proofs.Actions.SoundActions.{top_nature, acted, end-good, end-once, end-free, lose_ceiling-good}
-use Rattle.world_laws.proofs.Actions.GoodMoves.{Nobody, good_moves}
+use Rattle.world_laws.proofs.Actions.GoodMoves.{good_moves}
 use Rattle.world_laws.proofs.Actions.KnownMoves.{GoodKnown, known-edited, known_moves}
 use Rattle.world_laws.proofs.Actions.Kept.Switching.{Only, less-from}
 use Rattle.world_laws.proofs.Actions.Natures.{Nature, nature, marks}
-use Rattle.world_laws.proofs.Actions.Kept.Combinators.{Keeps, From, world_behind, looks_at-from, either-from, changes-keeps, keeps-from, looks-from, looks-keeps, then-from, nothing-keeps, says-keeps, then-keeps, when-keeps, Alters, changes_then-from, for_some-from, says_then-from}
+use Rattle.world_laws.proofs.Actions.Kept.Combinators.{Keeps, From, looks_at-from, either-from, changes-keeps, keeps-from, looks-from, looks-keeps, then-from, nothing-keeps, says-keeps, then-keeps, when-keeps, Alters, changes_then-from, for_some-from, says_then-from}
 use Rattle.world_laws.proofs.Actions.Kept.Dispatching.{block-keeps, to_head-keeps}
 use Rattle.world_laws.proofs.Actions.Kept.Frames.{edit_top-alters, leaves-keeps, pass_on-keeps}
 use Rattle.world_laws.proofs.Actions.Kept.Calls.{edit_call-alters, forget_call-alters, with_call-keeps, enqueue-keeps, attempt_with-keeps}
 use Rattle.world_laws.proofs.Actions.Kept.CallEnds.{resume-keeps, deliver-keeps}
-use Rattle.world_laws.proofs.Actions.Kept.Protected.{edit_top_protected-alters, begin_call-keeps, body_opens-keeps}
+use Rattle.world_laws.proofs.Actions.Kept.Protected.{edit_top_protected-alters, begin_call-keeps, body_opens-keeps, beside}
 use Rattle.world_laws.proofs.Actions.Kept.Priorities.{set_deferred-keeps}
 use Rattle.world_laws.proofs.Actions.Kept.Sending.{open_abortable-alters, wait_for_call-keeps, send_on-keeps, begin_abortable-keeps, sent_not_begun-keeps}
 use Rattle.profile_machine.specs.declared.world.marks.Mark.TheVariants.{InProtected}
 use Rattle.profile_machine.specs.Tasks.{with_frames}
+use Rattle.line_laws.proofs.Leaving.Kept.Serving.{keeps_sending-caller}
+use Rattle.line_laws.proofs.Leaving.Modes.{Nobody}
 
 -- ---- the agent has served a release
 
@@ -104,9 +109,6 @@ module _ {G : GoodWorld} {F : Naming} (moves : FineMoves G F) where
       looks_at-from moves (λ u. changes f ▷ when (falls p name u (f u)) (to_head p ThePlacing name)) v
       (changes_then-from moves f (when (falls p name v (f v)) (to_head p ThePlacing name)) v
       (keeps-from moves _ (f v) good (when-keeps moves (falls p name v (f v)) (to_head p ThePlacing name) (to_head-keeps moves p ThePlacing name))))
-
-abbrev beside : FineMoves (Good Nobody) Nobody
-beside = good_moves Nobody
 
 -- ---- the action on top ends
 
@@ -287,22 +289,6 @@ module _ (p : Image) (name : Who) (m : ProtectedMark) (leaving : Leaving) where
   end_in_protected-from w h = by_body-from m.serves w h
 
 -- ---- the scope of an entry body has ended
-
-pub keeps_sending-number : (leaving : Leaving) (c : Call) → (keeps_sending leaving c).number ≡ c.number
-keeps_sending-number how.Return c = refl
-keeps_sending-number how.End c = refl
-keeps_sending-number (how.Exit loop) c = refl
-keeps_sending-number (how.Exception e) c = refl
-keeps_sending-number how.Abort c = refl
-keeps_sending-number how.Terminate c = refl
-
-pub keeps_sending-caller : (leaving : Leaving) (c : Call) → (keeps_sending leaving c).caller ≡ c.caller
-keeps_sending-caller how.Return c = refl
-keeps_sending-caller how.End c = refl
-keeps_sending-caller (how.Exit loop) c = refl
-keeps_sending-caller (how.Exception e) c = refl
-keeps_sending-caller how.Abort c = refl
-keeps_sending-caller how.Terminate c = refl
 
 module _ {G : GoodWorld} {F : Naming} (moves : FineMoves G F) where
   pub keep_values-keeps : (p : Image) (c : CallNo) (cells : List Value) → Keeps G (keep_values p c cells)

@@ -29,8 +29,8 @@ use Rattle.profile_machine.specs.CallEnds.{store}
 use Rattle.profile_machine.specs.Statements.{null, assign, cells_from, copy_cells, array_copied, assign_array, if_statement, go_to_alternative, case_statement, while_turn, loop_cell, put, first_bound, last_bound, bounds_set, for_bounds, first_turn, advance, later_turn, exit_where, exit_statement, block_statement, raise_again, wait_until, delay_to, delay_until, put_line}
 use Rattle.profile_machine.specs.Scopes.{put_cells}
 use Rattle.world_laws.proofs.Actions.FineMoves.{FineMoves}
-use Rattle.world_laws.proofs.Actions.Sound.{GoodWorld, Naming, Good}
-use Rattle.world_laws.proofs.Actions.GoodMoves.{Nobody, good_moves, free-by_test}
+use Rattle.world_laws.proofs.Actions.Sound.{Good}
+use Rattle.world_laws.proofs.Actions.GoodMoves.{good_moves, free-by_test}
 use Rattle.ann_base.specs.Results.{◌>>=◌}
 use Rattle.ann_base.specs.declared.exceptions.Raised.TheVariants as exception
 use Rattle.world_laws.proofs.Actions.Kept.Switching.{Only, only-from}
@@ -40,6 +40,8 @@ use Rattle.world_laws.proofs.Actions.Kept.Dispatching.{to_tail-keeps, block-keep
 use Rattle.world_laws.proofs.Actions.Kept.Scopes.{write_cell-alters, opens-alters}
 use Rattle.world_laws.proofs.Actions.Kept.Appointments.{appoint-from}
 use Rattle.world_laws.proofs.Actions.Kept.CallEnds.{store-gives}
+use Rattle.machine_laws.proofs.FineMoves.{GoodWorld, Naming}
+use Rattle.line_laws.proofs.Leaving.Modes.{Nobody}
 
 module _ {G : GoodWorld} {F : Naming} (moves : FineMoves G F) where
   pub null-keeps : (p : Image) (name : Who) (s : StatementNo) → Keeps G (null p name s)

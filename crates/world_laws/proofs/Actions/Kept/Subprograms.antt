@@ -28,12 +28,12 @@ use Rattle.profile_machine.specs.Values.{Seen, or_misfit, seen_by}
 use Rattle.profile_machine.specs.CallEnds.{store}
 use Rattle.profile_machine.specs.Subprograms.{begin_body, handing, call_subprogram, result_place, result_kept, return_result, return_value, drop_sending, return, cell_in, copy_parameters, last_cell, store_result, end_subprogram}
 use Rattle.world_laws.proofs.Actions.FineMoves.{FineMoves}
-use Rattle.world_laws.proofs.Actions.Sound.{GoodWorld, Naming}
 use Rattle.world_laws.proofs.Actions.Kept.Combinators.{Keeps, Alters, Gives, bind-gives, changes-keeps, looks-from, looks-keeps, nothing-keeps, ok-gives, sees-keeps, then-keeps, unchanged-alters}
 use Rattle.world_laws.proofs.Actions.Kept.Frames.{given_world-from, becomes-from, goes-keeps, leaves-keeps, given-keeps, raise_if-keeps, with_room-keeps}
 use Rattle.world_laws.proofs.Actions.Kept.Scopes.{opens-alters}
 use Rattle.world_laws.proofs.Actions.Kept.Calls.{edit_call-alters}
 use Rattle.world_laws.proofs.Actions.Kept.CallEnds.{store-gives}
+use Rattle.machine_laws.proofs.FineMoves.{GoodWorld, Naming}
 
 module _ {G : GoodWorld} {F : Naming} (moves : FineMoves G F) where
   pub handing-keeps : (p : Image) (name : Who) (f : SubprogramNo) (actuals : List Actual) (to : Destination) (step : Handed → ResultTo → Step) → ((x : Handed) (y : ResultTo) → Keeps G (step x y)) → Keeps G (handing p name f actuals to step)

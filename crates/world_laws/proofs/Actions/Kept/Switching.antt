@@ -3,9 +3,10 @@ use Rattle.std.proofs.Common.{◌≡◌, sym, subst}
 use Rattle.trace_text.specs.declared.events.Who.{Who}
 use Rattle.profile_machine.specs.declared.world.World.{World}
 use Rattle.profile_machine.specs.Steps.{Step}
-use Rattle.world_laws.proofs.Actions.Sound.{Naming, Sound, Free, Good}
-use Rattle.world_laws.proofs.Actions.GoodMoves.{Nobody}
+use Rattle.world_laws.proofs.Actions.Sound.{Sound, Free, Good}
 use Rattle.world_laws.proofs.Actions.Kept.Combinators.{Keeps, From}
+use Rattle.machine_laws.proofs.FineMoves.{Naming}
+use Rattle.line_laws.proofs.Leaving.Modes.{Nobody}
 
 abbrev pub Only : Who → Naming
 Only name n = n ≡ name

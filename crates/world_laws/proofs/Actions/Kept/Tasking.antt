@@ -32,9 +32,8 @@ use Rattle.profile_machine.specs.Tasking.{unit_of_declaration, optional_span, cr
 use Rattle.std.proofs.Common.{◌≡◌, refl, sym, ap, ◌∙◌, subst, ◌⊎◌, inl, inr}
 use Rattle.profile_machine.specs.Values.{seen_by}
 use Rattle.world_laws.proofs.Actions.FineMoves.{FineMoves}
-use Rattle.world_laws.proofs.Actions.Sound.{GoodWorld, Naming, Sound, Free, Good}
+use Rattle.world_laws.proofs.Actions.Sound.{Sound, Free, Good}
 use Rattle.std.proofs.lemmas.Bool.{and_parts, false≢true}
-use Rattle.line_laws.proofs.Exclusion.ObjectLists.{by_test}
 use Rattle.profile_machine.specs.declared.world.marks.Mark.TheVariants.{Scope}
 use Rattle.world_laws.proofs.Actions.Natures.{nature}
 use Rattle.world_laws.proofs.Actions.Kept.Combinators.{Keeps, From, Alters, branch-keeps, changes-keeps, for_each-keeps, for_some-keeps, looks-from, looks-keeps, nothing-keeps, says-keeps, sees-keeps, then-keeps, when-keeps, keeps-from, looks_at-from, changes_then-from, says_then-from, then-from, when-from}
@@ -58,11 +57,15 @@ use Rattle.profile_machine.specs.Unwinding.{strike_outermost}
 use Rattle.profile_machine.specs.Masters.{has_dependents, has_activating}
 use Rattle.world_laws.proofs.Actions.LonelyMoves.{GoodLonely, lonely_moves}
 use Rattle.world_laws.proofs.Actions.MadeTasks.{MadeOf, Member, filter-member, made-free}
-use Rattle.world_laws.proofs.Actions.GoodMoves.{Nobody, add_task-made, free-by_test, free-floor, free-region, good_moves}
+use Rattle.world_laws.proofs.Actions.GoodMoves.{add_task-made, free-by_test, free-floor, free-region, good_moves}
 use Rattle.world_laws.proofs.Actions.Kept.Switching.{Only, less-from, switch-from}
+use Rattle.world_laws.proofs.Actions.Kept.Protected.{beside}
 use Rattle.profile_machine.specs.Words.{is_the, same_region}
 use Rattle.profile_machine.specs.Inheritance.{inherit}
 use Rattle.profile_machine.specs.declared.world.tasks.Cause.TheVariants as inherited_by
+use Rattle.machine_laws.proofs.QueueLemmas.{by_test}
+use Rattle.machine_laws.proofs.FineMoves.{GoodWorld, Naming}
+use Rattle.line_laws.proofs.Leaving.Modes.{Nobody}
 
 module _ {G : GoodWorld} {F : Naming} (moves : FineMoves G F) where
   says_created-keeps : (d : DeclNo) (t : world.Task) → Keeps G (says_created d t)
@@ -210,9 +213,6 @@ module _ {G : GoodWorld} {F : Naming} (moves : FineMoves G F) where
       for_member-keeps (filter (is_made_in r) tasks) (end_made p name) (λ t m. let n = filter-member (is_made_in r) t tasks m in end_made-keeps p name t (free t n.0 ((and_parts (is_made t) (is_the same_region t.master r) n.1).0)))
 
 -- ---- who is in no protected action, and those that are only made, have none open
-
-abbrev beside : FineMoves (Good Nobody) Nobody
-beside = good_moves Nobody
 
 -- those that are only made, and one more
 abbrev MadeAnd : World → Who → Naming

@@ -9,7 +9,6 @@ use Rattle.profile_machine.specs.declared.world.tasks.State.TheVariants.{Made, R
 use Rattle.profile_machine.specs.declared.world.lines.Part.{Part}
 use Rattle.profile_machine.specs.Unwinding.{struck_frame, edit_last, strike_outermost, leave_by_abort, stop_waiting, wake_and_leave, unwind_blocked, unwind_in, unwind}
 use Rattle.world_laws.proofs.Actions.FineMoves.{FineMoves}
-use Rattle.world_laws.proofs.Actions.Sound.{GoodWorld, Naming}
 use Rattle.world_laws.proofs.Actions.Natures.{nature, natures}
 use Rattle.std.proofs.Common.{◌≡◌, List, [], ◌∷◌, refl, ap}
 use Rattle.world_laws.proofs.Actions.Kept.Combinators.{Keeps, Alters, changes-keeps, looks-keeps, nothing-keeps, then-keeps, when-keeps}
@@ -18,6 +17,7 @@ use Rattle.world_laws.proofs.Actions.Kept.Dispatching.{ready-keeps}
 use Rattle.world_laws.proofs.Actions.Kept.Frames.{leaves-keeps}
 use Rattle.world_laws.proofs.Actions.Kept.Appointments.{drop_delay-alters}
 use Rattle.world_laws.proofs.Actions.Kept.Calls.{forget_call-alters, attempt-keeps}
+use Rattle.machine_laws.proofs.FineMoves.{GoodWorld, Naming}
 
 -- who is struck has the marks that it had
 last-natures : (fs : List Frame) → natures (edit_last struck_frame fs) ≡ natures fs

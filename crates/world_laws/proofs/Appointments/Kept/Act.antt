@@ -27,12 +27,14 @@ use Rattle.profile_machine.specs.Calls.{with_call, attempt_with}
 use Rattle.profile_machine.specs.Frames.{frames_of, leaving_of}
 use Rattle.profile_machine.specs.Steps.{changes, looks, ◌▷◌}
 use Rattle.machine_laws.proofs.Moves.{StepRelation, MoveRelation}
+use Rattle.machine_laws.proofs.FineMoves.{GoodWorld, Naming}
+use Rattle.machine_laws.proofs.Kept.Combinators.{Keeps, Alters}
 use Rattle.world_laws.proofs.Appointments.Delays.{nature}
-use Rattle.world_laws.proofs.Appointments.FineMoves.{GoodWorld, Naming, FineMoves}
+use Rattle.world_laws.proofs.Appointments.FineMoves.{FineMoves}
 use Rattle.world_laws.proofs.Appointments.Kept.Appointments.{drop_appointment-alters}
 use Rattle.world_laws.proofs.Appointments.Kept.CallEnds.{end_found_abortable-keeps, abortable-nature}
 use Rattle.world_laws.proofs.Appointments.Kept.Calls.{with_call-keeps, attempt_with-keeps}
-use Rattle.world_laws.proofs.Appointments.Kept.Combinators.{Keeps, Alters, changes-keeps, cond-keeps, looks-keeps, nothing-keeps, option-keeps, then-keeps, unchanged-alters}
+use Rattle.world_laws.proofs.Appointments.Kept.Combinators.{changes-keeps, cond-keeps, looks-keeps, nothing-keeps, option-keeps, then-keeps, unchanged-alters}
 use Rattle.world_laws.proofs.Appointments.Kept.Controlled.{end_in_initialize-keeps, end_in_finalize-keeps, end_in_assign-keeps, initialize-keeps, assign_controlled-keeps}
 use Rattle.world_laws.proofs.Appointments.Kept.Declarations.{declare-keeps}
 use Rattle.world_laws.proofs.Appointments.Kept.Dispatching.{block-keeps}

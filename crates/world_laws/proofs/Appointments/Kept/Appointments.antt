@@ -10,9 +10,10 @@ use Rattle.profile_machine.specs.Steps.{◌▷◌, Step, changes}
 use Rattle.machine_laws.proofs.Moves.{StepRelation, MoveRelation}
 use Rattle.world_laws.proofs.Appointments.DelayEdits.{dropped-idle}
 use Rattle.world_laws.proofs.Appointments.Delays.{Idle}
-use Rattle.world_laws.proofs.Appointments.FineMoves.{GoodWorld, Naming, FineMoves}
-use Rattle.world_laws.proofs.Appointments.Kept.Combinators.{changes_then-from, Alters}
-use Rattle.machine_laws.proofs.Kept.Combinators.{From}
+use Rattle.world_laws.proofs.Appointments.FineMoves.{FineMoves}
+use Rattle.world_laws.proofs.Appointments.Kept.Combinators.{changes_then-from}
+use Rattle.machine_laws.proofs.Kept.Combinators.{From, Alters}
+use Rattle.machine_laws.proofs.FineMoves.{GoodWorld, Naming}
 
 module _ {G : GoodWorld} {May : Naming} {R : StepRelation} {Q : MoveRelation} (moves : FineMoves G May R Q) where
   -- of what is no end of a delay

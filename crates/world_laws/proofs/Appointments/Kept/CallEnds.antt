@@ -31,14 +31,15 @@ use Rattle.profile_machine.specs.Tasks.{waiting_of}
 use Rattle.profile_machine.specs.WellFormed.{waits_for_delay}
 use Rattle.machine_laws.proofs.Moves.{StepRelation, MoveRelation}
 use Rattle.world_laws.proofs.Appointments.Delays.{Idle, nature, natures}
-use Rattle.world_laws.proofs.Appointments.FineMoves.{GoodWorld, Naming, FineMoves}
+use Rattle.world_laws.proofs.Appointments.FineMoves.{FineMoves}
 use Rattle.world_laws.proofs.Appointments.Kept.Calls.{edit_call-alters, forget_call-alters, with_call-keeps, unqueued-alters}
-use Rattle.world_laws.proofs.Appointments.Kept.Combinators.{then-from, Keeps, Alters, bind-gives, branch-keeps, changes-keeps, looks-keeps, nothing-keeps, ok-gives, says-keeps, then-keeps, unchanged-alters, when-keeps, changes_then-from, keeps-from, looks-from}
+use Rattle.world_laws.proofs.Appointments.Kept.Combinators.{then-from, bind-gives, branch-keeps, changes-keeps, looks-keeps, nothing-keeps, ok-gives, says-keeps, then-keeps, unchanged-alters, when-keeps, changes_then-from, keeps-from, looks-from}
 use Rattle.world_laws.proofs.Appointments.Kept.Dispatching.{ready-from}
 use Rattle.world_laws.proofs.Appointments.Kept.Frames.{pop-alters, goes-keeps, leaves-keeps, raises-keeps, pass_on-keeps, open_sequence-keeps}
 use Rattle.world_laws.proofs.Appointments.Kept.Tasks.{edit_frames-alters}
 use Rattle.world_laws.proofs.Appointments.Kept.Unwinding.{unwind-keeps}
-use Rattle.machine_laws.proofs.Kept.Combinators.{From, Gives}
+use Rattle.machine_laws.proofs.Kept.Combinators.{From, Gives, Keeps, Alters}
+use Rattle.machine_laws.proofs.FineMoves.{GoodWorld, Naming}
 
 -- an edit of a mark somewhere, and of an abortable part
 at_depth-natures : (test : Bool) (f : Frame → Frame) (x : Frame) (xs ys : List Frame) → nature (f x).mark ≡ nature x.mark → natures ys ≡ natures xs → natures (cond test (f x ∷ xs) (x ∷ ys)) ≡ natures (x ∷ xs)

@@ -13,22 +13,17 @@ use Rattle.profile_machine.specs.Statements.{sees}
 use Rattle.profile_machine.specs.Steps.{Step, Move, Done, done, goes_on_with, nothing, changes, says, looks, when, for_some, for_each, placed_by, settled, settles, ◌▷◌, ◌▶◌}
 use Rattle.profile_machine.specs.Values.{Seen, seen_by}
 use Rattle.machine_laws.proofs.Moves.{StepRelation, MoveRelation, lines_of}
-use Rattle.world_laws.proofs.Appointments.FineMoves.{GoodWorld, Naming, FineMoves, is_apart}
-use Rattle.machine_laws.proofs.Kept.Combinators.{From, Gives, Kept}
+use Rattle.world_laws.proofs.Appointments.FineMoves.{FineMoves, is_apart}
+use Rattle.machine_laws.proofs.Kept.Combinators.{From, Gives, Kept, Keeps, Alters, Leads}
+use Rattle.machine_laws.proofs.FineMoves.{GoodWorld, Naming}
 
 -- ---- what it is to keep a relation
 
 -- a step leads from each good world, whatever was said before, to one that stands so to it
-unfoldable pub Keeps : GoodWorld → StepRelation → Step → Type 0
-Keeps G R step = (w : World) → G w → (said : List Said) → Kept R w said (step w said)
 
 -- a change of the world
-unfoldable pub Alters : GoodWorld → StepRelation → (World → World) → Type 0
-Alters G R f = (w : World) → G w → R w [] (f w)
 
 -- a move leads from each good world to one that stands so to it
-unfoldable pub Leads : GoodWorld → MoveRelation → Move → Type 0
-Leads G Q move = (w : World) → G w → Q w (move w).1 (move w).0
 
 module _ {G : GoodWorld} {May : Naming} {R : StepRelation} {Q : MoveRelation} (moves : FineMoves G May R Q) where
   -- ---- what steps lead to

@@ -27,9 +27,11 @@ use Rattle.profile_machine.specs.Scopes.{write_cell, put_cells}
 use Rattle.profile_machine.specs.Statements.{cells_from}
 use Rattle.profile_machine.specs.Steps.{says, changes, ◌▷◌}
 use Rattle.machine_laws.proofs.Moves.{StepRelation, MoveRelation}
+use Rattle.machine_laws.proofs.FineMoves.{GoodWorld, Naming}
+use Rattle.machine_laws.proofs.Kept.Combinators.{Keeps, Alters}
 use Rattle.world_laws.proofs.Appointments.Delays.{nature}
-use Rattle.world_laws.proofs.Appointments.FineMoves.{GoodWorld, Naming, FineMoves}
-use Rattle.world_laws.proofs.Appointments.Kept.Combinators.{Keeps, Alters, branch-keeps, changes-from, changes-keeps, cond-keeps, looks-from, looks-keeps, nothing-keeps, says-keeps, sees-keeps, then-from, then-keeps, when-keeps}
+use Rattle.world_laws.proofs.Appointments.FineMoves.{FineMoves}
+use Rattle.world_laws.proofs.Appointments.Kept.Combinators.{branch-keeps, changes-from, changes-keeps, cond-keeps, looks-from, looks-keeps, nothing-keeps, says-keeps, sees-keeps, then-from, then-keeps, when-keeps}
 use Rattle.world_laws.proofs.Appointments.Kept.Frames.{pop-alters, edit_top-alters, goes-keeps, push-alters, leaves-keeps, raises-keeps, pass_on-keeps, given-keeps, with_room-keeps}
 use Rattle.world_laws.proofs.Appointments.Kept.Scopes.{write_cell-alters, open_scope-alters}
 

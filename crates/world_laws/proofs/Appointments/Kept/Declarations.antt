@@ -33,13 +33,14 @@ use Rattle.profile_machine.specs.Scopes.{put_cells}
 use Rattle.profile_machine.specs.Steps.{changes, ◌▷◌}
 use Rattle.profile_machine.specs.Values.{Seen, value, object_cell, component_at, seen_by}
 use Rattle.machine_laws.proofs.Moves.{StepRelation, MoveRelation}
-use Rattle.world_laws.proofs.Appointments.FineMoves.{GoodWorld, Naming, FineMoves}
+use Rattle.world_laws.proofs.Appointments.FineMoves.{FineMoves}
 use Rattle.world_laws.proofs.Appointments.Kept.CallEnds.{store-gives}
-use Rattle.world_laws.proofs.Appointments.Kept.Combinators.{Keeps, Alters, bind-gives, changes-keeps, looks-from, next-gives, ok-gives, then-keeps, looks-keeps, says-keeps}
+use Rattle.world_laws.proofs.Appointments.Kept.Combinators.{bind-gives, changes-keeps, looks-from, next-gives, ok-gives, then-keeps, looks-keeps, says-keeps}
 use Rattle.world_laws.proofs.Appointments.Kept.Frames.{given-from, given_world-from, goes-keeps}
 use Rattle.world_laws.proofs.Appointments.Kept.Scopes.{write_cell-alters}
 use Rattle.world_laws.proofs.Appointments.Kept.Statements.{copy_cells-alters}
-use Rattle.machine_laws.proofs.Kept.Combinators.{Gives}
+use Rattle.machine_laws.proofs.Kept.Combinators.{Gives, Keeps, Alters}
+use Rattle.machine_laws.proofs.FineMoves.{GoodWorld, Naming}
 
 module _ {G : GoodWorld} {May : Naming} {R : StepRelation} {Q : MoveRelation} (moves : FineMoves G May R Q) where
   set_defaults-alters : (p : Image) (v : Variable) → Alters G R (set_defaults p v)

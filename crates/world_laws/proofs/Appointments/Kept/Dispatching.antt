@@ -16,11 +16,12 @@ use Rattle.profile_machine.specs.Steps.{Step, changes, says, ◌▷◌}
 use Rattle.profile_machine.specs.Tasks.{task_of, edit_task, with_state}
 use Rattle.machine_laws.proofs.Moves.{StepRelation, MoveRelation}
 use Rattle.world_laws.proofs.Appointments.Delays.{Idle}
-use Rattle.world_laws.proofs.Appointments.FineMoves.{GoodWorld, Naming, FineMoves}
-use Rattle.world_laws.proofs.Appointments.Kept.Combinators.{then_at-from, Keeps, Alters, changes-keeps, changes_then-from, from-keeps, keeps-from, said-from, said-keeps, then-keeps, looks_at-from}
+use Rattle.world_laws.proofs.Appointments.FineMoves.{FineMoves}
+use Rattle.world_laws.proofs.Appointments.Kept.Combinators.{then_at-from, changes-keeps, changes_then-from, from-keeps, keeps-from, said-from, said-keeps, then-keeps, looks_at-from}
 use Rattle.world_laws.proofs.Appointments.Kept.Tasks.{edit_task-alters}
-use Rattle.machine_laws.proofs.Kept.Combinators.{From}
+use Rattle.machine_laws.proofs.Kept.Combinators.{From, Keeps, Alters}
 use Rattle.machine_laws.proofs.Kept.Dispatching.{full_quantum-frames, full_quantum-state, full_quantum-who}
+use Rattle.machine_laws.proofs.FineMoves.{GoodWorld, Naming}
 
 module _ {G : GoodWorld} {May : Naming} {R : StepRelation} {Q : MoveRelation} (moves : FineMoves G May R Q) where
   pub keep_level-alters : (p : Image) (name : Who) → Alters G R (keep_level p name)

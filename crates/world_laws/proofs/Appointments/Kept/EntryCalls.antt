@@ -39,17 +39,18 @@ use Rattle.profile_machine.specs.Steps.{Step, nothing}
 use Rattle.profile_machine.specs.Tasks.{waiting_of}
 use Rattle.machine_laws.proofs.Moves.{StepRelation, MoveRelation}
 use Rattle.world_laws.proofs.Appointments.Delays.{Caller}
-use Rattle.world_laws.proofs.Appointments.FineMoves.{GoodWorld, Naming, FineMoves}
+use Rattle.world_laws.proofs.Appointments.FineMoves.{FineMoves}
 use Rattle.world_laws.proofs.Appointments.Kept.Appointments.{appoint-alters}
 use Rattle.world_laws.proofs.Appointments.Kept.CallEnds.{gone-keeps}
 use Rattle.world_laws.proofs.Appointments.Kept.Calls.{edit_call-alters, forget_call-alters, says_call-keeps, enqueue-keeps}
-use Rattle.world_laws.proofs.Appointments.Kept.Combinators.{then_at-from, says-keeps, Keeps, Alters, either-from, then-from, changes-keeps, keeps-from, looks-from, looks-keeps, looks_at-from, nothing-keeps, sees-keeps, then-keeps, unchanged-alters, changes_then-from}
+use Rattle.world_laws.proofs.Appointments.Kept.Combinators.{then_at-from, says-keeps, either-from, then-from, changes-keeps, keeps-from, looks-from, looks-keeps, looks_at-from, nothing-keeps, sees-keeps, then-keeps, unchanged-alters, changes_then-from}
 use Rattle.world_laws.proofs.Appointments.Kept.Dispatching.{block-keeps}
 use Rattle.world_laws.proofs.Appointments.Kept.Frames.{goes-keeps, leaves-keeps, raises-keeps, given-keeps, raise_if-keeps, with_room-keeps}
 use Rattle.world_laws.proofs.Appointments.Kept.Protected.{where_let_inside-keeps, begin_action_on-from, serve_call-keeps}
 use Rattle.world_laws.proofs.Appointments.Kept.Rendezvous.{meet-keeps}
 use Rattle.world_laws.proofs.Appointments.Kept.Sending.{open_abortable-alters, not_accepted-keeps}
-use Rattle.machine_laws.proofs.Kept.Combinators.{From}
+use Rattle.machine_laws.proofs.Kept.Combinators.{From, Keeps, Alters}
+use Rattle.machine_laws.proofs.FineMoves.{GoodWorld, Naming}
 
 module _ {G : GoodWorld} {May : Naming} {R : StepRelation} {Q : MoveRelation} (moves : FineMoves G May R Q) where
   add_call-alters : (c : Call) → Alters G R (add_call c)

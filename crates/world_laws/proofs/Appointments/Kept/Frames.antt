@@ -21,10 +21,11 @@ use Rattle.profile_machine.specs.Program.{form_of, next_of}
 use Rattle.profile_machine.specs.Steps.{Step, changes, ◌▷◌}
 use Rattle.machine_laws.proofs.Moves.{StepRelation, MoveRelation}
 use Rattle.world_laws.proofs.Appointments.Delays.{nature, natures}
-use Rattle.world_laws.proofs.Appointments.FineMoves.{GoodWorld, Naming, FineMoves}
-use Rattle.world_laws.proofs.Appointments.Kept.Combinators.{Keeps, Alters, branch-keeps, changes-keeps, keeps-from, looks-keeps, nothing-keeps, says-keeps, then-keeps, when-keeps, changes-from, changes_then-from}
+use Rattle.world_laws.proofs.Appointments.FineMoves.{FineMoves}
+use Rattle.world_laws.proofs.Appointments.Kept.Combinators.{branch-keeps, changes-keeps, keeps-from, looks-keeps, nothing-keeps, says-keeps, then-keeps, when-keeps, changes-from, changes_then-from}
 use Rattle.world_laws.proofs.Appointments.Kept.Tasks.{edit_frames-alters}
-use Rattle.machine_laws.proofs.Kept.Combinators.{From, Gives}
+use Rattle.machine_laws.proofs.Kept.Combinators.{From, Gives, Keeps, Alters}
+use Rattle.machine_laws.proofs.FineMoves.{GoodWorld, Naming}
 
 -- an edit of a mark on top
 first-natures : (f : Frame → Frame) (fs : List Frame) → ((x : Frame) → nature (f x).mark ≡ nature x.mark) → natures (edit_first f fs) ≡ natures fs

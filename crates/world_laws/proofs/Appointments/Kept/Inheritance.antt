@@ -5,8 +5,10 @@ use Rattle.profile_machine.specs.declared.image.Image.{Image}
 use Rattle.profile_machine.specs.declared.world.tasks.Cause.{Cause}
 use Rattle.profile_machine.specs.Inheritance.{inherit, lose, inherit_running, lose_running}
 use Rattle.machine_laws.proofs.Moves.{StepRelation, MoveRelation}
-use Rattle.world_laws.proofs.Appointments.FineMoves.{GoodWorld, Naming, FineMoves}
-use Rattle.world_laws.proofs.Appointments.Kept.Combinators.{Keeps, Alters, changes-keeps, looks-keeps, then-keeps, when-keeps}
+use Rattle.machine_laws.proofs.FineMoves.{GoodWorld, Naming}
+use Rattle.machine_laws.proofs.Kept.Combinators.{Keeps, Alters}
+use Rattle.world_laws.proofs.Appointments.FineMoves.{FineMoves}
+use Rattle.world_laws.proofs.Appointments.Kept.Combinators.{changes-keeps, looks-keeps, then-keeps, when-keeps}
 use Rattle.world_laws.proofs.Appointments.Kept.Dispatching.{to_head-keeps}
 use Rattle.world_laws.proofs.Appointments.Kept.Tasks.{edit_task-alters}
 

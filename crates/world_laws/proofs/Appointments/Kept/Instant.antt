@@ -29,17 +29,18 @@ use Rattle.profile_machine.specs.Values.{is_event, budget_of}
 use Rattle.ann_base.specs.Lists.{is_empty}
 use Rattle.machine_laws.proofs.Moves.{StepRelation, MoveRelation}
 use Rattle.world_laws.proofs.Appointments.Delays.{Idle}
-use Rattle.world_laws.proofs.Appointments.FineMoves.{GoodWorld, Naming, FineMoves}
+use Rattle.world_laws.proofs.Appointments.FineMoves.{FineMoves}
 use Rattle.world_laws.proofs.Appointments.Kept.Appointments.{drops_then-from, drop_appointment-alters}
 use Rattle.world_laws.proofs.Appointments.Kept.CallEnds.{trigger_at-keeps, deliver-keeps}
 use Rattle.world_laws.proofs.Appointments.Kept.Calls.{with_call-keeps, unqueued-alters}
-use Rattle.world_laws.proofs.Appointments.Kept.Combinators.{from-keeps, Keeps, Leads, Alters, changes-keeps, for_each-keeps, for_some-keeps, keeps-from, looks-from, looks-keeps, nothing-keeps, says-keeps, settles-leads, then-from, then-keeps, then-leads}
+use Rattle.world_laws.proofs.Appointments.Kept.Combinators.{from-keeps, changes-keeps, for_each-keeps, for_some-keeps, keeps-from, looks-from, looks-keeps, nothing-keeps, says-keeps, settles-leads, then-from, then-keeps, then-leads}
 use Rattle.world_laws.proofs.Appointments.Kept.Dispatching.{to_tail-from, ready-from, idle_then-from}
 use Rattle.world_laws.proofs.Appointments.Kept.Frames.{goes-keeps, open_sequence-keeps}
 use Rattle.world_laws.proofs.Appointments.Kept.Handlers.{release-keeps, interrupt-keeps, clear_timer-alters}
 use Rattle.world_laws.proofs.Appointments.Kept.Priorities.{runs-idle}
 use Rattle.world_laws.proofs.Appointments.Kept.Unwinding.{unwind-keeps}
-use Rattle.machine_laws.proofs.Kept.Combinators.{From}
+use Rattle.machine_laws.proofs.Kept.Combinators.{From, Keeps, Alters, Leads}
+use Rattle.machine_laws.proofs.FineMoves.{GoodWorld, Naming}
 
 first_of_six : (a b c d e f : Bool) → (a && b && c && d && e && f) ≡ true → a ≡ true
 first_of_six true b c d e f h = refl

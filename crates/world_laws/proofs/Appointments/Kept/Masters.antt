@@ -1,5 +1,5 @@
 -- Completion, termination and masters: each step keeps a relation that its parts keep.
-use Rattle.std.proofs.Common.{◌≡◌, refl, subst}
+use Rattle.std.proofs.Common.{◌≡◌, refl}
 use Rattle.std.specs.Prelude.{Bool, true, false, not, ◌&&◌, cond, List, [], ◌∷◌, Option, Some, None, find}
 use Rattle.std.proofs.lemmas.Bool.{and_parts}
 use Rattle.ann_base.specs.declared.exceptions.Raised.TheVariants as exception
@@ -24,15 +24,17 @@ use Rattle.profile_machine.specs.WellFormed.{waits_for_delay}
 use Rattle.profile_machine.specs.Words.{same_who}
 use Rattle.machine_laws.proofs.Moves.{StepRelation, MoveRelation}
 use Rattle.world_laws.proofs.Appointments.Delays.{Idle, EachTask}
-use Rattle.world_laws.proofs.Appointments.FineMoves.{GoodWorld, Naming, FineMoves}
+use Rattle.world_laws.proofs.Appointments.FineMoves.{FineMoves}
 use Rattle.world_laws.proofs.Appointments.Kept.Appointments.{drops_then-from}
 use Rattle.world_laws.proofs.Appointments.Kept.CallEnds.{end_call-keeps, gone-keeps}
-use Rattle.world_laws.proofs.Appointments.Kept.Combinators.{then-from, changes-from, looks_at-from, from-keeps, Keeps, changes-keeps, for_each-keeps, for_some-keeps, keeps-from, looks-from, looks-keeps, nothing-keeps, then-keeps, when-keeps}
+use Rattle.world_laws.proofs.Appointments.Kept.Combinators.{then-from, changes-from, looks_at-from, from-keeps, changes-keeps, for_each-keeps, for_some-keeps, keeps-from, looks-from, looks-keeps, nothing-keeps, then-keeps, when-keeps}
 use Rattle.world_laws.proofs.Appointments.Kept.Dispatching.{ready-from}
 use Rattle.world_laws.proofs.Appointments.Kept.Frames.{leaves-keeps, raises-keeps, open_sequence-keeps}
 use Rattle.world_laws.proofs.Appointments.Kept.Inheritance.{lose-alters}
 use Rattle.world_laws.proofs.Appointments.Kept.Tasks.{edit_task-alters}
-use Rattle.machine_laws.proofs.Kept.Combinators.{From}
+use Rattle.machine_laws.proofs.Kept.Combinators.{From, Keeps}
+use Rattle.machine_laws.proofs.FineMoves.{GoodWorld, Naming}
+use Rattle.ceiling_laws.proofs.Runs.Kept.Waking.{found-step}
 
 -- who waits for an activation or for dependents waits for no delay
 waits-activation : (waiting : Option Waiting) → waits_for_activation waiting ≡ true → waits_for_delay waiting ≡ false
@@ -58,9 +60,6 @@ waits-dependents r (Some waits_for.Release) e = refl
 waits-dependents r None e = refl
 
 -- what holds of each task of a list holds of one that is found, and the test does
-found-step : (P : Task → Type 0) (test : Task → Bool) (t u : Task) (rest : Option Task) (b : Bool) → test t ≡ b → cond b (Some t) rest ≡ Some u → P t → (rest ≡ Some u → P u × (test u ≡ true)) → P u × (test u ≡ true)
-found-step P test t u rest true is e a onward = let one : t ≡ u = cc in subst (λ v. P v × (test v ≡ true)) one (a, is)
-found-step P test t u rest false is e a onward = onward e
 
 pub found-each : (P : Task → Type 0) (test : Task → Bool) (ts : List Task) (u : Task) → EachTask P ts → find test ts ≡ Some u → P u × (test u ≡ true)
 found-each P test [] u each e = cc

@@ -30,13 +30,14 @@ use Rattle.profile_machine.specs.WellFormed.{waits_for_delay}
 use Rattle.profile_machine.specs.Words.{edit_at}
 use Rattle.machine_laws.proofs.Moves.{StepRelation, MoveRelation}
 use Rattle.world_laws.proofs.Appointments.Delays.{Idle}
-use Rattle.world_laws.proofs.Appointments.FineMoves.{GoodWorld, Naming, FineMoves}
+use Rattle.world_laws.proofs.Appointments.FineMoves.{FineMoves}
 use Rattle.world_laws.proofs.Appointments.Kept.Calls.{edit_call-alters, with_call-keeps, edit_queue-alters}
-use Rattle.world_laws.proofs.Appointments.Kept.Combinators.{Keeps, Alters, branch-keeps, changes-keeps, for_some-keeps, looks-keeps, nothing-keeps, says-keeps, sees-keeps, then-keeps, when-keeps, keeps-from, looks-from}
+use Rattle.world_laws.proofs.Appointments.Kept.Combinators.{branch-keeps, changes-keeps, for_some-keeps, looks-keeps, nothing-keeps, says-keeps, sees-keeps, then-keeps, when-keeps, keeps-from, looks-from}
 use Rattle.world_laws.proofs.Appointments.Kept.Dispatching.{to_tail-from}
 use Rattle.world_laws.proofs.Appointments.Kept.Frames.{goes-keeps, given-keeps, raise_if-keeps}
 use Rattle.world_laws.proofs.Appointments.Kept.Tasks.{edit_task-alters}
-use Rattle.machine_laws.proofs.Kept.Combinators.{From}
+use Rattle.machine_laws.proofs.Kept.Combinators.{From, Keeps, Alters}
+use Rattle.machine_laws.proofs.FineMoves.{GoodWorld, Naming}
 
 runnable-waits : (state : State) → is_runnable_state state ≡ true → waits_for_delay (waiting_in state) ≡ false
 runnable-waits Made e = refl

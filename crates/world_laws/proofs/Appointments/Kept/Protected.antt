@@ -34,15 +34,16 @@ use Rattle.profile_machine.specs.Steps.{Step, says, changes, looks, ◌▷◌}
 use Rattle.profile_machine.specs.Values.{object_of}
 use Rattle.machine_laws.proofs.Moves.{StepRelation, MoveRelation}
 use Rattle.world_laws.proofs.Appointments.Delays.{Caller, nature}
-use Rattle.world_laws.proofs.Appointments.FineMoves.{GoodWorld, Naming, FineMoves}
+use Rattle.world_laws.proofs.Appointments.FineMoves.{FineMoves}
 use Rattle.world_laws.proofs.Appointments.Kept.Calls.{edit_call-alters, unqueued-alters}
-use Rattle.world_laws.proofs.Appointments.Kept.Combinators.{then_at-from, from-keeps, changes-from, Keeps, Alters, branch-keeps, changes-keeps, keeps-from, looks-keeps, says-keeps, sees-keeps, then-keeps}
+use Rattle.world_laws.proofs.Appointments.Kept.Combinators.{then_at-from, from-keeps, changes-from, branch-keeps, changes-keeps, keeps-from, looks-keeps, says-keeps, sees-keeps, then-keeps}
 use Rattle.world_laws.proofs.Appointments.Kept.Dispatching.{to_tail-keeps}
 use Rattle.world_laws.proofs.Appointments.Kept.Frames.{goes-keeps, edit_top-alters, raises-keeps, given-keeps, raise_if-keeps, with_room-keeps}
 use Rattle.world_laws.proofs.Appointments.Kept.Inheritance.{inherit_running-keeps}
 use Rattle.world_laws.proofs.Appointments.Kept.Scopes.{open_scope-alters}
 use Rattle.world_laws.proofs.Appointments.Kept.Subprograms.{begin_body-keeps, handing-keeps}
-use Rattle.machine_laws.proofs.Kept.Combinators.{From}
+use Rattle.machine_laws.proofs.Kept.Combinators.{From, Keeps, Alters}
+use Rattle.machine_laws.proofs.FineMoves.{GoodWorld, Naming}
 
 -- the call of its own of a protected action is not edited
 protected-nature : (f : ProtectedMark → ProtectedMark) → ((m : ProtectedMark) → (f m).own_call ≡ m.own_call) → (mark : Mark) → nature (edit_protected f mark) ≡ nature mark

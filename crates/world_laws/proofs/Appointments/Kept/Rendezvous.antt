@@ -36,22 +36,21 @@ use Rattle.profile_machine.specs.Steps.{Step, changes}
 use Rattle.profile_machine.specs.Tasks.{with_state, edit_task}
 use Rattle.machine_laws.proofs.Moves.{StepRelation, MoveRelation}
 use Rattle.world_laws.proofs.Appointments.Delays.{Idle}
-use Rattle.world_laws.proofs.Appointments.FineMoves.{GoodWorld, Naming, FineMoves}
+use Rattle.world_laws.proofs.Appointments.FineMoves.{FineMoves}
 use Rattle.world_laws.proofs.Appointments.Kept.Appointments.{drops_then-from}
 use Rattle.world_laws.proofs.Appointments.Kept.CallEnds.{deliver-keeps, gone-keeps}
 use Rattle.world_laws.proofs.Appointments.Kept.Calls.{edit_call-alters, with_call-keeps, enqueue-keeps}
-use Rattle.world_laws.proofs.Appointments.Kept.Combinators.{from-keeps, either-from, changes-from, Keeps, Alters, changes-keeps, for_some-keeps, looks-keeps, nothing-keeps, says-keeps, then-from, then-keeps, looks_at-from}
+use Rattle.world_laws.proofs.Appointments.Kept.Combinators.{from-keeps, either-from, changes-from, changes-keeps, for_some-keeps, looks-keeps, nothing-keeps, says-keeps, then-from, then-keeps, looks_at-from}
 use Rattle.world_laws.proofs.Appointments.Kept.Dispatching.{ready-from, idle_then-from, block-keeps}
 use Rattle.world_laws.proofs.Appointments.Kept.Frames.{push-alters, pop-alters, goes-keeps, raises-keeps, open_sequence-keeps, pass_on-keeps, raise_if-keeps}
 use Rattle.world_laws.proofs.Appointments.Kept.Inheritance.{inherit-alters, inherit_running-keeps, lose_running-keeps}
 use Rattle.world_laws.proofs.Appointments.Kept.Protected.{begin_call-keeps}
 use Rattle.world_laws.proofs.Appointments.Kept.Scopes.{end_scope-alters}
 use Rattle.world_laws.proofs.Appointments.Kept.Sending.{send_on-keeps, begin_abortable-keeps, sent_not_begun-keeps}
-use Rattle.world_laws.proofs.Appointments.Kept.Serving.{keeps_sending-caller, keeps_sending-number}
-use Rattle.machine_laws.proofs.Kept.Combinators.{From}
-
-pub finished_call-number : (p : Image) (cells : List Value) (leaving : Leaving) (c : Call) → (finished_call p cells leaving c).number ≡ c.number
-finished_call-number p cells leaving c = keeps_sending-number leaving (with_values cells (formals_count p c) c)
+use Rattle.machine_laws.proofs.Kept.Combinators.{From, Keeps, Alters}
+use Rattle.machine_laws.proofs.FineMoves.{GoodWorld, Naming}
+use Rattle.line_laws.proofs.Leaving.Kept.Rendezvous.{finished_call-number}
+use Rattle.line_laws.proofs.Leaving.Kept.Serving.{keeps_sending-caller}
 
 pub finished_call-caller : (p : Image) (cells : List Value) (leaving : Leaving) (c : Call) → (finished_call p cells leaving c).caller ≡ c.caller
 finished_call-caller p cells leaving c = keeps_sending-caller leaving (with_values cells (formals_count p c) c)

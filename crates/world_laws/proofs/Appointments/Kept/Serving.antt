@@ -35,17 +35,20 @@ use Rattle.profile_machine.specs.Values.{object_of}
 use Rattle.ann_base.specs.Lists.{is_empty}
 use Rattle.machine_laws.proofs.Moves.{StepRelation, MoveRelation, own}
 use Rattle.world_laws.proofs.Appointments.Delays.{Caller}
-use Rattle.world_laws.proofs.Appointments.FineMoves.{GoodWorld, Naming, FineMoves}
+use Rattle.world_laws.proofs.Appointments.FineMoves.{FineMoves}
 use Rattle.world_laws.proofs.Appointments.Kept.CallEnds.{resume-keeps, deliver-keeps}
 use Rattle.world_laws.proofs.Appointments.Kept.Calls.{edit_call-alters, forget_call-alters, with_call-keeps, enqueue-keeps, attempt_with-keeps}
-use Rattle.world_laws.proofs.Appointments.Kept.Combinators.{from-keeps, Alters, Keeps, changes-keeps, keeps-from, looks-from, looks-keeps, nothing-keeps, says-keeps, then-keeps, when-keeps}
+use Rattle.world_laws.proofs.Appointments.Kept.Combinators.{from-keeps, changes-keeps, keeps-from, looks-from, looks-keeps, nothing-keeps, says-keeps, then-keeps, when-keeps}
 use Rattle.world_laws.proofs.Appointments.Kept.Dispatching.{block-from}
 use Rattle.world_laws.proofs.Appointments.Kept.Frames.{pop-alters, edit_top-alters, leaves-keeps, pass_on-keeps}
 use Rattle.world_laws.proofs.Appointments.Kept.Inheritance.{lose_running-keeps}
 use Rattle.world_laws.proofs.Appointments.Kept.Priorities.{set_deferred-keeps}
 use Rattle.world_laws.proofs.Appointments.Kept.Protected.{edit_top_protected-alters, serve_call-keeps}
 use Rattle.world_laws.proofs.Appointments.Kept.Sending.{open_abortable-alters, wait_for_call-keeps, send_on-keeps, begin_abortable-keeps, sent_not_begun-keeps}
-use Rattle.machine_laws.proofs.Kept.Combinators.{From}
+use Rattle.machine_laws.proofs.Kept.Combinators.{From, Keeps, Alters}
+use Rattle.machine_laws.proofs.FineMoves.{GoodWorld, Naming}
+use Rattle.machine_laws.proofs.Kept.Serving.{keeps_sending-number}
+use Rattle.line_laws.proofs.Leaving.Kept.Serving.{keeps_sending-caller}
 
 -- the call of its own with which somebody entered is its own
 abbrev pub OwnCalled : GoodWorld → Who → Option CallNo → Type 0
@@ -185,22 +188,6 @@ module _ {G : GoodWorld} {May : Naming} {R : StepRelation} {Q : MoveRelation} (m
   end_in_protected-keeps p name m leaving other own = end_in_protected_by-keeps p name m leaving m.serves other own
 
 -- ---- the scope of an entry body has ended
-
-pub keeps_sending-number : (leaving : Leaving) (c : Call) → (keeps_sending leaving c).number ≡ c.number
-keeps_sending-number how.Return c = refl
-keeps_sending-number how.End c = refl
-keeps_sending-number (how.Exit loop) c = refl
-keeps_sending-number (how.Exception e) c = refl
-keeps_sending-number how.Abort c = refl
-keeps_sending-number how.Terminate c = refl
-
-pub keeps_sending-caller : (leaving : Leaving) (c : Call) → (keeps_sending leaving c).caller ≡ c.caller
-keeps_sending-caller how.Return c = refl
-keeps_sending-caller how.End c = refl
-keeps_sending-caller (how.Exit loop) c = refl
-keeps_sending-caller (how.Exception e) c = refl
-keeps_sending-caller how.Abort c = refl
-keeps_sending-caller how.Terminate c = refl
 
 module _ {G : GoodWorld} {May : Naming} {R : StepRelation} {Q : MoveRelation} (moves : FineMoves G May R Q) where
   pub keep_values-keeps : (p : Image) (c : CallNo) (cells : List Value) → Keeps G R (keep_values p c cells)

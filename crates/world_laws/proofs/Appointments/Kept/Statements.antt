@@ -25,12 +25,13 @@ use Rattle.profile_machine.specs.Statements.{null, assign, cells_from, copy_cell
 use Rattle.profile_machine.specs.Scopes.{put_cells}
 use Rattle.profile_machine.specs.Values.{Seen, seen_by, value, variable, object_cell}
 use Rattle.machine_laws.proofs.Moves.{StepRelation, MoveRelation}
-use Rattle.world_laws.proofs.Appointments.FineMoves.{GoodWorld, Naming, FineMoves}
+use Rattle.world_laws.proofs.Appointments.FineMoves.{FineMoves}
 use Rattle.world_laws.proofs.Appointments.Kept.CallEnds.{store-gives}
-use Rattle.world_laws.proofs.Appointments.Kept.Combinators.{says-keeps, Keeps, Alters, bind-gives, changes-keeps, looks-from, looks-keeps, ok-gives, sees-keeps, then-keeps}
+use Rattle.world_laws.proofs.Appointments.Kept.Combinators.{says-keeps, bind-gives, changes-keeps, looks-from, looks-keeps, ok-gives, sees-keeps, then-keeps}
 use Rattle.world_laws.proofs.Appointments.Kept.Frames.{given_world-from, goes-keeps, raises-keeps, exit_loop-keeps, given-keeps, with_room-keeps}
 use Rattle.world_laws.proofs.Appointments.Kept.Scopes.{write_cell-alters, open_scope-alters}
-use Rattle.machine_laws.proofs.Kept.Combinators.{Gives}
+use Rattle.machine_laws.proofs.Kept.Combinators.{Gives, Keeps, Alters}
+use Rattle.machine_laws.proofs.FineMoves.{GoodWorld, Naming}
 
 module _ {G : GoodWorld} {May : Naming} {R : StepRelation} {Q : MoveRelation} (moves : FineMoves G May R Q) where
   pub null-keeps : (p : Image) (name : Who) (s : StatementNo) → Keeps G R (null p name s)

@@ -28,13 +28,14 @@ use Rattle.profile_machine.specs.Steps.{Step}
 use Rattle.profile_machine.specs.Subprograms.{begin_body, handing, call_subprogram, result_place, result_kept, return_result, return_value, drop_sending, return, cell_in, copy_parameters, last_cell, store_result, end_subprogram}
 use Rattle.profile_machine.specs.Values.{Seen, or_misfit, seen_by}
 use Rattle.machine_laws.proofs.Moves.{StepRelation, MoveRelation}
-use Rattle.world_laws.proofs.Appointments.FineMoves.{GoodWorld, Naming, FineMoves}
+use Rattle.world_laws.proofs.Appointments.FineMoves.{FineMoves}
 use Rattle.world_laws.proofs.Appointments.Kept.CallEnds.{store-gives}
 use Rattle.world_laws.proofs.Appointments.Kept.Calls.{edit_call-alters}
-use Rattle.world_laws.proofs.Appointments.Kept.Combinators.{Keeps, Alters, bind-gives, changes-keeps, looks-from, looks-keeps, nothing-keeps, ok-gives, sees-keeps, then-keeps, unchanged-alters}
+use Rattle.world_laws.proofs.Appointments.Kept.Combinators.{bind-gives, changes-keeps, looks-from, looks-keeps, nothing-keeps, ok-gives, sees-keeps, then-keeps, unchanged-alters}
 use Rattle.world_laws.proofs.Appointments.Kept.Frames.{given_world-from, becomes-from, goes-keeps, leaves-keeps, given-keeps, raise_if-keeps, with_room-keeps}
 use Rattle.world_laws.proofs.Appointments.Kept.Scopes.{open_scope-alters}
-use Rattle.machine_laws.proofs.Kept.Combinators.{Gives}
+use Rattle.machine_laws.proofs.Kept.Combinators.{Gives, Keeps, Alters}
+use Rattle.machine_laws.proofs.FineMoves.{GoodWorld, Naming}
 
 module _ {G : GoodWorld} {May : Naming} {R : StepRelation} {Q : MoveRelation} (moves : FineMoves G May R Q) where
   pub handing-keeps : (p : Image) (name : Who) (f : SubprogramNo) (actuals : List Actual) (to : Destination) (step : Handed → ResultTo → Step) → ((x : Handed) (y : ResultTo) → Keeps G R (step x y)) → Keeps G R (handing p name f actuals to step)

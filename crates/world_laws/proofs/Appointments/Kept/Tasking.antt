@@ -39,15 +39,15 @@ use Rattle.profile_machine.specs.Program.{declaration_of, next_of, scope_of, tas
 use Rattle.profile_machine.specs.Scopes.{plainly, open_scope, home, cells_of, scope_in_use}
 use Rattle.profile_machine.specs.Steps.{nothing, Step, changes, looks, for_some, ◌▷◌, for_each}
 use Rattle.profile_machine.specs.Tasking.{activated_task, unit_of_declaration, optional_span, created_task, add_task, says_created, create_task, create, fall_from, unit_of_task, begin_task, says_done, fail_to_begin, activate_one, await_group, activate_group, activate, end_own_activation, end_made, complete_if_task, wait_for_dependents, leave_region, end_environment, end_task, is_normal, end_body, behind_scope, says_left, end_of_scope, go_on_leaving, end_scope_mark_of, end_scope_mark, says_abort, abort_one, unwind_by, unwind_one, abort_all, abort_statement, unwind_all, no_failure, is_to_activate, top_region_of_scope, is_to_abort, left_by, abnormal_task, named_tasks}
-use Rattle.profile_machine.specs.Tasks.{with_frames, waiting_in, task_at, is_made_state, is_made, edit_task_found, edit_task, task_of}
+use Rattle.profile_machine.specs.Tasks.{with_frames, waiting_in, is_made_state, is_made, edit_task, task_of}
 use Rattle.profile_machine.specs.Unwinding.{any_struck}
 use Rattle.profile_machine.specs.Values.{seen_by}
 use Rattle.profile_machine.specs.WellFormed.{waits_for_delay}
 use Rattle.profile_machine.specs.Words.{same_region, is_the}
 use Rattle.machine_laws.proofs.Moves.{StepRelation, MoveRelation}
 use Rattle.world_laws.proofs.Appointments.Delays.{Idle, EachTask}
-use Rattle.world_laws.proofs.Appointments.FineMoves.{GoodWorld, Naming, FineMoves}
-use Rattle.world_laws.proofs.Appointments.Kept.Combinators.{then_at-from, then-from, either-from, changes-from, Keeps, Alters, branch-keeps, changes-keeps, cond-keeps, for_each-keeps, for_some-keeps, looks-from, looks-keeps, nothing-keeps, says-keeps, sees-keeps, then-keeps, when-keeps, keeps-from, looks_at-from}
+use Rattle.world_laws.proofs.Appointments.FineMoves.{FineMoves}
+use Rattle.world_laws.proofs.Appointments.Kept.Combinators.{then_at-from, then-from, either-from, changes-from, branch-keeps, changes-keeps, cond-keeps, for_each-keeps, for_some-keeps, looks-from, looks-keeps, nothing-keeps, says-keeps, sees-keeps, then-keeps, when-keeps, keeps-from, looks_at-from}
 use Rattle.world_laws.proofs.Appointments.Kept.Controlled.{edit_top_scope-alters, finalize-keeps}
 use Rattle.world_laws.proofs.Appointments.Kept.Declarations.{set_thing-alters}
 use Rattle.world_laws.proofs.Appointments.Kept.Dispatching.{ready-from, idle_then-from, to_head-keeps, block-keeps}
@@ -59,7 +59,9 @@ use Rattle.world_laws.proofs.Appointments.Kept.Serving.{end_body_of_entry-keeps}
 use Rattle.world_laws.proofs.Appointments.Kept.Subprograms.{end_subprogram-keeps}
 use Rattle.world_laws.proofs.Appointments.Kept.Tasks.{edit_task-alters}
 use Rattle.world_laws.proofs.Appointments.Kept.Unwinding.{strike_outermost-alters, unwind-keeps}
-use Rattle.machine_laws.proofs.Kept.Combinators.{From}
+use Rattle.machine_laws.proofs.Kept.Combinators.{From, Keeps, Alters}
+use Rattle.machine_laws.proofs.FineMoves.{GoodWorld, Naming}
+use Rattle.line_laws.proofs.Leaving.Kept.Tasking.{edit_task-drawn}
 
 made-waits : (state : State) → is_made_state state ≡ true → waits_for_delay (waiting_in state) ≡ false
 made-waits Made e = refl
@@ -71,13 +73,6 @@ first_of_three true b c e = refl
 first_of_three false b c e = absurd cc
 
 -- an edit of a task draws nothing
-edit_found-drawn : (name : Who) (f : world.Task → world.Task) (w : World) (found : Option world.Task) → (edit_task_found name f w found).drawn ≡ w.drawn
-edit_found-drawn name f w None = refl
-edit_found-drawn (who.Task n) f w (Some t) = refl
-edit_found-drawn who.Agent f w (Some t) = refl
-
-edit_task-drawn : (name : Who) (f : world.Task → world.Task) (w : World) → (edit_task name f w).drawn ≡ w.drawn
-edit_task-drawn name f w = edit_found-drawn name f w (task_at w name)
 
 module _ {G : GoodWorld} {May : Naming} {R : StepRelation} {Q : MoveRelation} (moves : FineMoves G May R Q) where
   says_created-keeps : (d : DeclNo) (t : world.Task) → Keeps G R (says_created d t)

@@ -5,9 +5,10 @@ use Rattle.profile_machine.specs.declared.world.marks.Frame.{Frame}
 use Rattle.profile_machine.specs.declared.world.tasks.Task.{Task}
 use Rattle.profile_machine.specs.Tasks.{edit_task, with_frames}
 use Rattle.machine_laws.proofs.Moves.{StepRelation, MoveRelation}
+use Rattle.machine_laws.proofs.FineMoves.{GoodWorld, Naming}
+use Rattle.machine_laws.proofs.Kept.Combinators.{Alters}
 use Rattle.world_laws.proofs.Appointments.Delays.{natures}
-use Rattle.world_laws.proofs.Appointments.FineMoves.{GoodWorld, Naming, FineMoves}
-use Rattle.world_laws.proofs.Appointments.Kept.Combinators.{Alters}
+use Rattle.world_laws.proofs.Appointments.FineMoves.{FineMoves}
 
 module _ {G : GoodWorld} {May : Naming} {R : StepRelation} {Q : MoveRelation} (moves : FineMoves G May R Q) where
   pub edit_task-alters : (name : Who) (f : Task → Task) → ((t : Task) → (f t).who ≡ t.who) → ((t : Task) → (f t).frames ≡ t.frames) → ((t : Task) → (f t).state ≡ t.state) → Alters G R (edit_task name f)

@@ -29,6 +29,7 @@ use Rattle.world_laws.proofs.Cells.Kept.Frames.{goes-keeps, raises-keeps, exit_l
 use Rattle.world_laws.proofs.Cells.Kept.Scopes.{put_cells-alters, write_cell-alters, open_scope-alters}
 use Rattle.world_laws.proofs.Cells.Kept.Appointments.{appoint-alters}
 use Rattle.world_laws.proofs.Cells.Kept.CallEnds.{store-gives}
+use Rattle.ceiling_laws.proofs.Runs.Kept.Statements.{bounds_put}
 
 pub becomes-keeps : {p : Image} (part : Part) (name : Who) (result : Valued World) → Gives p result → Keeps p (becomes part name result)
 unfolding becomes
@@ -85,9 +86,6 @@ while_turn-keeps p name s e body = search (sees-keeps, given-keeps, goes-keeps) 
 
 pub put-alters : {p : Image} (v : Variable) (x : Value) → Alters p (put v x)
 put-alters v x = search (write_cell-alters)
-
-bounds_put : Seen → Bool → Value → Value → Variable → Variable → Valued World
-bounds_put q reverse l h x y = Ok (put y (last_bound reverse l h) (put x (first_bound reverse l h) q.world))
 
 bounds_put-gives : {p : Image} (q : Seen) (reverse : Bool) (l h : Value) (x y : Variable) → Right p q.world → Gives p (bounds_put q reverse l h x y)
 unfolding bounds_put

@@ -32,7 +32,7 @@ use Rattle.machine_laws.proofs.Moves.{StepRelation, MoveRelation}
 use Rattle.profile_machine.specs.Unwinding.{struck_frame}
 use Rattle.profile_machine.specs.declared.world.lines.Line.TheVariants as line
 use Rattle.world_laws.proofs.Marks.MarkFacts.{Ends, CanTrigger, triggered_part, top_awaits}
-use Rattle.world_laws.proofs.Marks.TopLemmas.{ready_world, ready-frames, ready-calm}
+use Rattle.world_laws.proofs.Marks.TopLemmas.{ready-frames, ready-calm}
 use Rattle.world_laws.proofs.Marks.TriggerLemmas.{waits_of, waited-quiet, waited-calm, call-can_trigger}
 use Rattle.world_laws.proofs.Marks.FineMoves.{FineMoves}
 use Rattle.world_laws.proofs.Marks.Kept.Combinators.{changes_said_changes-from, then-from, bind-gives, branch-keeps, changes-keeps, looks-keeps, nothing-keeps, ok-gives, says-keeps, then-keeps, unchanged-alters, when-keeps, changes_then-from, keeps-from, looks-from, looks_at-from}
@@ -42,6 +42,7 @@ use Rattle.world_laws.proofs.Marks.Kept.Calls.{edit_call-alters, forget_call-alt
 use Rattle.world_laws.proofs.Marks.Kept.Unwinding.{unwind-keeps}
 use Rattle.machine_laws.proofs.FineMoves.{GoodWorld, Naming}
 use Rattle.machine_laws.proofs.Kept.Combinators.{Alters, From, Gives, Keeps}
+use Rattle.line_laws.proofs.Leaving.FineMoves.{ready_world}
 
 module _ {G : GoodWorld} {May Other : Naming} {R : StepRelation} {Q : MoveRelation} (moves : FineMoves G May Other R Q) where
   pub go_by_outcome-keeps : (p : Image) (part : Part) (name : Who) (s : StatementNo) (outcome : Outcome) → Keeps G R (go_by_outcome p part name s outcome)

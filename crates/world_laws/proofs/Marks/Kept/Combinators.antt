@@ -14,10 +14,11 @@ use Rattle.profile_machine.specs.Operators.{Valued}
 use Rattle.profile_machine.specs.Values.{Seen, seen_by}
 use Rattle.profile_machine.specs.Statements.{sees}
 use Rattle.machine_laws.proofs.Moves.{StepRelation, MoveRelation, lines_of}
-use Rattle.world_laws.proofs.Marks.MarkFacts.{AllTasks}
-use Rattle.world_laws.proofs.Marks.FineMoves.{FineMoves, is_apart}
+use Rattle.world_laws.proofs.Marks.FineMoves.{FineMoves}
+use Rattle.world_laws.proofs.Queues.Listed.{AllTasks}
 use Rattle.machine_laws.proofs.FineMoves.{EachIs, GoodWorld, Naming}
 use Rattle.machine_laws.proofs.Kept.Combinators.{Alters, From, Gives, Keeps, Kept, Leads}
+use Rattle.line_laws.proofs.Leaving.FineMoves.{is_apart}
 
 -- ---- what it is to keep a relation
 

@@ -33,10 +33,9 @@ use Rattle.world_laws.proofs.Marks.Kept.Tasks.{edit_top-alters}
 use Rattle.world_laws.proofs.Marks.Kept.Scopes.{write_cell-alters, open_scope-alters}
 use Rattle.std.proofs.Common.{◌≡◌, refl, sym, subst, eqb, ap, ◌∙◌, [], ◌∷◌, not}
 use Rattle.std.specs.Prelude.{find, is_some, ◌&&◌}
-use Rattle.profile_machine.specs.declared.world.tasks.Task.{Task}
 use Rattle.trace_text.specs.declared.events.Who.TheVariants as who
 use Rattle.profile_machine.specs.Program.{next_of}
-use Rattle.profile_machine.specs.Tasks.{task_at, edit_task_found, edit_task, with_frames}
+use Rattle.profile_machine.specs.Tasks.{with_frames}
 use Rattle.ann_base.specs.declared.identities.RegionNo.{RegionNo}
 use Rattle.profile_machine.specs.declared.world.World.{World}
 use Rattle.profile_machine.specs.declared.world.marks.Frame.{Frame}
@@ -45,6 +44,7 @@ use Rattle.profile_machine.specs.declared.world.marks.Mark.TheVariants.{Scope, H
 use Rattle.profile_machine.specs.Frames.{top_of, pop, with_mark, pass_on, goes, goes_on, edit_first, edit_top, push, new_frame}
 use Rattle.machine_laws.proofs.FineMoves.{GoodWorld, Naming}
 use Rattle.machine_laws.proofs.Kept.Combinators.{Alters, From, Keeps, Kept}
+use Rattle.machine_laws.proofs.Kept.Controlled.{edit_task-registered}
 
 -- the region of a scope's mark is not edited, nor what another mark is
 scope-nature : (f : ScopeMark → ScopeMark) → ((m : ScopeMark) → nature (Scope (f m)) ≡ nature (Scope m)) → (mark : Mark) → nature (edit_scope_mark f mark) ≡ nature mark
@@ -56,14 +56,6 @@ scope-nature f same (Abortable m) = refl
 scope-nature f same (InInitialize l) = refl
 scope-nature f same (InFinalize o) = refl
 scope-nature f same (InAssign m) = refl
-
-edit_found-registered : (name : Who) (f : Task → Task) (w : World) (found : Option Task) → (edit_task_found name f w found).registered ≡ w.registered
-edit_found-registered name f w None = refl
-edit_found-registered (who.Task n) f w (Some t) = refl
-edit_found-registered who.Agent f w (Some t) = refl
-
-pub edit_task-registered : (name : Who) (f : Task → Task) (w : World) → (edit_task name f w).registered ≡ w.registered
-edit_task-registered name f w = edit_found-registered name f w (task_at w name)
 
 assign-nature : (f : AssignMark → AssignMark) (mark : Mark) → nature (edit_assign f mark) ≡ nature mark
 assign-nature f (Scope m) = refl

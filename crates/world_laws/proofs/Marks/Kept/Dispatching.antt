@@ -18,13 +18,13 @@ use Rattle.std.proofs.Common.{◌≡◌, refl, Some, [], ◌∷◌, ◌++◌}
 use Rattle.std.specs.Prelude.{false}
 use Rattle.machine_laws.proofs.Moves.{StepRelation, MoveRelation}
 use Rattle.world_laws.proofs.Marks.MarkFacts.{ends_call}
-use Rattle.world_laws.proofs.Marks.TopLemmas.{ready_world}
 use Rattle.world_laws.proofs.Marks.FineMoves.{FineMoves}
 use Rattle.world_laws.proofs.Marks.Kept.Combinators.{changes-keeps, from-keeps, said-from, said-keeps, then-keeps, looks_at-from, then-kept}
 use Rattle.world_laws.proofs.Marks.Kept.Tasks.{edit_task-alters}
 use Rattle.machine_laws.proofs.FineMoves.{GoodWorld, Naming, ready_line}
 use Rattle.machine_laws.proofs.Kept.Combinators.{Alters, From, Keeps, Kept}
 use Rattle.machine_laws.proofs.Kept.Dispatching.{full_quantum-frames, full_quantum-state, full_quantum-who}
+use Rattle.line_laws.proofs.Leaving.FineMoves.{ready_world}
 
 full_quantum-abnormal : (b : Bool) (n : ℕ) (t : Task) → (cond b (record t { quantum = n }) t).abnormal ≡ t.abnormal
 full_quantum-abnormal true n t = refl

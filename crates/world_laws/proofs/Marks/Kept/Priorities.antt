@@ -40,12 +40,7 @@ use Rattle.profile_machine.specs.Tasks.{found_task, is_who}
 use Rattle.machine_laws.proofs.FineMoves.{GoodWorld, Naming}
 use Rattle.machine_laws.proofs.Kept.Combinators.{Alters, Keeps}
 use Rattle.machine_laws.proofs.Kept.Masters.{found-other}
-
-abbrev well : world.Task → Valued world.Task
-well t = Ok t
-
-ok-is : (v u : world.Task) → well v ≡ Ok u → v ≡ u
-ok-is v u e = cc
+use Rattle.machine_laws.proofs.Kept.Priorities.{ok-is}
 
 module _ {G : GoodWorld} {May Other : Naming} {R : StepRelation} {Q : MoveRelation} (moves : FineMoves G May Other R Q) where
   pub placed_anew-alters : (queuing : Queuing) (p : Image) (c : Call) (level : ℕ) → Alters G R (placed_anew queuing p c level)

@@ -39,7 +39,6 @@ use Rattle.machine_laws.proofs.Moves.{StepRelation, MoveRelation}
 use Rattle.world_laws.proofs.Marks.MarkFacts.{Ends}
 use Rattle.world_laws.proofs.Marks.FineMoves.{FineMoves, Openings}
 use Rattle.world_laws.proofs.Marks.Kept.Combinators.{branch-keeps, changes-keeps, for_some-keeps, keeps-from, looks-from, looks-keeps, nothing-keeps, says-keeps, then-from, then-keeps, unchanged-alters, changes_then-from, looks_at-from}
-use Rattle.world_laws.proofs.Marks.Kept.Serving.{keeps_sending-number}
 use Rattle.world_laws.proofs.Marks.Kept.Dispatching.{ready-keeps, block-keeps, blocked-keeps}
 use Rattle.world_laws.proofs.Marks.Kept.Frames.{goes-keeps, raises-keeps, open_sequence-keeps, pass_on-keeps, raise_if-keeps, goes_then-from, popped, given-from, raise_if-from}
 use Rattle.world_laws.proofs.Marks.Kept.Scopes.{end_scope-alters}
@@ -56,6 +55,7 @@ use Rattle.profile_machine.specs.declared.world.marks.Frame.{Frame}
 use Rattle.profile_machine.specs.declared.world.lines.Part.TheVariants.{Own}
 use Rattle.machine_laws.proofs.FineMoves.{GoodWorld, Naming}
 use Rattle.machine_laws.proofs.Kept.Combinators.{Alters, From, Keeps}
+use Rattle.machine_laws.proofs.Kept.Serving.{keeps_sending-number}
 
 module _ {G : GoodWorld} {May Other : Naming} {R : StepRelation} {Q : MoveRelation} (moves : FineMoves G May Other R Q) where
   open_accept-alters : (p : Image) (name : Who) (s : StatementNo) (c : Call) → Other name → Alters G R (open_accept p name s c)

@@ -36,7 +36,7 @@ use Rattle.std.proofs.Common.{◌≡◌, refl, sym, ap, subst, ◌∙◌, cond}
 use Rattle.std.proofs.lemmas.Bool.{and_parts}
 use Rattle.profile_machine.specs.Values.{seen_by}
 use Rattle.machine_laws.proofs.Moves.{StepRelation, MoveRelation, own}
-use Rattle.world_laws.proofs.Marks.MarkFacts.{Ends, Drawn, Unarmed, AllTasks, is_own_scope}
+use Rattle.world_laws.proofs.Marks.MarkFacts.{Ends, Drawn, Unarmed, is_own_scope}
 use Rattle.world_laws.proofs.Marks.TriggerLemmas.{made-unarmed, own_scope-unarmed}
 use Rattle.profile_machine.specs.Unwinding.{strike_outermost}
 use Rattle.profile_machine.specs.Tasks.{is_made}
@@ -55,6 +55,7 @@ use Rattle.world_laws.proofs.Marks.Kept.Subprograms.{end_subprogram-keeps}
 use Rattle.world_laws.proofs.Marks.Kept.Serving.{end_body_of_entry-keeps}
 use Rattle.world_laws.proofs.Marks.Kept.Controlled.{finalize-from}
 use Rattle.world_laws.proofs.Marks.Kept.Declarations.{set_thing-alters}
+use Rattle.world_laws.proofs.Queues.Listed.{AllTasks}
 use Rattle.ann_base.specs.declared.identities.TaskNo.{TaskNo}
 use Rattle.profile_machine.specs.declared.world.marks.Frame.{Frame}
 use Rattle.profile_machine.specs.declared.world.marks.Mark.TheVariants.{Scope}
@@ -65,12 +66,7 @@ use Rattle.profile_machine.specs.Unwinding.{any_struck}
 use Rattle.profile_machine.specs.Masters.{region_of_mark, has_dependents, terminate, end_activation, may_terminate, leave_by_terminate, has_activating}
 use Rattle.machine_laws.proofs.FineMoves.{EachIs, GoodWorld, Naming, first_is_false}
 use Rattle.machine_laws.proofs.Kept.Combinators.{Alters, From, Keeps}
-
-same_region_in : (r q : RegionNo) (region : Option RegionNo) → region ≡ Some r → region ≡ Some q → q ≡ r
-same_region_in r q region a b = let one : Some q ≡ Some r = sym b ∙ a in cc
-
-no_region : {P : Type 0} (q : RegionNo) (region : Option RegionNo) → region ≡ None → region ≡ Some q → P
-no_region q region a b = absurd (let one : None ≡ Some q = sym a ∙ b in cc)
+use Rattle.machine_laws.proofs.Kept.Tasking.{same_region_in, no_region}
 
 -- of those that are made, for none a trigger is appointed
 made_of-unarmed : (w : World) (test : world.Task → Bool) → ((t : world.Task) → test t ≡ true → is_made t ≡ true) → AllTasks (λ t. is_made t ≡ true → Unarmed t.who w) w.tasks → AllTasks (λ t. Unarmed t.who w) (filter test w.tasks)

@@ -2,7 +2,7 @@
 use Rattle.ann_base.specs.declared.exceptions.Raised.{Raised}
 use Rattle.ann_base.specs.declared.identities.CallNo.{CallNo}
 use Rattle.world_laws.proofs.Appointments.Delays.{CallerIn}
-use Rattle.world_laws.proofs.Places.ActingMoves.{ActingMoves, Admitting, Lasting, LastingOf}
+use Rattle.world_laws.proofs.Places.ActingMoves.{ActingMoves, Lasting, LastingOf}
 use Rattle.world_laws.proofs.Places.Kept.CallEnds.{end_top_abortable-keeps}
 use Rattle.world_laws.proofs.Places.Kept.Calls.{attempt_with-leads}
 use Rattle.world_laws.proofs.Places.Kept.Controlled.{assign_controlled-keeps, end_in_assign-keeps, end_in_finalize-keeps, end_in_initialize-keeps, initialize-keeps}
@@ -19,7 +19,7 @@ use Rattle.world_laws.proofs.Places.Kept.Statements.{assign-keeps, assign_array-
 use Rattle.world_laws.proofs.Places.Kept.Subprograms.{call_subprogram-keeps, return-keeps, return_value-keeps}
 use Rattle.world_laws.proofs.Places.Kept.Tasking.{abort_statement-keeps, activate-leads, create-leads, end_own_activation-keeps, end_scope_mark-leads, take_terminates-leads, unwind_all-keeps}
 use Rattle.world_laws.proofs.Places.Kept.Tasks.{calls_in, edit_task-alters}
-use Rattle.world_laws.proofs.Places.LevelMoves.{Naming, Silences}
+use Rattle.world_laws.proofs.Places.LevelMoves.{Silences}
 use Rattle.world_laws.proofs.Places.Owning.{OwnCall, edit-calls}
 use Rattle.ceiling_laws.proofs.Runs.Triples.{Alters, At, Keeps, Leads, State, With, changes-keeps, changes-leads, cond-leads, for_some-leads, from-leads, from_at, looks-keeps, looks-leads, looks-with, nothing-keeps, option-leads, sees-leads, then-keeps, then-leads, to-leads, unchanged-alters}
 use Rattle.profile_machine.specs.Act.{act, act_frame, act_statement, act_top, act_without, behind_handled, below, call, call_main, drop_trigger, end_abortable_by, end_handled, end_in_abortable, end_mark, end_top, handle_or_pass, handler_for, keeping, wait_for_trigger, waiting_mark}
@@ -65,6 +65,8 @@ use Rattle.trace_text.specs.declared.events.Who.{Who}
 use Rattle.trace_text.specs.declared.events.Who.TheVariants as who
 use Rattle.ceiling_laws.proofs.Runs.LevelMoves.{Fitting, Sleeping}
 use Rattle.ceiling_laws.proofs.Runs.SameLemmas.{set_where-found}
+use Rattle.ceiling_laws.proofs.Runs.ActingMoves.{Admitting}
+use Rattle.machine_laws.proofs.FineMoves.{Naming}
 
 module _ {X : State} (quiet : Silences X) where
   handle_or_pass-keeps : (p : Image) (name : Who) (e : Raised) (next : Option StatementNo) → Keeps X (handle_or_pass p name e next)

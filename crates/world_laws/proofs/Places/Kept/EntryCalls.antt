@@ -6,7 +6,7 @@ use Rattle.ann_base.specs.declared.identities.ObjectNo.{ObjectNo}
 use Rattle.ann_base.specs.declared.identities.TaskNo.{TaskNo}
 use Rattle.world_laws.proofs.Appointments.CallLemmas.{added-caller}
 use Rattle.world_laws.proofs.Places.Cores.{Same}
-use Rattle.world_laws.proofs.Places.ActingMoves.{ActingMoves, Admitting, Lasting, LastingOf}
+use Rattle.world_laws.proofs.Places.ActingMoves.{ActingMoves, Lasting, LastingOf}
 use Rattle.world_laws.proofs.Places.Kept.CallEnds.{gone-keeps}
 use Rattle.world_laws.proofs.Places.Kept.Calls.{edit_call-alters, enqueue-keeps, forget_call-alters, says_call-keeps}
 use Rattle.world_laws.proofs.Places.Kept.Frames.{given-keeps, given-through, goes-keeps, leaves-keeps, raise_if-keeps, raise_if-through, raises-keeps, weakly, with_room-keeps, with_room-through}
@@ -16,7 +16,7 @@ use Rattle.world_laws.proofs.Places.Kept.Scopes.{appoint-alters}
 use Rattle.world_laws.proofs.Places.Kept.Sending.{not_accepted-leads, open_abortable-alters}
 use Rattle.world_laws.proofs.Places.Kept.Tasks.{same-alters, says-keeps}
 use Rattle.world_laws.proofs.Places.Kept.Waking.{asleep_at, asleep_quiet}
-use Rattle.world_laws.proofs.Places.LevelMoves.{Naming, Silences}
+use Rattle.world_laws.proofs.Places.LevelMoves.{Silences}
 use Rattle.world_laws.proofs.Places.SameLemmas.{edit_task-same}
 use Rattle.ceiling_laws.proofs.Runs.Triples.{Alters, At, Keeps, Leads, State, With, branch-leads, changes-keeps, from-leads, from_at, looks-keeps, looks-leads, looks-with, nothing-keeps, sees-keeps, sees-leads, then-keeps, then-leads, to-leads, unchanged-alters}
 use Rattle.profile_machine.specs.Calls.{is_full, says_call}
@@ -55,6 +55,8 @@ use Rattle.trace_text.specs.declared.events.Mode.TheVariants.{Write}
 use Rattle.trace_text.specs.declared.events.Who.{Who}
 use Rattle.trace_text.specs.declared.events.Who.TheVariants as who
 use Rattle.ceiling_laws.proofs.Runs.LevelMoves.{Fitting, Sleeping}
+use Rattle.ceiling_laws.proofs.Runs.ActingMoves.{Admitting}
+use Rattle.machine_laws.proofs.FineMoves.{Naming}
 
 add_call-same : (c : Call) (w : World) → Same w (add_call c w)
 add_call-same c w = record { tasks = refl; agent = refl; objects = refl; drawn_tasks = refl; callers = λ k n m. added-caller c w.calls w.drawn.calls n k m; delays = λ t e. e }

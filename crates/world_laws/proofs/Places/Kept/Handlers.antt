@@ -1,7 +1,7 @@
 -- Events, timers, budgets, interrupts and releases: each step keeps what its parts keep.
 use Rattle.ann_base.specs.declared.exceptions.Raised.TheVariants as exception
 use Rattle.ann_base.specs.declared.identities.ObjectNo.{ObjectNo}
-use Rattle.world_laws.proofs.Places.ActingMoves.{ActingMoves, Admitting, Lasting, LastingOf}
+use Rattle.world_laws.proofs.Places.ActingMoves.{ActingMoves, Lasting, LastingOf}
 use Rattle.world_laws.proofs.Places.Kept.Frames.{becomes-keeps, given-keeps, goes-keeps, raise_if-keeps}
 use Rattle.world_laws.proofs.Places.Kept.Protected.{Admitted, admitted_starts, begin_action_on-leads, find_held-keeps, has_entered}
 use Rattle.world_laws.proofs.Places.Kept.Scopes.{appoint-alters, drop_appointment-alters, open_scope-alters}
@@ -9,7 +9,7 @@ use Rattle.world_laws.proofs.Places.Kept.Serving.{end_release-leads}
 use Rattle.world_laws.proofs.Places.Kept.Statements.{store-gives}
 use Rattle.world_laws.proofs.Places.Kept.Tasks.{edit_task-alters, plain-alters, says-keeps}
 use Rattle.world_laws.proofs.Places.Kept.Waking.{ready-at}
-use Rattle.world_laws.proofs.Places.LevelMoves.{BaseMoves, Naming, Silences}
+use Rattle.world_laws.proofs.Places.LevelMoves.{BaseMoves, Silences}
 use Rattle.ceiling_laws.proofs.Runs.Triples.{Alters, At, Keeps, Leads, State, branch-leads, changes-keeps, for_some-keeps, from-leads, from_at, looks-keeps, looks-leads, looks-with, nothing-keeps, sees-keeps, then-keeps, then-leads}
 use Rattle.profile_machine.specs.CallEnds.{store}
 use Rattle.profile_machine.specs.Frames.{has_room}
@@ -49,6 +49,8 @@ use Rattle.trace_text.specs.declared.events.Mode.TheVariants.{Write}
 use Rattle.trace_text.specs.declared.events.Who.{Who}
 use Rattle.trace_text.specs.declared.events.Who.TheVariants as who
 use Rattle.ceiling_laws.proofs.Runs.LevelMoves.{Fitting, Sleeping, is_blocked}
+use Rattle.ceiling_laws.proofs.Runs.ActingMoves.{Admitting}
+use Rattle.machine_laws.proofs.FineMoves.{Naming}
 
 module _ {X : State} (quiet : Silences X) where
   with_room_for_release-keeps : (name : Who) (needed : Bool) (step : Step) → Keeps X step → Keeps X (with_room_for_release name needed step)

@@ -48,10 +48,9 @@ use Rattle.std.proofs.lemmas.Bool.{or_right}
 use Rattle.trace_text.specs.declared.events.Who.{Who}
 use Rattle.trace_text.specs.declared.events.Who.TheVariants as who
 use Rattle.ceiling_laws.proofs.Runs.LevelMoves.{Sleeping}
+use Rattle.ceiling_laws.proofs.Runs.Kept.Instant.{Appointing, first_of_six}
 
 -- for whom a moment may be appointed in a world
-abbrev pub Appointing : Type 1
-Appointing = World → TaskNo → Type 0
 
 -- what all of them keep, in which lines are of one part
 pub record OtherMoves (p : Image) (Sleeps : Sleeping) (Drawn : Appointing) (N : State) : Type 0 where
@@ -60,10 +59,6 @@ pub record OtherMoves (p : Image) (Sleeps : Sleeping) (Drawn : Appointing) (N : 
   pub drawn_on : (a b : World) (t : TaskNo) → Same a b → Drawn a t → Drawn b t
   pub readies : (t : TaskNo) → Leads (With N (λ w. Drawn w t)) N (ready p Own (who.Task t))
   pub tails : (t : TaskNo) → Leads (With N (λ w. is_runnable (task_of w (who.Task t)) ≡ true)) N (to_tail p Own (who.Task t))
-
-first_of_six : (a b c d e f : Bool) → (a && b && c && d && e && f) ≡ true → a ≡ true
-first_of_six true b c d e f h = refl
-first_of_six false b c d e f h = cc
 
 module _ {p : Image} {Sleeps : Sleeping} {Drawn : Appointing} {N : State} (moves : OtherMoves p Sleeps Drawn N) where
   with_port-alters : (n : ℕ) (value : ℤ) → Alters N (with_port n value)

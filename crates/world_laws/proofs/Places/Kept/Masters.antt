@@ -7,7 +7,7 @@ use Rattle.world_laws.proofs.Places.Kept.Frames.{leaves-keeps, open_sequence-kee
 use Rattle.world_laws.proofs.Places.Kept.Scopes.{drop_delay-alters}
 use Rattle.world_laws.proofs.Places.Kept.Tasks.{edit_task-alters}
 use Rattle.world_laws.proofs.Places.Kept.Waking.{asleep_at, ready-at}
-use Rattle.world_laws.proofs.Places.LevelMoves.{BaseMoves, Naming}
+use Rattle.world_laws.proofs.Places.LevelMoves.{BaseMoves}
 use Rattle.ceiling_laws.proofs.Runs.Triples.{At, Keeps, Leads, State, With, changes-keeps, for_each-keeps, for_some-keeps, from_at, looks-keeps, looks-leads, looks-with, nothing-keeps, then-keeps, then-leads, when-keeps, when-leads}
 use Rattle.profile_machine.specs.Appointments.{drop_delay}
 use Rattle.profile_machine.specs.Dispatching.{ready}
@@ -33,6 +33,7 @@ use Rattle.trace_text.specs.declared.events.Who.{Who}
 use Rattle.trace_text.specs.declared.events.Who.TheVariants as who
 use Rattle.ceiling_laws.proofs.Runs.Kept.Waking.{found-each, waiting-blocked, who-is}
 use Rattle.ceiling_laws.proofs.Runs.LevelMoves.{EachTask, Fitting, Sleeping, is_blocked}
+use Rattle.machine_laws.proofs.FineMoves.{Naming}
 
 module _ {p : Image} {Fits : Fitting} {Sleeps : Sleeping} {X : State} (moves : BaseMoves p Fits Sleeps X) (actor : Who) (fits : (name : Who) → Fits (part_of actor name) name) where
   pub gone_by_completion-keeps : (c : Call) → Keeps X (gone_by_completion p actor c)

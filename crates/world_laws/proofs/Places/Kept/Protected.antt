@@ -3,13 +3,13 @@ use Rattle.ann_base.specs.declared.exceptions.Raised.{Raised}
 use Rattle.ann_base.specs.declared.exceptions.Raised.TheVariants as exception
 use Rattle.ann_base.specs.declared.identities.CallNo.{CallNo}
 use Rattle.ann_base.specs.declared.identities.ObjectNo.{ObjectNo}
-use Rattle.world_laws.proofs.Places.ActingMoves.{ActingMoves, Admitting, Lasting, LastingOf}
+use Rattle.world_laws.proofs.Places.ActingMoves.{ActingMoves, Lasting, LastingOf}
 use Rattle.world_laws.proofs.Places.Kept.Calls.{edit_call-alters, unqueued-alters}
 use Rattle.world_laws.proofs.Places.Kept.Frames.{edit_top-alters, given-through, push-alters, raise_if-through, raises-keeps, weakly, with_room-keeps, with_room-through}
 use Rattle.world_laws.proofs.Places.Kept.Scopes.{open_scope-alters}
 use Rattle.world_laws.proofs.Places.Kept.Subprograms.{begin_body-keeps, handing-keeps, handing-through}
 use Rattle.world_laws.proofs.Places.Kept.Tasks.{edit_object-alters, says-keeps}
-use Rattle.world_laws.proofs.Places.LevelMoves.{Naming, Silences}
+use Rattle.world_laws.proofs.Places.LevelMoves.{Silences}
 use Rattle.world_laws.proofs.Places.SameLemmas.{edit_task-same}
 use Rattle.ceiling_laws.proofs.Runs.Triples.{Alters, At, Ends, Keeps, Leads, State, With, branch-leads, changes-keeps, changes-leads, from-leads, from_at, looks-keeps, looks-leads, looks-with, sees-keeps, sees-leads, then-keeps, then-leads, to-leads}
 use Rattle.world_laws.proofs.Places.Cores.{Same}
@@ -47,6 +47,8 @@ use Rattle.std.specs.Prelude.{List, None, Option, Some, false, ℕ, ◌+◌, ◌
 use Rattle.trace_text.specs.declared.events.Mode.{Mode}
 use Rattle.trace_text.specs.declared.events.Who.{Who}
 use Rattle.ceiling_laws.proofs.Runs.LevelMoves.{Fitting, Sleeping, is_apart}
+use Rattle.ceiling_laws.proofs.Runs.ActingMoves.{Admitting}
+use Rattle.machine_laws.proofs.FineMoves.{Naming}
 
 module _ {X : State} (quiet : Silences X) where
   pub edit_top_protected-alters : (name : Who) (f : ProtectedMark → ProtectedMark) → Alters X (edit_top_protected name f)

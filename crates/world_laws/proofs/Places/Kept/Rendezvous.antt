@@ -2,7 +2,7 @@
 use Rattle.ann_base.specs.declared.exceptions.Raised.TheVariants as exception
 use Rattle.ann_base.specs.declared.identities.CallNo.{CallNo}
 use Rattle.ann_base.specs.declared.identities.TaskNo.{TaskNo}
-use Rattle.world_laws.proofs.Places.ActingMoves.{ActingMoves, Admitting, Lasting, LastingOf}
+use Rattle.world_laws.proofs.Places.ActingMoves.{ActingMoves, Lasting, LastingOf}
 use Rattle.world_laws.proofs.Places.Kept.CallEnds.{deliver-keeps, gone-keeps}
 use Rattle.world_laws.proofs.Places.Kept.Calls.{edit_call-alters, enqueue-keeps, keeps_sending-caller, keeps_sending-number, with_call-keeps}
 use Rattle.world_laws.proofs.Places.Kept.Frames.{given-through, goes-keeps, open_sequence-keeps, pass_on-keeps, pop-alters, push-alters, raise_if-through, raises-keeps, weakly}
@@ -11,7 +11,7 @@ use Rattle.world_laws.proofs.Places.Kept.Scopes.{begin_scope-alters, drop_delay-
 use Rattle.world_laws.proofs.Places.Kept.Sending.{begin_abortable-keeps, send_on-keeps, sent_not_begun-keeps}
 use Rattle.world_laws.proofs.Places.Kept.Tasks.{says-keeps}
 use Rattle.world_laws.proofs.Places.Kept.Waking.{Asleep, asleep_at, asleep_quiet}
-use Rattle.world_laws.proofs.Places.LevelMoves.{BaseMoves, Naming, Silences}
+use Rattle.world_laws.proofs.Places.LevelMoves.{BaseMoves, Silences}
 use Rattle.ceiling_laws.proofs.Runs.Triples.{Alters, At, Keeps, Leads, State, With, branch-leads, changes-keeps, for_some-keeps, from-leads, from_at, looks-keeps, looks-leads, looks-with, nothing-keeps, sees-leads, then-keeps, then-leads, to-leads, unchanged-alters}
 use Rattle.profile_machine.specs.Appointments.{drop_delay}
 use Rattle.profile_machine.specs.CallEnds.{deliver}
@@ -57,6 +57,8 @@ use Rattle.trace_text.specs.declared.events.Who.{Who}
 use Rattle.trace_text.specs.declared.events.Who.TheVariants as who
 use Rattle.ceiling_laws.proofs.Runs.Kept.Waking.{waiting-blocked}
 use Rattle.ceiling_laws.proofs.Runs.LevelMoves.{Fitting, Sleeping}
+use Rattle.ceiling_laws.proofs.Runs.ActingMoves.{Admitting}
+use Rattle.machine_laws.proofs.FineMoves.{Naming}
 
 module _ {X : State} (quiet : Silences X) where
   pub open_accept-alters : (p : Image) (name : Who) (s : StatementNo) (c : Call) → Alters X (open_accept p name s c)

@@ -4,7 +4,7 @@ use Rattle.ann_base.specs.declared.exceptions.Raised.TheVariants as exception
 use Rattle.ann_base.specs.declared.identities.CallNo.{CallNo}
 use Rattle.ann_base.specs.declared.identities.ObjectNo.{ObjectNo}
 use Rattle.world_laws.proofs.Appointments.Delays.{Caller}
-use Rattle.world_laws.proofs.Places.ActingMoves.{ActingMoves, Admitting, Lasting, LastingOf}
+use Rattle.world_laws.proofs.Places.ActingMoves.{ActingMoves, Lasting, LastingOf}
 use Rattle.world_laws.proofs.Places.Kept.CallEnds.{deliver-keeps, resume-keeps}
 use Rattle.profile_machine.specs.CallEnds.{deliver}
 use Rattle.world_laws.proofs.Places.Kept.Calls.{attempt_with-leads, edit_call-alters, enqueue-keeps, forget_call-alters, keeps_sending-caller, keeps_sending-number, with_call-keeps}
@@ -12,7 +12,7 @@ use Rattle.world_laws.proofs.Places.Kept.Frames.{edit_top-alters, leaves-keeps, 
 use Rattle.world_laws.proofs.Places.Kept.Protected.{edit_top_protected-alters, serve_call-leads}
 use Rattle.world_laws.proofs.Places.Kept.Sending.{begin_abortable-keeps, open_abortable-alters, send_on-keeps, sent_not_begun-keeps, wait_for_call-leads}
 use Rattle.world_laws.proofs.Places.Kept.Tasks.{edit_object-alters, plain-alters, says-keeps}
-use Rattle.world_laws.proofs.Places.LevelMoves.{BaseMoves, Naming, Silences}
+use Rattle.world_laws.proofs.Places.LevelMoves.{BaseMoves, Silences}
 use Rattle.world_laws.proofs.Places.Owning.{OwnCall, calling_deferred, calling_loses, own_moves, owning}
 use Rattle.ceiling_laws.proofs.Runs.Triples.{Alters, At, Keeps, Leads, State, With, changes-keeps, for_some-leads, from-leads, from_at, looks-leads, looks-with, nothing-keeps, nothing-leads, then-keeps, then-leads, to-leads, when-leads}
 use Rattle.profile_machine.specs.Act.{call}
@@ -53,6 +53,8 @@ use Rattle.trace_text.specs.declared.events.Mode.TheVariants.{Read, Write}
 use Rattle.trace_text.specs.declared.events.Who.{Who}
 use Rattle.trace_text.specs.declared.events.Who.TheVariants as who
 use Rattle.ceiling_laws.proofs.Runs.LevelMoves.{FitsAll, Fitting, Sleeping}
+use Rattle.ceiling_laws.proofs.Runs.ActingMoves.{Admitting}
+use Rattle.machine_laws.proofs.FineMoves.{Naming}
 
 module _ {X : State} (quiet : Silences X) where
   pub keep_values-keeps : (p : Image) (c : CallNo) (cells : List Value) → Keeps X (keep_values p c cells)

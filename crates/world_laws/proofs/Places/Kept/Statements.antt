@@ -5,9 +5,10 @@ use Rattle.world_laws.proofs.Places.Kept.Tasks.{says-keeps}
 use Rattle.world_laws.proofs.Places.LevelMoves.{Silences}
 use Rattle.world_laws.proofs.Places.SameLemmas.{same_then}
 use Rattle.ceiling_laws.proofs.Runs.Triples.{Keeps, State, changes-keeps, looks-keeps, looks-with, sees-keeps, then-keeps}
+use Rattle.ceiling_laws.proofs.Runs.Kept.Statements.{bounds_put}
 use Rattle.profile_machine.specs.CallEnds.{store}
 use Rattle.profile_machine.specs.Frames.{goes}
-use Rattle.profile_machine.specs.Operators.{Valued, checked}
+use Rattle.profile_machine.specs.Operators.{checked}
 use Rattle.profile_machine.specs.Program.{declaration_of, next_of}
 use Rattle.profile_machine.specs.Scopes.{write_cell}
 use Rattle.profile_machine.specs.Statements.{advance, array_copied, assign, assign_array, block_statement, bounds_set, case_statement, copy_cells, exit_statement, exit_where, first_bound, first_turn, for_bounds, go_to_alternative, if_statement, last_bound, later_turn, loop_cell, null, put, put_line, raise_again, text_of_pieces, while_turn}
@@ -39,9 +40,6 @@ array_copied-gives p q target source =
     bind-gives (object_cell q target) (λ t. object_cell q source >>= λ f. Ok (copy_cells p t f q.world)) q.world (λ t.
     bind-gives (object_cell q source) (λ f. Ok (copy_cells p t f q.world)) q.world (λ f.
     ok-gives q.world (copy_cells p t f q.world) (copy_cells-same p t f q.world)))
-
-bounds_put : Seen → Bool → Value → Value → Variable → Variable → Valued World
-bounds_put q reverse l h x y = Ok (put y (last_bound reverse l h) (put x (first_bound reverse l h) q.world))
 
 bounds_put-gives : (q : Seen) (reverse : Bool) (l h : Value) (x y : Variable) → Gives q.world (bounds_put q reverse l h x y)
 unfolding bounds_put

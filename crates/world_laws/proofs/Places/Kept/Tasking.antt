@@ -1,17 +1,16 @@
 -- Creation, activation, completion and abort: each step keeps what its parts keep.
 use Rattle.ann_base.specs.declared.exceptions.Raised.TheVariants as exception
 use Rattle.ann_base.specs.declared.identities.RegionNo.{RegionNo}
-use Rattle.world_laws.proofs.Places.ActingMoves.{ActingMoves, Admitting, AreApart, IsNew, Lasting, LastingOf, SelectMoves}
+use Rattle.world_laws.proofs.Places.ActingMoves.{ActingMoves, AreApart, IsNew, Lasting, LastingOf, SelectMoves}
 use Rattle.world_laws.proofs.Places.Kept.Controlled.{edit_top_scope-alters, finalize-keeps}
 use Rattle.world_laws.proofs.Places.Kept.Frames.{edit_top-alters, given-keeps, given-through, goes-keeps, pass_on-keeps, pop-alters, raise_if-keeps, raise_if-through, raises-keeps, weakly}
 use Rattle.world_laws.proofs.Places.Kept.Masters.{complete-keeps, end_activation-keeps, fits_part, leave_by_terminate-keeps, terminate-leads}
 use Rattle.world_laws.proofs.Places.Kept.Scopes.{end_scope-alters, open_scope-alters}
-use Rattle.ceiling_laws.proofs.Places.BesideLemmas.{same-self}
 use Rattle.world_laws.proofs.Places.Kept.Serving.{end_body_of_entry-keeps}
 use Rattle.world_laws.proofs.Places.Kept.Subprograms.{end_subprogram-keeps}
 use Rattle.world_laws.proofs.Places.Kept.Tasks.{edit_task-alters, plain-alters, says-keeps}
 use Rattle.world_laws.proofs.Places.Kept.Unwinding.{leave_by_abort-keeps, strike_outermost-alters, unwind-keeps}
-use Rattle.world_laws.proofs.Places.LevelMoves.{BaseMoves, Naming, Silences}
+use Rattle.world_laws.proofs.Places.LevelMoves.{BaseMoves, Silences}
 use Rattle.ceiling_laws.proofs.Runs.Triples.{Alters, At, Keeps, Leads, State, branch-keeps, branch-leads, changes-keeps, for_each-keeps, for_some-keeps, from-leads, looks-keeps, looks-leads, looks-with, nothing-keeps, nothing-leads, sees-keeps, then-keeps, then-leads, to-leads, when-keeps, when-leads}
 use Rattle.profile_machine.specs.Controlled.{finalize, next_to_finalize}
 use Rattle.profile_machine.specs.Dispatching.{active_of, says_block}
@@ -57,6 +56,10 @@ use Rattle.trace_text.specs.declared.events.Who.TheVariants as who
 use Rattle.ceiling_laws.proofs.Runs.Kept.Waking.{each-both, filter-each, filter-tested, for_each_task-keeps}
 use Rattle.ceiling_laws.proofs.Runs.LevelMoves.{EachTask, Fitting, Sleeping}
 use Rattle.ceiling_laws.proofs.Places.SoundWorlds.{each-on}
+use Rattle.ceiling_laws.proofs.Runs.ActingMoves.{Admitting}
+use Rattle.machine_laws.proofs.FineMoves.{Naming}
+use Rattle.line_laws.proofs.Leaving.TaskLemmas.{same_self}
+use Rattle.line_laws.proofs.Ticks.StuckLemmas.{first_of_three}
 
 -- of tasks that bear other names those for which a test holds do
 none_if : (name : Who) (t : world.Task) (kept : List world.Task) (found b : Bool) → (found || list_any (λ u. same_who name u.who) kept) ≡ false → same_who name t.who ≡ found → list_any (λ u. same_who name u.who) (cond b (t ∷ kept) kept) ≡ false
@@ -82,13 +85,9 @@ apart-filtered : (test : world.Task → Bool) (ts : List world.Task) → AreApar
 apart-filtered test [] a = tt
 apart-filtered test (t ∷ ts) a = apart_if t (filter test ts) (test t) (none-filtered t.who test ts a.0) (apart-filtered test ts a.1)
 
-first_of_three : (a b c : Bool) → (a && b && c) ≡ true → a ≡ true
-first_of_three true b c e = refl
-first_of_three false b c e = cc
-
 -- each task of a list is among them
 among-first : (t : world.Task) (rest : List world.Task) → list_any (λ u. same_who t.who u.who) (t ∷ rest) ≡ true
-among-first t rest = ap (λ b. b || list_any (λ u. same_who t.who u.who) rest) (same-self t.who)
+among-first t rest = ap (λ b. b || list_any (λ u. same_who t.who u.who) rest) (same_self t.who)
 
 among-more : (t u : world.Task) (rest : List world.Task) → list_any (λ x. same_who t.who x.who) rest ≡ true → list_any (λ x. same_who t.who x.who) (u ∷ rest) ≡ true
 among-more t u rest e = or_right (same_who t.who u.who) (list_any (λ x. same_who t.who x.who) rest) e

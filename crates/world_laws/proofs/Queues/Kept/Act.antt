@@ -51,7 +51,7 @@ use Rattle.profile_machine.specs.Instant.{effect}
 use Rattle.world_laws.proofs.Queues.CallChanges.{drop_appointment-calm, dropped-none, unqueued-calm, unqueued-out}
 use Rattle.world_laws.proofs.Queues.Kept.Actions.{call_operation-acts, call_own_operation-keeps, end_in_protected-onward}
 use Rattle.world_laws.proofs.Queues.Kept.CallEnds.{attempted-same, found-directed, found-number}
-use Rattle.world_laws.proofs.Queues.Kept.Combinators.{Keeps, Quiets, changes-calms, changes-keeps, changes_then-from, keeps-from, looks-keeps, nothing-keeps, sees-keeps, then-keeps, unchanged-quiets, world_behind}
+use Rattle.world_laws.proofs.Queues.Kept.Combinators.{Keeps, Quiets, changes-calms, changes-keeps, changes_then-from, keeps-from, looks-keeps, nothing-keeps, sees-keeps, then-keeps, unchanged-quiets}
 use Rattle.world_laws.proofs.Queues.Kept.Controlled.{assign_controlled-keeps, end_in_assign-from, end_in_finalize-from, end_in_initialize-from, initialize-keeps}
 use Rattle.world_laws.proofs.Queues.Kept.Declarations.{declare-keeps}
 use Rattle.world_laws.proofs.Queues.Kept.EntryCalls.{asynchronous_select-acts, entry_call-acts, requeue-keeps}
@@ -68,6 +68,7 @@ use Rattle.world_laws.proofs.Queues.Kept.Waits.{waiting-good}
 use Rattle.world_laws.proofs.Queues.Calming.{named-found, task-edited}
 use Rattle.world_laws.proofs.Queues.Moving.{queue-frames}
 use Rattle.world_laws.proofs.Queues.Standing.{Awake, Calm, Good, Kind, Nature, Out, any_kind, awaits_part, calls_part, calm-awake, calm-good, has_own, is_ending, is_named, nature, natures, part_of, quiet_kind, own_in, some_nature, top_waits, waits_end}
+use Rattle.machine_laws.proofs.Kept.Combinators.{world_behind}
 
 -- ---- the world behind is good, whoever is awake there
 

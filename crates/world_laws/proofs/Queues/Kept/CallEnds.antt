@@ -41,6 +41,7 @@ use Rattle.world_laws.proofs.Queues.Kept.Combinators.{Calms, From, Gives, Keeps,
 use Rattle.world_laws.proofs.Queues.Kept.Frames.{Same, drop_delay-quiets, edit_call-quiets, edit_task-quiets, goes-keeps, grant_quantum-quiets, keep_level-quiets, leaves-calms, leaves-keeps, raises-keeps, ready-calms, runnable-quiets, store-gives}
 use Rattle.world_laws.proofs.Queues.Softening.{marks-calm}
 use Rattle.world_laws.proofs.Queues.Standing.{Awake, Calm, Good, Kind, Out, any_kind, calm-awake, calm-good, calm-then, is_ending, nature, natures, waits_end}
+use Rattle.world_laws.proofs.Queues.Listed.{none-waits}
 
 -- ---- cancellation is attempted
 
@@ -143,9 +144,6 @@ runnable-waiting (who.Task n) w =
     edits_of.edited_to (λ u. Unit {0}) (λ u. waiting_in u.state ≡ None) (who.Task n) (who.Task n) (with_state Runnable) w (λ u. refl)
     (λ same u h. refl) (λ apart u h. absurd (true≢false (sym (eq-eqb n.0 n.0 refl) ∙ apart))) (λ h. refl) tt
 runnable-waiting who.Agent w = refl
-
-none-waits : (c : CallNo) → None ≡ waits_end c → ⊥
-none-waits c e = cc
 
 pub runnable-awake : (name : Who) (w : World) → Awake name (edit_task name (with_state Runnable) w)
 unfolding Awake

@@ -17,12 +17,11 @@ use Rattle.profile_machine.specs.Calls.{call_of, with_call}
 use Rattle.profile_machine.specs.Statements.{sees}
 use Rattle.world_laws.proofs.Queues.Calming.{same-calm}
 use Rattle.world_laws.proofs.Queues.Standing.{Awake, Calm, Kind, calm-awake, calm-then}
+use Rattle.machine_laws.proofs.Kept.Combinators.{world_behind}
 
 -- ---- what it is to be calm
 
 -- the world to which a step has led
-abbrev pub world_behind : Done → World
-world_behind (done w said) = w
 
 -- a step from one world
 pub record From (E : Kind) (w : World) (step : Step) : Type 0 where

@@ -44,11 +44,12 @@ use Rattle.world_laws.proofs.Queues.CallChanges.{Edits, edit_call-calm, edited_c
 use Rattle.world_laws.proofs.Queues.CallLists.{same-call}
 use Rattle.world_laws.proofs.Queues.Calming.{task-edited}
 use Rattle.world_laws.proofs.Queues.Kept.CallEnds.{found-number, readied, readied-awake, readied-calm, readied-frames, readied-unwaited, ready_then-from, resume-from, unwind-from, with_results-calm}
-use Rattle.world_laws.proofs.Queues.Kept.Combinators.{From, Keeps, Quiets, branch-keeps, calms-from, changes-calms, changes-from, changes_then-from, keeps-from, looks_at-from, nothing-from, nothing-keeps, says-calms, then-after, then-calms, then-from, when-from, when-keeps, with_call-from, world_behind}
+use Rattle.world_laws.proofs.Queues.Kept.Combinators.{From, Keeps, Quiets, branch-keeps, calms-from, changes-calms, changes-from, changes_then-from, keeps-from, looks_at-from, nothing-from, nothing-keeps, says-calms, then-after, then-calms, then-from, when-from, when-keeps, with_call-from}
 use Rattle.world_laws.proofs.Queues.Kept.Frames.{goes-keeps, leaves-keeps, open_sequence-keeps, pass_on-keeps, raises-keeps}
 use Rattle.world_laws.proofs.Queues.Kept.Parts.{call_at, call_at-awaits, call_at-depth, edit_abortable_at-calm, edited-ending}
 use Rattle.world_laws.proofs.Queues.Softening.{Unset, marks-calm, pop-calm}
 use Rattle.world_laws.proofs.Queues.Standing.{Awake, Calm, Ended, Good, Idle, Kind, Out, any_kind, awaits_at, awaits_part, calls_part, calm-awake, calm-ended, calm-good, calm-idle, calm-out, calm-then, ended-out, is_ending, nature, natures, part_of, waits_end, GoodBut}
+use Rattle.machine_laws.proofs.Kept.Combinators.{world_behind}
 
 -- ---- a part is triggered
 

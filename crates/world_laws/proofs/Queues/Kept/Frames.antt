@@ -53,6 +53,7 @@ use Rattle.world_laws.proofs.Queues.Calming.{same-calm}
 use Rattle.world_laws.proofs.Queues.Kept.Combinators.{Alters, Calms, From, Gives, Keeps, Quiets, any-keeps, bind-gives, branch-keeps, calms-from, changes-calms, changes-from, changes-keeps, looks-calms, looks-keeps, nothing-keeps, ok-gives, quiets-alters, says-calms, stays-calm, then-calms, then-from, then-keeps, unchanged-quiets, when-calms}
 use Rattle.world_laws.proofs.Queues.Softening.{Unset, awake-calm, marks-calm, plain-calm, pop-calm, push-calm, state-calm}
 use Rattle.world_laws.proofs.Queues.Standing.{Awake, Calm, Kind, Nature, awaits_part, calls_part, calm-awake, calm-then, ends_by, has_own, is_ending, nature, natures, part_of, waits_end}
+use Rattle.machine_laws.proofs.Kept.Dispatching.{full_quantum-who, full_quantum-frames, full_quantum-state}
 
 -- ---- tasks
 
@@ -63,18 +64,6 @@ pub edit_task-alters : {E : Kind} {name : Who} (someone : Who) (f : Task → Tas
 edit_task-alters someone f named frames state queues completed = quiets-alters (edit_task someone f) (edit_task-quiets someone f named frames state queues completed)
 
 -- ---- placing
-
-full_quantum-who : (b : Bool) (n : ℕ) (t : Task) → (cond b (record t { quantum = n }) t).who ≡ t.who
-full_quantum-who true n t = refl
-full_quantum-who false n t = refl
-
-full_quantum-frames : (b : Bool) (n : ℕ) (t : Task) → (cond b (record t { quantum = n }) t).frames ≡ t.frames
-full_quantum-frames true n t = refl
-full_quantum-frames false n t = refl
-
-full_quantum-state : (b : Bool) (n : ℕ) (t : Task) → (cond b (record t { quantum = n }) t).state ≡ t.state
-full_quantum-state true n t = refl
-full_quantum-state false n t = refl
 
 full_quantum-completed : (b : Bool) (n : ℕ) (t : Task) → (cond b (record t { quantum = n }) t).completed ≡ t.completed
 full_quantum-completed true n t = refl

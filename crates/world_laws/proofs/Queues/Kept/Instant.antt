@@ -38,7 +38,7 @@ use Rattle.world_laws.proofs.Queues.CallChanges.{drop_appointment-calm, dropped-
 use Rattle.world_laws.proofs.Queues.Calming.{named-found, same-calm}
 use Rattle.world_laws.proofs.Queues.Kept.Act.{Holds, any-holds, effect-holds, looks_at-holds, onward-holds, then-holds}
 use Rattle.world_laws.proofs.Queues.Kept.CallEnds.{found-directed, found-number, readied, readied-awake, ready_then-from, unwind-from}
-use Rattle.world_laws.proofs.Queues.Kept.Combinators.{Calms, From, Quiets, branch-calms, changes-calms, changes_then-from, for_each-calms, for_some-calms, from-calms, keeps-from, looks-calms, looks_at-from, nothing-calms, nothing-from, said_then-from, says-calms, stays-calm, then-after, then-calms, when-calms, world_behind}
+use Rattle.world_laws.proofs.Queues.Kept.Combinators.{Calms, From, Quiets, branch-calms, changes-calms, changes_then-from, for_each-calms, for_some-calms, from-calms, keeps-from, looks-calms, looks_at-from, nothing-calms, nothing-from, said_then-from, says-calms, stays-calm, then-after, then-calms, when-calms}
 use Rattle.world_laws.proofs.Queues.Kept.Ends.{deliver-from, trigger_at-from}
 use Rattle.world_laws.proofs.Queues.Kept.Frames.{goes-keeps, open_sequence-keeps, to_tail-calms}
 use Rattle.world_laws.proofs.Queues.Kept.Handlers.{interrupt-calms, release-calms}
@@ -46,6 +46,7 @@ use Rattle.world_laws.proofs.Queues.Kept.Onward.{Onward, calm-onward, calms-any,
 use Rattle.world_laws.proofs.Queues.Kept.Parts.{call_at-awaits, edit_abortable_at-calm}
 use Rattle.world_laws.proofs.Queues.Kept.Sending.{no-steady}
 use Rattle.world_laws.proofs.Queues.Standing.{Awake, Calm, Good, Idle, Kind, Out, Waited, any_kind, calm-good, calm-idle, is_named, quiet_kind, waits_end}
+use Rattle.machine_laws.proofs.Kept.Combinators.{world_behind}
 
 -- ---- moves
 

@@ -37,7 +37,7 @@ use Rattle.world_laws.proofs.Queues.CallChanges.{stands-where, unqueued-calm, un
 use Rattle.world_laws.proofs.Queues.CallLists.{at-some, in_queues, same-call}
 use Rattle.world_laws.proofs.Queues.Calming.{StandsAt, edit_task-calls, edit_task-drawn, edit_task-fall, edit_task-objects, found-appointments, named-edited, task-edited, unfirm-same}
 use Rattle.world_laws.proofs.Queues.Kept.CallEnds.{found-directed, found-number, readied, readied-awake, ready_then-from}
-use Rattle.world_laws.proofs.Queues.Kept.Combinators.{Calms, calms-from, changes-calms, for_some-calms, from-calms, looks-calms, nothing-calms, then-calms, then-from, when-calms, world_behind, From, changes-from, stays-calm, then-after}
+use Rattle.world_laws.proofs.Queues.Kept.Combinators.{Calms, calms-from, changes-calms, for_some-calms, from-calms, looks-calms, nothing-calms, then-calms, then-from, when-calms, From, changes-from, stays-calm, then-after}
 use Rattle.world_laws.proofs.Queues.Kept.Ends.{Leaves, Seen_if, Unwaited, end_call-leaves, unwaited-on}
 use Rattle.world_laws.proofs.Queues.Kept.Frames.{drop_delay-quiets, edit_task-quiets, leaves-calms, lose-quiets, open_sequence-keeps, raises-calms, ready-calms, runnable-quiets}
 use Rattle.world_laws.proofs.Queues.Kept.Onward.{Any}
@@ -45,6 +45,7 @@ use Rattle.world_laws.proofs.Queues.Moving.{Next, calm-next, next-then, services
 use Rattle.world_laws.proofs.Queues.Serving.{Beside, Marks, call-is, call-was, good-by, low-is, marks-same, set-was}
 use Rattle.world_laws.proofs.Queues.Standing.{Calm, Good, Idle, Kind, Out, Stands, any_kind, calm-good, calm-idle, calm-out, queued-idle, Awaited, Awake, Fall, GoodBut, Open, Unfirm, calm-awake, calm-owns, calm-then, fewer-late, natures, none_late, quiet_kind, served_in}
 use Rattle.line_laws.proofs.Exits.TaskEdits as edits_of
+use Rattle.machine_laws.proofs.Kept.Combinators.{world_behind}
 
 -- ---- one call of the queues ends, and the others stay
 
@@ -272,7 +273,7 @@ completed-none (who.Task n) w k c =
     (λ same u h e. emptied-none u.queues k c e) (λ apart u h. absurd (true≢false (sym (eq-eqb n.0 n.0 refl) ∙ apart))) (λ h e. true≢false (sym e)) tt
 completed-none who.Agent w k c = λ e. emptied-none w.agent.queues k c e
 
-first-is : (a b c : Bool) → (a && b && c) ≡ true → a ≡ true
+pub first-is : (a b c : Bool) → (a && b && c) ≡ true → a ≡ true
 first-is true b c e = refl
 first-is false b c e = absurd (true≢false (sym e))
 

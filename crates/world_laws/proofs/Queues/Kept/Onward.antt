@@ -19,10 +19,11 @@ use Rattle.profile_machine.specs.Values.{Seen, seen_by}
 use Rattle.profile_machine.specs.Statements.{sees}
 use Rattle.profile_machine.specs.Frames.{given, raise_if, raises, has_room, with_room}
 use Rattle.profile_machine.specs.Calls.{call_of, with_call}
-use Rattle.world_laws.proofs.Queues.Kept.Combinators.{Calms, From, Keeps, nothing-from, world_behind}
+use Rattle.world_laws.proofs.Queues.Kept.Combinators.{Calms, From, Keeps, nothing-from}
 use Rattle.world_laws.proofs.Queues.Kept.Frames.{raises-keeps}
 use Rattle.world_laws.proofs.Queues.Moving.{Next, calm-next, next-then}
 use Rattle.world_laws.proofs.Queues.Standing.{Awake, Calm, Good, Kind, calm-good, quiet_kind}
+use Rattle.machine_laws.proofs.Kept.Combinators.{world_behind}
 
 -- somebody's number was drawn
 abbrev pub Drawn : Who → World → Type 0

@@ -20,9 +20,7 @@ use Rattle.world_laws.proofs.Queues.Kept.Ends.{EndsWell, end_found-from}
 use Rattle.world_laws.proofs.Queues.Kept.Onward.{Onward, calm-onward}
 use Rattle.world_laws.proofs.Queues.Softening.{Unset}
 use Rattle.world_laws.proofs.Queues.Standing.{Good, Out, any_kind, awaits_part, ended-out, ends_by, ends_part, natures, part_of, some_nature, none_late}
-
-some-same : (a b : CallNo) → Some a ≡ Some b → a ≡ b
-some-same a b e = cc
+use Rattle.world_laws.proofs.Queues.Chosen.{some-same}
 
 first-same : (f g : Frame) (xs ys : List Frame) → f ∷ xs ≡ g ∷ ys → f ≡ g
 first-same f g xs ys e = cc

@@ -43,13 +43,14 @@ use Rattle.profile_machine.specs.WellFormed.{same_owner}
 use Rattle.world_laws.proofs.Queues.CallChanges.{Directed, Edits, edit_call-calm, edited_call-same, unqueued-calm, unqueued-out, unqueued-timed}
 use Rattle.world_laws.proofs.Queues.Calming.{edit_task-calls, same-calm}
 use Rattle.world_laws.proofs.Queues.Kept.CallEnds.{found-number}
-use Rattle.world_laws.proofs.Queues.Kept.Combinators.{Calms, Keeps, any-keeps, branch-calms, changes-calms, looks-calms, nothing-calms, says-calms, sees-keeps, stays-calm, then-calms, then-keeps, when-calms, world_behind}
+use Rattle.world_laws.proofs.Queues.Kept.Combinators.{Calms, Keeps, any-keeps, branch-calms, changes-calms, looks-calms, nothing-calms, says-calms, sees-keeps, stays-calm, then-calms, then-keeps, when-calms}
 use Rattle.world_laws.proofs.Queues.Kept.Frames.{Same, edit_call-quiets, edit_task-quiets, given-keeps, goes-keeps, raise_if-keeps, to_tail-calms}
 use Rattle.world_laws.proofs.Queues.Kept.Onward.{Acts, Any, Onward, any-acts, branch-any, calms-any, changes-onward, changes_then-onward, for_some-any, given-acts, keeps-acts, looks-any, nothing-any, raise_if-acts, sees-acts, then-acts, then-any, when-any, when-onward, with_call-onward}
 use Rattle.world_laws.proofs.Queues.Kept.Statements.{delay_to-keeps}
 use Rattle.world_laws.proofs.Queues.Moving.{Begun, Next, calm-next, next-then, queue-frames, queued-next}
 use Rattle.world_laws.proofs.Queues.Serving.{put-comes, put-stays, put_anew-comes, put_anew-stays}
 use Rattle.world_laws.proofs.Queues.Standing.{Calm, Good, Idle, Kind, Out, any_kind, calm-good, calm-idle, calm-then, queued-idle, rightly}
+use Rattle.machine_laws.proofs.Kept.Combinators.{world_behind}
 
 abbrev pub all_may : Kind
 all_may = any_kind

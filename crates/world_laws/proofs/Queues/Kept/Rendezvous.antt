@@ -72,7 +72,7 @@ use Rattle.world_laws.proofs.Queues.Calming.{edit_task-calls, found-appointments
 use Rattle.world_laws.proofs.Queues.Chosen.{in-mapped, in-one, next-in}
 use Rattle.world_laws.proofs.Queues.Kept.Actions.{begun-out, chosen-queued, outcome-none, sent-none}
 use Rattle.world_laws.proofs.Queues.Kept.CallEnds.{found-directed, found-number}
-use Rattle.world_laws.proofs.Queues.Kept.Combinators.{Calms, From, Keeps, Quiets, any-keeps, calms-from, changes-calms, keeps-from, looks-keeps, nothing-keeps, says-calms, then-after, then-keeps, unchanged-quiets, world_behind}
+use Rattle.world_laws.proofs.Queues.Kept.Combinators.{Calms, From, Keeps, Quiets, any-keeps, calms-from, changes-calms, keeps-from, looks-keeps, nothing-keeps, says-calms, then-after, then-keeps, unchanged-quiets}
 use Rattle.world_laws.proofs.Queues.Kept.Ends.{AllAwake, MayEnd, all_awake-on, deliver-from, gone_then-from}
 use Rattle.world_laws.proofs.Queues.Kept.Frames.{Same, appoint-quiets, begin_scope-quiets, block-keeps, blocked-quiets, drop_delay-quiets, edit_call-quiets, edit_top-alters, goes-keeps, inherit-quiets, inherit_running-calms, lose_running-calms, open_sequence-keeps, pass_on-keeps, popped, raises-calms, ready-calms}
 use Rattle.world_laws.proofs.Queues.Kept.Onward.{Acts, Onward, calm-onward, calm_then-onward, changes_then-onward, either-onward, for_some-onward, looks_at-onward, said_then-onward, then-onward, with_call-onward}
@@ -81,6 +81,7 @@ use Rattle.world_laws.proofs.Queues.Kept.Sending.{begin_abortable-calms, no-stea
 use Rattle.world_laws.proofs.Queues.Moving.{Begun, Next, Serves, calm-next, next-then, served-next}
 use Rattle.world_laws.proofs.Queues.Softening.{awaits-more}
 use Rattle.world_laws.proofs.Queues.Standing.{Awake, Calm, Good, Idle, Kind, Out, Stands, any_kind, calm-awake, calm-good, calm-idle, calm-out, calm-then, ends_by, ends_part, has_own, nature, natures, one_if, own_in, part_of, queued-idle, quiet_kind, served, served_in, service, some_nature}
+use Rattle.machine_laws.proofs.Kept.Combinators.{world_behind}
 
 finish_without_room-calms : {E : Kind} (part : Part) (name : Who) (c : Call) → Calms E (finish_without_room part name c)
 unfolding finish_without_room

@@ -31,11 +31,12 @@ use Rattle.profile_machine.specs.Instant.{instant}
 use Rattle.profile_machine.specs.Run.{environment_task, agent_at_first, blank_world, environment, opens, opening, say, silently, says_run, with_serving, serve_if_free, serve, begin_action, one_tick_less, spend_tick, next_tick, says_idle, idle_tick, tock_of, tock}
 use Rattle.machine_laws.specs.Reached.{Comes, opened, ticked, Reached, before, behind}
 use Rattle.world_laws.proofs.Queues.Calming.{same-calm}
-use Rattle.world_laws.proofs.Queues.Kept.Combinators.{Keeps, any-keeps, changes-keeps, says-calms, then-keeps, world_behind}
+use Rattle.world_laws.proofs.Queues.Kept.Combinators.{Keeps, any-keeps, changes-keeps, says-calms, then-keeps}
 use Rattle.world_laws.proofs.Queues.Kept.Frames.{edit_task-quiets, open_scope-alters, open_sequence-keeps, to_tail-calms}
 use Rattle.world_laws.proofs.Queues.Kept.Handlers.{charge-calm}
 use Rattle.world_laws.proofs.Queues.Kept.Instant.{Lasting, instant-lasting, settled-good, then-lasting}
 use Rattle.world_laws.proofs.Queues.Standing.{Awake, Calm, Good, Nature, Stands, calm-good, ends_by, has_own, is_named, natures, natures_of, quiet_kind, served, served_in, some_nature, waits_end}
+use Rattle.machine_laws.proofs.Kept.Combinators.{world_behind}
 
 -- ---- the blank world
 

@@ -37,12 +37,13 @@ use Rattle.profile_machine.specs.Sending.{open_abortable, new_abortable_mark, ab
 use Rattle.world_laws.proofs.Queues.CallChanges.{Directed, Edits, appoint-calm, edit_call-calm, unqueued-calm, unqueued-out}
 use Rattle.world_laws.proofs.Queues.CallLists.{same-call}
 use Rattle.world_laws.proofs.Queues.Kept.CallEnds.{attempt_with-from, found-directed, found-number, resume-from}
-use Rattle.world_laws.proofs.Queues.Kept.Combinators.{Alters, Calms, From, calms-from, changes-from, changes_then-from, from-calms, looks_at-from, nothing-from, said_then-from, stays-calm, then-after, when-from, with_call-from, world_behind}
+use Rattle.world_laws.proofs.Queues.Kept.Combinators.{Alters, Calms, From, calms-from, changes-from, changes_then-from, from-calms, looks_at-from, nothing-from, said_then-from, stays-calm, then-after, when-from, with_call-from}
 use Rattle.world_laws.proofs.Queues.Kept.Ends.{AllAwake, MayEnd, all_awake-on, deliver-from}
 use Rattle.world_laws.proofs.Queues.Kept.Frames.{block-calms, push-alters, ready-calms}
 use Rattle.world_laws.proofs.Queues.Kept.Onward.{Onward}
 use Rattle.world_laws.proofs.Queues.Moving.{Next, calm-next, next-then}
 use Rattle.world_laws.proofs.Queues.Standing.{Awake, Calm, Good, Idle, Kind, Out, any_kind, calm-awake, calm-good, calm-idle, quiet_kind, waits_end, Awaited, Open}
+use Rattle.machine_laws.proofs.Kept.Combinators.{world_behind}
 
 pub open_abortable-alters : {E : Kind} (p : Image) (name : Who) (select : StatementNo) (c : CallNo) → Alters E name (open_abortable p name select (Some c))
 open_abortable-alters p name select c = push-alters name (new_frame (new_abortable_mark select (Some c)) (abortable_in (form_of p select))) (λ x. refl) (λ x. refl) (λ x. refl) refl

@@ -14,7 +14,6 @@ use Rattle.profile_machine.specs.declared.expressions.VariableName.{VariableName
 use Rattle.profile_machine.specs.declared.statements.CaseAlternative.{CaseAlternative}
 use Rattle.profile_machine.specs.declared.statements.Piece.{Piece}
 use Rattle.profile_machine.specs.declared.values.Value.{Value}
-use Rattle.profile_machine.specs.declared.world.World.{World}
 use Rattle.profile_machine.specs.declared.world.scopes.Variable.{Variable}
 use Rattle.profile_machine.specs.declared.world.appointments.Due.TheVariants as due_for
 use Rattle.profile_machine.specs.declared.world.tasks.Waiting.TheVariants as waits_for
@@ -29,6 +28,7 @@ use Rattle.profile_machine.specs.Scopes.{put_cells}
 use Rattle.world_laws.proofs.Queues.Kept.Combinators.{Alters, Gives, Keeps, Quiets, bind-gives, changes-keeps, looks-from, looks-keeps, nothing-keeps, ok-gives, says-keeps, sees-keeps, then-keeps}
 use Rattle.world_laws.proofs.Queues.Kept.Frames.{appoint-keeps, block-keeps, edit_cells-quiets, exit_loop-keeps, given-keeps, given_world-from, goes-keeps, open_scope-alters, raise_if-keeps, raises-keeps, store-gives, to_tail-keeps, with_room-keeps, write_cell-alters, write_cell-quiets}
 use Rattle.world_laws.proofs.Queues.Standing.{Kind, calm-then}
+use Rattle.ceiling_laws.proofs.Runs.Kept.Statements.{bounds_put}
 
 pub null-keeps : {E : Kind} (p : Image) (name : Who) (s : StatementNo) → Keeps E name (null p name s)
 unfolding null
@@ -77,9 +77,6 @@ while_turn-keeps p name s e body = search (sees-keeps, given-keeps, goes-keeps) 
 
 pub put-alters : {E : Kind} {name : Who} (v : Variable) (x : Value) → Alters E name (put v x)
 put-alters v x = search (write_cell-alters)
-
-bounds_put : Seen → Bool → Value → Value → Variable → Variable → Valued World
-bounds_put q reverse l h x y = Ok (put y (last_bound reverse l h) (put x (first_bound reverse l h) q.world))
 
 bounds_put-gives : {E : Kind} (q : Seen) (reverse : Bool) (l h : Value) (x y : Variable) → Gives E q.world (bounds_put q reverse l h x y)
 unfolding bounds_put

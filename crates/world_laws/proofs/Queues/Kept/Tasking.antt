@@ -1,7 +1,6 @@
 -- Tasks are created, activated, completed and aborted, and scopes are left (9.1 to 9.3, 9.8, 7.6.1).
-use Rattle.std.proofs.Common.{◌≡◌, ℕ, ◌-◌, Bool, true, false, cond, ◌&&◌, ◌||◌, List, [], ◌∷◌, Option, Some, None, refl, sym, subst, ap, leb, length, eqb}
+use Rattle.std.proofs.Common.{◌≡◌, ℕ, ◌-◌, Bool, true, false, cond, ◌||◌, List, [], ◌∷◌, Option, Some, None, refl, sym, subst, ap, leb, length, eqb}
 use Rattle.std.specs.Prelude.{filter}
-use Rattle.std.proofs.lemmas.Bool.{true≢false}
 use Rattle.ann_base.specs.declared.identities.CallNo.{CallNo}
 use Rattle.ann_base.specs.declared.identities.RegionNo.{RegionNo}
 use Rattle.ann_base.specs.declared.exceptions.Raised.TheVariants as exception
@@ -54,7 +53,7 @@ use Rattle.world_laws.proofs.Queues.Kept.Combinators.{Calms, From, Keeps, any-ke
 use Rattle.world_laws.proofs.Queues.Kept.Controlled.{edit_top_scope-alters, finalize-keeps}
 use Rattle.world_laws.proofs.Queues.Kept.Declarations.{set_thing-quiets}
 use Rattle.world_laws.proofs.Queues.Kept.Frames.{Same, block-calms, edit_call-quiets, edit_task-quiets, edit_top-alters, given-from, goes-keeps, inherit-quiets, open_scope-alters, pass_on-keeps, popped, raise_if-from, raises-calms, ready-calms, says_block-calms, to_head-calms}
-use Rattle.world_laws.proofs.Queues.Kept.Masters.{complete-any, end_activation-calms, leave_by_terminate-calms, terminate-any}
+use Rattle.world_laws.proofs.Queues.Kept.Masters.{complete-any, end_activation-calms, leave_by_terminate-calms, terminate-any, first-is}
 use Rattle.world_laws.proofs.Queues.Kept.Onward.{Acts, Any, Drawn, Onward, acts-onward, any-acts, calm-onward, calms-any, changes_then-onward, drawn-on, for_each-any, given-acts, keeps-acts, looks-acts, looks-any, looks_at-onward, nothing-onward, raise_if-acts, sees-acts, then-acts, then-any, then-onward, when-any}
 use Rattle.world_laws.proofs.Queues.Kept.Subprograms.{end_subprogram-keeps}
 use Rattle.world_laws.proofs.Queues.Listed.{AllTasks, filter-all, made-awake, map-all}
@@ -138,10 +137,6 @@ unfolding await_group
 await_group-calms name true failed = block-calms TheBlock name waits_for.Activation refl
 await_group-calms name false true = raises-calms TheBlock name exception.Tasking
 await_group-calms name false false = nothing-calms
-
-first-is : (a b c : Bool) → (a && b && c) ≡ true → a ≡ true
-first-is true b c e = refl
-first-is false b c e = absurd (true≢false (sym e))
 
 -- those of the group were made in the world before it
 group-onward : (p : Image) (name : Who) (s : StatementNo) (part : ℕ) (w : World) → Good p w → Awake name w

@@ -35,7 +35,6 @@ use Rattle.std.proofs.Common.{◌≡◌, refl}
 use Rattle.machine_laws.proofs.Moves.{StepRelation, MoveRelation}
 use Rattle.world_laws.proofs.Scopes.FineMoves.{FineMoves, Openings, Live}
 use Rattle.world_laws.proofs.Scopes.Kept.Combinators.{Keeps, From, changes-keeps, for_some-keeps, keeps-from, looks-from, looks-keeps, nothing-keeps, says-keeps, then-from, then-keeps, unchanged-alters, changes_then-from, looks_at-from, sees-keeps, either-from, behind-from, both_then-from}
-use Rattle.world_laws.proofs.Scopes.Kept.Serving.{keeps_sending-number}
 use Rattle.world_laws.proofs.Scopes.Kept.Dispatching.{ready-keeps, block-keeps, blocked-keeps}
 use Rattle.world_laws.proofs.Scopes.Kept.Frames.{goes-keeps, raises-keeps, open_sequence-keeps, pass_on-keeps, raise_if-keeps, goes_then-from, given-keeps}
 use Rattle.world_laws.proofs.Scopes.Kept.Inheritance.{inherit-alters, inherit_running-keeps, lose_running-keeps}
@@ -52,6 +51,7 @@ use Rattle.profile_machine.specs.Tasks.{waiting_in, waiting_of, is_made_state, t
 use Rattle.profile_machine.specs.Dispatching.{ready}
 use Rattle.machine_laws.proofs.FineMoves.{Anybody, GoodWorld, Naming}
 use Rattle.machine_laws.proofs.Kept.Combinators.{Alters}
+use Rattle.machine_laws.proofs.Kept.Serving.{keeps_sending-number}
 
 module _ {G : GoodWorld} {May Other : Naming} {R : StepRelation} {Q : MoveRelation} (moves : FineMoves G May Other R Q) where
   begin_accept-keeps : (p : Image) (part : Part) (name : Who) (s : StatementNo) (c : Call) → Keeps G R (begin_accept p part name s c)

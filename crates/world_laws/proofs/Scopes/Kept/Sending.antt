@@ -1,7 +1,5 @@
 -- Calls that are sent on, and abortable parts that begin: each step keeps a relation that its parts keep.
-use Rattle.std.proofs.Common.{◌≡◌, ℤ, Bool, true, false, cond, not, ◌&&◌, Option, Some, None, refl, sym, []}
-use Rattle.std.specs.Prelude.{◌||◌}
-use Rattle.std.proofs.lemmas.Bool.{false≢true}
+use Rattle.std.proofs.Common.{◌≡◌, ℤ, Bool, true, false, cond, Option, Some, None, refl, []}
 use Rattle.ann_base.specs.declared.identities.CallNo.{CallNo}
 use Rattle.trace_text.specs.declared.events.Who.{Who}
 use Rattle.profile_machine.specs.declared.image.Image.{Image}
@@ -27,13 +25,9 @@ use Rattle.profile_machine.specs.Program.{form_of}
 use Rattle.profile_machine.specs.Frames.{new_frame}
 use Rattle.machine_laws.proofs.FineMoves.{GoodWorld, Naming}
 use Rattle.machine_laws.proofs.Kept.Combinators.{Alters}
+use Rattle.machine_laws.proofs.Kept.Sending.{last_is_false}
 
 -- of a test that fails, unless the first part is why
-last_is_false : (a b c d : Bool) → (not a && (b || c || d)) ≡ false → a ≡ false → d ≡ false
-last_is_false true b c d h k = absurd (false≢true (sym k))
-last_is_false false true c d h k = absurd (false≢true (sym h))
-last_is_false false false true d h k = absurd (false≢true (sym h))
-last_is_false false false false d h k = h
 
 module _ {G : GoodWorld} {May Other : Naming} {R : StepRelation} {Q : MoveRelation} (moves : FineMoves G May Other R Q) where
   pub open_abortable-alters : (p : Image) (name : Who) (select : StatementNo) (call : Option CallNo) → Other name → Alters G R (open_abortable p name select call)

@@ -9,8 +9,7 @@ use Rattle.profile_machine.specs.declared.values.Value.{Value}
 use Rattle.profile_machine.specs.declared.world.marks.ProtectedMark.{ProtectedMark}
 use Rattle.profile_machine.specs.declared.world.calls.Call.{Call}
 use Rattle.profile_machine.specs.declared.world.calls.Outcome.{Outcome}
-use Rattle.profile_machine.specs.Serving.{serves_nothing, serve_ends, end_release, close_action, wait_or_unwind, wait_for_own, resume_own, behind_action, settle_sent, begins_part, keep_values, keeps_sending, end_body_of_entry}
-use Rattle.std.proofs.Common.{◌≡◌, refl}
+use Rattle.profile_machine.specs.Serving.{serves_nothing, serve_ends, end_release, close_action, wait_or_unwind, wait_for_own, resume_own, behind_action, settle_sent, begins_part, keep_values, end_body_of_entry}
 use Rattle.machine_laws.proofs.Moves.{StepRelation, MoveRelation}
 use Rattle.world_laws.proofs.Scopes.FineMoves.{FineMoves}
 use Rattle.world_laws.proofs.Scopes.Kept.Combinators.{Keeps, changes-keeps, looks-keeps, nothing-keeps, says-keeps, then-keeps, when-keeps}
@@ -22,6 +21,7 @@ use Rattle.world_laws.proofs.Scopes.Kept.Sending.{open_abortable-alters, wait_fo
 use Rattle.ann_base.specs.declared.identities.ObjectNo.{ObjectNo}
 use Rattle.machine_laws.proofs.FineMoves.{Anybody, GoodWorld, Naming}
 use Rattle.machine_laws.proofs.Kept.Combinators.{Alters}
+use Rattle.machine_laws.proofs.Kept.Serving.{keeps_sending-number}
 
 module _ {G : GoodWorld} {R : StepRelation} {Q : MoveRelation} (moves : FineMoves G Anybody Anybody R Q) where
   -- ---- the agent has served a release
@@ -77,14 +77,6 @@ module _ {G : GoodWorld} {R : StepRelation} {Q : MoveRelation} (moves : FineMove
   begins_part-keeps p false c = search (nothing-keeps)
 
 -- ---- the scope of an entry body has ended
-
-pub keeps_sending-number : (leaving : Leaving) (c : Call) → (keeps_sending leaving c).number ≡ c.number
-keeps_sending-number how.Return c = refl
-keeps_sending-number how.End c = refl
-keeps_sending-number (how.Exit loop) c = refl
-keeps_sending-number (how.Exception e) c = refl
-keeps_sending-number how.Abort c = refl
-keeps_sending-number how.Terminate c = refl
 
 module _ {G : GoodWorld} {May Other : Naming} {R : StepRelation} {Q : MoveRelation} (moves : FineMoves G May Other R Q) where
   pub keep_values-keeps : (p : Image) (c : CallNo) (cells : List Value) → Keeps G R (keep_values p c cells)

@@ -43,7 +43,6 @@ use Rattle.std.proofs.Common.{◌≡◌, refl, inr}
 use Rattle.machine_laws.proofs.FineMoves.{GoodWorld, Naming}
 use Rattle.world_laws.proofs.Sequences.FineMoves.{FineMoves, Openings, Behind, Loosens, Again}
 use Rattle.world_laws.proofs.Sequences.Kept.Combinators.{branch-keeps, changes-keeps, for_some-keeps, keeps-from, looks-from, looks-keeps, nothing-keeps, says-keeps, then-from, then-keeps, unchanged-alters, changes_then-from, looks_at-from, narrow-turns, then-turns}
-use Rattle.world_laws.proofs.Sequences.Kept.Serving.{keeps_sending-number, keeps_sending-caller}
 use Rattle.world_laws.proofs.Sequences.Kept.Dispatching.{ready-keeps, block-keeps, blocked-keeps}
 use Rattle.world_laws.proofs.Sequences.Kept.Frames.{goes-keeps, raises-keeps, pass_on-keeps, raise_if-keeps, goes_then-from, popped, given-from, raise_if-from}
 use Rattle.world_laws.proofs.Sequences.Kept.Scopes.{end_scope-alters}
@@ -58,6 +57,8 @@ use Rattle.profile_machine.specs.Inheritance.{lose_running, inherit}
 use Rattle.profile_machine.specs.declared.world.marks.Frame.{Frame}
 use Rattle.profile_machine.specs.declared.world.lines.Part.TheVariants.{Own, TheFinish}
 use Rattle.machine_laws.proofs.Kept.Combinators.{Alters, From, Keeps}
+use Rattle.machine_laws.proofs.Kept.Serving.{keeps_sending-number}
+use Rattle.line_laws.proofs.Leaving.Kept.Serving.{keeps_sending-caller}
 
 module _ {p : Image} {G : GoodWorld} {May Other : Naming} (moves : FineMoves p G May Other) where
   open_accept-alters : (name : Who) (s : StatementNo) (c : Call) → Other name → May name → Alters G (Behind G) (open_accept p name s c)

@@ -4,9 +4,7 @@ use Rattle.profile_machine.specs.declared.world.tasks.Waiting.TheVariants as wai
 use Rattle.world_laws.proofs.Sequences.TaskEdits.{onward-pushed}
 use Rattle.profile_machine.specs.declared.world.lines.Part.TheVariants.{TheFinish, TheBlock}
 use Rattle.profile_machine.specs.Dispatching.{ready}
-use Rattle.std.proofs.Common.{◌≡◌, ℤ, Bool, true, false, cond, not, ◌&&◌, Option, Some, None, refl, sym, []}
-use Rattle.std.specs.Prelude.{◌||◌}
-use Rattle.std.proofs.lemmas.Bool.{false≢true}
+use Rattle.std.proofs.Common.{◌≡◌, ℤ, Bool, true, false, cond, Option, Some, None, refl, []}
 use Rattle.ann_base.specs.declared.identities.CallNo.{CallNo}
 use Rattle.trace_text.specs.declared.events.Who.{Who}
 use Rattle.profile_machine.specs.declared.image.Image.{Image}
@@ -31,13 +29,9 @@ use Rattle.world_laws.proofs.Sequences.Kept.CallEnds.{resume-keeps, deliver-keep
 use Rattle.profile_machine.specs.Program.{form_of}
 use Rattle.profile_machine.specs.Frames.{new_frame, push}
 use Rattle.machine_laws.proofs.Kept.Combinators.{Alters, From, Keeps}
+use Rattle.machine_laws.proofs.Kept.Sending.{last_is_false}
 
 -- of a test that fails, unless the first part is why
-last_is_false : (a b c d : Bool) → (not a && (b || c || d)) ≡ false → a ≡ false → d ≡ false
-last_is_false true b c d h k = absurd (false≢true (sym k))
-last_is_false false true c d h k = absurd (false≢true (sym h))
-last_is_false false false true d h k = absurd (false≢true (sym h))
-last_is_false false false false d h k = h
 
 module _ {p : Image} {G : GoodWorld} {May Other : Naming} (moves : FineMoves p G May Other) where
   pub open_abortable-alters : (name : Who) (select : StatementNo) (call : Option CallNo) → Other name → Alters G (Behind G) (open_abortable p name select call)

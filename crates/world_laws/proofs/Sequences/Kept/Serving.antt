@@ -40,7 +40,7 @@ use Rattle.profile_machine.specs.Dispatching.{block, says_block, word_of, withou
 use Rattle.profile_machine.specs.Steps.{Step, says, changes, ◌▷◌}
 use Rattle.profile_machine.specs.Protected.{served_next, is_action_of, body_scope_of, body_of_object, has_room_for_body, begin_call, edit_top_protected, body_opens, serve_call}
 use Rattle.profile_machine.specs.Values.{object_of}
-use Rattle.profile_machine.specs.Serving.{serves_nothing, is_served_now, serve_ends, end_release, close_action, wait_or_unwind, wait_for_own, resume_own, behind_action, release_object, settle_sent, begins_part, chosen_is_sent, serve_chosen, serve_next, serve_calls, go_on_by_mode, end_operation, finish_raised, finish_well, finish_call, end_entry_body, end_in_protected_by, end_in_protected, keep_values, keeps_sending, end_body_of_entry, part_of_start, not_left, outcome_by, is_own_call, may_open_abortable, with_body_left, no_longer_serves}
+use Rattle.profile_machine.specs.Serving.{serves_nothing, is_served_now, serve_ends, end_release, close_action, wait_or_unwind, wait_for_own, resume_own, behind_action, release_object, settle_sent, begins_part, chosen_is_sent, serve_chosen, serve_next, serve_calls, go_on_by_mode, end_operation, finish_raised, finish_well, finish_call, end_entry_body, end_in_protected_by, end_in_protected, keep_values, end_body_of_entry, part_of_start, not_left, outcome_by, is_own_call, may_open_abortable, with_body_left, no_longer_serves}
 use Rattle.std.proofs.Common.{◌≡◌, refl, sym, inl, ◌∙◌}
 use Rattle.machine_laws.proofs.Moves.{own}
 use Rattle.machine_laws.proofs.FineMoves.{GoodWorld, Naming}
@@ -54,6 +54,8 @@ use Rattle.world_laws.proofs.Sequences.Kept.Protected.{edit_top_protected-alters
 use Rattle.world_laws.proofs.Sequences.Kept.Priorities.{set_deferred-keeps}
 use Rattle.world_laws.proofs.Sequences.Kept.Sending.{open_abortable-alters, wait_for_call-keeps, send_on-keeps, begin_abortable-keeps, sent_not_begun-keeps}
 use Rattle.machine_laws.proofs.Kept.Combinators.{Alters, Keeps}
+use Rattle.machine_laws.proofs.Kept.Serving.{keeps_sending-number}
+use Rattle.line_laws.proofs.Leaving.Kept.Serving.{keeps_sending-caller}
 
 -- ---- where nothing else is served
 
@@ -226,22 +228,6 @@ module _ {p : Image} {Other : Naming} {name : Who} {release : Option ℕ} {own_c
   end_in_protected-turns m leaving is = end_in_protected_by-turns m leaving m.serves is
 
 -- ---- the scope of an entry body has ended
-
-pub keeps_sending-number : (leaving : Leaving) (c : Call) → (keeps_sending leaving c).number ≡ c.number
-keeps_sending-number how.Return c = refl
-keeps_sending-number how.End c = refl
-keeps_sending-number (how.Exit loop) c = refl
-keeps_sending-number (how.Exception e) c = refl
-keeps_sending-number how.Abort c = refl
-keeps_sending-number how.Terminate c = refl
-
-pub keeps_sending-caller : (leaving : Leaving) (c : Call) → (keeps_sending leaving c).caller ≡ c.caller
-keeps_sending-caller how.Return c = refl
-keeps_sending-caller how.End c = refl
-keeps_sending-caller (how.Exit loop) c = refl
-keeps_sending-caller (how.Exception e) c = refl
-keeps_sending-caller how.Abort c = refl
-keeps_sending-caller how.Terminate c = refl
 
 module _ {p : Image} {G : GoodWorld} {May Other : Naming} (moves : FineMoves p G May Other) where
   pub keep_values-keeps : (c : CallNo) (cells : List Value) → Keeps G (Behind G) (keep_values p c cells)

@@ -129,7 +129,7 @@ then_runs-goes bound now next events rest n a b h = record {
 }
 
 -- one instant, what follows it, and what is left of the run
-pub turn : ℕ → World × List Event → World × List Event → Ran → Option Ended → Ran
+unfoldable pub turn : ℕ → World × List Event → World × List Event → Ran → Option Ended → Ran
 turn now i t rest (Some reason) = stopped now i.1 reason
 turn now i t rest None = then_runs now (i.1 ++ t.1) rest
 

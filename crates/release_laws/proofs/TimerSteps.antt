@@ -42,7 +42,7 @@ pub record TimersDone (test : TimerSet → Bool) (a : World) (said : List Said) 
   pub clocks : ClocksStay (sight_of a) (sight_of b)
   pub tells : Tells (map handler_of_timer (filter test (timers_of a))) said
 
-pub or_that : {X : Type 0} → X → Option X → X
+unfoldable pub or_that : {X : Type 0} → X → Option X → X
 or_that x (Some y) = y
 or_that x None = x
 

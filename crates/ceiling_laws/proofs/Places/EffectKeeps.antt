@@ -116,7 +116,7 @@ record AddedAs (t : Task) (n : Who) (before behind : Core) : Type 0 where
   was : before ≡ core nobody
   is : behind ≡ core t
 
-pub or_found : Option Task → Option Task → Option Task
+unfoldable pub or_found : Option Task → Option Task → Option Task
 or_found None other = other
 or_found (Some x) other = Some x
 

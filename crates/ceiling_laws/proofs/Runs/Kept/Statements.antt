@@ -40,7 +40,7 @@ array_copied-gives p q target source =
     bind-gives (object_cell q source) (λ f. Ok (copy_cells p t f q.world)) q.world (λ f.
     ok-gives q.world (copy_cells p t f q.world) (copy_cells-same p t f q.world)))
 
-pub bounds_put : Seen → Bool → Value → Value → Variable → Variable → Valued World
+unfoldable pub bounds_put : Seen → Bool → Value → Value → Variable → Variable → Valued World
 bounds_put q reverse l h x y = Ok (put y (last_bound reverse l h) (put x (first_bound reverse l h) q.world))
 
 bounds_put-gives : (q : Seen) (reverse : Bool) (l h : Value) (x y : Variable) → Gives q.world (bounds_put q reverse l h x y)

@@ -17,4 +17,4 @@ mod RepresentationLemmas
 mod OrderLemmas
 pub mod PlaceLemmas
 pub mod QueueLemmas
-mod DispatchLemmas
+pub mod DispatchLemmas

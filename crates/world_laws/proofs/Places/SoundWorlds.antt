@@ -22,12 +22,7 @@ use Rattle.ceiling_laws.proofs.Runs.LevelMoves.{EachTask}
 use Rattle.ceiling_laws.proofs.Runs.SameLemmas.{set_where-seen}
 use Rattle.ceiling_laws.proofs.Places.SoundWorlds.{IsThere, Known, NamesFrom, Unactivated, drawn-on, each-on, earlier-low, found_as, is_agent, is_fresh, later-apart, names_behind, put-either, whose, whose-append, never, names_without, head-known}
 
--- ---- names
-
 -- ---- each task of the list is found by its name
-
-}
-head-known who.Agent low drawn t ts ns is h = never h
 
 tail-known : (n : Who) (low drawn : ℕ) (t : Task) (ts : List Task) (ns : List Who) → t.who ≡ n → NamesFrom low drawn (n ∷ ns) → ((l : ℕ) → NamesFrom l drawn ns → EachTask (Known l drawn ts) ts) → EachTask (Known low drawn (t ∷ ts)) ts
 tail-known (who.Task k) low drawn t ts ns is h onward =

@@ -11,5 +11,5 @@ pub mod KnownMoves
 pub mod MadeTasks
 pub mod LonelyMoves
 pub mod Kept
-pub mod Steady
+pub mod OnTop
 pub mod ActionWorlds

@@ -28,7 +28,7 @@ use Rattle.machine_laws.proofs.FineMoves.{AnyWorld, Anybody, each-anybody, gone_
 use Rattle.machine_laws.proofs.FinestMoves.{FinestMoves, AllMoves, SettingMoves, TockChanges, natures, action_in}
 use Rattle.machine_laws.proofs.Kept.Frames.{first-natures}
 use Rattle.line_laws.proofs.Exits.OpenCounts.{count-first}
-use Rattle.line_laws.proofs.Exits.Steady.{Holds}
+use Rattle.line_laws.proofs.Exits.Steady.{Holds, action_on_top}
 use Rattle.line_laws.proofs.Exits.FreeActs.{held-on_top}
 use Rattle.line_laws.proofs.Exits.ExitTies.{Credit, Tied, Tells, Shown, actions_behind, unmoved, moved, edited-tied, same-tied, pushed-tied, popped-tied, added-tied, forgotten-tied, opens-tied, begins-tells, ends-tells, visits-tells, settled-tells, then-tells, other-tells}
 
@@ -131,7 +131,7 @@ settings = record {
   cuts_script = λ x rest w g is due. unmoved w;
 }
 
-pub telling : AllMoves AnyWorld Holds Tells Shown
+pub telling : AllMoves AnyWorld (Holds action_on_top) Tells Shown
 telling = record {
   fine = fine;
   openings = record {

@@ -6,6 +6,7 @@ use Rattle.trace_text.specs.declared.events.Who.TheVariants as who
 use Rattle.profile_machine.specs.declared.world.World.{World}
 use Rattle.profile_machine.specs.declared.world.marks.Frame.{Frame}
 use Rattle.profile_machine.specs.declared.world.tasks.Task.{Task}
+use Rattle.profile_machine.specs.declared.world.marks.Mark.TheVariants.{InProtected}
 use Rattle.world_tables.specs.Lists.{first_of}
 use Rattle.profile_machine.specs.Frames.{frames_of}
 use Rattle.profile_machine.specs.Instant.{is_over}
@@ -16,21 +17,22 @@ use Rattle.machine_laws.proofs.Kept.Serving.{Stays}
 use Rattle.machine_laws.proofs.Kept.Act.{Acts}
 use Rattle.line_laws.specs.ExitLaws.{IsRunnerFree}
 use Rattle.line_laws.proofs.Exits.TaskEdits.{one_of-is, edited}
-use Rattle.line_laws.proofs.Exits.Steady.{FreeIn, Holding, Holds, edit_top-spares, edit_top_protected-spares, begin_call-steady, deliver-steady, send_on-steady, enqueue-steady, settle_sent-steady, Steady, Spares}
+use Rattle.machine_laws.proofs.Kept.Protected.{protected-nature}
+use Rattle.line_laws.proofs.Exits.Steady.{FreeIn, action_on_top, Holding, Holds, edit_top-spares, edit_top_protected-spares, begin_call-steady, deliver-steady, send_on-steady, enqueue-steady, settle_sent-steady, Steady, Spares}
 
-pub stays_held : Stays Holds
+pub stays_held : Stays (Holds action_on_top)
 unfolding Steady Spares
 stays_held = record {
-  edits_action = λ name o f w same alike h. edit_top_protected-spares name o name f same alike w h;
-  goes_on = λ name o w h. edit_top-spares name o name not_left (λ x. refl) w h;
-  begins_call = λ name o p part c w said h. begin_call-steady name o p part name c w h said;
-  delivers = λ name o p part c outcome w said h. deliver-steady name o p part c outcome w h said;
-  sends_on = λ name o c s w said h. send_on-steady name o c s w h said;
-  enqueues = λ name o p c w said h. enqueue-steady name o p c w h said;
-  settles_sent = λ name o p c test w said h. settle_sent-steady name o p c test w h said;
+  edits_action = λ name o f w same alike h. edit_top_protected-spares action_on_top name o name f (λ m. protected-nature f same alike (InProtected m)) w h;
+  goes_on = λ name o w h. edit_top-spares action_on_top name o name not_left (λ x. refl) w h;
+  begins_call = λ name o p part c w said h. begin_call-steady action_on_top name o p part name c w h said;
+  delivers = λ name o p part c outcome w said h. deliver-steady action_on_top name o p part c outcome w h said;
+  sends_on = λ name o c s w said h. send_on-steady action_on_top name o c s w h said;
+  enqueues = λ name o p c w said h. enqueue-steady action_on_top name o p c w h said;
+  settles_sent = λ name o p c test w said h. settle_sent-steady action_on_top name o p c test w h said;
 }
 
-pub held-on_top : (name : Who) (o : ObjectNo) (w : World) → Holds name o w → top_action w name ≡ Some o
+pub held-on_top : (name : Who) (o : ObjectNo) (w : World) → Holds action_on_top name o w → top_action w name ≡ Some o
 held-on_top name o w h = sym (ap (λ (t : Task). action_first (natures t.frames)) (one_of-is w name)) ∙ h.0
 
 on_top : (frames : List Frame) (f : Frame) → first_of frames ≡ Some f → action_first (natures frames) ≡ action_in f.mark
@@ -46,9 +48,9 @@ still-free name w free =
     subst (λ (t : Task). FreeIn name t.state) (one_of-is v name)
     (edited (λ t. FreeIn name t.state) name name (with_ticks None) w (λ t. refl) (λ same t h. h) (subst (λ (t : Task). FreeIn name t.state) (sym (one_of-is w name)) free))
 
-pub acts_free : Acts IsFree Holds
+pub acts_free : Acts IsFree (Holds action_on_top)
 acts_free = record {
-  holds = λ name f m w free top is. subst (λ t. Holding name m.object t) (sym (one_of-is w name)) (on_top (frames_of w name) f top ∙ ap action_in is, free);
+  holds = λ name f m w free top is. subst (λ t. Holding action_on_top name m.object t) (sym (one_of-is w name)) (on_top (frames_of w name) f top ∙ ap action_in is, free);
   without_ticks = λ name w free. still-free name w free;
 }
 

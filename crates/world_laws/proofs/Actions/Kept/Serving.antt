@@ -24,7 +24,8 @@ use Rattle.profile_machine.specs.Calls.{call_of, with_call, enqueue}
 use Rattle.profile_machine.specs.CallEnds.{deliver}
 use Rattle.profile_machine.specs.Sending.{send_on}
 use Rattle.profile_machine.specs.Unwinding.{may_unwind}
-use Rattle.world_laws.proofs.Actions.Steady.{Holds, Steady, changes-steady, edit_top-spares, edit_top_protected-spares, deliver-steady, enqueue-steady, send_on-steady, settle_sent-steady, begin_call-steady}
+use Rattle.world_laws.proofs.Actions.OnTop.{nature_on_top}
+use Rattle.line_laws.proofs.Exits.Steady.{Holds, Steady, changes-steady, edit_top-spares, edit_top_protected-spares, deliver-steady, enqueue-steady, send_on-steady, settle_sent-steady, begin_call-steady}
 use Rattle.profile_machine.specs.declared.world.tasks.Cause.TheVariants as inherited_by
 use Rattle.profile_machine.specs.Frames.{frames_of, edit_top, pop}
 use Rattle.profile_machine.specs.Inheritance.{lose_running, falls, lose}
@@ -161,7 +162,7 @@ module _ (p : Image) (name : Who) (m : ProtectedMark) where
 
   -- somebody has it on top
   abbrev pub Stands : World → Type 0
-  Stands v = Good Nobody v × Holds name (acted m) v
+  Stands v = Good Nobody v × Holds nature_on_top name (acted m) v
 
   pub release_object-from : (w : World) → Stands w → From (Good Nobody) w (release_object p name m)
   unfolding release_object
@@ -175,11 +176,11 @@ module _ (p : Image) (name : Who) (m : ProtectedMark) where
 
   -- ---- steps that leave it there
 
-  kept_then : (g : Step) (d : Done) → Good Nobody (world_behind d) → Holds name (acted m) (world_behind d) → ((v : World) → Stands v → From (Good Nobody) v g) → Good Nobody (world_behind (goes_on_with g d))
+  kept_then : (g : Step) (d : Done) → Good Nobody (world_behind d) → Holds nature_on_top name (acted m) (world_behind d) → ((v : World) → Stands v → From (Good Nobody) v g) → Good Nobody (world_behind (goes_on_with g d))
   unfolding From
   kept_then g (done v ys) good h k = k v (good, h) ys
 
-  step_then : (f g : Step) (w : World) → Stands w → Keeps (Good Nobody) f → Steady name (acted m) f → ((v : World) → Stands v → From (Good Nobody) v g) → From (Good Nobody) w (f ▷ g)
+  step_then : (f g : Step) (w : World) → Stands w → Keeps (Good Nobody) f → Steady nature_on_top name (acted m) f → ((v : World) → Stands v → From (Good Nobody) v g) → From (Good Nobody) w (f ▷ g)
   unfolding From Keeps Steady
   step_then f g w h a b k said = kept_then g (f w said) (a w h.0 said) (b w h.1 said) k
 
@@ -204,11 +205,11 @@ module _ (p : Image) (name : Who) (m : ProtectedMark) where
       let otherwise = deliver p part c (call_ended.ToRaise exception.Storage) ▷ again in
       let by_room = λ (b : Bool). elim b as (λ _. Step) [ true ↦ body_opens p name m.object d ▷ begins_part p is_sent c | false ↦ says part (line.Finish name d.number (meeting.Raised exception.Storage)) ▷ otherwise ] in
       looks_at-from beside (λ v. begin_call p part name d ▷ by_room (has_room_for_body p v name d.entry)) w
-      (step_then (begin_call p part name d) (by_room (has_room_for_body p w name d.entry)) w h (begin_call-keeps beside p part name d) (begin_call-steady name (acted m) p part name d)
+      (step_then (begin_call p part name d) (by_room (has_room_for_body p w name d.entry)) w h (begin_call-keeps beside p part name d) (begin_call-steady nature_on_top name (acted m) p part name d)
       (λ v k. either-from beside (has_room_for_body p w name d.entry) (body_opens p name m.object d ▷ begins_part p is_sent c) (says part (line.Finish name d.number (meeting.Raised exception.Storage)) ▷ otherwise) v
       (keeps-from beside _ v k.0 (then-keeps beside _ _ (body_opens-keeps beside p name m.object d) (begins_part-keeps is_sent c)))
       (says_then-from beside part (line.Finish name d.number (meeting.Raised exception.Storage)) otherwise v
-      (step_then (deliver p part c (call_ended.ToRaise exception.Storage)) again v k (deliver-keeps beside p part c (call_ended.ToRaise exception.Storage)) (deliver-steady name (acted m) p part c (call_ended.ToRaise exception.Storage)) onward))))
+      (step_then (deliver p part c (call_ended.ToRaise exception.Storage)) again v k (deliver-keeps beside p part c (call_ended.ToRaise exception.Storage)) (deliver-steady nature_on_top name (acted m) p part c (call_ended.ToRaise exception.Storage)) onward))))
 
   serve_chosen-from : (is_sent : Bool) (again : Step) (chosen : Option CallNo) (w : World) → ((v : World) → Stands v → From (Good Nobody) v again) → Stands w → From (Good Nobody) w (serve_chosen p name m is_sent again chosen)
   serve_chosen-from is_sent again None w onward h = release_object-from w h
@@ -220,7 +221,7 @@ module _ (p : Image) (name : Who) (m : ProtectedMark) where
   serve_next-from (suc fuel) sent w h =
       let chosen = λ (v : World). served_next p v name (object_of v m.object) in
       looks_at-from beside (λ v. settle_sent p sent (chosen_is_sent sent (chosen v)) ▷ serve_chosen p name m (chosen_is_sent sent (chosen v)) (serve_next fuel p name m None) (chosen v)) w
-      (step_then (settle_sent p sent (chosen_is_sent sent (chosen w))) _ w h (settle_sent-keeps sent (chosen_is_sent sent (chosen w))) (settle_sent-steady name (acted m) p sent (chosen_is_sent sent (chosen w)))
+      (step_then (settle_sent p sent (chosen_is_sent sent (chosen w))) _ w h (settle_sent-keeps sent (chosen_is_sent sent (chosen w))) (settle_sent-steady nature_on_top name (acted m) p sent (chosen_is_sent sent (chosen w)))
       (λ v k. serve_chosen-from (chosen_is_sent sent (chosen w)) (serve_next fuel p name m None) (chosen w) v (λ u l. serve_next-from fuel None u l) k))
 
   serve_calls-from : (sent : Option CallNo) (w : World) → Stands w → From (Good Nobody) w (serve_calls p name m sent)
@@ -236,19 +237,19 @@ module _ (p : Image) (name : Who) (m : ProtectedMark) where
   unfolding finish_raised
   raised-from c e w h =
       says_then-from beside TheFinish (line.Finish name c.number (meeting.Raised e)) _ w
-      (step_then (deliver p TheFinish c.number (outcome_by (is_own_call name m.own_call c) e)) _ w h (deliver-keeps beside p TheFinish c.number (outcome_by (is_own_call name m.own_call c) e)) (deliver-steady name (acted m) p TheFinish c.number (outcome_by (is_own_call name m.own_call c) e))
+      (step_then (deliver p TheFinish c.number (outcome_by (is_own_call name m.own_call c) e)) _ w h (deliver-keeps beside p TheFinish c.number (outcome_by (is_own_call name m.own_call c) e)) (deliver-steady nature_on_top name (acted m) p TheFinish c.number (outcome_by (is_own_call name m.own_call c) e))
       (λ u l. serve_calls-from None u l))
 
   well-from : (c : Call) (sending : Option Sending) (w : World) → Stands w → From (Good Nobody) w (finish_well p name m c sending)
   unfolding finish_well
   well-from c None w h =
       says_then-from beside TheFinish (line.Finish name c.number meeting.Ok) _ w
-      (step_then (deliver p TheFinish c.number call_ended.Finished) _ w h (deliver-keeps beside p TheFinish c.number call_ended.Finished) (deliver-steady name (acted m) p TheFinish c.number call_ended.Finished)
+      (step_then (deliver p TheFinish c.number call_ended.Finished) _ w h (deliver-keeps beside p TheFinish c.number call_ended.Finished) (deliver-steady nature_on_top name (acted m) p TheFinish c.number call_ended.Finished)
       (λ u l. serve_calls-from None u l))
   well-from c (Some s) w h =
       says_then-from beside TheFinish (line.Finish name c.number meeting.Requeue) _ w
-      (step_then (send_on c.number s) _ w h (send_on-keeps beside c.number s) (send_on-steady name (acted m) c.number s)
-      (λ u l. step_then (enqueue p c.number) _ u l (enqueue-keeps beside p c.number) (enqueue-steady name (acted m) p c.number)
+      (step_then (send_on c.number s) _ w h (send_on-keeps beside c.number s) (send_on-steady nature_on_top name (acted m) c.number s)
+      (λ u l. step_then (enqueue p c.number) _ u l (enqueue-keeps beside p c.number) (enqueue-steady nature_on_top name (acted m) p c.number)
       (λ t n. serve_calls-from (Some c.number) t n)))
 
   finish-from : (leaving : Leaving) (c : Call) (w : World) → Stands w → From (Good Nobody) w (finish_call p name m leaving c)
@@ -266,8 +267,8 @@ module _ (p : Image) (name : Who) (m : ProtectedMark) (leaving : Leaving) where
   edits_then : (f : ProtectedMark → ProtectedMark) (g : Step) (w : World) → ((x : ProtectedMark) → nature (InProtected (f x)) ≡ nature (InProtected x)) → Stands p name m w → ((v : World) → Stands p name m v → From (Good Nobody) v g)
       → From (Good Nobody) w (changes (edit_top_protected name f) ▷ changes (edit_top name not_left) ▷ g)
   edits_then f g w same h onward =
-      step_then p name m (changes (edit_top_protected name f)) _ w h (changes-keeps beside _ (edit_top_protected-alters beside name f same)) (changes-steady name (acted m) _ (edit_top_protected-spares name (acted m) name f same))
-      (λ v k. step_then p name m (changes (edit_top name not_left)) g v k (changes-keeps beside _ (edit_top-alters beside name not_left (λ x. refl))) (changes-steady name (acted m) _ (edit_top-spares name (acted m) name not_left (λ x. refl))) onward)
+      step_then p name m (changes (edit_top_protected name f)) _ w h (changes-keeps beside _ (edit_top_protected-alters beside name f same)) (changes-steady nature_on_top name (acted m) _ (edit_top_protected-spares nature_on_top name (acted m) name f same))
+      (λ v k. step_then p name m (changes (edit_top name not_left)) g v k (changes-keeps beside _ (edit_top-alters beside name not_left (λ x. refl))) (changes-steady nature_on_top name (acted m) _ (edit_top-spares nature_on_top name (acted m) name not_left (λ x. refl))) onward)
 
   operation-from : (w : World) → Stands p name m w → From (Good Nobody) w (end_operation p name m leaving)
   unfolding end_operation

@@ -40,7 +40,7 @@ use Rattle.world_laws.proofs.Marks.DepthLemmas.{of_call-awaits, triggered-awaits
 use Rattle.world_laws.proofs.Marks.TriggerLemmas.{TopCalm, same_tops, attempt-top_calm, dropped-unappointed, dropped-calm, found-same_call}
 use Rattle.world_laws.proofs.Marks.FineMoves.{FineMoves, Openings, Arming, RegionMoves}
 use Rattle.line_laws.proofs.Exits.TaskEdits.{one_of-is}
-use Rattle.line_laws.proofs.Exits.Steady.{FreeIn, Holding}
+use Rattle.line_laws.proofs.Exits.Steady.{FreeIn, Holding, action_on_top}
 use Rattle.profile_machine.specs.Words.{is_the, same_call}
 use Rattle.world_tables.specs.Lists.{first_of}
 use Rattle.profile_machine.specs.Tasks.{task_of, edit_task, with_state}
@@ -304,4 +304,4 @@ module _ {G : GoodWorld} {R : StepRelation} {Q : MoveRelation} (moves : RegionMo
       act-from moves.fine moves.openings (releasing moves) moves.arming p puts name w good tt free begun
       (keeps-from moves.fine _ w good (act_without-keeps p name w.serving))
       (λ f m top is. end_in_protected-from moves p name m (leaving_of f) w good
-      (subst (λ t. Holding name m.object t) (sym (one_of-is w name)) (on_top (frames_of w name) f top ∙ ap action_in is, free)))
+      (subst (λ t. Holding action_on_top name m.object t) (sym (one_of-is w name)) (on_top (frames_of w name) f top ∙ ap action_in is, free)))

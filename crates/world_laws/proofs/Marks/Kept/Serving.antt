@@ -29,12 +29,14 @@ use Rattle.profile_machine.specs.CallEnds.{deliver}
 use Rattle.profile_machine.specs.Sending.{send_on}
 use Rattle.profile_machine.specs.Unwinding.{may_unwind}
 use Rattle.line_laws.proofs.Exits.TaskEdits.{one_of-is}
-use Rattle.line_laws.proofs.Exits.Steady.{Holds, Steady, says-steady, changes-steady, edit_top-spares, edit_top_protected-spares, deliver-steady, enqueue-steady, send_on-steady, settle_sent-steady, begin_call-steady}
+use Rattle.machine_laws.proofs.Kept.Protected.{protected-nature}
+use Rattle.line_laws.proofs.Exits.Steady.{Holds, action_on_top, Steady, says-steady, changes-steady, edit_top-spares, edit_top_protected-spares, deliver-steady, enqueue-steady, send_on-steady, settle_sent-steady, begin_call-steady}
 use Rattle.profile_machine.specs.declared.world.tasks.Cause.TheVariants as inherited_by
 use Rattle.profile_machine.specs.Frames.{frames_of, edit_top, pop}
 use Rattle.profile_machine.specs.Inheritance.{lose_running}
 use Rattle.profile_machine.specs.Priorities.{set_deferred}
 use Rattle.profile_machine.specs.declared.world.tasks.Waiting.TheVariants as waits_for
+use Rattle.profile_machine.specs.declared.world.marks.Mark.TheVariants.{InProtected}
 use Rattle.trace_text.specs.declared.events.Who.TheVariants as who
 use Rattle.ann_base.specs.Lists.{is_empty}
 use Rattle.profile_machine.specs.Dispatching.{block}
@@ -91,14 +93,14 @@ module _ {G : GoodWorld} {R : StepRelation} {Q : MoveRelation} (moves : RegionMo
 module _ {G : GoodWorld} {R : StepRelation} {Q : MoveRelation} (moves : RegionMoves G R Q) where
   -- a good world in which it is so
   abbrev Held : Who → ObjectNo → World → Type 0
-  Held me o w = G w × Holds me o w
+  Held me o w = G w × Holds action_on_top me o w
 
   -- a step that leaves it there, and what is done behind it
-  kept_then : (me : Who) (o : ObjectNo) (g : Step) (w : World) (said : List Said) (d : Done) → Kept R w said d → Holds me o (world_behind d) → ((v : World) → Held me o v → From R v g) → Kept R w said (goes_on_with g d)
+  kept_then : (me : Who) (o : ObjectNo) (g : Step) (w : World) (said : List Said) (d : Done) → Kept R w said d → Holds action_on_top me o (world_behind d) → ((v : World) → Held me o v → From R v g) → Kept R w said (goes_on_with g d)
   unfolding From Kept
   kept_then me o g w said (done v ys) a h k = then-kept moves.fine w v said ys (g v ys) a (k v (moves.fine.behind w v a.2, h) ys)
 
-  step_then : (me : Who) (o : ObjectNo) (f g : Step) (w : World) → Held me o w → Keeps G R f → Steady me o f → ((v : World) → Held me o v → From R v g) → From R w (f ▷ g)
+  step_then : (me : Who) (o : ObjectNo) (f g : Step) (w : World) → Held me o w → Keeps G R f → Steady action_on_top me o f → ((v : World) → Held me o v → From R v g) → From R w (f ▷ g)
   unfolding From Keeps Steady
   step_then me o f g w h a b k said = kept_then me o g w said (f w said) (a w h.0 said) (b w h.1 said) k
 
@@ -164,11 +166,11 @@ module _ {G : GoodWorld} {R : StepRelation} {Q : MoveRelation} (moves : RegionMo
         let otherwise = deliver p part c (call_ended.ToRaise exception.Storage) ▷ again in
         let by_room = λ (b : Bool). elim b as (λ _. Step) [ true ↦ body_opens p name m.object d ▷ begins_part p is_sent c | false ↦ says part (line.Finish name d.number (meeting.Raised exception.Storage)) ▷ otherwise ] in
         looks_at-from moves.fine (λ v. begin_call p part name d ▷ by_room (has_room_for_body p v name d.entry)) w
-        (step_then name m.object (begin_call p part name d) (by_room (has_room_for_body p w name d.entry)) w h (begin_call-keeps moves.fine p part name d) (begin_call-steady name m.object p part name d)
+        (step_then name m.object (begin_call p part name d) (by_room (has_room_for_body p w name d.entry)) w h (begin_call-keeps moves.fine p part name d) (begin_call-steady action_on_top name m.object p part name d)
         (λ v k. either-from moves.fine (has_room_for_body p w name d.entry) (body_opens p name m.object d ▷ begins_part p is_sent c) (says part (line.Finish name d.number (meeting.Raised exception.Storage)) ▷ otherwise) v
         (keeps-from moves.fine _ v k.0 (then-keeps moves.fine _ _ (body_opens-keeps moves.fine moves.openings p name m.object d tt) (begins_part-keeps p is_sent c)))
-        (step_then name m.object (says part (line.Finish name d.number (meeting.Raised exception.Storage))) otherwise v k (says-keeps moves.fine part (line.Finish name d.number (meeting.Raised exception.Storage)) refl) (says-steady name m.object part _)
-        (λ u l. step_then name m.object (deliver p part c (call_ended.ToRaise exception.Storage)) again u l (deliver-keeps moves.fine p part c (call_ended.ToRaise exception.Storage)) (deliver-steady name m.object p part c (call_ended.ToRaise exception.Storage)) onward))))
+        (step_then name m.object (says part (line.Finish name d.number (meeting.Raised exception.Storage))) otherwise v k (says-keeps moves.fine part (line.Finish name d.number (meeting.Raised exception.Storage)) refl) (says-steady action_on_top name m.object part _)
+        (λ u l. step_then name m.object (deliver p part c (call_ended.ToRaise exception.Storage)) again u l (deliver-keeps moves.fine p part c (call_ended.ToRaise exception.Storage)) (deliver-steady action_on_top name m.object p part c (call_ended.ToRaise exception.Storage)) onward))))
 
     serve_chosen-from : (is_sent : Bool) (again : Step) (chosen : Option CallNo) (w : World) → ((v : World) → Held name m.object v → From R v again) → Held name m.object w → From R w (serve_chosen p name m is_sent again chosen)
     serve_chosen-from is_sent again None w onward h = release_object-from p name m w h
@@ -180,7 +182,7 @@ module _ {G : GoodWorld} {R : StepRelation} {Q : MoveRelation} (moves : RegionMo
     serve_next-from (suc fuel) sent w h =
         let chosen = λ (v : World). served_next p v name (object_of v m.object) in
         looks_at-from moves.fine (λ v. settle_sent p sent (chosen_is_sent sent (chosen v)) ▷ serve_chosen p name m (chosen_is_sent sent (chosen v)) (serve_next fuel p name m None) (chosen v)) w
-        (step_then name m.object (settle_sent p sent (chosen_is_sent sent (chosen w))) _ w h (settle_sent-keeps p sent (chosen_is_sent sent (chosen w))) (settle_sent-steady name m.object p sent (chosen_is_sent sent (chosen w)))
+        (step_then name m.object (settle_sent p sent (chosen_is_sent sent (chosen w))) _ w h (settle_sent-keeps p sent (chosen_is_sent sent (chosen w))) (settle_sent-steady action_on_top name m.object p sent (chosen_is_sent sent (chosen w)))
         (λ v k. serve_chosen-from (chosen_is_sent sent (chosen w)) (serve_next fuel p name m None) (chosen w) v (λ u l. serve_next-from fuel None u l) k))
 
     serve_calls-from : (sent : Option CallNo) (w : World) → Held name m.object w → From R w (serve_calls p name m sent)
@@ -195,20 +197,20 @@ module _ {G : GoodWorld} {R : StepRelation} {Q : MoveRelation} (moves : RegionMo
     raised-from : (c : Call) (e : Raised) (w : World) → Held name m.object w → From R w (finish_raised p name m c e)
     unfolding finish_raised
     raised-from c e w h =
-        step_then name m.object (says TheFinish (line.Finish name c.number (meeting.Raised e))) _ w h (says-keeps moves.fine TheFinish (line.Finish name c.number (meeting.Raised e)) refl) (says-steady name m.object TheFinish _)
-        (λ v k. step_then name m.object (deliver p TheFinish c.number (outcome_by (is_own_call name m.own_call c) e)) _ v k (deliver-keeps moves.fine p TheFinish c.number (outcome_by (is_own_call name m.own_call c) e)) (deliver-steady name m.object p TheFinish c.number (outcome_by (is_own_call name m.own_call c) e))
+        step_then name m.object (says TheFinish (line.Finish name c.number (meeting.Raised e))) _ w h (says-keeps moves.fine TheFinish (line.Finish name c.number (meeting.Raised e)) refl) (says-steady action_on_top name m.object TheFinish _)
+        (λ v k. step_then name m.object (deliver p TheFinish c.number (outcome_by (is_own_call name m.own_call c) e)) _ v k (deliver-keeps moves.fine p TheFinish c.number (outcome_by (is_own_call name m.own_call c) e)) (deliver-steady action_on_top name m.object p TheFinish c.number (outcome_by (is_own_call name m.own_call c) e))
         (λ u l. serve_calls-from None u l))
 
     well-from : (c : Call) (sending : Option Sending) (w : World) → Held name m.object w → From R w (finish_well p name m c sending)
     unfolding finish_well
     well-from c None w h =
-        step_then name m.object (says TheFinish (line.Finish name c.number meeting.Ok)) _ w h (says-keeps moves.fine TheFinish (line.Finish name c.number meeting.Ok) refl) (says-steady name m.object TheFinish _)
-        (λ v k. step_then name m.object (deliver p TheFinish c.number call_ended.Finished) _ v k (deliver-keeps moves.fine p TheFinish c.number call_ended.Finished) (deliver-steady name m.object p TheFinish c.number call_ended.Finished)
+        step_then name m.object (says TheFinish (line.Finish name c.number meeting.Ok)) _ w h (says-keeps moves.fine TheFinish (line.Finish name c.number meeting.Ok) refl) (says-steady action_on_top name m.object TheFinish _)
+        (λ v k. step_then name m.object (deliver p TheFinish c.number call_ended.Finished) _ v k (deliver-keeps moves.fine p TheFinish c.number call_ended.Finished) (deliver-steady action_on_top name m.object p TheFinish c.number call_ended.Finished)
         (λ u l. serve_calls-from None u l))
     well-from c (Some s) w h =
-        step_then name m.object (says TheFinish (line.Finish name c.number meeting.Requeue)) _ w h (says-keeps moves.fine TheFinish (line.Finish name c.number meeting.Requeue) refl) (says-steady name m.object TheFinish _)
-        (λ v k. step_then name m.object (send_on c.number s) _ v k (send_on-keeps moves.fine c.number s) (send_on-steady name m.object c.number s)
-        (λ u l. step_then name m.object (enqueue p c.number) _ u l (enqueue-keeps moves.fine p c.number) (enqueue-steady name m.object p c.number)
+        step_then name m.object (says TheFinish (line.Finish name c.number meeting.Requeue)) _ w h (says-keeps moves.fine TheFinish (line.Finish name c.number meeting.Requeue) refl) (says-steady action_on_top name m.object TheFinish _)
+        (λ v k. step_then name m.object (send_on c.number s) _ v k (send_on-keeps moves.fine c.number s) (send_on-steady action_on_top name m.object c.number s)
+        (λ u l. step_then name m.object (enqueue p c.number) _ u l (enqueue-keeps moves.fine p c.number) (enqueue-steady action_on_top name m.object p c.number)
         (λ t n. serve_calls-from (Some c.number) t n)))
 
     finish-from : (leaving : Leaving) (c : Call) (w : World) → Held name m.object w → From R w (finish_call p name m leaving c)
@@ -225,8 +227,8 @@ module _ {G : GoodWorld} {R : StepRelation} {Q : MoveRelation} (moves : RegionMo
     edits_then : (f : ProtectedMark → ProtectedMark) (g : Step) (w : World) → ((x : ProtectedMark) → (f x).release ≡ x.release) → ((x : ProtectedMark) → (f x).object ≡ x.object) → Held name m.object w → ((v : World) → Held name m.object v → From R v g)
         → From R w (changes (edit_top_protected name f) ▷ changes (edit_top name not_left) ▷ g)
     edits_then f g w same alike h onward =
-        step_then name m.object (changes (edit_top_protected name f)) _ w h (changes-keeps moves.fine _ (edit_top_protected-alters moves.fine name f same alike)) (changes-steady name m.object _ (edit_top_protected-spares name m.object name f same alike))
-        (λ v k. step_then name m.object (changes (edit_top name not_left)) g v k (changes-keeps moves.fine _ (edit_top-alters moves.fine name not_left (λ x. refl) (λ x. refl))) (changes-steady name m.object _ (edit_top-spares name m.object name not_left (λ x. refl))) onward)
+        step_then name m.object (changes (edit_top_protected name f)) _ w h (changes-keeps moves.fine _ (edit_top_protected-alters moves.fine name f same alike)) (changes-steady action_on_top name m.object _ (edit_top_protected-spares action_on_top name m.object name f (λ k. protected-nature f same alike (InProtected k))))
+        (λ v k. step_then name m.object (changes (edit_top name not_left)) g v k (changes-keeps moves.fine _ (edit_top-alters moves.fine name not_left (λ x. refl) (λ x. refl))) (changes-steady action_on_top name m.object _ (edit_top-spares action_on_top name m.object name not_left (λ x. refl))) onward)
 
     operation-from : (w : World) → Held name m.object w → From R w (end_operation p name m leaving)
     unfolding end_operation
@@ -243,7 +245,7 @@ module _ {G : GoodWorld} {R : StepRelation} {Q : MoveRelation} (moves : RegionMo
     by_body-from None w h = operation-from w h
     by_body-from (Some c) w h = entry_body-from c w h
 
-    pub end_in_protected-from : (w : World) → G w → Holds name m.object w → From R w (end_in_protected p name m leaving)
+    pub end_in_protected-from : (w : World) → G w → Holds action_on_top name m.object w → From R w (end_in_protected p name m leaving)
     unfolding end_in_protected
     end_in_protected-from w good h = by_body-from m.serves w (good, h)
 

@@ -1,4 +1,3 @@
-pub mod NumberedLists
 pub mod TaskEdits
 pub mod Standing
 pub mod Calming

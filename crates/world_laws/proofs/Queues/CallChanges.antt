@@ -25,7 +25,7 @@ use Rattle.profile_machine.specs.Priorities.{is_queued}
 use Rattle.profile_machine.specs.WellFormed.{same_owner}
 use Rattle.machine_laws.proofs.ListLemmas.{Falls-edit_where}
 use Rattle.machine_laws.proofs.QueueLemmas.{by_test}
-use Rattle.world_laws.proofs.Queues.NumberedLists as numbered
+use Rattle.world_laws.proofs.Counts.NumberedLists as numbered
 use Rattle.line_laws.proofs.Exits.TaskEdits as edits_of
 use Rattle.world_laws.proofs.Queues.CallLists.{call_number, gone-at, left-at, same-call, taken-at}
 use Rattle.world_laws.proofs.Queues.Calming.{Softens, StandsAt, appointed-same, calm-from, came-same, edit_task-calls, edit_task-drawn, edit_task-fall, edit_task-objects, found-appointments, named-edited, softens-same, task-edited, task_of-same, there-same, unfirm-same}

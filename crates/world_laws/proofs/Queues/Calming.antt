@@ -21,7 +21,7 @@ use Rattle.profile_machine.specs.Tasks.{is_who, nobody, task_at, task_of, edit_t
 use Rattle.profile_machine.specs.Appointments.{is_appointed, is_timeout_of, is_trigger_of}
 use Rattle.profile_machine.specs.Values.{is_object, queue_at, queues_of}
 use Rattle.profile_machine.specs.Calls.{is_call, call_of, edit_object}
-use Rattle.world_laws.proofs.Queues.NumberedLists as numbered
+use Rattle.world_laws.proofs.Counts.NumberedLists as numbered
 use Rattle.line_laws.proofs.Exits.TaskEdits as edits_of
 use Rattle.profile_machine.specs.Notation.{agent, t}
 use Rattle.profile_machine.specs.WellFormed.{number_in}

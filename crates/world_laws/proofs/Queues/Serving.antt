@@ -22,7 +22,7 @@ use Rattle.profile_machine.specs.Tasks.{task_of, waiting_in}
 use Rattle.profile_machine.specs.Appointments.{is_appointed, is_timeout_of, is_trigger_of}
 use Rattle.profile_machine.specs.Values.{is_object, queue_at, queues_of}
 use Rattle.profile_machine.specs.Calls.{is_call, call_of, edit_object, edit_queue, put_by_priority, put_call, take_call, priority_of}
-use Rattle.world_laws.proofs.Queues.NumberedLists as numbered
+use Rattle.world_laws.proofs.Counts.NumberedLists as numbered
 use Rattle.world_laws.proofs.Queues.CallLists.{left-has, same-call}
 use Rattle.world_laws.proofs.Queues.CallChanges.{edited-other}
 use Rattle.world_laws.proofs.Queues.Calming.{StandsAt, edit_task-objects, task-edited}

@@ -27,7 +27,7 @@ use Rattle.profile_machine.specs.Steps.{Step, says, changes, when, nothing, â—Œâ
 use Rattle.profile_machine.specs.Tasks.{task_of, edit_task, with_state, with_ticks, waiting_of, waiting_in}
 use Rattle.profile_machine.specs.Program.{edf_low, is_robin_level}
 use Rattle.std.specs.Prelude.{slice_index_or}
-use Rattle.world_laws.proofs.Queues.NumberedLists as numbered
+use Rattle.world_laws.proofs.Counts.NumberedLists as numbered
 use Rattle.line_laws.proofs.Exits.TaskEdits as edits_of
 use Rattle.profile_machine.specs.Dispatching.{active, level_kept_by, granted, ready, keep_level, grant_quantum, to_tail, says_ready}
 use Rattle.profile_machine.specs.Frames.{frames_of}

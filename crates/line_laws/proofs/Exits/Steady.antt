@@ -98,7 +98,7 @@ protected-nature f same (InFinalize o) = refl
 protected-nature f same (InAssign m) = refl
 
 -- the object of the action on top
-pub action_on_top : Sight Nature ObjectNo
+abbrev pub action_on_top : Sight Nature ObjectNo
 action_on_top = record {
   nature = nature;
   seen = λ fs. action_first (natures fs);

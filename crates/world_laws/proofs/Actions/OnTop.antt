@@ -7,7 +7,7 @@ use Rattle.world_laws.proofs.Actions.Kept.CallEnds.{depth-natures, abortable-nat
 use Rattle.world_laws.proofs.Actions.Kept.Protected.{protected-nature}
 use Rattle.world_laws.proofs.Actions.GoodMoves.{first-natures}
 
-pub nature_on_top : Sight Nature Nature
+abbrev pub nature_on_top : Sight Nature Nature
 nature_on_top = record {
   nature = nature;
   seen = λ fs. top_nature (natures fs);

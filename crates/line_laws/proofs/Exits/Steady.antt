@@ -87,15 +87,15 @@ pub record Sight (N X : Type 0) : Type 0 where
   pub abortable : (f : AbortableMark → AbortableMark) (mark : Mark) → nature (edit_abortable f mark) ≡ nature mark
   pub protected : (f : ProtectedMark → ProtectedMark) → ((m : ProtectedMark) → nature (InProtected (f m)) ≡ nature (InProtected m)) → (mark : Mark) → nature (edit_protected f mark) ≡ nature mark
 
-protected-nature : (f : ProtectedMark → ProtectedMark) → ((m : ProtectedMark) → nature (InProtected (f m)) ≡ nature (InProtected m)) → (mark : Mark) → nature (edit_protected f mark) ≡ nature mark
-protected-nature f same (Scope m) = refl
-protected-nature f same (Handled s) = refl
-protected-nature f same (InProtected m) = same m
-protected-nature f same (InAccept m) = refl
-protected-nature f same (Abortable m) = refl
-protected-nature f same (InInitialize l) = refl
-protected-nature f same (InFinalize o) = refl
-protected-nature f same (InAssign m) = refl
+pub protected-alike : (f : ProtectedMark → ProtectedMark) → ((m : ProtectedMark) → nature (InProtected (f m)) ≡ nature (InProtected m)) → (mark : Mark) → nature (edit_protected f mark) ≡ nature mark
+protected-alike f same (Scope m) = refl
+protected-alike f same (Handled s) = refl
+protected-alike f same (InProtected m) = same m
+protected-alike f same (InAccept m) = refl
+protected-alike f same (Abortable m) = refl
+protected-alike f same (InInitialize l) = refl
+protected-alike f same (InFinalize o) = refl
+protected-alike f same (InAssign m) = refl
 
 -- the object of the action on top
 abbrev pub action_on_top : Sight Nature ObjectNo
@@ -105,7 +105,7 @@ action_on_top = record {
   first = λ f fs same. ap action_first (first-natures f fs same);
   depth = λ depth f fs same. ap action_first (depth-natures depth f fs same);
   abortable = abortable-nature;
-  protected = protected-nature;
+  protected = protected-alike;
 }
 
 -- this is seen, and no entry call is waited for

@@ -1,3 +1,4 @@
 pub mod Ceilings
+pub mod Fine
 pub mod Runs
 pub mod Places

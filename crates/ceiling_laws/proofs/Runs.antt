@@ -2,6 +2,7 @@ pub mod SameLemmas
 pub mod FoldOrder
 pub mod Triples
 pub mod LevelMoves
+pub mod Finer
 pub mod ActingMoves
 pub mod Kept
 pub mod FreeMoves

@@ -1,6 +1,5 @@
 pub mod Delays
 pub mod TaskLemmas
-pub mod CallLemmas
 pub mod DelayEdits
 pub mod FineMoves
 pub mod DelayMoves

@@ -11,9 +11,9 @@ use Rattle.ceiling_laws.specs.Puts.{last_put, puts, with_put}
 use Rattle.ceiling_laws.proofs.Runs.ActingMoves.{ActingMoves, IsNew, LaterMoves, SelectMoves}
 use Rattle.ceiling_laws.proofs.Runs.FoundLemmas.{kept-others, none-left}
 use Rattle.ceiling_laws.proofs.Runs.FreeMoves.{anywhere}
-use Rattle.ceiling_laws.proofs.Runs.Kept.CallEnds.{deliver-keeps}
-use Rattle.ceiling_laws.proofs.Runs.Kept.Declarations.{set_thing-same}
-use Rattle.ceiling_laws.proofs.Runs.Kept.Frames.{raises-keeps}
+use Rattle.ceiling_laws.proofs.Fine.Kept.CallEnds.{deliver-keeps}
+use Rattle.ceiling_laws.proofs.Fine.Kept.Declarations.{set_thing-same}
+use Rattle.ceiling_laws.proofs.Fine.Kept.Frames.{raises-keeps}
 use Rattle.ceiling_laws.proofs.Runs.Kept.Rendezvous.{begin_accept-keeps, finish_without_room-keeps}
 use Rattle.ceiling_laws.proofs.Runs.Kept.Tasks.{same-alters}
 use Rattle.ceiling_laws.proofs.Runs.Kept.Waking.{who-is}
@@ -22,6 +22,7 @@ use Rattle.ceiling_laws.proofs.Runs.SameLemmas.{edit_task-same}
 use Rattle.ceiling_laws.proofs.Runs.Triples.{Alters, Ends, Keeps, Leads, State, With, changes-keeps, changes-leads, for_some-keeps, from-leads, looks-keeps, nothing-leads, then-keeps, then-leads}
 use Rattle.ceiling_laws.proofs.Places.PartOrder.{by_test}
 use Rattle.ceiling_laws.specs.Cores.{Core, Same, core}
+use Rattle.ceiling_laws.proofs.Runs.Finer.{fine, fine_base, fine_same}
 use Rattle.profile_machine.specs.Appointments.{appoint}
 use Rattle.profile_machine.specs.CallEnds.{deliver}
 use Rattle.profile_machine.specs.Declarations.{says_object, set_thing, with_object}
@@ -617,7 +618,7 @@ module _ (p : Image) (s : Levels) (a : Who) where
       ))
 
   thing_set : (id : Option ScopeId) (d : DeclNo) → Keeps (Held Whole) (for_some id (λ within. looks (λ w. changes (set_thing p (record { within = within; declared = d }) (value_of.Task (Some (record { 0 = w.drawn.tasks - 1 })))))))
-  thing_set id d = for_some-keeps id _ (λ within. looks-keeps _ (λ w. changes-keeps _ (same-alters (holds_quiet Whole) _ (set_thing-same p (record { within = within; declared = d }) (value_of.Task (Some (record { 0 = w.drawn.tasks - 1 })))))))
+  thing_set id d = for_some-keeps id _ (λ within. looks-keeps _ (λ w. changes-keeps _ (same-alters (holds_quiet Whole) _ (λ u. fine_same u _ (set_thing-same p (record { within = within; declared = d }) (value_of.Task (Some (record { 0 = w.drawn.tasks - 1 }))) u)))))
 
   creates_later : (st : StatementNo) (d : DeclNo) (id : Option ScopeId) (t : Task) → Leads (With (Held (First p s a)) (IsNew p t)) (Held Whole) (create_task p a st d id t)
   unfolding create_task says_created
@@ -688,8 +689,8 @@ module _ (p : Image) (s : Levels) (a : Who) where
       from-leads _ (λ w said h. meeting_starts t w said h.0 h.1)
       (then-leads (begin_accept p TheFinish (who.Task t) st c) _ (begin_accept-keeps (holds_quiet (Meeting t)) p TheFinish (who.Task t) st c)
       (then-leads (finish_without_room TheFinish (who.Task t) c) _ (finish_without_room-keeps (holds_quiet (Meeting t)) TheFinish (who.Task t) c)
-      (then-leads (deliver p TheFinish c.number (call_ended.ToRaise exception.Storage)) _ (deliver-keeps (base_moves (Meeting t) (meeting_wakeful t)) TheFinish c.number (call_ended.ToRaise exception.Storage) (λ name. refl))
-      (then-leads (ready p TheFinish (who.Task t)) _ (ready-holds p (Meeting t) Whole (who.Task t) TheFinish (met t)) (raises-keeps (holds_quiet Whole) TheFinish (who.Task t) exception.Storage)))))
+      (then-leads (deliver p TheFinish c.number (call_ended.ToRaise exception.Storage)) _ (deliver-keeps (fine_base (base_moves (Meeting t) (meeting_wakeful t))) TheFinish c.number (call_ended.ToRaise exception.Storage) (λ name. refl))
+      (then-leads (ready p TheFinish (who.Task t)) _ (ready-holds p (Meeting t) Whole (who.Task t) TheFinish (met t)) (raises-keeps (fine (holds_quiet Whole)) TheFinish (who.Task t) exception.Storage)))))
 
   -- ---- protected objects
 

@@ -15,9 +15,9 @@ use Rattle.ceiling_laws.specs.Puts.{last_put, with_put}
 use Rattle.ceiling_laws.proofs.Runs.ActingMoves.{Either}
 use Rattle.ceiling_laws.proofs.Runs.CoreLemmas.{core-same}
 use Rattle.ceiling_laws.proofs.Runs.Kept.Act.{effect-leads}
-use Rattle.ceiling_laws.proofs.Runs.Kept.Frames.{open_sequence-keeps}
+use Rattle.ceiling_laws.proofs.Fine.Kept.Frames.{open_sequence-keeps}
 use Rattle.ceiling_laws.proofs.Runs.Kept.Instant.{Appointing, OtherMoves}
-use Rattle.ceiling_laws.proofs.Runs.Kept.Scopes.{open_scope-alters}
+use Rattle.ceiling_laws.proofs.Fine.Kept.Scopes.{open_scope-alters}
 use Rattle.ceiling_laws.proofs.Runs.Kept.Waking.{who-is}
 use Rattle.ceiling_laws.proofs.Runs.RunLemmas.{Others, Settles, behind_onward, settles_onward}
 use Rattle.ceiling_laws.proofs.Runs.SameLemmas.{found_is_who}
@@ -28,6 +28,7 @@ use Rattle.ceiling_laws.proofs.Runs.WholeRuns.{places_keep_ceilings}
 use Rattle.ceiling_laws.proofs.Places.PartOrder.{by_test}
 use Rattle.ceiling_laws.specs.Cores.{Core, core}
 use Rattle.ceiling_laws.specs.RunLaws.{Tells, levels_told, told_first, told_on}
+use Rattle.ceiling_laws.proofs.Runs.Finer.{fine}
 use Rattle.machine_laws.proofs.LineLemmas.{tocks_say_ticks}
 use Rattle.machine_laws.proofs.Moves.{lines_of}
 use Rattle.profile_machine.specs.Dispatching.{active_of, ready, to_tail}
@@ -242,9 +243,9 @@ module _ (p : Image) where
   opens-stands : Leads (Holds (Running no_levels environment)) (Holds (Beside no_levels)) (opens p)
   unfolding opens
   opens-stands =
-      then-leads (changes (open_scope p environment p.environment (plainly None) opened_for.Task)) _ (changes-keeps _ (open_scope-alters (holds_quiet (Running no_levels environment)) p environment p.environment (plainly None) opened_for.Task))
+      then-leads (changes (open_scope p environment p.environment (plainly None) opened_for.Task)) _ (changes-keeps _ (open_scope-alters (fine (holds_quiet (Running no_levels environment))) p environment p.environment (plainly None) opened_for.Task))
       (then-leads (says Own (line.New (created.Task (record { 0 = 0 })) None p.main.priority)) _ (keeps_says (Running no_levels environment) Own (line.New (created.Task (record { 0 = 0 })) None p.main.priority) (λ n. refl))
-      (then-leads (to_tail p Own environment) _ (to_tail-holds p (Running no_levels environment) (Beside no_levels) environment Own (running_places no_levels environment)) (open_sequence-keeps (holds_quiet (Beside no_levels)) p Own environment)))
+      (then-leads (to_tail p Own environment) _ (to_tail-holds p (Running no_levels environment) (Beside no_levels) environment Own (running_places no_levels environment)) (open_sequence-keeps (fine (holds_quiet (Beside no_levels))) p Own environment)))
 
   opening-stands : (script : List (ℤ × Item)) → AllStand p (levels_told no_levels (opening p script).1) (opening p script).0
   opening-stands script =

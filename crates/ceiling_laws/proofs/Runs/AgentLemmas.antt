@@ -1,15 +1,16 @@
 -- The agent's base priority is that of interrupts in every world that a run reaches.
 use Rattle.ann_base.specs.declared.identities.TaskNo.{TaskNo}
 use Rattle.ceiling_laws.proofs.Runs.FreeMoves.{EveryPart, FreeBase, FreeMoves, anywhere, late_base, ready_by_line, to_tail-free}
-use Rattle.ceiling_laws.proofs.Runs.Kept.Declarations.{set_thing-same}
-use Rattle.ceiling_laws.proofs.Runs.Kept.Frames.{goes-keeps, open_sequence-keeps}
-use Rattle.ceiling_laws.proofs.Runs.Kept.Scopes.{open_scope-alters}
+use Rattle.ceiling_laws.proofs.Fine.Kept.Declarations.{set_thing-same}
+use Rattle.ceiling_laws.proofs.Fine.Kept.Frames.{goes-keeps, open_sequence-keeps}
+use Rattle.ceiling_laws.proofs.Fine.Kept.Scopes.{open_scope-alters}
 use Rattle.ceiling_laws.proofs.Runs.Kept.Tasks.{same-alters}
 use Rattle.ceiling_laws.proofs.Runs.LevelMoves.{Silences}
 use Rattle.ceiling_laws.proofs.Runs.RunLemmas.{Instants, Settles, free_instants, instant_onward, settles_onward}
 use Rattle.ceiling_laws.proofs.Runs.TockLemmas.{tock-same}
 use Rattle.ceiling_laws.proofs.Runs.Triples.{Alters, At, Ends, Keeps, Leads, State, changes-keeps, for_some-keeps, from-leads, looks-keeps, then-keeps}
 use Rattle.ceiling_laws.specs.RunLaws.{AgentKeepsBase}
+use Rattle.ceiling_laws.proofs.Runs.Finer.{fine, fine_same}
 use Rattle.machine_laws.proofs.Moves.{lines_of}
 use Rattle.machine_laws.specs.Reached.{Comes, before, behind, opened, ticked}
 use Rattle.profile_machine.specs.Appointments.{appoint}
@@ -91,12 +92,12 @@ module _ (p : Image) where
   nothing_deferred v level step is = record { runs = λ w said h. absurd (let never : None ≡ Some level = sym h.0.1 ∙ ap (λ u. u.agent.deferred_base) h.1 ∙ is in cc) }
 
   thing_set : (id : Option ScopeId) (d : DeclNo) → Keeps (KeepsAgent p) (for_some id (λ within. looks (λ w. changes (set_thing p (record { within = within; declared = d }) (value_of.Task (Some (record { 0 = w.drawn.tasks - 1 })))))))
-  thing_set id d = for_some-keeps id _ (λ within. looks-keeps _ (λ w. changes-keeps _ (same-alters agent_quiet _ (set_thing-same p (record { within = within; declared = d }) (value_of.Task (Some (record { 0 = w.drawn.tasks - 1 })))))))
+  thing_set id d = for_some-keeps id _ (λ within. looks-keeps _ (λ w. changes-keeps _ (same-alters agent_quiet _ (λ u. fine_same u _ (set_thing-same p (record { within = within; declared = d }) (value_of.Task (Some (record { 0 = w.drawn.tasks - 1 }))) u)))))
 
   agent_created : (name : Who) (s : StatementNo) (d : DeclNo) (id : Option ScopeId) (t : Task) → Keeps (KeepsAgent p) (create_task p name s d id t)
   unfolding create_task says_created
   agent_created name s d id t =
-      then-keeps _ _ (goes-keeps agent_quiet name (next_of p s)) (then-keeps _ _ (changes-keeps _ (plainly_alters (add_task t) (λ w. refl))) (then-keeps _ _ (thing_set id d) (looks-keeps _ (λ w. any_line Own _))))
+      then-keeps _ _ (goes-keeps (fine agent_quiet) name (next_of p s)) (then-keeps _ _ (changes-keeps _ (plainly_alters (add_task t) (λ w. refl))) (then-keeps _ _ (thing_set id d) (looks-keeps _ (λ w. any_line Own _))))
 
   agent_made : (l : Located) (u : ProtectedUnitNo) → Keeps (KeepsAgent p) (changes (with_object p l u) ▷ says_object p l u)
   unfolding says_object
@@ -163,9 +164,9 @@ module _ (p : Image) where
   agent_opens : Keeps (KeepsAgent p) (opens p)
   unfolding opens
   agent_opens =
-      then-keeps _ _ (changes-keeps _ (open_scope-alters (agent_quiet p) p environment p.environment (plainly None) opened_for.Task))
+      then-keeps _ _ (changes-keeps _ (open_scope-alters (fine (agent_quiet p)) p environment p.environment (plainly None) opened_for.Task))
       (then-keeps _ _ (any_line p Own (line.New (created.Task (record { 0 = 0 })) None p.main.priority))
-      (then-keeps _ _ (to_tail-free (agent_base p) Own environment tt) (open_sequence-keeps (agent_quiet p) p Own environment)))
+      (then-keeps _ _ (to_tail-free (agent_base p) Own environment tt) (open_sequence-keeps (fine (agent_quiet p)) p Own environment)))
 
   agent_at_opening : (script : List (ℤ × Item)) → AgentKeeps p (opening p script).0
   unfolding KeepsAgent HasAgent

@@ -6,9 +6,9 @@ use Rattle.ceiling_laws.proofs.Runs.FoldOrder.{Ordered, Sooner, fold, fold-appen
 use Rattle.ceiling_laws.proofs.Runs.FoundLemmas.{EditedFound, added-found, edit-found, forgotten-found}
 use Rattle.ceiling_laws.proofs.Runs.FreeMoves.{EveryPart, FreeBase, FreeMoves, any_task, any_world, anywhere, free_others, freely, late_base, ready_by_line, replace_in-free, to_tail-free}
 use Rattle.ceiling_laws.proofs.Runs.Kept.Act.{effect-leads}
-use Rattle.ceiling_laws.proofs.Runs.Kept.Declarations.{set_thing-same}
-use Rattle.ceiling_laws.proofs.Runs.Kept.Frames.{open_sequence-keeps}
-use Rattle.ceiling_laws.proofs.Runs.Kept.Scopes.{draw_region-same}
+use Rattle.ceiling_laws.proofs.Fine.Kept.Declarations.{set_thing-same}
+use Rattle.ceiling_laws.proofs.Fine.Kept.Frames.{open_sequence-keeps}
+use Rattle.ceiling_laws.proofs.Fine.Kept.Scopes.{draw_region-same}
 use Rattle.ceiling_laws.proofs.Runs.LevelMoves.{Silences, is_apart, said_so}
 use Rattle.ceiling_laws.proofs.Runs.RunLemmas.{Instants, Settles, either_over, instant_onward, settles_onward}
 use Rattle.ceiling_laws.proofs.Runs.SameLemmas.{edit_task-same, same_then}
@@ -18,6 +18,7 @@ use Rattle.ceiling_laws.proofs.Places.SoundWorlds.{never}
 use Rattle.ceiling_laws.proofs.Runs.CeilingLemmas.{any_event}
 use Rattle.ceiling_laws.specs.Cores.{Core, Same, core}
 use Rattle.ceiling_laws.specs.RunLaws.{AreBasesShown, BasesAreTold, Tells, bases_told, told_first, told_on}
+use Rattle.ceiling_laws.proofs.Runs.Finer.{fine, fine_same}
 use Rattle.machine_laws.proofs.LineLemmas.{tocks_say_ticks}
 use Rattle.machine_laws.proofs.Moves.{lines_of}
 use Rattle.machine_laws.specs.LineKinds.{AllAre, is_of_tock}
@@ -356,7 +357,7 @@ module _ (p : Image) (shown : List (ℕ × ℕ)) where
 
   pending_set : (id : Option ScopeId) (d : DeclNo) (t : Task) → Keeps (Pending t) (for_some id (λ within. looks (λ w. changes (set_thing p (record { within = within; declared = d }) (value_of.Task (Some (record { 0 = w.drawn.tasks - 1 })))))))
   pending_set id d t = for_some-keeps id _ (λ within. looks-keeps _ (λ w. let l : Located = record { within = within; declared = d } in let v : Value = value_of.Task (Some (record { 0 = w.drawn.tasks - 1 })) in
-      changes-leads (set_thing p l v) (λ u said h. pending-same t u (set_thing p l v u) said (set_thing-same p l v u) h)))
+      changes-leads (set_thing p l v) (λ u said h. pending-same t u (set_thing p l v u) said (fine_same u _ (set_thing-same p l v u)) h)))
 
   bases_created : (name : Who) (s : StatementNo) (d : DeclNo) (id : Option ScopeId) (t : Task) → Leads (With (NoBases shown) (IsNew p t)) (TellsBases shown) (create_task p name s d id t)
   unfolding create_task says_created Ends
@@ -441,7 +442,7 @@ module _ (p : Image) where
       let drawn = draw_region text.kept begun in
       let f = new_frame (new_scope_mark (next_id w) (region_of_next text.kept w) opened_for.Task) text.first in
       same_then w begun (push environment f drawn) (record { tasks = refl; agent = refl; objects = refl; drawn_tasks = refl; drawn_objects = refl; delays = λ t e. e })
-      (same_then begun drawn (push environment f drawn) (draw_region-same text.kept begun) (edit_task-same environment (λ t. with_frames (f ∷ t.frames) t) drawn (λ t. refl)))
+      (same_then begun drawn (push environment f drawn) (fine_same begun drawn (draw_region-same text.kept begun)) (edit_task-same environment (λ t. with_frames (f ∷ t.frames) t) drawn (λ t. refl)))
 
   opened-bases : (w : World) → w.drawn.tasks ≡ 1 → map core w.tasks ≡ core (environment_task p) ∷ [] → ShowsBases ((0, p.main.priority) ∷ []) w
   unfolding ShowsBases AreTasksDrawn
@@ -464,7 +465,7 @@ module _ (p : Image) where
   }
 
   opens-third : Keeps (TellsBases []) (to_tail p Own environment ▷ open_sequence p Own environment)
-  opens-third = then-keeps _ _ (to_tail-free (bases_base p []) Own environment tt) (open_sequence-keeps (bases_quiet p []) p Own environment)
+  opens-third = then-keeps _ _ (to_tail-free (bases_base p []) Own environment tt) (open_sequence-keeps (fine (bases_quiet p [])) p Own environment)
 
   opens-bases : Leads Unopened (TellsBases []) (opens p)
   unfolding opens first_base

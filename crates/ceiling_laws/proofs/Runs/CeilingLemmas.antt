@@ -4,9 +4,9 @@ use Rattle.ann_base.specs.declared.identities.TaskNo.{TaskNo}
 use Rattle.ceiling_laws.proofs.Runs.CoreLemmas.{shown-fewer, shown-same}
 use Rattle.ceiling_laws.proofs.Runs.FoldOrder.{Ordered, Sooner, fold, fold-append, fold-in_order, ordered-append, sooner-append}
 use Rattle.ceiling_laws.proofs.Runs.FreeMoves.{EveryPart, FreeBase, FreeMoves, anywhere, late_base, ready_by_line, replace_in-free, to_tail-free}
-use Rattle.ceiling_laws.proofs.Runs.Kept.Declarations.{set_thing-same}
-use Rattle.ceiling_laws.proofs.Runs.Kept.Frames.{goes-keeps, open_sequence-keeps}
-use Rattle.ceiling_laws.proofs.Runs.Kept.Scopes.{open_scope-alters}
+use Rattle.ceiling_laws.proofs.Fine.Kept.Declarations.{set_thing-same}
+use Rattle.ceiling_laws.proofs.Fine.Kept.Frames.{goes-keeps, open_sequence-keeps}
+use Rattle.ceiling_laws.proofs.Fine.Kept.Scopes.{open_scope-alters}
 use Rattle.ceiling_laws.proofs.Runs.Kept.Tasks.{same-alters}
 use Rattle.ceiling_laws.proofs.Runs.LevelMoves.{Silences, is_apart, said_so}
 use Rattle.ceiling_laws.proofs.Runs.RunLemmas.{Instants, Settles, free_instants, instant_onward, settles_onward}
@@ -14,6 +14,7 @@ use Rattle.ceiling_laws.proofs.Runs.TockLemmas.{tock-same}
 use Rattle.ceiling_laws.proofs.Runs.Triples.{Alters, Ends, Keeps, State, changes-keeps, for_some-keeps, from-leads, from_at, looks-keeps, nothing-keeps, then-keeps}
 use Rattle.ceiling_laws.specs.Cores.{ceiling_in}
 use Rattle.ceiling_laws.specs.RunLaws.{AreCeilingsShown, CeilingsAreTold, Tells, ceilings_told, told_first, told_on}
+use Rattle.ceiling_laws.proofs.Runs.Finer.{fine, fine_same}
 use Rattle.machine_laws.proofs.LineLemmas.{tocks_say_ticks}
 use Rattle.machine_laws.proofs.Moves.{lines_of}
 use Rattle.machine_laws.specs.LineKinds.{AllAre, is_of_tock}
@@ -194,8 +195,8 @@ module _ (p : Image) (shown : List (ℕ × ℕ)) where
   ceilings_created : (name : Who) (s : StatementNo) (d : DeclNo) (id : Option ScopeId) (t : Task) → Keeps (TellsCeilings shown) (create_task p name s d id t)
   unfolding create_task says_created
   ceilings_created name s d id t =
-      then-keeps _ _ (goes-keeps ceilings_quiet name (next_of p s)) (then-keeps _ _ (changes-keeps _ (ceilings_plain (add_task t) (λ w. refl) (λ w. refl)))
-      (then-keeps _ _ (for_some-keeps id _ (λ within. looks-keeps _ (λ w. changes-keeps _ (same-alters ceilings_quiet _ (set_thing-same p (record { within = within; declared = d }) (value_of.Task (Some (record { 0 = w.drawn.tasks - 1 }))))))))
+      then-keeps _ _ (goes-keeps (fine ceilings_quiet) name (next_of p s)) (then-keeps _ _ (changes-keeps _ (ceilings_plain (add_task t) (λ w. refl) (λ w. refl)))
+      (then-keeps _ _ (for_some-keeps id _ (λ within. looks-keeps _ (λ w. changes-keeps _ (same-alters ceilings_quiet _ (λ u. fine_same u _ (set_thing-same p (record { within = within; declared = d }) (value_of.Task (Some (record { 0 = w.drawn.tasks - 1 }))) u))))))
       (looks-keeps _ (λ w. ceilings_says Own (line.New (created.Task (record { 0 = w.drawn.tasks - 1 })) (Some d) t.base) refl))))
 
   ceilings_takes : (level : ℕ) → Keeps (TellsCeilings shown) (changes (edit_task who.Agent (λ u. record u { deferred_base = None })) ▷ set_base p ThePlacing ThePlacing who.Agent level)
@@ -259,9 +260,9 @@ module _ (p : Image) where
   ceilings_open : (shown : List (ℕ × ℕ)) → Keeps (TellsCeilings shown) (opens p)
   unfolding opens
   ceilings_open shown =
-      then-keeps _ _ (changes-keeps _ (open_scope-alters (ceilings_quiet p shown) p environment p.environment (plainly None) opened_for.Task))
+      then-keeps _ _ (changes-keeps _ (open_scope-alters (fine (ceilings_quiet p shown)) p environment p.environment (plainly None) opened_for.Task))
       (then-keeps _ _ (ceilings_says p shown Own (line.New (created.Task (record { 0 = 0 })) None p.main.priority) refl)
-      (then-keeps _ _ (to_tail-free (ceilings_base p shown) Own environment tt) (open_sequence-keeps (ceilings_quiet p shown) p Own environment)))
+      (then-keeps _ _ (to_tail-free (ceilings_base p shown) Own environment tt) (open_sequence-keeps (fine (ceilings_quiet p shown)) p Own environment)))
 
   opening-ceilings : (script : List (ℤ × Item)) → ShowsCeilings (seen_behind ceilings_after any_event [] (opening p script).1) (opening p script).0
   unfolding ShowsCeilings

@@ -5,9 +5,9 @@ use Rattle.ceiling_laws.proofs.Ceilings.CeilingLemmas.{agent_has_no_deadline, ha
 use Rattle.ceiling_laws.proofs.Runs.AgentLemmas.{AgentKeeps, KeepsAgent, agent_base, agent_quiet, plainly_alters, see_nothing, task_alters}
 use Rattle.ceiling_laws.proofs.Runs.BaseLemmas.{bases_are_told}
 use Rattle.ceiling_laws.proofs.Runs.FreeMoves.{EveryPart, FreeBase, FreeMoves, anywhere, late_base, to_tail-free}
-use Rattle.ceiling_laws.proofs.Runs.Kept.Declarations.{set_thing-same}
-use Rattle.ceiling_laws.proofs.Runs.Kept.Frames.{goes-keeps, open_sequence-keeps}
-use Rattle.ceiling_laws.proofs.Runs.Kept.Scopes.{open_scope-alters}
+use Rattle.ceiling_laws.proofs.Fine.Kept.Declarations.{set_thing-same}
+use Rattle.ceiling_laws.proofs.Fine.Kept.Frames.{goes-keeps, open_sequence-keeps}
+use Rattle.ceiling_laws.proofs.Fine.Kept.Scopes.{open_scope-alters}
 use Rattle.ceiling_laws.proofs.Runs.Kept.Tasks.{same-alters}
 use Rattle.ceiling_laws.proofs.Runs.LevelMoves.{Silences, is_apart, said_so}
 use Rattle.ceiling_laws.proofs.Runs.RunLemmas.{Instants, Settles, free_instants, instant_onward, settles_onward}
@@ -15,6 +15,7 @@ use Rattle.ceiling_laws.proofs.Runs.TockLemmas.{tock-same}
 use Rattle.ceiling_laws.proofs.Runs.Triples.{Alters, At, Ends, Keeps, Leads, State, changes-keeps, for_some-keeps, from-leads, looks-keeps, then-keeps}
 use Rattle.ceiling_laws.proofs.Places.QueueLemmas.{whose-name}
 use Rattle.ceiling_laws.specs.RunLaws.{AreBasesShown, DeadlinesAreOfTasks, Tells, bases_told, levels_told, told_first, told_on}
+use Rattle.ceiling_laws.proofs.Runs.Finer.{fine, fine_same}
 use Rattle.machine_laws.proofs.LineLemmas.{AllAre-append, tocks_say_ticks}
 use Rattle.machine_laws.specs.LineKinds.{AllAre, is_of_tock}
 use Rattle.profile_machine.specs.Appointments.{appoint}
@@ -159,8 +160,8 @@ module _ (p : Image) (low : edf_is_below_interrupts p ≡ true) where
   rightly_created : (name : Who) (s : StatementNo) (d : DeclNo) (id : Option ScopeId) (t : Task) → Keeps (Rightly p) (create_task p name s d id t)
   unfolding create_task says_created right_event
   rightly_created name s d id t =
-      then-keeps _ _ (goes-keeps rightly_quiet name (next_of p s)) (then-keeps _ _ (changes-keeps _ (rightly_alters (add_task t) (plainly_alters p (add_task t) (λ w. refl))))
-      (then-keeps _ _ (for_some-keeps id _ (λ within. looks-keeps _ (λ w. changes-keeps _ (same-alters rightly_quiet _ (set_thing-same p (record { within = within; declared = d }) (value_of.Task (Some (record { 0 = w.drawn.tasks - 1 }))))))))
+      then-keeps _ _ (goes-keeps (fine rightly_quiet) name (next_of p s)) (then-keeps _ _ (changes-keeps _ (rightly_alters (add_task t) (plainly_alters p (add_task t) (λ w. refl))))
+      (then-keeps _ _ (for_some-keeps id _ (λ within. looks-keeps _ (λ w. changes-keeps _ (same-alters rightly_quiet _ (λ u. fine_same u _ (set_thing-same p (record { within = within; declared = d }) (value_of.Task (Some (record { 0 = w.drawn.tasks - 1 }))) u))))))
       (looks-keeps _ (λ w. rightly_says Own _ refl))))
 
   rightly_made : (l : Located) (u : ProtectedUnitNo) → Keeps (Rightly p) (changes (with_object p l u) ▷ says_object p l u)
@@ -224,9 +225,9 @@ module _ (p : Image) (low : edf_is_below_interrupts p ≡ true) where
   rightly_opens : Keeps (Rightly p) (opens p)
   unfolding opens right_event
   rightly_opens =
-      then-keeps _ _ (changes-keeps _ (open_scope-alters rightly_quiet p environment p.environment (plainly None) opened_for.Task))
+      then-keeps _ _ (changes-keeps _ (open_scope-alters (fine rightly_quiet) p environment p.environment (plainly None) opened_for.Task))
       (then-keeps _ _ (rightly_says Own (line.New (created.Task (record { 0 = 0 })) None p.main.priority) refl)
-      (then-keeps _ _ (to_tail-free rightly_base Own environment tt) (open_sequence-keeps rightly_quiet p Own environment)))
+      (then-keeps _ _ (to_tail-free rightly_base Own environment tt) (open_sequence-keeps (fine rightly_quiet) p Own environment)))
 
   opening-rightly : (script : List (ℤ × Item)) → AllAre (right_event p) (opening p script).1 × AgentKeeps p (opening p script).0
   unfolding Rightly HoldsAgent

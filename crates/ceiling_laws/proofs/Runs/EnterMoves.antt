@@ -6,7 +6,7 @@ use Rattle.ceiling_laws.proofs.Runs.CoreLemmas.{ceiling-found, ceiling_at, core-
 use Rattle.ceiling_laws.proofs.Runs.EnterLemmas.{AllQuiet, Entered, IsLate, Lawful, NoEnter, all_quiet-append, all_quiet-no_enter, entered-append, entered-begins, entered-in_order, entered-lawful, is_enter, no_enter-append, no_enter-in_order, no_enters-lawful, quiet-late, quiet-no_enter}
 use Rattle.ceiling_laws.proofs.Runs.FreeMoves.{EveryPart, FreeBase, FreeMoves, LatePart, any_task, any_world, free_others, freely, ready_by_line, replace_in-free, to_tail-free}
 use Rattle.ceiling_laws.proofs.Runs.Kept.Act.{effect-leads}
-use Rattle.ceiling_laws.proofs.Runs.Kept.Frames.{goes-keeps, open_sequence-keeps}
+use Rattle.ceiling_laws.proofs.Fine.Kept.Frames.{goes-keeps, open_sequence-keeps}
 use Rattle.ceiling_laws.proofs.Runs.LevelMoves.{Silences, said_so}
 use Rattle.ceiling_laws.proofs.Runs.RunLemmas.{Others, behind_onward, settles_onward}
 use Rattle.ceiling_laws.proofs.Runs.Triples.{Alters, Ends, Keeps, Leads, State, With, changes-keeps, for_some-keeps, from-leads, from_at, looks-keeps, nothing-keeps, then-keeps}
@@ -14,6 +14,7 @@ use Rattle.ceiling_laws.proofs.Ceilings.CeilingLemmas.{second_false, not_less, n
 use Rattle.ceiling_laws.proofs.Places.EditLemmas.{active_core}
 use Rattle.ceiling_laws.specs.Cores.{Core, Same, ceiling_in, core}
 use Rattle.ceiling_laws.specs.RunLaws.{AreCeilingsShown, InstantsKeepCeilings, ShowsPlace, ShowsRunner, TocksKeepCeilings, keep_ceilings}
+use Rattle.ceiling_laws.proofs.Runs.Finer.{fine}
 use Rattle.machine_laws.proofs.LineLemmas.{tocks_say_ticks}
 use Rattle.machine_laws.specs.LineKinds.{is_of_tock}
 use Rattle.profile_machine.specs.Appointments.{appoint}
@@ -211,7 +212,7 @@ enters_first p v name sight o mode place = record {
 none_created : (p : Image) (name : Who) (s : StatementNo) (d : DeclNo) (id : Option ScopeId) (t : Task) → Keeps None_enter (create_task p name s d id t)
 unfolding create_task says_created
 none_created p name s d id t =
-    then-keeps _ _ (goes-keeps none_quiet name (next_of p s)) (then-keeps _ _ (changes-keeps _ (none_alters (add_task t)))
+    then-keeps _ _ (goes-keeps (fine none_quiet) name (next_of p s)) (then-keeps _ _ (changes-keeps _ (none_alters (add_task t)))
     (then-keeps _ _ (for_some-keeps id _ (λ within. looks-keeps _ (λ w. changes-keeps _ (none_alters (set_thing p (record { within = within; declared = d }) (value_of.Task (Some (record { 0 = w.drawn.tasks - 1 })))))))) (looks-keeps _ (λ w. none_says Own (line.New (created.Task (record { 0 = w.drawn.tasks - 1 })) (Some d) t.base) refl))))
 
 none_made : (p : Image) (l : Located) (u : ProtectedUnitNo) → Keeps None_enter (changes (with_object p l u) ▷ says_object p l u)
@@ -301,7 +302,7 @@ unfolding opens
 none_opens p =
     then-keeps _ _ (changes-keeps _ (none_alters (open_scope p environment p.environment (plainly None) opened_for.Task)))
     (then-keeps _ _ (none_says Own (line.New (created.Task (record { 0 = 0 })) None p.main.priority) refl)
-    (then-keeps _ _ (to_tail-free (none_base p) Own environment tt) (open_sequence-keeps none_quiet p Own environment)))
+    (then-keeps _ _ (to_tail-free (none_base p) Own environment tt) (open_sequence-keeps (fine none_quiet) p Own environment)))
 
 pub opening_keeps_ceilings : (p : Image) (script : List (ℤ × Item)) (sight : Levels) → keep_ceilings sight (opening p script).1 ≡ true
 unfolding AnySight None_enter

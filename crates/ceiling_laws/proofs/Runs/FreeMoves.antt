@@ -3,8 +3,8 @@ use Rattle.ann_base.specs.declared.exceptions.Raised.TheVariants as exception
 use Rattle.ann_base.specs.declared.identities.ObjectNo.{ObjectNo}
 use Rattle.ann_base.specs.declared.identities.TaskNo.{TaskNo}
 use Rattle.ceiling_laws.proofs.Runs.ActingMoves.{ActingMoves, Admitting, IsNew, LaterMoves, SelectMoves}
-use Rattle.ceiling_laws.proofs.Runs.Kept.CallEnds.{deliver-keeps}
-use Rattle.ceiling_laws.proofs.Runs.Kept.Frames.{raises-keeps}
+use Rattle.ceiling_laws.proofs.Fine.Kept.CallEnds.{deliver-keeps}
+use Rattle.ceiling_laws.proofs.Fine.Kept.Frames.{raises-keeps}
 use Rattle.ceiling_laws.proofs.Runs.Kept.Instant.{Appointing, OtherMoves}
 use Rattle.ceiling_laws.proofs.Runs.Kept.Priorities.{reprioritize_own-keeps, says_deadline-keeps}
 use Rattle.ceiling_laws.proofs.Runs.Kept.Rendezvous.{begin_accept-keeps, finish_without_room-keeps}
@@ -12,6 +12,7 @@ use Rattle.ceiling_laws.proofs.Runs.Kept.Tasks.{edit_task-alters}
 use Rattle.ceiling_laws.proofs.Runs.LevelMoves.{BaseMoves, EachTask, Fitting, Silences, Sleeping}
 use Rattle.ceiling_laws.proofs.Runs.Triples.{Alters, At, Keeps, Leads, State, With, branch-keeps, branch-leads, changes-keeps, from-leads, from_at, looks-keeps, looks-leads, looks-with, nothing-keeps, then-keeps, then-leads, then-together, when-keeps, when-leads}
 use Rattle.ceiling_laws.specs.Cores.{Same}
+use Rattle.ceiling_laws.proofs.Runs.Finer.{fine, fine_base}
 use Rattle.profile_machine.specs.Appointments.{appoint}
 use Rattle.profile_machine.specs.CallEnds.{deliver}
 use Rattle.profile_machine.specs.Declarations.{says_object, with_object}
@@ -277,8 +278,8 @@ module _ {p : Image} {actor : Who} {May : Admitting} {F I J : State} (free : Fre
   meets_late-free t s c =
       then-keeps _ _ (begin_accept-keeps free.later.quiet p TheFinish (who.Task t) s c)
       (then-keeps _ _ (finish_without_room-keeps free.later.quiet TheFinish (who.Task t) c)
-      (then-keeps _ _ (deliver-keeps (base_free free.later any_part (λ part name f. tt)) TheFinish c.number (call_ended.ToRaise exception.Storage) (λ name. tt))
-      (then-keeps _ _ (ready-free free.later TheFinish (who.Task t) tt) (raises-keeps free.later.quiet TheFinish (who.Task t) exception.Storage))))
+      (then-keeps _ _ (deliver-keeps (fine_base (base_free free.later any_part (λ part name f. tt))) TheFinish c.number (call_ended.ToRaise exception.Storage) (λ name. tt))
+      (then-keeps _ _ (ready-free free.later TheFinish (who.Task t) tt) (raises-keeps (fine free.later.quiet) TheFinish (who.Task t) exception.Storage))))
 
   pub freely : ActingMoves p actor any_part late_part any_world May anybody anybody F I J I I I (λ v. I) (λ v. I) (λ v. I) (λ v. J) (λ v name. I)
   freely =

@@ -24,9 +24,10 @@ use Rattle.profile_machine.specs.Words.{same_who, without}
 use Rattle.machine_laws.proofs.ListLemmas.{Rises, Rises-set_where, Rises-without, Rises-behind}
 use Rattle.machine_laws.proofs.QueueLemmas.{by_test}
 use Rattle.machine_laws.proofs.NumberLemmas.{task_number}
-use Rattle.world_laws.proofs.Appointments.Delays.{delayed, Idle, Awaited, nature, natures, Caller, OwnIn, Owned, Numbered, Later, own-on, is_false, EachTask}
+use Rattle.world_laws.proofs.Appointments.Delays.{delayed, Idle, Awaited, nature, natures, OwnIn, Owned, Numbered, Later, own-on, is_false, EachTask}
+use Rattle.ceiling_laws.proofs.Fine.Cores.{Caller}
 use Rattle.line_laws.proofs.Leaving.TaskLemmas.{of_added, of_edited, of_other, who_path, other-gone, of_forgotten}
-use Rattle.ceiling_laws.proofs.Runs.Kept.Scopes.{or-step, without-any}
+use Rattle.ceiling_laws.proofs.Fine.Kept.Scopes.{or-step, without-any}
 
 -- ---- what leaves delays and states
 

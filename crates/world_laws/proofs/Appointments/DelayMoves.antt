@@ -22,7 +22,7 @@ use Rattle.profile_machine.specs.Steps.{places_after_all, placed_by}
 use Rattle.profile_machine.specs.Tasks.{task_of, waiting_of, with_frames, with_state}
 use Rattle.machine_laws.proofs.Moves.{lines_of}
 use Rattle.machine_laws.proofs.FineMoves.{GoodWorld, Naming, ready_line}
-use Rattle.world_laws.proofs.Appointments.CallLemmas.{edited-caller, added-caller, gone-caller}
+use Rattle.ceiling_laws.proofs.Fine.CallLemmas.{edited-caller, added-caller, gone-caller}
 use Rattle.world_laws.proofs.Appointments.DelayEdits.{Steady, awaited-on, edited-steady, edited-numbered, plain-owned, pushed-owned, popped-owned, state-steady, added-steady, added-numbered, added-owned, gone-steady, gone-numbered, gone-owned, dropped-steady, appointed-steady, apart_from, asleep-idle, each-asleep, each-found}
 use Rattle.world_laws.proofs.Appointments.Delays.{delayed, Idle, Owned, Numbered, Good, Later, later_then, own-on, idle-later, natures}
 use Rattle.world_laws.proofs.Appointments.FineMoves.{FineMoves, is_apart}

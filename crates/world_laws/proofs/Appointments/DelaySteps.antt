@@ -37,7 +37,8 @@ use Rattle.world_tables.specs.Lists.{first_of}
 use Rattle.machine_laws.proofs.Moves.{StepRelation}
 use Rattle.world_laws.proofs.Appointments.ActingEnds.{wait_until-ends, select_waits-ends, raise_if-ends, present-edited, plain, looks_at-ends, given-ends, excused, acting, Present, IsActor, Ends, Acting}
 use Rattle.world_laws.proofs.Appointments.DelayMoves.{nobody_excused, follows_then, fine, MovedOn, Moved, Lasting, GoodAs}
-use Rattle.world_laws.proofs.Appointments.Delays.{natures, nature, idle-later, OwnIn, Idle, Good, CallerIn, Caller}
+use Rattle.world_laws.proofs.Appointments.Delays.{natures, nature, idle-later, OwnIn, Idle, Good}
+use Rattle.ceiling_laws.proofs.Fine.Cores.{CallerIn, Caller}
 use Rattle.world_laws.proofs.Appointments.FineMoves.{is_apart, FineMoves}
 use Rattle.world_laws.proofs.Appointments.Kept.Act.{is_delay_form, end_mark-keeps, act_without-keeps, act_plain-keeps}
 use Rattle.world_laws.proofs.Appointments.Kept.Combinators.{unchanged-alters, then-keeps, nothing-keeps, changes-keeps}

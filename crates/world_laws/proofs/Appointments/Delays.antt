@@ -1,7 +1,6 @@
 -- Who waits for the end of a delay: what every world keeps of those for whom one is appointed, and of the calls of which marks
 -- know the caller.
-use Rattle.std.proofs.Common.{◌≡◌, ℕ, ◌≤◌, Bool, true, false, List, [], ◌∷◌, Option, Some, None, refl, sym, ◌∙◌}
-use Rattle.std.specs.Prelude.{find}
+use Rattle.std.proofs.Common.{◌≡◌, ℕ, Bool, true, false, List, [], ◌∷◌, Option, Some, None, refl, sym, ◌∙◌}
 use Rattle.ann_base.specs.declared.identities.CallNo.{CallNo}
 use Rattle.ann_base.specs.declared.identities.TaskNo.{TaskNo}
 use Rattle.trace_text.specs.declared.events.Who.{Who}
@@ -13,11 +12,11 @@ use Rattle.profile_machine.specs.declared.world.marks.Mark.{Mark}
 use Rattle.profile_machine.specs.declared.world.marks.Mark.TheVariants.{Scope, Handled, InProtected, InAccept, Abortable, InInitialize, InFinalize, InAssign}
 use Rattle.profile_machine.specs.declared.world.tasks.Task.{Task}
 use Rattle.profile_machine.specs.Appointments.{is_appointed, is_delay_of}
-use Rattle.profile_machine.specs.Calls.{is_call}
 use Rattle.profile_machine.specs.Tasks.{task_of, waiting_of}
 use Rattle.profile_machine.specs.WellFormed.{waits_for_delay}
 use Rattle.machine_laws.proofs.ListLemmas.{Rises}
 use Rattle.machine_laws.proofs.NumberLemmas.{task_number}
+use Rattle.ceiling_laws.proofs.Fine.Cores.{Caller, CallerIn}
 
 -- ---- the end of a delay is appointed for a task
 
@@ -48,13 +47,6 @@ nature (InAssign m) = None
 abbrev pub natures : List Frame → List (Option CallNo)
 natures [] = []
 natures (f ∷ fs) = nature f.mark ∷ natures fs
-
--- somebody made this call, if it is there
-abbrev pub CallerIn : List Call → ℕ → CallNo → Who → Type 0
-CallerIn calls last c name = (c.0 ≤ last) × ((d : Call) → find (is_call c) calls ≡ Some d → who.Task d.caller ≡ name)
-
-abbrev pub Caller : CallNo → Who → World → Type 0
-Caller c name w = CallerIn w.calls w.drawn.calls c name
 
 -- the calls with which somebody entered are its own
 abbrev pub OwnIn : List Call → ℕ → Who → List (Option CallNo) → Type 0

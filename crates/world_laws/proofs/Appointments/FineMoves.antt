@@ -53,7 +53,8 @@ use Rattle.profile_machine.specs.WellFormed.{waits_for_delay}
 use Rattle.profile_machine.specs.Words.{edit_at}
 use Rattle.machine_laws.proofs.Moves.{StepRelation, MoveRelation, lines_of}
 use Rattle.machine_laws.proofs.FineMoves.{GoodWorld, Naming, ready_line}
-use Rattle.world_laws.proofs.Appointments.Delays.{Idle, Caller, nature, natures, EachTask}
+use Rattle.world_laws.proofs.Appointments.Delays.{Idle, nature, natures, EachTask}
+use Rattle.ceiling_laws.proofs.Fine.Cores.{Caller}
 
 -- ---- lines that place somebody or take it out, which are said only together with what they tell
 

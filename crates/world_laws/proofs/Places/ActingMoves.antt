@@ -2,9 +2,9 @@
 use Rattle.ann_base.specs.declared.exceptions.Raised.TheVariants as exception
 use Rattle.ann_base.specs.declared.identities.ObjectNo.{ObjectNo}
 use Rattle.ann_base.specs.declared.identities.TaskNo.{TaskNo}
-use Rattle.world_laws.proofs.Places.LevelMoves.{BaseMoves, Silences}
+use Rattle.ceiling_laws.proofs.Fine.LevelMoves.{BaseMoves, Silences}
 use Rattle.ceiling_laws.proofs.Runs.Triples.{Alters, Keeps, Leads, State, With}
-use Rattle.world_laws.proofs.Places.Cores.{Same}
+use Rattle.ceiling_laws.proofs.Fine.Cores.{Same}
 use Rattle.profile_machine.specs.Appointments.{appoint}
 use Rattle.profile_machine.specs.CallEnds.{deliver}
 use Rattle.profile_machine.specs.Declarations.{says_object, with_object}

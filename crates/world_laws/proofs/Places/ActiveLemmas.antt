@@ -1,6 +1,6 @@
 -- What priorities that are inherited and lost make of active ones, and what an edit of somebody leaves of it.
 use Rattle.world_laws.proofs.Places.CorePoints.{Edited, Missed, active_in, edit-own}
-use Rattle.world_laws.proofs.Places.Cores.{Core, core}
+use Rattle.ceiling_laws.proofs.Fine.Cores.{Core, core}
 use Rattle.profile_machine.specs.Dispatching.{active_of, kept_level_or_base}
 use Rattle.profile_machine.specs.Inheritance.{inherit, lose, same_cause}
 use Rattle.profile_machine.specs.Program.{edf_low}

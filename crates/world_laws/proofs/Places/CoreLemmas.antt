@@ -1,5 +1,5 @@
 -- What is read of a world's tasks where it is known only what decides their places.
-use Rattle.world_laws.proofs.Places.Cores.{Core, Same, core}
+use Rattle.ceiling_laws.proofs.Fine.Cores.{Core, Same, core}
 use Rattle.profile_machine.specs.Tasks.{is_who, nobody, task_of}
 use Rattle.profile_machine.specs.Words.{same_who}
 use Rattle.profile_machine.specs.declared.world.World.{World}

@@ -5,10 +5,10 @@ use Rattle.world_laws.proofs.Places.SoundWorlds.{IsAbsent, Sound, sound-edit, so
 use Rattle.world_laws.proofs.Places.Puts.{Spot, last_put, puts, with_put}
 use Rattle.world_laws.proofs.Places.CoreLemmas.{core-same}
 use Rattle.ceiling_laws.proofs.Runs.FoundLemmas.{set-other}
-use Rattle.world_laws.proofs.Places.LevelMoves.{Silences}
-use Rattle.world_laws.proofs.Places.SameLemmas.{edit_task-same}
+use Rattle.ceiling_laws.proofs.Fine.LevelMoves.{Silences}
+use Rattle.ceiling_laws.proofs.Fine.SameLemmas.{edit_task-same}
 use Rattle.ceiling_laws.proofs.Runs.Triples.{Ends, Keeps, Leads, State, changes-leads, then-leads}
-use Rattle.world_laws.proofs.Places.Cores.{Core, Same, core}
+use Rattle.ceiling_laws.proofs.Fine.Cores.{Core, Same, core}
 use Rattle.profile_machine.specs.Dispatching.{active, deadline_shown, grant_quantum, granted, keep_level, kept_level_or_base, level_kept_by, ready, says_ready, to_head, to_tail}
 use Rattle.profile_machine.specs.Program.{edf_low, is_edf_level, is_robin_level}
 use Rattle.profile_machine.specs.Scopes.{end_scope}

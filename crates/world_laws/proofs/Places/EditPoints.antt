@@ -10,7 +10,7 @@ use Rattle.ceiling_laws.proofs.Runs.Kept.Waking.{who-is}
 use Rattle.ceiling_laws.proofs.Runs.Triples.{Ends, Leads, changes-leads}
 use Rattle.ceiling_laws.proofs.Places.EffectKeeps.{or_found, find-behind}
 use Rattle.ceiling_laws.proofs.Places.PartOrder.{by_test}
-use Rattle.world_laws.proofs.Places.Cores.{Core, core}
+use Rattle.ceiling_laws.proofs.Fine.Cores.{Core, core}
 use Rattle.profile_machine.specs.Masters.{forget_task}
 use Rattle.profile_machine.specs.Steps.{changes, says}
 use Rattle.profile_machine.specs.Tasking.{add_task, says_done}

@@ -9,14 +9,14 @@ use Rattle.world_laws.proofs.Places.Standing.{Choosing, ChoosingSince, Dying, En
 use Rattle.world_laws.proofs.Places.Puts.{MayBePlaced, last_put, spot_in, with_put}
 use Rattle.world_laws.proofs.Places.ActingMoves.{ActingMoves, IsNew, LaterMoves, SelectMoves}
 use Rattle.ceiling_laws.proofs.Runs.FreeMoves.{anywhere}
-use Rattle.world_laws.proofs.Places.Kept.CallEnds.{deliver-keeps}
-use Rattle.world_laws.proofs.Places.Kept.Declarations.{set_thing-same}
-use Rattle.world_laws.proofs.Places.Kept.Frames.{raises-keeps}
+use Rattle.ceiling_laws.proofs.Fine.Kept.CallEnds.{deliver-keeps}
+use Rattle.ceiling_laws.proofs.Fine.Kept.Declarations.{set_thing-same}
+use Rattle.ceiling_laws.proofs.Fine.Kept.Frames.{raises-keeps}
 use Rattle.world_laws.proofs.Places.Kept.Rendezvous.{begin_accept-keeps, finish_without_room-keeps}
-use Rattle.world_laws.proofs.Places.Kept.Tasks.{same-alters}
-use Rattle.world_laws.proofs.Places.SameLemmas.{edit_task-same}
+use Rattle.ceiling_laws.proofs.Fine.Kept.Tasks.{same-alters}
+use Rattle.ceiling_laws.proofs.Fine.SameLemmas.{edit_task-same}
 use Rattle.ceiling_laws.proofs.Runs.Triples.{Alters, Keeps, Leads, State, With, changes-keeps, changes-leads, for_some-keeps, from-leads, looks-keeps, nothing-leads, then-keeps, then-leads}
-use Rattle.world_laws.proofs.Places.Cores.{Core, Same, core}
+use Rattle.ceiling_laws.proofs.Fine.Cores.{Core, Same, core}
 use Rattle.profile_machine.specs.Appointments.{appoint}
 use Rattle.profile_machine.specs.CallEnds.{deliver}
 use Rattle.profile_machine.specs.Declarations.{says_object, set_thing, with_object}
@@ -487,6 +487,7 @@ module _ (p : Image) (s : List Placed) (a : Who) where
         agent = ap (λ inherited. core (record w.agent { inherited = inherited })) (unactivated-loses w.agent.inherited (holds-sound (Dying p s a) w said h).agent);
         objects = refl;
         drawn_tasks = refl;
+        drawn_objects = refl;
         callers = λ c n k. k;
         delays = λ t e. e;
       }) h

@@ -7,10 +7,10 @@ use Rattle.world_laws.proofs.Places.Puts.{Spot, last_put, spot_in, with_put}
 use Rattle.world_laws.proofs.Places.ActingMoves.{OfOthers}
 use Rattle.world_laws.proofs.Places.CoreLemmas.{core-same}
 use Rattle.world_laws.proofs.Places.Kept.Priorities.{reprioritize_own-keeps, says_deadline-keeps}
-use Rattle.world_laws.proofs.Places.Kept.Tasks.{edit_task-alters}
-use Rattle.world_laws.proofs.Places.LevelMoves.{BaseMoves}
+use Rattle.ceiling_laws.proofs.Fine.Kept.Tasks.{edit_task-alters}
+use Rattle.ceiling_laws.proofs.Fine.LevelMoves.{BaseMoves}
 use Rattle.ceiling_laws.proofs.Runs.Triples.{At, Keeps, Leads, State, With, branch-leads, changes-keeps, changes-leads, from-leads, from_at, looks-keeps, looks-leads, looks-with, nothing-keeps, nothing-leads, then-keeps, then-leads, when-keeps}
-use Rattle.world_laws.proofs.Places.Cores.{Core, Same, core}
+use Rattle.ceiling_laws.proofs.Fine.Cores.{Core, Same, core}
 use Rattle.profile_machine.specs.Dispatching.{active_of, ready, to_head, to_tail}
 use Rattle.profile_machine.specs.Frames.{in_protected}
 use Rattle.profile_machine.specs.Inheritance.{falls, inherit, inherit_running, lose, lose_running, rises, same_cause}

@@ -1,14 +1,3 @@
-pub mod Tasks
-pub mod Frames
-pub mod Scopes
-pub mod Calls
-pub mod Statements
-pub mod Subprograms
-pub mod Controlled
-pub mod Declarations
-pub mod Waking
-pub mod Unwinding
-pub mod CallEnds
 pub mod Masters
 pub mod Priorities
 pub mod Sending

@@ -1,10 +1,10 @@
 -- The call with which somebody entered a protected object stays its own, whatever a step does.
 use Rattle.ann_base.specs.declared.identities.CallNo.{CallNo}
-use Rattle.world_laws.proofs.Appointments.Delays.{Caller, CallerIn}
+use Rattle.ceiling_laws.proofs.Fine.Cores.{Caller, CallerIn}
 use Rattle.ceiling_laws.proofs.Runs.Triples.{Ends, Keeps, Leads, State, With, changes-leads, looks-keeps, nothing-keeps, then-keeps, when-keeps}
 use Rattle.world_laws.proofs.Places.Kept.Priorities.{reprioritize_own-keeps, says_deadline-keeps}
-use Rattle.world_laws.proofs.Places.Kept.Tasks.{calls_in}
-use Rattle.world_laws.proofs.Places.LevelMoves.{BaseMoves, Silences}
+use Rattle.ceiling_laws.proofs.Fine.Kept.Tasks.{calls_in}
+use Rattle.ceiling_laws.proofs.Fine.LevelMoves.{BaseMoves, Silences}
 use Rattle.profile_machine.specs.Dispatching.{grant_quantum, granted, keep_level, level_kept_by, ready, says_ready, to_head, to_tail}
 use Rattle.profile_machine.specs.Frames.{in_protected}
 use Rattle.profile_machine.specs.Inheritance.{falls, inherit, lose, lose_running, same_cause}

@@ -2,7 +2,7 @@
 use Rattle.machine_laws.specs.Reached.{Reached, before, behind}
 use Rattle.machine_laws.proofs.PlaceLemmas.{nobody_is_placed_twice, places_are_in_order}
 use Rattle.world_laws.proofs.Places.CorePoints.{IsAt, not-absent}
-use Rattle.world_laws.proofs.Places.Cores.{core}
+use Rattle.ceiling_laws.proofs.Fine.Cores.{core}
 use Rattle.world_laws.proofs.Places.Puts.{Spot, spot_in}
 use Rattle.world_laws.proofs.Places.SoundWorlds.{IsAbsent, all_there}
 use Rattle.world_laws.proofs.Places.Standing.{runs_in}

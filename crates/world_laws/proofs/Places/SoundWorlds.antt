@@ -2,7 +2,8 @@
 -- moment is appointed; and the agent bears its name and was activated by nobody.
 use Rattle.ann_base.specs.declared.identities.TaskNo.{TaskNo}
 use Rattle.world_laws.proofs.Places.ActingMoves.{AreApart}
-use Rattle.world_laws.proofs.Places.Cores.{Core, Same, core, is_delayed}
+use Rattle.ceiling_laws.proofs.Fine.Cores.{Core, Same, core}
+use Rattle.ceiling_laws.specs.Cores.{is_delayed}
 use Rattle.profile_machine.specs.Appointments.{appoint, is_delay_of}
 use Rattle.profile_machine.specs.Masters.{forget_task}
 use Rattle.profile_machine.specs.Tasking.{add_task}

@@ -2,7 +2,7 @@
 use Rattle.world_laws.proofs.Places.CorePoints.{Except, IsAt, Point, active_in, deadline_in, spot_for}
 use Rattle.world_laws.proofs.Places.SoundWorlds.{IsAbsent}
 use Rattle.world_laws.proofs.Places.Puts.{MayBePlaced, Spot, place_by, spot_in, with_put}
-use Rattle.world_laws.proofs.Places.Cores.{Core, core}
+use Rattle.ceiling_laws.proofs.Fine.Cores.{Core, core}
 use Rattle.profile_machine.specs.Dispatching.{active_of}
 use Rattle.profile_machine.specs.Masters.{part_of, waits_at_terminate}
 use Rattle.profile_machine.specs.Priorities.{placing_of}

@@ -12,7 +12,8 @@ use Rattle.world_laws.proofs.Places.CoreLemmas.{core-same}
 use Rattle.ann_base.specs.declared.identities.CallNo.{CallNo}
 use Rattle.world_laws.proofs.Appointments.DelayRuns.{reached-good}
 use Rattle.world_laws.proofs.Appointments.Delays as own
-use Rattle.world_laws.proofs.Appointments.Delays.{CallerIn, OwnIn}
+use Rattle.world_laws.proofs.Appointments.Delays.{OwnIn}
+use Rattle.ceiling_laws.proofs.Fine.Cores.{CallerIn, Core, core}
 use Rattle.line_laws.proofs.Handlers.AgentMarks.{Standing, has_top, rooted-inside}
 use Rattle.line_laws.proofs.Handlers.AgentWorlds.{MarksFree, marks-free}
 use Rattle.line_laws.proofs.Handlers.Attending.{Attending, Marked}
@@ -20,13 +21,12 @@ use Rattle.line_laws.proofs.Handlers.AgentInstants.{instant-attended, opening-at
 use Rattle.line_laws.proofs.Handlers.AgentTocks.{tock-ticked}
 use Rattle.machine_laws.proofs.FineMoves.{natures, release_in}
 use Rattle.world_laws.proofs.Places.Kept.Act.{AgentInside, InsideOrNone, MayAct, effect-leads}
-use Rattle.world_laws.proofs.Places.Kept.Frames.{open_sequence-keeps}
+use Rattle.ceiling_laws.proofs.Fine.Kept.Frames.{open_sequence-keeps}
 use Rattle.world_laws.proofs.Places.Kept.Instant.{OtherMoves}
-use Rattle.world_laws.proofs.Places.Kept.Scopes.{open_scope-alters}
+use Rattle.ceiling_laws.proofs.Fine.Kept.Scopes.{open_scope-alters}
 use Rattle.world_laws.proofs.Places.RunLemmas.{Others, Settles, behind_onward, settles_onward}
 use Rattle.world_laws.proofs.Places.TockLemmas.{tock-same}
 use Rattle.ceiling_laws.proofs.Runs.Triples.{Leads, With, changes-keeps, from-leads, then-leads}
-use Rattle.world_laws.proofs.Places.Cores.{Core, core}
 use Rattle.machine_laws.proofs.Kept.Run.{tock-parts}
 use Rattle.machine_laws.proofs.Moves.{lines_of}
 use Rattle.machine_laws.proofs.PlaceLemmas.{instants_place_by_lines, openings_place_by_lines, tocks_place_nobody}

@@ -1,8 +1,8 @@
 -- A tock changes no level, no deadline and no object.
 use Rattle.ann_base.specs.declared.identities.TaskNo.{TaskNo}
-use Rattle.world_laws.proofs.Places.SameLemmas.{edit_task-same, same_self, same_then}
-use Rattle.world_laws.proofs.Places.Cores.{Same, ceiling_in, core}
-use Rattle.world_laws.proofs.Appointments.Delays.{CallerIn}
+use Rattle.ceiling_laws.proofs.Fine.SameLemmas.{edit_task-same, same_self, same_then}
+use Rattle.ceiling_laws.proofs.Fine.Cores.{Same, core, CallerIn}
+use Rattle.ceiling_laws.specs.Cores.{ceiling_in}
 use Rattle.machine_laws.proofs.Kept.Run.{before_tick, tock-parts}
 use Rattle.profile_machine.specs.Appointments.{is_delay_of}
 use Rattle.profile_machine.specs.Cost.{cost}
@@ -36,7 +36,7 @@ abbrev calls_and_drawn : World → List Call × Drawn
 calls_and_drawn w = (w.calls, w.drawn)
 
 plain_same : (a b : World) → b.tasks ≡ a.tasks → b.agent ≡ a.agent → b.objects ≡ a.objects → calls_and_drawn b ≡ calls_and_drawn a → b.appointments ≡ a.appointments → Same a b
-plain_same a b tasks agent objects drawn appointments = record { tasks = ap (map core) tasks; agent = ap core agent; objects = ap (map ceiling_in) objects; drawn_tasks = ap (λ q. q.1.tasks) drawn; callers = λ c n k. subst (λ q. CallerIn q.0 q.1.calls c n) (sym drawn) k; delays = λ t e. ap (λ xs. list_any (λ a. is_delay_of t a.due) xs) (sym appointments) ∙ e }
+plain_same a b tasks agent objects drawn appointments = record { tasks = ap (map core) tasks; agent = ap core agent; objects = ap (map ceiling_in) objects; drawn_tasks = ap (λ q. q.1.tasks) drawn; drawn_objects = ap (λ q. q.1.objects) drawn; callers = λ c n k. subst (λ q. CallerIn q.0 q.1.calls c n) (sym drawn) k; delays = λ t e. ap (λ xs. list_any (λ a. is_delay_of t a.due) xs) (sym appointments) ∙ e }
 
 clock-same : (t : TaskNo) (w : World) → Same w (charge_clock t w)
 clock-same t w =

@@ -1,25 +1,26 @@
 -- The effect of an action: it leads from what holds at first to what holds behind it.
 use Rattle.ann_base.specs.declared.exceptions.Raised.{Raised}
 use Rattle.ceiling_laws.proofs.Runs.ActingMoves.{ActingMoves, Admitting, Either}
-use Rattle.ceiling_laws.proofs.Runs.Kept.CallEnds.{end_top_abortable-keeps}
-use Rattle.ceiling_laws.proofs.Runs.Kept.Calls.{attempt_with-keeps, with_call-keeps}
-use Rattle.ceiling_laws.proofs.Runs.Kept.Controlled.{assign_controlled-keeps, end_in_assign-keeps, end_in_finalize-keeps, end_in_initialize-keeps, initialize-keeps}
-use Rattle.ceiling_laws.proofs.Runs.Kept.Declarations.{declare-keeps}
+use Rattle.ceiling_laws.proofs.Fine.Kept.CallEnds.{end_top_abortable-keeps}
+use Rattle.ceiling_laws.proofs.Fine.Kept.Calls.{attempt_with-keeps, with_call-keeps}
+use Rattle.ceiling_laws.proofs.Fine.Kept.Controlled.{assign_controlled-keeps, end_in_assign-keeps, end_in_finalize-keeps, end_in_initialize-keeps, initialize-keeps}
+use Rattle.ceiling_laws.proofs.Fine.Kept.Declarations.{declare-keeps}
 use Rattle.ceiling_laws.proofs.Runs.Kept.EntryCalls.{asynchronous_select-leads, entry_call-leads, requeue-keeps}
-use Rattle.ceiling_laws.proofs.Runs.Kept.Frames.{edit_top-alters, goes-keeps, open_if_ready-keeps, pass_on-keeps, pop-alters, raises-keeps, weakly, with_room-keeps}
+use Rattle.ceiling_laws.proofs.Fine.Kept.Frames.{edit_top-alters, goes-keeps, open_if_ready-keeps, pass_on-keeps, pop-alters, raises-keeps, weakly, with_room-keeps}
 use Rattle.ceiling_laws.proofs.Runs.Kept.Handlers.{add_member-keeps, add_to_budget-keeps, call_handler-leads, cancel_budget-keeps, cancel_event-keeps, cancel_timer-keeps, remove_member-keeps, replenish-keeps, set_budget-keeps, set_event-keeps, set_timer-keeps}
 use Rattle.ceiling_laws.proofs.Runs.Kept.Masters.{fits_part}
 use Rattle.ceiling_laws.proofs.Runs.Kept.Priorities.{delay_and_set_deadline-keeps, delay_until-keeps, set_deadline_of-leads, set_priority-leads, set_quantum-keeps}
 use Rattle.ceiling_laws.proofs.Runs.Kept.Protected.{call_operation-leads, call_own_operation-keeps}
 use Rattle.ceiling_laws.proofs.Runs.Kept.Rendezvous.{accept-keeps, end_in_accept-keeps, goes_later, not_later, selective_accept-leads}
-use Rattle.ceiling_laws.proofs.Runs.Kept.Scopes.{drop_appointment-alters, open_scope-alters}
+use Rattle.ceiling_laws.proofs.Fine.Kept.Scopes.{drop_appointment-alters, open_scope-alters}
 use Rattle.ceiling_laws.proofs.Runs.Kept.Serving.{end_in_protected-keeps}
-use Rattle.ceiling_laws.proofs.Runs.Kept.Statements.{assign-keeps, assign_array-keeps, block_statement-keeps, case_statement-keeps, exit_statement-keeps, first_turn-keeps, for_bounds-keeps, if_statement-keeps, later_turn-keeps, null-keeps, put_line-keeps, raise_again-keeps, while_turn-keeps}
-use Rattle.ceiling_laws.proofs.Runs.Kept.Subprograms.{call_subprogram-keeps, return-keeps, return_value-keeps}
+use Rattle.ceiling_laws.proofs.Fine.Kept.Statements.{assign-keeps, assign_array-keeps, block_statement-keeps, case_statement-keeps, exit_statement-keeps, first_turn-keeps, for_bounds-keeps, if_statement-keeps, later_turn-keeps, null-keeps, put_line-keeps, raise_again-keeps, while_turn-keeps}
+use Rattle.ceiling_laws.proofs.Fine.Kept.Subprograms.{call_subprogram-keeps, return-keeps, return_value-keeps}
 use Rattle.ceiling_laws.proofs.Runs.Kept.Tasking.{abort_statement-keeps, activate-keeps, create-leads, end_own_activation-keeps, end_scope_mark-leads, take_terminates-leads, unwind_all-keeps}
 use Rattle.ceiling_laws.proofs.Runs.Kept.Tasks.{edit_task-alters}
 use Rattle.ceiling_laws.proofs.Runs.LevelMoves.{Fitting, Silences, Sleeping}
 use Rattle.ceiling_laws.proofs.Runs.Triples.{Alters, Ends, Keeps, Leads, State, changes-keeps, cond-keeps, from-leads, looks-keeps, looks-leads, nothing-keeps, option-keeps, sees-keeps, then-keeps, then-leads, to-leads, unchanged-alters}
+use Rattle.ceiling_laws.proofs.Runs.Finer.{fine}
 use Rattle.profile_machine.specs.Act.{act, act_frame, act_statement, act_top, act_without, behind_handled, below, call, call_main, drop_trigger, end_abortable_by, end_handled, end_in_abortable, end_mark, end_top, handle_or_pass, handler_for, keeping, wait_for_trigger, waiting_mark}
 use Rattle.profile_machine.specs.Appointments.{is_trigger_of}
 use Rattle.profile_machine.specs.CallEnds.{edit_abortable}
@@ -63,33 +64,33 @@ use Rattle.machine_laws.proofs.FineMoves.{Naming}
 module _ {X : State} (quiet : Silences X) where
   handle_or_pass-keeps : (p : Image) (name : Who) (e : Raised) (next : Option StatementNo) → Keeps X (handle_or_pass p name e next)
   unfolding handle_or_pass
-  handle_or_pass-keeps p name e None = pass_on-keeps quiet p name (how.Exception e)
-  handle_or_pass-keeps p name e (Some first) = then-keeps _ _ (changes-keeps _ (edit_top-alters quiet name (λ f. with_mark (keeping e f.mark) f))) (goes-keeps quiet name (Some first))
+  handle_or_pass-keeps p name e None = pass_on-keeps (fine quiet) p name (how.Exception e)
+  handle_or_pass-keeps p name e (Some first) = then-keeps _ _ (changes-keeps _ (edit_top-alters (fine quiet) name (λ f. with_mark (keeping e f.mark) f))) (goes-keeps (fine quiet) name (Some first))
 
   behind_handled-keeps : (p : Image) (name : Who) (s : StatementNo) (leaving : Leaving) → Keeps X (behind_handled p name s leaving)
   unfolding behind_handled
   behind_handled-keeps p name s (how.Exception e) = handle_or_pass-keeps p name e (handler_for e (handlers_in (form_of p s)))
   behind_handled-keeps p name s how.End = nothing-keeps
-  behind_handled-keeps p name s how.Return = pass_on-keeps quiet p name how.Return
-  behind_handled-keeps p name s (how.Exit loop) = pass_on-keeps quiet p name (how.Exit loop)
-  behind_handled-keeps p name s how.Abort = pass_on-keeps quiet p name how.Abort
-  behind_handled-keeps p name s how.Terminate = pass_on-keeps quiet p name how.Terminate
+  behind_handled-keeps p name s how.Return = pass_on-keeps (fine quiet) p name how.Return
+  behind_handled-keeps p name s (how.Exit loop) = pass_on-keeps (fine quiet) p name (how.Exit loop)
+  behind_handled-keeps p name s how.Abort = pass_on-keeps (fine quiet) p name how.Abort
+  behind_handled-keeps p name s how.Terminate = pass_on-keeps (fine quiet) p name how.Terminate
 
   pub end_handled-keeps : (p : Image) (name : Who) (s : StatementNo) (leaving : Leaving) → Keeps X (end_handled p name s leaving)
   unfolding end_handled
-  end_handled-keeps p name s leaving = then-keeps _ _ (changes-keeps _ (pop-alters quiet name)) (behind_handled-keeps p name s leaving)
+  end_handled-keeps p name s leaving = then-keeps _ _ (changes-keeps _ (pop-alters (fine quiet) name)) (behind_handled-keeps p name s leaving)
 
   pub end_top-keeps : (p : Image) (name : Who) → Keeps X (end_top p name)
   unfolding end_top
-  end_top-keeps p name = looks-keeps _ (λ w. end_top_abortable-keeps quiet p Own name (frames_of w name))
+  end_top-keeps p name = looks-keeps _ (λ w. end_top_abortable-keeps (fine quiet) p Own name (frames_of w name))
 
   pub drop_trigger-alters : (name : Who) (depth : ℕ) → Alters X (drop_trigger name depth)
-  drop_trigger-alters (who.Task t) depth = drop_appointment-alters quiet (is_trigger_of t depth)
+  drop_trigger-alters (who.Task t) depth = drop_appointment-alters (fine quiet) (is_trigger_of t depth)
   drop_trigger-alters who.Agent depth = unchanged-alters
 
   pub call_main-keeps : (p : Image) (name : Who) (s : StatementNo) → Keeps X (call_main p name s)
   unfolding call_main
-  call_main-keeps p name s = search (with_room-keeps, goes-keeps, then-keeps, looks-keeps, changes-keeps, open_scope-alters)
+  call_main-keeps p name s = search (fine, with_room-keeps, goes-keeps, then-keeps, looks-keeps, changes-keeps, open_scope-alters)
 
 either_ends : {X Y Z : State} (step : Step) (w : World) (said : List Said) → Leads X Z step → Keeps Y step → Either X Y w said → Ends (Either Z Y) (step w said)
 either_ends {X} {Y} {Z} step w said a b (inl h) = (to-leads {X = X} {Y = Z} {Z = Either Z Y} step a (λ v s k. inl k)).runs w said h
@@ -101,7 +102,7 @@ either-leads step a b = record { runs = λ w said h. either_ends step w said a b
 module _ {p : Image} {actor : Who} {Fits Narrow : Fitting} {Sleeps : Sleeping} {May : Admitting} {Listed Unmade : World → Naming} {F I J W Y D : State} {O N V U : World → State} {E : World → Who → State} (acting : ActingMoves p actor Fits Narrow Sleeps May Listed Unmade F I J W Y D O N V U E) where
   -- who acts goes on, comes to its select, or may have entered an object
   at_first : (step : Step) → Keeps F step → Leads F (Either W J) step
-  at_first step kept = weakly acting.fresh (λ w said h. inl (not_later acting w said h)) step kept
+  at_first step kept = weakly (fine acting.fresh) (λ w said h. inl (not_later acting w said h)) step kept
 
   without : (step : Step) → Leads F I step → Leads F (Either W J) step
   without step a = to-leads step a (λ w said h. inl (goes_later acting w said h))
@@ -121,14 +122,14 @@ module _ {p : Image} {actor : Who} {Fits Narrow : Fitting} {Sleeps : Sleeping} {
 
   wait_for_trigger-keeps : (c : Call) (leaving : Leaving) → Keeps I (wait_for_trigger actor c leaving)
   unfolding wait_for_trigger
-  wait_for_trigger-keeps c leaving = then-keeps _ _ (changes-keeps _ (edit_top-alters acting.later.base.quiet actor (λ f. with_mark (edit_abortable waiting_mark f.mark) (record f { left_as = Some leaving })))) (acting.later.blocks actor (waits_for.EndOfCall c.number))
+  wait_for_trigger-keeps c leaving = then-keeps _ _ (changes-keeps _ (edit_top-alters (fine acting.later.base.quiet) actor (λ f. with_mark (edit_abortable waiting_mark f.mark) (record f { left_as = Some leaving })))) (acting.later.blocks actor (waits_for.EndOfCall c.number))
 
   end_abortable_by-keeps : (m : AbortableMark) (leaving : Leaving) → Keeps I (end_abortable_by p actor m leaving)
   unfolding end_abortable_by
   end_abortable_by-keeps m leaving =
       option-keeps m.call (looks (λ w. changes (drop_trigger actor (below (frames_of w actor)))) ▷ end_top p actor) (λ c. with_call c (λ d. attempt_with p Own d (end_top p actor) (wait_for_trigger actor d leaving)))
       (then-keeps _ _ (looks-keeps _ (λ w. changes-keeps _ (drop_trigger-alters acting.later.base.quiet actor (below (frames_of w actor))))) (end_top-keeps acting.later.base.quiet p actor))
-      (λ c. with_call-keeps acting.later.base.quiet c _ (λ d. attempt_with-keeps acting.later.base.quiet p Own d (end_top p actor) (wait_for_trigger actor d leaving) (end_top-keeps acting.later.base.quiet p actor) (wait_for_trigger-keeps d leaving)))
+      (λ c. with_call-keeps (fine acting.later.base.quiet) c _ (λ d. attempt_with-keeps (fine acting.later.base.quiet) p Own d (end_top p actor) (wait_for_trigger actor d leaving) (end_top-keeps acting.later.base.quiet p actor) (wait_for_trigger-keeps d leaving)))
 
   end_in_abortable-keeps : (m : AbortableMark) (leaving : Leaving) → Keeps I (end_in_abortable p actor m leaving)
   unfolding end_in_abortable
@@ -136,40 +137,40 @@ module _ {p : Image} {actor : Who} {Fits Narrow : Fitting} {Sleeps : Sleeping} {
 
   call-leads : (s : StatementNo) (callee : Callee) (actuals : List Actual) (to : Destination) → Leads F (Either W J) (call p actor s callee actuals to)
   unfolding call
-  call-leads s (callee.Subprogram f) actuals to = at_first _ (call_subprogram-keeps acting.fresh p actor s f actuals to)
+  call-leads s (callee.Subprogram f) actuals to = at_first _ (call_subprogram-keeps (fine acting.fresh) p actor s f actuals to)
   call-leads s (callee.Operation d f) actuals to = by_entry _ (call_operation-leads acting s d f actuals to)
   call-leads s (callee.OwnOperation f) actuals to = at_first _ (call_own_operation-keeps acting.fresh p actor s f actuals to)
 
   act_statement-leads : (s : StatementNo) (form : StatementForm) → Leads F (Either W J) (act_statement p actor s form)
   unfolding act_statement
-  act_statement-leads s (form.Declare object) = later_on _ (declare-keeps acting.later.base.quiet p acting.makes actor s object)
-  act_statement-leads s (form.Initialize object) = at_first _ (initialize-keeps acting.fresh p actor s object)
+  act_statement-leads s (form.Declare object) = later_on _ (declare-keeps (fine acting.later.base.quiet) p acting.makes actor s object)
+  act_statement-leads s (form.Initialize object) = at_first _ (initialize-keeps (fine acting.fresh) p actor s object)
   act_statement-leads s (form.CreateTask object part) = without _ (create-leads acting s object part)
   act_statement-leads s (form.Activate part) = later_on _ (activate-keeps acting s part)
   act_statement-leads s form.EndActivation = later_on _ (end_own_activation-keeps acting s)
   act_statement-leads s form.CallMain = at_first _ (call_main-keeps acting.fresh p actor s)
   act_statement-leads s (form.Handled handlers first) = at_first _ nothing-keeps
-  act_statement-leads s form.Null = at_first _ (null-keeps acting.fresh p actor s)
-  act_statement-leads s (form.Assign target e) = at_first _ (assign-keeps acting.fresh p actor s target e)
-  act_statement-leads s (form.AssignArray target source) = at_first _ (assign_array-keeps acting.fresh p actor s target source)
-  act_statement-leads s (form.AssignControlled target source) = at_first _ (assign_controlled-keeps acting.fresh p actor s target source)
-  act_statement-leads s (form.If condition first otherwise) = at_first _ (if_statement-keeps acting.fresh p actor condition first otherwise)
-  act_statement-leads s (form.Case selector alternatives) = at_first _ (case_statement-keeps acting.fresh p actor selector alternatives)
-  act_statement-leads s (form.Loop body within) = at_first _ (goes-keeps acting.fresh actor (Some body))
-  act_statement-leads s (form.While condition body within) = at_first _ (while_turn-keeps acting.fresh p actor s condition body)
-  act_statement-leads s (form.For parameter reverse low high turn within) = at_first _ (for_bounds-keeps acting.fresh p actor parameter reverse low high turn)
-  act_statement-leads s (form.FirstTurn parameter reverse body) = at_first _ (first_turn-keeps acting.fresh p actor s parameter reverse body)
-  act_statement-leads s (form.LaterTurn parameter reverse body) = at_first _ (later_turn-keeps acting.fresh p actor s parameter reverse body)
-  act_statement-leads s (form.Exit condition of_loop) = at_first _ (exit_statement-keeps acting.fresh p actor s of_loop condition)
-  act_statement-leads s (form.Block scope) = at_first _ (block_statement-keeps acting.fresh p actor s scope)
-  act_statement-leads s form.Return = at_first _ (return-keeps acting.fresh actor)
-  act_statement-leads s (form.ReturnValue function e) = at_first _ (return_value-keeps acting.fresh p actor function e)
-  act_statement-leads s (form.Raise e) = at_first _ (raises-keeps acting.fresh Own actor e)
-  act_statement-leads s (form.RaiseAgain scope) = at_first _ (raise_again-keeps acting.fresh p actor scope)
+  act_statement-leads s form.Null = at_first _ (null-keeps (fine acting.fresh) p actor s)
+  act_statement-leads s (form.Assign target e) = at_first _ (assign-keeps (fine acting.fresh) p actor s target e)
+  act_statement-leads s (form.AssignArray target source) = at_first _ (assign_array-keeps (fine acting.fresh) p actor s target source)
+  act_statement-leads s (form.AssignControlled target source) = at_first _ (assign_controlled-keeps (fine acting.fresh) p actor s target source)
+  act_statement-leads s (form.If condition first otherwise) = at_first _ (if_statement-keeps (fine acting.fresh) p actor condition first otherwise)
+  act_statement-leads s (form.Case selector alternatives) = at_first _ (case_statement-keeps (fine acting.fresh) p actor selector alternatives)
+  act_statement-leads s (form.Loop body within) = at_first _ (goes-keeps (fine acting.fresh) actor (Some body))
+  act_statement-leads s (form.While condition body within) = at_first _ (while_turn-keeps (fine acting.fresh) p actor s condition body)
+  act_statement-leads s (form.For parameter reverse low high turn within) = at_first _ (for_bounds-keeps (fine acting.fresh) p actor parameter reverse low high turn)
+  act_statement-leads s (form.FirstTurn parameter reverse body) = at_first _ (first_turn-keeps (fine acting.fresh) p actor s parameter reverse body)
+  act_statement-leads s (form.LaterTurn parameter reverse body) = at_first _ (later_turn-keeps (fine acting.fresh) p actor s parameter reverse body)
+  act_statement-leads s (form.Exit condition of_loop) = at_first _ (exit_statement-keeps (fine acting.fresh) p actor s of_loop condition)
+  act_statement-leads s (form.Block scope) = at_first _ (block_statement-keeps (fine acting.fresh) p actor s scope)
+  act_statement-leads s form.Return = at_first _ (return-keeps (fine acting.fresh) actor)
+  act_statement-leads s (form.ReturnValue function e) = at_first _ (return_value-keeps (fine acting.fresh) p actor function e)
+  act_statement-leads s (form.Raise e) = at_first _ (raises-keeps (fine acting.fresh) Own actor e)
+  act_statement-leads s (form.RaiseAgain scope) = at_first _ (raise_again-keeps (fine acting.fresh) p actor scope)
   act_statement-leads s (form.Delay e) = later_on _ (sees-keeps p actor _ (λ q. delay_until-keeps acting s (relative_moment q e)))
   act_statement-leads s (form.DelayUntil e) = later_on _ (sees-keeps p actor _ (λ q. delay_until-keeps acting s (moment q e)))
   act_statement-leads s (form.Call callee actuals to) = call-leads s callee actuals to
-  act_statement-leads s (form.PutLine pieces) = at_first _ (put_line-keeps acting.fresh p actor s pieces)
+  act_statement-leads s (form.PutLine pieces) = at_first _ (put_line-keeps (fine acting.fresh) p actor s pieces)
   act_statement-leads s (form.EntryCall entry owner actuals) = by_entry _ (entry_call-leads acting call_kind.Plain s)
   act_statement-leads s (form.ConditionalCall call otherwise) = by_entry _ (entry_call-leads acting call_kind.Conditional s)
   act_statement-leads s (form.TimedCall call delay) = by_entry _ (entry_call-leads acting call_kind.Timed s)
@@ -200,9 +201,9 @@ module _ {p : Image} {actor : Who} {Fits Narrow : Fitting} {Sleeps : Sleeping} {
   end_mark-leads f (InProtected m) = later_on _ (end_in_protected-keeps acting m (leaving_of f))
   end_mark-leads f (InAccept m) = later_on _ (end_in_accept-keeps acting m (leaving_of f))
   end_mark-leads f (Abortable m) = later_on _ (end_in_abortable-keeps m (leaving_of f))
-  end_mark-leads f (InInitialize l) = at_first _ (end_in_initialize-keeps acting.fresh p actor l (leaving_of f))
-  end_mark-leads f (InFinalize o) = at_first _ (end_in_finalize-keeps acting.fresh p actor (leaving_of f))
-  end_mark-leads f (InAssign m) = at_first _ (end_in_assign-keeps acting.fresh p actor m f.left_as)
+  end_mark-leads f (InInitialize l) = at_first _ (end_in_initialize-keeps (fine acting.fresh) p actor l (leaving_of f))
+  end_mark-leads f (InFinalize o) = at_first _ (end_in_finalize-keeps (fine acting.fresh) p actor (leaving_of f))
+  end_mark-leads f (InAssign m) = at_first _ (end_in_assign-keeps (fine acting.fresh) p actor m f.left_as)
 
   act_frame-leads : (f : Frame) (next : Option StatementNo) → Leads F (Either W J) (act_frame p actor f next)
   unfolding act_frame
@@ -228,12 +229,12 @@ module _ {p : Image} {actor : Who} {Fits Narrow : Fitting} {Sleeps : Sleeping} {
   -- all of the effect behind the action
   behind_choice : Leads W Y (open_if_ready p actor ▷ take_terminates p actor ▷ unwind_all p actor)
   behind_choice =
-      then-leads (open_if_ready p actor) _ (open_if_ready-keeps acting.choosing.quiet p actor)
+      then-leads (open_if_ready p actor) _ (open_if_ready-keeps (fine acting.choosing.quiet) p actor)
       (then-leads (take_terminates p actor) _ (take_terminates-leads acting.choosing) (unwind_all-keeps acting.over actor (fits_part acting.later)))
 
   behind_entry : Keeps J (open_if_ready p actor ▷ take_terminates p actor ▷ unwind_all p actor)
   behind_entry =
-      then-leads (open_if_ready p actor) _ (open_if_ready-keeps acting.entered.base.quiet p actor)
+      then-leads (open_if_ready p actor) _ (open_if_ready-keeps (fine acting.entered.base.quiet) p actor)
       (then-leads (take_terminates p actor) _ (take_terminates-leads acting.inside) (unwind_all-keeps acting.entered.base actor (fits_part acting.entered)))
 
   pub effect-leads : Leads F (Either Y J) (effect p actor)

@@ -2,15 +2,16 @@
 use Rattle.ann_base.specs.declared.exceptions.Raised.TheVariants as exception
 use Rattle.ann_base.specs.declared.identities.ObjectNo.{ObjectNo}
 use Rattle.ceiling_laws.proofs.Runs.ActingMoves.{ActingMoves, Admitting, Either}
-use Rattle.ceiling_laws.proofs.Runs.Kept.Frames.{becomes-keeps, given-keeps, goes-keeps, raise_if-keeps}
+use Rattle.ceiling_laws.proofs.Fine.Kept.Frames.{becomes-keeps, given-keeps, goes-keeps, raise_if-keeps}
 use Rattle.ceiling_laws.proofs.Runs.Kept.Protected.{Admitted, admitted_starts, begin_action_on-leads, find_held-keeps, goes_without, has_entered}
-use Rattle.ceiling_laws.proofs.Runs.Kept.Scopes.{appoint-alters, drop_appointment-alters, open_scope-alters}
+use Rattle.ceiling_laws.proofs.Fine.Kept.Scopes.{appoint-alters, drop_appointment-alters, open_scope-alters}
 use Rattle.ceiling_laws.proofs.Runs.Kept.Serving.{end_release-keeps}
-use Rattle.ceiling_laws.proofs.Runs.Kept.Statements.{store-gives}
+use Rattle.ceiling_laws.proofs.Fine.Kept.Statements.{store-gives}
 use Rattle.ceiling_laws.proofs.Runs.Kept.Tasks.{edit_task-alters, plain-alters, says-keeps}
 use Rattle.ceiling_laws.proofs.Runs.Kept.Waking.{ready-at}
 use Rattle.ceiling_laws.proofs.Runs.LevelMoves.{BaseMoves, Fitting, Silences, Sleeping, is_blocked}
 use Rattle.ceiling_laws.proofs.Runs.Triples.{Alters, At, Keeps, Leads, State, branch-leads, changes-keeps, for_some-keeps, from-leads, from_at, looks-keeps, looks-leads, looks-with, nothing-keeps, sees-keeps, then-keeps, then-leads}
+use Rattle.ceiling_laws.proofs.Runs.Finer.{fine}
 use Rattle.profile_machine.specs.CallEnds.{store}
 use Rattle.profile_machine.specs.Frames.{has_room}
 use Rattle.profile_machine.specs.Handlers.{add_member, add_release, add_to_budget, answer, appoint_event, argument_values, begin_handler, begin_handler_if_room, call_handler, cancel_budget, cancel_event, cancel_event_setting, cancel_timer, change_member, clear_timer, clock_of_timer, edit_budget, enter_handler, event_set_to, fill_budget, handler_attached, handler_named, has_room_for_release, interrupt, is_interrupt_handler, loaded, member_of, raised_by, release, remove_member, replenish, says_release, set_budget, set_event, set_timer, set_value, setting_of, timer_set_beyond, timer_set_to, wake_agent, with_room_for_release, with_timer_set}
@@ -53,23 +54,23 @@ use Rattle.machine_laws.proofs.FineMoves.{Naming}
 
 module _ {X : State} (quiet : Silences X) where
   with_room_for_release-keeps : (name : Who) (needed : Bool) (step : Step) → Keeps X step → Keeps X (with_room_for_release name needed step)
-  with_room_for_release-keeps name needed step kept = looks-keeps _ (λ w. raise_if-keeps quiet name (needed && not (has_room_for_release w)) exception.Storage step kept)
+  with_room_for_release-keeps name needed step kept = looks-keeps _ (λ w. raise_if-keeps (fine quiet) name (needed && not (has_room_for_release w)) exception.Storage step kept)
 
   setting_of-keeps : (p : Image) (name : Who) (q : Seen) (base : ℤ) (set : Setting) (named : Option HandlerName) (step : Option HandlerOf → ℤ → Step) → ((x : Option HandlerOf) (y : ℤ) → Keeps X (step x y)) → Keeps X (setting_of p name q base set named step)
   setting_of-keeps p name q base set named step kept =
-      given-keeps quiet Own name (handler_named q named) _ (λ h. with_room_for_release-keeps name (is_some h) _
-      (given-keeps quiet Own name (set_value q base set) _ (λ v. raise_if-keeps quiet name (not (is_interrupt_handler p q.world h)) exception.Program _ (kept h v))))
+      given-keeps (fine quiet) Own name (handler_named q named) _ (λ h. with_room_for_release-keeps name (is_some h) _
+      (given-keeps (fine quiet) Own name (set_value q base set) _ (λ v. raise_if-keeps (fine quiet) name (not (is_interrupt_handler p q.world h)) exception.Program _ (kept h v))))
 
   pub answer-keeps : (p : Image) (name : Who) (v : Variable) (b : Bool) → Keeps X (answer p name v b)
   unfolding answer
-  answer-keeps p name v b = looks-with _ (λ w said h. becomes-keeps quiet Own name w (store p v (Truth b) w) (store-gives p v (Truth b) w))
+  answer-keeps p name v b = looks-with _ (λ w said h. becomes-keeps (fine quiet) Own name w (store p v (Truth b) w) (store-gives p v (Truth b) w))
 
   cancel_event_setting-alters : (e : ℕ) → Alters X (cancel_event_setting e)
-  cancel_event_setting-alters e = drop_appointment-alters quiet (is_event e)
+  cancel_event_setting-alters e = drop_appointment-alters (fine quiet) (is_event e)
 
   pub cancel_event-keeps : (p : Image) (name : Who) (s : StatementNo) (d : DeclNo) (target : VariableName) → Keeps X (cancel_event p name s d target)
   unfolding cancel_event
-  cancel_event-keeps p name s d target = search (sees-keeps, given-keeps, goes-keeps, then-keeps, changes-keeps, cancel_event_setting-alters, answer-keeps) depth 9
+  cancel_event-keeps p name s d target = search (fine, sees-keeps, given-keeps, goes-keeps, then-keeps, changes-keeps, cancel_event_setting-alters, answer-keeps) depth 9
 
   pub clear_timer-alters : (k : ℕ) → Alters X (clear_timer k)
   clear_timer-alters k = plain-alters quiet (clear_timer k) (λ w. refl) (λ w. refl) (λ w. refl) (λ w. refl) (λ w. refl) (λ w t e. e)
@@ -79,7 +80,7 @@ module _ {X : State} (quiet : Silences X) where
 
   pub cancel_timer-keeps : (p : Image) (name : Who) (s : StatementNo) (d : DeclNo) (target : VariableName) → Keeps X (cancel_timer p name s d target)
   unfolding cancel_timer
-  cancel_timer-keeps p name s d target = search (sees-keeps, given-keeps, goes-keeps, then-keeps, changes-keeps, clear_timer-alters, answer-keeps) depth 9
+  cancel_timer-keeps p name s d target = search (fine, sees-keeps, given-keeps, goes-keeps, then-keeps, changes-keeps, clear_timer-alters, answer-keeps) depth 9
 
   edit_budget-alters : (b : ℕ) (f : Budget → Budget) → Alters X (edit_budget b f)
   edit_budget-alters b f = plain-alters quiet (edit_budget b f) (λ w. refl) (λ w. refl) (λ w. refl) (λ w. refl) (λ w. refl) (λ w t e. e)
@@ -87,19 +88,19 @@ module _ {X : State} (quiet : Silences X) where
   change_member-keeps : (p : Image) (name : Who) (s : StatementNo) (t : world.Task) (is_right : Bool) (b : Option ℕ) → Keeps X (change_member p name s t is_right b)
   unfolding change_member
   change_member-keeps p name s t is_right b =
-      raise_if-keeps quiet name (not is_right) exception.GroupBudget _ (then-keeps _ _ (goes-keeps quiet name (next_of p s)) (changes-keeps _ (edit_task-alters quiet t.who (member_of b) (λ u. refl))))
+      raise_if-keeps (fine quiet) name (not is_right) exception.GroupBudget _ (then-keeps _ _ (goes-keeps (fine quiet) name (next_of p s)) (changes-keeps _ (edit_task-alters quiet t.who (member_of b) (λ u. refl))))
 
   pub add_member-keeps : (p : Image) (name : Who) (s : StatementNo) (d : DeclNo) (e : ExprNo) → Keeps X (add_member p name s d e)
   unfolding add_member
-  add_member-keeps p name s d e = search (sees-keeps, given-keeps, change_member-keeps) depth 6
+  add_member-keeps p name s d e = search (fine, sees-keeps, given-keeps, change_member-keeps) depth 6
 
   pub remove_member-keeps : (p : Image) (name : Who) (s : StatementNo) (d : DeclNo) (e : ExprNo) → Keeps X (remove_member p name s d e)
   unfolding remove_member
-  remove_member-keeps p name s d e = search (sees-keeps, given-keeps, change_member-keeps) depth 6
+  remove_member-keeps p name s d e = search (fine, sees-keeps, given-keeps, change_member-keeps) depth 6
 
   fill_budget-keeps : (p : Image) (name : Who) (s : StatementNo) (d : DeclNo) (e : ExprNo) (f : ℤ → Budget → Budget) → Keeps X (fill_budget p name s d e f)
   unfolding fill_budget
-  fill_budget-keeps p name s d e f = search (sees-keeps, given-keeps, with_room_for_release-keeps, raise_if-keeps, goes-keeps, then-keeps, changes-keeps, edit_budget-alters) depth 8
+  fill_budget-keeps p name s d e f = search (fine, sees-keeps, given-keeps, with_room_for_release-keeps, raise_if-keeps, goes-keeps, then-keeps, changes-keeps, edit_budget-alters) depth 8
 
   pub replenish-keeps : (p : Image) (name : Who) (s : StatementNo) (d : DeclNo) (e : ExprNo) → Keeps X (replenish p name s d e)
   unfolding replenish
@@ -111,11 +112,11 @@ module _ {X : State} (quiet : Silences X) where
 
   pub set_budget-keeps : (p : Image) (name : Who) (s : StatementNo) (d : DeclNo) (named : Option HandlerName) → Keeps X (set_budget p name s d named)
   unfolding set_budget
-  set_budget-keeps p name s d named = search (sees-keeps, given-keeps, with_room_for_release-keeps, raise_if-keeps, goes-keeps, then-keeps, changes-keeps, edit_budget-alters) depth 8
+  set_budget-keeps p name s d named = search (fine, sees-keeps, given-keeps, with_room_for_release-keeps, raise_if-keeps, goes-keeps, then-keeps, changes-keeps, edit_budget-alters) depth 8
 
   pub cancel_budget-keeps : (p : Image) (name : Who) (s : StatementNo) (d : DeclNo) (target : VariableName) → Keeps X (cancel_budget p name s d target)
   unfolding cancel_budget
-  cancel_budget-keeps p name s d target = search (sees-keeps, given-keeps, goes-keeps, then-keeps, changes-keeps, edit_budget-alters, answer-keeps) depth 9
+  cancel_budget-keeps p name s d target = search (fine, sees-keeps, given-keeps, goes-keeps, then-keeps, changes-keeps, edit_budget-alters, answer-keeps) depth 9
 
 -- ---- a release comes, and the agent becomes ready where it was blocked
 
@@ -141,7 +142,7 @@ module _ {p : Image} {Fits : Fitting} {Sleeps : Sleeping} {X : State} (moves : B
 
   appoint_event-keeps : (e : ℕ) (h : HandlerOf) (m : ℤ) (test : Bool) → Keeps X (appoint_event p e h m test)
   unfolding appoint_event
-  appoint_event-keeps e h m true = changes-keeps _ (appoint-alters moves.quiet (due_for.Event e h) m (λ t. refl))
+  appoint_event-keeps e h m true = changes-keeps _ (appoint-alters (fine moves.quiet) (due_for.Event e h) m (λ t. refl))
   appoint_event-keeps e h m false = release-keeps h (Some e)
 
   event_set_to-keeps : (e : ℕ) (h : Option HandlerOf) (m : ℤ) → Keeps X (event_set_to p e h m)
@@ -152,8 +153,8 @@ module _ {p : Image} {Fits : Fitting} {Sleeps : Sleeping} {X : State} (moves : B
   pub set_event-keeps : (name : Who) (s : StatementNo) (d : DeclNo) (set : Setting) (named : Option HandlerName) → Keeps X (set_event p name s d set named)
   unfolding set_event
   set_event-keeps name s d set named =
-      sees-keeps p name _ (λ q. given-keeps moves.quiet Own name (number_of_thing q d) _ (λ e. setting_of-keeps moves.quiet p name q (pos q.world.time) set named _ (λ h m.
-      then-keeps _ _ (goes-keeps moves.quiet name (next_of p s)) (then-keeps _ _ (changes-keeps _ (cancel_event_setting-alters moves.quiet e)) (event_set_to-keeps e h m)))))
+      sees-keeps p name _ (λ q. given-keeps (fine moves.quiet) Own name (number_of_thing q d) _ (λ e. setting_of-keeps moves.quiet p name q (pos q.world.time) set named _ (λ h m.
+      then-keeps _ _ (goes-keeps (fine moves.quiet) name (next_of p s)) (then-keeps _ _ (changes-keeps _ (cancel_event_setting-alters moves.quiet e)) (event_set_to-keeps e h m)))))
 
   timer_set_beyond-keeps : (k : ℕ) (h : HandlerOf) (v : ℤ) (test : Bool) → Keeps X (timer_set_beyond p k h v test)
   unfolding timer_set_beyond
@@ -168,8 +169,8 @@ module _ {p : Image} {Fits : Fitting} {Sleeps : Sleeping} {X : State} (moves : B
   pub set_timer-keeps : (name : Who) (s : StatementNo) (d : DeclNo) (set : Setting) (named : Option HandlerName) → Keeps X (set_timer p name s d set named)
   unfolding set_timer
   set_timer-keeps name s d set named =
-      sees-keeps p name _ (λ q. given-keeps moves.quiet Own name (number_of_thing q d) _ (λ k. given-keeps moves.quiet Own name (clock_of_timer q k) _ (λ clock. setting_of-keeps moves.quiet p name q (pos clock) set named _ (λ h v.
-      then-keeps _ _ (goes-keeps moves.quiet name (next_of p s)) (then-keeps _ _ (changes-keeps _ (clear_timer-alters moves.quiet k)) (timer_set_to-keeps k clock h v))))))
+      sees-keeps p name _ (λ q. given-keeps (fine moves.quiet) Own name (number_of_thing q d) _ (λ k. given-keeps (fine moves.quiet) Own name (clock_of_timer q k) _ (λ clock. setting_of-keeps moves.quiet p name q (pos clock) set named _ (λ h v.
+      then-keeps _ _ (goes-keeps (fine moves.quiet) name (next_of p s)) (then-keeps _ _ (changes-keeps _ (clear_timer-alters moves.quiet k)) (timer_set_to-keeps k clock h v))))))
 
 -- ---- the agent calls the handler of the release that it serves
 
@@ -179,7 +180,7 @@ module _ {p : Image} {actor : Who} {Fits Narrow : Fitting} {Sleeps : Sleeping} {
   begin_handler-leads r is =
       then-leads (begin_action_on p who.Agent r.handler.object Write None (Some r.number)) _
       (subst (λ n. Leads (Admitted acting r.handler.object) J (begin_action_on p n r.handler.object Write None (Some r.number))) (sym is) (begin_action_on-leads acting r.handler.object Write None (Some r.number)))
-      (looks-keeps _ (λ w. changes-keeps _ (open_scope-alters acting.entered.base.quiet p who.Agent (subprogram_of p r.handler.procedure).scope (body_of_object p w (subprogram_of p r.handler.procedure).scope r.handler.object None (argument_values r.argument)) (opened_for.Subprogram [] bound_for.Nowhere))))
+      (looks-keeps _ (λ w. changes-keeps _ (open_scope-alters (fine acting.entered.base.quiet) p who.Agent (subprogram_of p r.handler.procedure).scope (body_of_object p w (subprogram_of p r.handler.procedure).scope r.handler.object None (argument_values r.argument)) (opened_for.Subprogram [] bound_for.Nowhere))))
 
   release_ends : (n : ℕ) → Keeps I (end_release n)
   release_ends n = end_release-keeps acting.later.base.quiet (acting.later.blocks who.Agent waits_for.Release) n

@@ -1,17 +1,18 @@
 -- The parts of an instant beside the effect of the action that ended: each step keeps what its parts keep.
 use Rattle.ann_base.specs.declared.identities.CallNo.{CallNo}
 use Rattle.ann_base.specs.declared.identities.TaskNo.{TaskNo}
-use Rattle.ceiling_laws.proofs.Runs.Kept.CallEnds.{deliver-keeps, trigger_at-keeps}
-use Rattle.ceiling_laws.proofs.Runs.Kept.Calls.{unqueued-alters, with_call-keeps}
-use Rattle.ceiling_laws.proofs.Runs.Kept.Frames.{open_sequence-keeps}
+use Rattle.ceiling_laws.proofs.Fine.Kept.CallEnds.{deliver-keeps, trigger_at-keeps}
+use Rattle.ceiling_laws.proofs.Fine.Kept.Calls.{unqueued-alters, with_call-keeps}
+use Rattle.ceiling_laws.proofs.Fine.Kept.Frames.{open_sequence-keeps}
 use Rattle.ceiling_laws.proofs.Runs.Kept.Handlers.{clear_timer-alters, interrupt-keeps, release-keeps}
-use Rattle.ceiling_laws.proofs.Runs.Kept.Scopes.{dropped-same}
+use Rattle.ceiling_laws.proofs.Fine.Kept.Scopes.{dropped-same}
 use Rattle.ceiling_laws.proofs.Runs.Kept.Tasks.{plain-alters, says-keeps}
-use Rattle.ceiling_laws.proofs.Runs.Kept.Unwinding.{unwind-keeps}
+use Rattle.ceiling_laws.proofs.Fine.Kept.Unwinding.{unwind-keeps}
 use Rattle.ceiling_laws.proofs.Runs.LevelMoves.{BaseMoves, Sleeping}
 use Rattle.ceiling_laws.proofs.Runs.SameLemmas.{edit_task-same}
 use Rattle.ceiling_laws.proofs.Runs.Triples.{Alters, At, Ends, Keeps, Leads, State, With, changes-keeps, changes-leads, for_each-keeps, for_some-keeps, from-leads, from_at, looks-keeps, looks-with, nothing-keeps, then-keeps, then-leads, when-leads}
 use Rattle.ceiling_laws.specs.Cores.{Same, is_delayed}
+use Rattle.ceiling_laws.proofs.Runs.Finer.{fine, fine_base, fine_same}
 use Rattle.profile_machine.specs.Appointments.{drop_appointment, first_due, is_an_event, is_delay_of}
 use Rattle.profile_machine.specs.CallEnds.{trigger_at}
 use Rattle.profile_machine.specs.Dispatching.{active, ready, to_tail}
@@ -133,13 +134,13 @@ module _ {p : Image} {Sleeps : Sleeping} {Drawn : Appointing} {N : State} (moves
   unfolding end_delay
   end_delay-leads t =
       then-leads (looks (λ w. take_delay p (who.Task t) (waiting_of w (who.Task t)))) _ (looks-keeps _ (λ w. take_delay-keeps t (who.Task t) (waiting_of w (who.Task t))))
-      (then-leads (ready p Own (who.Task t)) _ (moves.readies t) (open_sequence-keeps moves.base.quiet p Own (who.Task t)))
+      (then-leads (ready p Own (who.Task t)) _ (moves.readies t) (open_sequence-keeps (fine moves.base.quiet) p Own (who.Task t)))
 
   time_out-keeps : (c : CallNo) → Keeps N (time_out p c)
   unfolding time_out
   time_out-keeps c =
-      with_call-keeps moves.base.quiet c _ (λ d. then-keeps _ _ (changes-keeps _ (unqueued-alters moves.base.quiet p d))
-      (then-keeps _ _ (says-keeps moves.base.quiet Own (line.Cancel d.caller c) refl) (deliver-keeps moves.base Own c call_ended.Cancelled (λ name. refl))))
+      with_call-keeps (fine moves.base.quiet) c _ (λ d. then-keeps _ _ (changes-keeps _ (unqueued-alters (fine moves.base.quiet) p d))
+      (then-keeps _ _ (says-keeps moves.base.quiet Own (line.Cancel d.caller c) refl) (deliver-keeps (fine_base moves.base) Own c call_ended.Cancelled (λ name. refl))))
 
   -- a task for whom a moment comes is one of those
   abbrev Coming : Due → State
@@ -151,7 +152,7 @@ module _ {p : Image} {Sleeps : Sleeping} {Drawn : Appointing} {N : State} (moves
   come_due-leads (due_for.Delay t) = from-leads (end_delay p (who.Task t)) (λ w said k. (k.0, k.1 t (eq-eqb t.0 t.0 refl))) (end_delay-leads t)
   come_due-leads (due_for.Timeout c) = from-leads (time_out p c) (λ w said k. k.0) (time_out-keeps c)
   come_due-leads (due_for.Trigger t depth) =
-      from-leads (trigger_at Own t depth ▷ unwind p Own (who.Task t)) (λ w said k. k.0) (then-keeps _ _ (trigger_at-keeps moves.base.quiet Own t depth) (unwind-keeps moves.base Own (who.Task t) refl))
+      from-leads (trigger_at Own t depth ▷ unwind p Own (who.Task t)) (λ w said k. k.0) (then-keeps _ _ (trigger_at-keeps (fine moves.base.quiet) Own t depth) (unwind-keeps (fine_base moves.base) Own (who.Task t) refl))
 
   -- an appointment that is found is one of the world's
   found-any : (test other : Appointment → Bool) (xs : List Appointment) (a : Appointment) → find other xs ≡ Some a → test a ≡ true → list_any test xs ≡ true
@@ -164,7 +165,7 @@ module _ {p : Image} {Sleeps : Sleeping} {Drawn : Appointing} {N : State} (moves
   drop_due : (v : World) (said : List Said) (a : Appointment) → N v said → ((t : TaskNo) → is_delay_of t a.due ≡ true → is_delayed t v ≡ true) → Leads (At N v) (Coming a.due) (changes (drop_appointment (is_the_same_due a.due)))
   drop_due v said a h delayed =
       changes-leads (drop_appointment (is_the_same_due a.due)) (λ w more k.
-      let same = dropped-same (is_the_same_due a.due) w in
+      let same = fine_same w (drop_appointment (is_the_same_due a.due) w) (dropped-same (is_the_same_due a.due) w) in
       (moves.base.quiet.silently w (drop_appointment (is_the_same_due a.due) w) more same k.0, λ t e. moves.drawn_on w (drop_appointment (is_the_same_due a.due) w) t same (subst (λ u. Drawn u t) (sym k.1) (moves.drawn v said t h (delayed t e)))))
 
   take_due-leads : (v : World) (said : List Said) (again : Step) (found : Option Appointment) → N v said → ((a : Appointment) → found ≡ Some a → (t : TaskNo) → is_delay_of t a.due ≡ true → is_delayed t v ≡ true) → Keeps N again → Leads (At N v) N (take_due p again found)

@@ -2,13 +2,14 @@
 use Rattle.ann_base.specs.declared.exceptions.Raised.TheVariants as exception
 use Rattle.ann_base.specs.declared.identities.RegionNo.{RegionNo}
 use Rattle.ceiling_laws.proofs.Runs.ActingMoves.{LaterMoves, SelectMoves}
-use Rattle.ceiling_laws.proofs.Runs.Kept.CallEnds.{end_call-keeps, gone-keeps}
-use Rattle.ceiling_laws.proofs.Runs.Kept.Frames.{leaves-keeps, open_sequence-keeps, raises-keeps}
-use Rattle.ceiling_laws.proofs.Runs.Kept.Scopes.{drop_delay-alters}
+use Rattle.ceiling_laws.proofs.Fine.Kept.CallEnds.{end_call-keeps, gone-keeps}
+use Rattle.ceiling_laws.proofs.Fine.Kept.Frames.{leaves-keeps, open_sequence-keeps, raises-keeps}
+use Rattle.ceiling_laws.proofs.Fine.Kept.Scopes.{drop_delay-alters}
 use Rattle.ceiling_laws.proofs.Runs.Kept.Tasks.{edit_task-alters}
 use Rattle.ceiling_laws.proofs.Runs.Kept.Waking.{asleep_at, found-each, ready-at, waiting-blocked, who-is}
 use Rattle.ceiling_laws.proofs.Runs.LevelMoves.{BaseMoves, EachTask, Fitting, Sleeping, is_blocked}
 use Rattle.ceiling_laws.proofs.Runs.Triples.{At, Keeps, Leads, State, With, changes-keeps, for_each-keeps, for_some-keeps, from_at, looks-keeps, looks-leads, looks-with, nothing-keeps, then-keeps, then-leads, when-keeps, when-leads}
+use Rattle.ceiling_laws.proofs.Runs.Finer.{fine, fine_base}
 use Rattle.profile_machine.specs.Appointments.{drop_delay}
 use Rattle.profile_machine.specs.Dispatching.{ready}
 use Rattle.profile_machine.specs.Inheritance.{lose}
@@ -36,13 +37,13 @@ use Rattle.machine_laws.proofs.FineMoves.{Naming}
 module _ {p : Image} {Fits : Fitting} {Sleeps : Sleeping} {X : State} (moves : BaseMoves p Fits Sleeps X) (actor : Who) (fits : (name : Who) → Fits (part_of actor name) name) where
   pub gone_by_completion-keeps : (c : Call) → Keeps X (gone_by_completion p actor c)
   unfolding gone_by_completion
-  gone_by_completion-keeps c = then-keeps _ _ (gone-keeps moves.quiet p (part_of actor (who.Task c.caller)) c) (end_call-keeps moves (part_of actor (who.Task c.caller)) c (call_ended.ToRaise exception.Tasking) (fits (who.Task c.caller)))
+  gone_by_completion-keeps c = then-keeps _ _ (gone-keeps (fine moves.quiet) p (part_of actor (who.Task c.caller)) c) (end_call-keeps (fine_base moves) (part_of actor (who.Task c.caller)) c (call_ended.ToRaise exception.Tasking) (fits (who.Task c.caller)))
 
   wake_activator-leads : (name : Who) → Leads (With X (λ w. Sleeps w name)) X (wake_activator p (part_of actor name) name)
   unfolding wake_activator
   wake_activator-leads name =
       looks-leads _ (λ w. then-leads (ready p (part_of actor name) name) _ (moves.wakes (part_of actor name) name (fits name))
-      (then-keeps _ _ (when-keeps (task_of w name).group_failed _ (raises-keeps moves.quiet (part_of actor name) name exception.Tasking)) (open_sequence-keeps moves.quiet p (part_of actor name) name)))
+      (then-keeps _ _ (when-keeps (task_of w name).group_failed _ (raises-keeps (fine moves.quiet) (part_of actor name) name exception.Tasking)) (open_sequence-keeps (fine moves.quiet) p (part_of actor name) name)))
 
   pub end_group-keeps : (activator : Who) → Keeps X (end_group p actor activator)
   unfolding end_group
@@ -93,8 +94,8 @@ module _ {p : Image} {actor : Who} {Listed : World → Naming} {W Y : State} {V 
   pub leave_by_terminate-keeps : (v : World) (t : Task) → Listed v t.who → Keeps (V v) (leave_by_terminate p actor t)
   unfolding leave_by_terminate
   leave_by_terminate-keeps v t listed =
-      then-keeps _ _ (changes-keeps _ (drop_delay-alters (choosing.looking v) t.who))
-      (then-keeps _ _ (leaves_or_ready v t.who (same_who actor t.who) refl listed) (leaves-keeps (choosing.looking v) t.who how.Terminate))
+      then-keeps _ _ (changes-keeps _ (drop_delay-alters (fine (choosing.looking v)) t.who))
+      (then-keeps _ _ (leaves_or_ready v t.who (same_who actor t.who) refl listed) (leaves-keeps (fine (choosing.looking v)) t.who how.Terminate))
 
 -- ---- a task is no longer there
 
@@ -117,5 +118,5 @@ module _ {p : Image} {Fits : Fitting} {Sleeps : Sleeping} {X : State} (moves : B
   unfolding terminate
   terminate-leads dying name loses forgets =
       looks-leads _ (λ v. then-leads (complete p actor name) _ (complete-keeps dying actor fits name loses)
-      (then-leads (changes (drop_delay name)) _ (changes-keeps _ (drop_delay-alters dying.quiet name))
+      (then-leads (changes (drop_delay name)) _ (changes-keeps _ (drop_delay-alters (fine dying.quiet) name))
       (then-leads (changes (forget_task name)) _ forgets (for_some-keeps (task_of v name).master _ wake_master-keeps))))

@@ -3,12 +3,13 @@ use Rattle.ann_base.specs.Results.{◌>>=◌}
 use Rattle.ann_base.specs.declared.exceptions.Raised.TheVariants as exception
 use Rattle.ann_base.specs.declared.identities.TaskNo.{TaskNo}
 use Rattle.ceiling_laws.proofs.Runs.ActingMoves.{ActingMoves, Admitting, LaterMoves}
-use Rattle.ceiling_laws.proofs.Runs.Kept.Calls.{edit_call-alters, edit_queue-alters, with_call-keeps}
-use Rattle.ceiling_laws.proofs.Runs.Kept.Frames.{given-keeps, given-through, goes-keeps, raise_if-keeps, raise_if-through, weakly}
+use Rattle.ceiling_laws.proofs.Fine.Kept.Calls.{edit_call-alters, edit_queue-alters, with_call-keeps}
+use Rattle.ceiling_laws.proofs.Fine.Kept.Frames.{given-keeps, given-through, goes-keeps, raise_if-keeps, raise_if-through, weakly}
 use Rattle.ceiling_laws.proofs.Runs.Kept.Tasks.{edit_task-alters, plain-alters, says-keeps}
 use Rattle.ceiling_laws.proofs.Runs.Kept.Waking.{each-any, found-each, inherit-alters}
 use Rattle.ceiling_laws.proofs.Runs.LevelMoves.{Fitting, Silences, Sleeping}
 use Rattle.ceiling_laws.proofs.Runs.Triples.{Alters, Keeps, Leads, State, changes-keeps, for_some-keeps, looks-keeps, nothing-keeps, sees-keeps, sees-leads, then-keeps, then-leads, unchanged-alters, when-keeps}
+use Rattle.ceiling_laws.proofs.Runs.Finer.{fine}
 use Rattle.profile_machine.specs.Calls.{place_of_entry, put_call, take_call}
 use Rattle.profile_machine.specs.Dispatching.{active_of, to_tail}
 use Rattle.profile_machine.specs.Frames.{goes, in_protected}
@@ -48,9 +49,9 @@ module _ {X : State} (quiet : Silences X) where
   pub set_quantum-keeps : (p : Image) (name : Who) (s : StatementNo) (level quantum : ExprNo) → Keeps X (set_quantum p name s level quantum)
   unfolding set_quantum
   set_quantum-keeps p name s level quantum =
-      sees-keeps p name _ (λ q. given-keeps quiet Own name (value q level) _ (λ v. given-keeps quiet Own name (moment q quantum) _ (λ n.
-      given-keeps quiet Own name (priority_in_range p.policies.last_priority (whole_in v)) _ (λ l. given-keeps quiet Own name (quantum_of p l n) _ (λ ticks.
-      then-keeps (goes name (next_of p s)) _ (goes-keeps quiet name (next_of p s)) (changes-keeps _ (set_level-alters l ticks)))))))
+      sees-keeps p name _ (λ q. given-keeps (fine quiet) Own name (value q level) _ (λ v. given-keeps (fine quiet) Own name (moment q quantum) _ (λ n.
+      given-keeps (fine quiet) Own name (priority_in_range p.policies.last_priority (whole_in v)) _ (λ l. given-keeps (fine quiet) Own name (quantum_of p l n) _ (λ ticks.
+      then-keeps (goes name (next_of p s)) _ (goes-keeps (fine quiet) name (next_of p s)) (changes-keeps _ (set_level-alters l ticks)))))))
 
   pub says_deadline-keeps : (part : Part) (name : Who) (d : ℤ) → Keeps X (says_deadline part name d)
   unfolding says_deadline
@@ -60,15 +61,15 @@ module _ {X : State} (quiet : Silences X) where
   -- the call of somebody who waits gets its active priority
   placed_anew-alters : (queuing : Queuing) (p : Image) (c : Call) (level : ℕ) → Alters X (placed_anew queuing p c level)
   placed_anew-alters queuing.Fifo p c level = unchanged-alters
-  placed_anew-alters queuing.Priority p c level = record { turns = λ w said h. (edit_queue-alters quiet c.owner (place_of_entry p c.entry) (λ q. put_call queuing.Priority w c.number level (take_call c.number q))).turns w said h }
+  placed_anew-alters queuing.Priority p c level = record { turns = λ w said h. (edit_queue-alters (fine quiet) c.owner (place_of_entry p c.entry) (λ q. put_call queuing.Priority w c.number level (take_call c.number q))).turns w said h }
 
   reprioritize-keeps : (p : Image) (level : ℕ) (c : Call) → Keeps X (reprioritize p level c)
   unfolding reprioritize
-  reprioritize-keeps p level c = when-keeps (is_queued c) _ (then-keeps _ _ (changes-keeps _ (edit_call-alters quiet c.number (with_priority level))) (changes-keeps _ (placed_anew-alters p.policies.queuing p c level)))
+  reprioritize-keeps p level c = when-keeps (is_queued c) _ (then-keeps _ _ (changes-keeps _ (edit_call-alters (fine quiet) c.number (with_priority level) (λ d. refl) (λ d. refl))) (changes-keeps _ (placed_anew-alters p.policies.queuing p c level)))
 
   pub reprioritize_own-keeps : (p : Image) (name : Who) (waiting : Waiting) → Keeps X (reprioritize_own p name waiting)
   unfolding reprioritize_own
-  reprioritize_own-keeps p name waiting = looks-keeps _ (λ w. for_some-keeps (call_waited_for waiting) _ (λ c. with_call-keeps quiet c _ (reprioritize-keeps p (active_of p w name))))
+  reprioritize_own-keeps p name waiting = looks-keeps _ (λ w. for_some-keeps (call_waited_for waiting) _ (λ c. with_call-keeps (fine quiet) c _ (reprioritize-keeps p (active_of p w name))))
 
 module _ {p : Image} {actor : Who} {Fits : Fitting} {Sleeps : Sleeping} {X : State} (later : LaterMoves p actor Fits Sleeps X) where
   pub inherit_running-keeps : (cause : Cause) (level : ℕ) → same_cause inherited_by.Activation cause ≡ false → Keeps X (inherit_running p actor cause level)
@@ -83,27 +84,27 @@ module _ {p : Image} {actor : Who} {Fits Narrow : Fitting} {Sleeps : Sleeping} {
 
   base_of_found : (s : StatementNo) (level : ℕ) (t : TaskNo) (tasks : List world.Task) (found : Option world.Task) → found_task (who.Task t) tasks ≡ found → Leads F I (set_base_of p actor s level found)
   unfolding set_base_of
-  base_of_found s level t tasks None is = weakly acting.fresh acting.starts (goes actor (next_of p s)) (goes-keeps acting.fresh actor (next_of p s))
+  base_of_found s level t tasks None is = weakly (fine acting.fresh) acting.starts (goes actor (next_of p s)) (goes-keeps (fine acting.fresh) actor (next_of p s))
   base_of_found s level t tasks (Some u) is =
-      raise_if-through acting.fresh (λ w k h. h) acting.starts actor (is_edf_base p u.base || is_edf_base p level) exception.Program _
-      (then-leads (goes actor (next_of p s)) (set_or_defer_base p actor u.who level) (goes-keeps acting.fresh actor (next_of p s))
+      raise_if-through (fine acting.fresh) (λ w k h. h) acting.starts actor (is_edf_base p u.base || is_edf_base p level) exception.Program _
+      (then-leads (goes actor (next_of p s)) (set_or_defer_base p actor u.who level) (goes-keeps (fine acting.fresh) actor (next_of p s))
       (base_of_named t u.who level (found-each (λ v. Unit {0}) (is_who (who.Task t)) tasks u (each-any tasks) is).1))
 
   pub set_priority-leads : (s : StatementNo) (e : ExprNo) (task : Option ExprNo) → Leads F I (set_priority p actor s e task)
   unfolding set_priority
   set_priority-leads s e task =
       sees-leads p actor _ (λ q.
-      given-through acting.fresh (λ w k h. h) acting.starts Own actor (optional_task q task >>= must_be_task) _ (λ t.
-      given-through acting.fresh (λ w k h. h) acting.starts Own actor (value q e >>= λ v. priority_in_range (interrupt_priority p) (whole_in v)) _ (λ level.
+      given-through (fine acting.fresh) (λ w k h. h) acting.starts Own actor (optional_task q task >>= must_be_task) _ (λ t.
+      given-through (fine acting.fresh) (λ w k h. h) acting.starts Own actor (value q e >>= λ v. priority_in_range (interrupt_priority p) (whole_in v)) _ (λ level.
       base_of_found s level t q.world.tasks (found_task (who.Task t) q.world.tasks) refl)))
 
   pub set_deadline_of-leads : (s : StatementNo) (e : ExprNo) (task : Option ExprNo) → Leads F I (set_deadline_of p actor s e task)
   unfolding set_deadline_of
   set_deadline_of-leads s e task =
       sees-leads p actor _ (λ q.
-      given-through acting.fresh (λ w k h. h) acting.starts Own actor (optional_task q task >>= λ t. live_task q.world t) _ (λ t.
-      given-through acting.fresh (λ w k h. h) acting.starts Own actor (moment q e) _ (λ d.
-      then-leads (goes actor (next_of p s)) _ (goes-keeps acting.fresh actor (next_of p s)) (acting.sets_deadline t.who d))))
+      given-through (fine acting.fresh) (λ w k h. h) acting.starts Own actor (optional_task q task >>= λ t. live_task q.world t) _ (λ t.
+      given-through (fine acting.fresh) (λ w k h. h) acting.starts Own actor (moment q e) _ (λ d.
+      then-leads (goes actor (next_of p s)) _ (goes-keeps (fine acting.fresh) actor (next_of p s)) (acting.sets_deadline t.who d))))
 
   -- ---- delays
 
@@ -120,18 +121,18 @@ module _ {p : Image} {actor : Who} {Fits Narrow : Fitting} {Sleeps : Sleeping} {
   pub delay_until-keeps : (s : StatementNo) (until : Valued ℤ) → Keeps I (delay_until p actor s until)
   unfolding delay_until
   delay_until-keeps s until =
-      looks-keeps _ (λ w. raise_if-keeps acting.later.base.quiet actor (in_protected w actor) exception.Program _ (given-keeps acting.later.base.quiet Own actor until _ (λ m.
-      then-keeps _ _ (goes-keeps acting.later.base.quiet actor (next_of p s)) (delay_to-keeps m))))
+      looks-keeps _ (λ w. raise_if-keeps (fine acting.later.base.quiet) actor (in_protected w actor) exception.Program _ (given-keeps (fine acting.later.base.quiet) Own actor until _ (λ m.
+      then-keeps _ _ (goes-keeps (fine acting.later.base.quiet) actor (next_of p s)) (delay_to-keeps m))))
 
   delay_with_deadline-keeps : (s : StatementNo) (until offset : ℤ) → Keeps I (delay_with_deadline p actor s until offset)
   unfolding delay_with_deadline
   delay_with_deadline-keeps s until offset =
-      then-keeps _ _ (goes-keeps acting.later.base.quiet actor (next_of p s))
+      then-keeps _ _ (goes-keeps (fine acting.later.base.quiet) actor (next_of p s))
       (then-keeps _ _ (changes-keeps _ (edit_task-alters acting.later.base.quiet actor (λ t. record t { deadline = held_moment (until +ℤ offset) }) (λ t. refl)))
       (then-keeps _ _ (says_deadline-keeps acting.later.base.quiet Own actor (held_moment (until +ℤ offset))) (delay_to-keeps until)))
 
   pub delay_and_set_deadline-keeps : (s : StatementNo) (until offset : ExprNo) → Keeps I (delay_and_set_deadline p actor s until offset)
   unfolding delay_and_set_deadline
   delay_and_set_deadline-keeps s until offset =
-      sees-keeps p actor _ (λ q. raise_if-keeps acting.later.base.quiet actor (in_protected q.world actor) exception.Program _
-      (given-keeps acting.later.base.quiet Own actor (moment q until) _ (λ m. given-keeps acting.later.base.quiet Own actor (moment q offset) _ (λ o. delay_with_deadline-keeps s m o))))
+      sees-keeps p actor _ (λ q. raise_if-keeps (fine acting.later.base.quiet) actor (in_protected q.world actor) exception.Program _
+      (given-keeps (fine acting.later.base.quiet) Own actor (moment q until) _ (λ m. given-keeps (fine acting.later.base.quiet) Own actor (moment q offset) _ (λ o. delay_with_deadline-keeps s m o))))

@@ -4,16 +4,17 @@ use Rattle.ann_base.specs.declared.exceptions.Raised.TheVariants as exception
 use Rattle.ann_base.specs.declared.identities.CallNo.{CallNo}
 use Rattle.ann_base.specs.declared.identities.ObjectNo.{ObjectNo}
 use Rattle.ceiling_laws.proofs.Runs.ActingMoves.{ActingMoves, Admitting, Either}
-use Rattle.ceiling_laws.proofs.Runs.Kept.Calls.{edit_call-alters, unqueued-alters}
-use Rattle.ceiling_laws.proofs.Runs.Kept.Frames.{edit_top-alters, given-through, push-alters, raise_if-through, raises-keeps, weakly, with_room-keeps, with_room-through}
+use Rattle.ceiling_laws.proofs.Fine.Kept.Calls.{edit_call-alters, unqueued-alters}
+use Rattle.ceiling_laws.proofs.Fine.Kept.Frames.{edit_top-alters, given-through, push-alters, raise_if-through, raises-keeps, weakly, with_room-keeps, with_room-through}
 use Rattle.ceiling_laws.proofs.Runs.Kept.Priorities.{inherit_running-keeps}
-use Rattle.ceiling_laws.proofs.Runs.Kept.Scopes.{open_scope-alters}
-use Rattle.ceiling_laws.proofs.Runs.Kept.Subprograms.{begin_body-keeps, handing-keeps, handing-through}
+use Rattle.ceiling_laws.proofs.Fine.Kept.Scopes.{open_scope-alters}
+use Rattle.ceiling_laws.proofs.Fine.Kept.Subprograms.{begin_body-keeps, handing-keeps, handing-through}
 use Rattle.ceiling_laws.proofs.Runs.Kept.Tasks.{edit_object-alters, says-keeps}
 use Rattle.ceiling_laws.proofs.Runs.LevelMoves.{Fitting, Silences, Sleeping, is_apart}
 use Rattle.ceiling_laws.proofs.Runs.SameLemmas.{edit_task-same}
 use Rattle.ceiling_laws.proofs.Runs.Triples.{Alters, At, Ends, Keeps, Leads, State, With, branch-keeps, changes-keeps, changes-leads, from-leads, from_at, looks-keeps, looks-leads, looks-with, sees-keeps, sees-leads, then-keeps, then-leads, to-leads}
 use Rattle.ceiling_laws.specs.Cores.{Same}
+use Rattle.ceiling_laws.proofs.Runs.Finer.{fine}
 use Rattle.profile_machine.specs.Act.{call}
 use Rattle.profile_machine.specs.Frames.{edit_first, edit_top, goes, goes_on, new_frame, raises, with_mark}
 use Rattle.profile_machine.specs.Handlers.{release}
@@ -51,7 +52,7 @@ use Rattle.machine_laws.proofs.FineMoves.{Naming}
 
 module _ {X : State} (quiet : Silences X) where
   pub edit_top_protected-alters : (name : Who) (f : ProtectedMark → ProtectedMark) → Alters X (edit_top_protected name f)
-  edit_top_protected-alters name f = edit_top-alters quiet name (λ x. with_mark (edit_protected f x.mark) x)
+  edit_top_protected-alters name f = edit_top-alters (fine quiet) name (λ x. with_mark (edit_protected f x.mark) x)
 
   pub open_action-alters : (name : Who) (o : ObjectNo) (mode : Mode) → Alters X (open_action name o mode)
   open_action-alters name o mode = edit_object-alters quiet o (λ x. record x { actions = record { who = name; mode = mode } ∷ x.actions }) (λ x. refl)
@@ -59,20 +60,20 @@ module _ {X : State} (quiet : Silences X) where
   pub begin_call-keeps : (p : Image) (part : Part) (name : Who) (c : Call) → Keeps X (begin_call p part name c)
   unfolding begin_call
   begin_call-keeps p part name c =
-      then-keeps _ _ (changes-keeps _ (unqueued-alters quiet p c)) (then-keeps _ _ (changes-keeps _ (edit_call-alters quiet c.number begun_call)) (says-keeps quiet part (line.Start name c.number) refl))
+      then-keeps _ _ (changes-keeps _ (unqueued-alters (fine quiet) p c)) (then-keeps _ _ (changes-keeps _ (edit_call-alters (fine quiet) c.number begun_call (λ d. refl) (λ d. refl))) (says-keeps quiet part (line.Start name c.number) refl))
 
   pub begin_own_operation-keeps : (p : Image) (name : Who) (s : StatementNo) (f : SubprogramNo) (o : Option ObjectNo) (h : Handed) (to : ResultTo) → Keeps X (begin_own_operation p name s f o h to)
   unfolding begin_own_operation
-  begin_own_operation-keeps p name s f None h to = raises-keeps quiet Own name exception.Program
-  begin_own_operation-keeps p name s f (Some o) h to = looks-keeps _ (λ w. begin_body-keeps quiet p name s f (body_of_object p w (subprogram_of p f).scope o h.subject h.values) h to)
+  begin_own_operation-keeps p name s f None h to = raises-keeps (fine quiet) Own name exception.Program
+  begin_own_operation-keeps p name s f (Some o) h to = looks-keeps _ (λ w. begin_body-keeps (fine quiet) p name s f (body_of_object p w (subprogram_of p f).scope o h.subject h.values) h to)
 
   pub call_own_operation-keeps : (p : Image) (name : Who) (s : StatementNo) (f : SubprogramNo) (actuals : List Actual) (to : Destination) → Keeps X (call_own_operation p name s f actuals to)
   unfolding call_own_operation
-  call_own_operation-keeps p name s f actuals to = search (with_room-keeps, handing-keeps, sees-keeps, begin_own_operation-keeps)
+  call_own_operation-keeps p name s f actuals to = search (fine, with_room-keeps, handing-keeps, sees-keeps, begin_own_operation-keeps)
 
   pub body_opens-keeps : (p : Image) (name : Who) (o : ObjectNo) (c : Call) → Keeps X (body_opens p name o c)
   unfolding body_opens
-  body_opens-keeps p name o c = search (changes-keeps, edit_top_protected-alters, then-keeps, looks-keeps, open_scope-alters) depth 6
+  body_opens-keeps p name o c = search (fine, changes-keeps, edit_top_protected-alters, then-keeps, looks-keeps, open_scope-alters) depth 6
 
   pub serve_call-keeps : (p : Image) (part : Part) (name : Who) (o : ObjectNo) (c : Call) (then_ otherwise : Step) → Keeps X then_ → Keeps X otherwise → Keeps X (serve_call p part name o c then_ otherwise)
   serve_call-keeps p part name o c then_ otherwise kept also_kept =
@@ -116,7 +117,7 @@ module _ {p : Image} {actor : Who} {Fits Narrow : Fitting} {Sleeps : Sleeping} {
   goes_without step a = to-leads step a (λ w said h. inl h)
 
   raises_at_first : (v : World) (e : Raised) → Leads (At F v) (Either I J) (raises Own actor e)
-  raises_at_first v e = from_at (raises Own actor e) (weakly acting.fresh not_yet (raises Own actor e) (raises-keeps acting.fresh Own actor e))
+  raises_at_first v e = from_at (raises Own actor e) (weakly (fine acting.fresh) not_yet (raises Own actor e) (raises-keeps (fine acting.fresh) Own actor e))
 
   enter_or-at : (v : World) (o : ObjectNo) (mode : Mode) (step : Step) (is : Entering) → entering p v actor o mode ≡ is → Leads (Admitted o) (Either I J) step → Leads (At F v) (Either I J) (enter_or p actor o mode step is)
   enter_or-at v o mode step entering_is.SameObject e kept = raises_at_first v exception.Program
@@ -133,23 +134,23 @@ module _ {p : Image} {actor : Who} {Fits Narrow : Fitting} {Sleeps : Sleeping} {
   begin_action_on-leads o mode call release =
       then-leads (says Own (line.Enter actor o mode)) _ (acting.enters o mode)
       (then-keeps _ _ (changes-keeps _ (open_action-alters acting.entered.base.quiet actor o mode))
-      (then-keeps _ _ (looks-keeps _ (λ w. inherit_running-keeps acting.entered (inherited_by.Ceiling o) (ceiling_of (object_of w o)) refl)) (changes-keeps _ (push-alters acting.entered.base.quiet actor (new_frame (new_protected_mark o mode call release) None)))))
+      (then-keeps _ _ (looks-keeps _ (λ w. inherit_running-keeps acting.entered (inherited_by.Ceiling o) (ceiling_of (object_of w o)) refl)) (changes-keeps _ (push-alters (fine acting.entered.base.quiet) actor (new_frame (new_protected_mark o mode call release) None)))))
 
   begin_operation-leads : (s : StatementNo) (f : SubprogramNo) (o : ObjectNo) (h : Handed) (to : ResultTo) → Leads (Admitted o) J (begin_operation p actor s f o h to)
   unfolding begin_operation
   begin_operation-leads s f o h to =
       then-leads (goes actor (next_of p s)) _ (admitted_goes o (next_of p s))
       (then-leads (begin_action_on p actor o (mode_of (subprogram_of p f)) None None) _ (begin_action_on-leads o (mode_of (subprogram_of p f)) None None)
-      (looks-keeps _ (λ w. changes-keeps _ (open_scope-alters acting.entered.base.quiet p actor (subprogram_of p f).scope (body_of_object p w (subprogram_of p f).scope o h.subject h.values) (opened_for.Subprogram h.back to)))))
+      (looks-keeps _ (λ w. changes-keeps _ (open_scope-alters (fine acting.entered.base.quiet) p actor (subprogram_of p f).scope (body_of_object p w (subprogram_of p f).scope o h.subject h.values) (opened_for.Subprogram h.back to)))))
 
   call_operation_of-leads : (s : StatementNo) (f : SubprogramNo) (actuals : List Actual) (to : Destination) (o : ObjectNo) → Leads F (Either I J) (call_operation_of p actor s f actuals to o)
   unfolding call_operation_of
   call_operation_of-leads s f actuals to o =
-      looks-leads _ (λ w. raise_if-through acting.fresh (λ v k h. h) not_yet actor (has_object_open w actor o) exception.Program _
-      (with_room-through acting.fresh (λ v k h. h) not_yet actor (1 + marks_of p (subprogram_of p f).scope) (scope_of p (subprogram_of p f).scope).size _
-      (handing-through acting.fresh not_yet p actor f actuals to _ (λ h r. where_let_inside-leads o (mode_of (subprogram_of p f)) (begin_operation p actor s f o h r) (has_entered (begin_operation p actor s f o h r) (begin_operation-leads s f o h r))))))
+      looks-leads _ (λ w. raise_if-through (fine acting.fresh) (λ v k h. h) not_yet actor (has_object_open w actor o) exception.Program _
+      (with_room-through (fine acting.fresh) (λ v k h. h) not_yet actor (1 + marks_of p (subprogram_of p f).scope) (scope_of p (subprogram_of p f).scope).size _
+      (handing-through (fine acting.fresh) not_yet p actor f actuals to _ (λ h r. where_let_inside-leads o (mode_of (subprogram_of p f)) (begin_operation p actor s f o h r) (has_entered (begin_operation p actor s f o h r) (begin_operation-leads s f o h r))))))
 
   pub call_operation-leads : (s : StatementNo) (d : DeclNo) (f : SubprogramNo) (actuals : List Actual) (to : Destination) → Leads F (Either I J) (call_operation p actor s d f actuals to)
   unfolding call_operation
   call_operation-leads s d f actuals to =
-      sees-leads p actor _ (λ q. given-through acting.fresh (λ v k h. h) not_yet Own actor (object_number q d) _ (λ o. call_operation_of-leads s f actuals to o))
+      sees-leads p actor _ (λ q. given-through (fine acting.fresh) (λ v k h. h) not_yet Own actor (object_number q d) _ (λ o. call_operation_of-leads s f actuals to o))

@@ -1,14 +1,15 @@
 -- Calls that are sent on, and abortable parts that begin: each step keeps what its parts keep.
 use Rattle.ann_base.specs.declared.identities.CallNo.{CallNo}
 use Rattle.ceiling_laws.proofs.Runs.ActingMoves.{ActingMoves, Admitting, LaterMoves}
-use Rattle.ceiling_laws.proofs.Runs.Kept.CallEnds.{deliver-keeps, resume-keeps}
-use Rattle.ceiling_laws.proofs.Runs.Kept.Calls.{attempt_with-keeps, edit_call-alters, says_call-keeps, unqueued-alters, with_call-keeps}
-use Rattle.ceiling_laws.proofs.Runs.Kept.Frames.{push-alters}
-use Rattle.ceiling_laws.proofs.Runs.Kept.Scopes.{appoint-alters}
+use Rattle.ceiling_laws.proofs.Fine.Kept.CallEnds.{deliver-keeps, resume-keeps}
+use Rattle.ceiling_laws.proofs.Fine.Kept.Calls.{attempt_with-keeps, edit_call-alters, says_call-keeps, unqueued-alters, with_call-keeps}
+use Rattle.ceiling_laws.proofs.Fine.Kept.Frames.{push-alters}
+use Rattle.ceiling_laws.proofs.Fine.Kept.Scopes.{appoint-alters}
 use Rattle.ceiling_laws.proofs.Runs.Kept.Tasks.{says-keeps}
 use Rattle.ceiling_laws.proofs.Runs.Kept.Waking.{asleep_at, asleep_quiet, waiting-blocked}
 use Rattle.ceiling_laws.proofs.Runs.LevelMoves.{Fitting, Silences, Sleeping}
 use Rattle.ceiling_laws.proofs.Runs.Triples.{Alters, At, Keeps, Leads, State, changes-keeps, from_at, looks-keeps, looks-with, nothing-keeps, then-keeps, then-leads, unchanged-alters}
+use Rattle.ceiling_laws.proofs.Runs.Finer.{fine, fine_base}
 use Rattle.profile_machine.specs.Act.{call}
 use Rattle.profile_machine.specs.CallEnds.{abortable_depth, resume, waits_for_call}
 use Rattle.profile_machine.specs.Dispatching.{ready}
@@ -43,17 +44,17 @@ use Rattle.machine_laws.proofs.FineMoves.{Naming}
 
 module _ {X : State} (quiet : Silences X) where
   pub open_abortable-alters : (p : Image) (name : Who) (select : StatementNo) (call : Option CallNo) → Alters X (open_abortable p name select call)
-  open_abortable-alters p name select call = push-alters quiet name (new_frame (new_abortable_mark select call) (abortable_in (form_of p select)))
+  open_abortable-alters p name select call = push-alters (fine quiet) name (new_frame (new_abortable_mark select call) (abortable_in (form_of p select)))
 
   pub cancel_at_once-keeps : (p : Image) (part : Part) (c : Call) → Keeps X (cancel_at_once p part c)
   unfolding cancel_at_once
-  cancel_at_once-keeps p part c = attempt_with-keeps quiet p part c (resume p part c call_ended.Cancelled) nothing (resume-keeps quiet p part c call_ended.Cancelled) nothing-keeps
+  cancel_at_once-keeps p part c = attempt_with-keeps (fine quiet) p part c (resume p part c call_ended.Cancelled) nothing (resume-keeps (fine quiet) p part c call_ended.Cancelled) nothing-keeps
 
   pub appoint_timeout-alters : (p : Image) (c : CallNo) (moment : Option ℤ) → Alters X (appoint_timeout p c moment)
   appoint_timeout-alters p c None = unchanged-alters
   appoint_timeout-alters p c (Some moment) = record { turns = λ w said h. timed w said h (may_time_out p w (call_of w c)) } where
     timed : (w : World) (said : List Said) → X w said → (may : Bool) → X (cond may (appoint (due_for.Timeout c) moment w) w) said
-    timed w said h true = (appoint-alters quiet (due_for.Timeout c) moment (λ t. refl)).turns w said h
+    timed w said h true = (appoint-alters (fine quiet) (due_for.Timeout c) moment (λ t. refl)).turns w said h
     timed w said h false = h
 
   timeout_if-alters : (p : Image) (firm : Bool) (c : Call) → Alters X (cond firm (λ w. w) (appoint_timeout p c.number c.moment))
@@ -65,7 +66,7 @@ module _ {X : State} (quiet : Silences X) where
 
   pub send_on-keeps : (c : CallNo) (s : Sending) → Keeps X (send_on c s)
   unfolding send_on
-  send_on-keeps c s = then-keeps _ _ (changes-keeps _ (edit_call-alters quiet c (sent_call s))) (with_call-keeps quiet c _ (says_call-keeps quiet TheFinish))
+  send_on-keeps c s = then-keeps _ _ (changes-keeps _ (edit_call-alters (fine quiet) c (sent_call s) (λ d. refl) (λ d. refl))) (with_call-keeps (fine quiet) c _ (says_call-keeps (fine quiet) TheFinish))
 
 module _ {p : Image} {actor : Who} {Fits : Fitting} {Sleeps : Sleeping} {X : State} (later : LaterMoves p actor Fits Sleeps X) where
   pub wait_for_call-keeps : (c : Call) → Keeps X (wait_for_call c)
@@ -88,8 +89,8 @@ module _ {p : Image} {actor : Who} {Fits Narrow : Fitting} {Sleeps : Sleeping} {
   cancel_sent-keeps : (c : Call) → Keeps I (cancel_sent p c)
   unfolding cancel_sent
   cancel_sent-keeps c =
-      then-keeps _ _ (changes-keeps _ (unqueued-alters acting.later.base.quiet p c))
-      (then-keeps _ _ (says-keeps acting.later.base.quiet TheFinish (line.Cancel c.caller c.number) refl) (deliver-keeps acting.later.base TheFinish c.number call_ended.Cancelled acting.fits_finish))
+      then-keeps _ _ (changes-keeps _ (unqueued-alters (fine acting.later.base.quiet) p c))
+      (then-keeps _ _ (says-keeps acting.later.base.quiet TheFinish (line.Cancel c.caller c.number) refl) (deliver-keeps (fine_base acting.later.base) TheFinish c.number call_ended.Cancelled acting.fits_finish))
 
   -- where it waits for the call its abortable part opens
   opens_at : (v : World) (d : Call) (test : Bool) → may_begin_abortable v d ≡ test → Leads (At I v) I (when test (changes (open_abortable p (who.Task d.caller) d.statement (Some d.number)) ▷ ready p TheFinish (who.Task d.caller)))
@@ -103,7 +104,7 @@ module _ {p : Image} {actor : Who} {Fits Narrow : Fitting} {Sleeps : Sleeping} {
 
   pub begin_abortable-keeps : (c : CallNo) → Keeps I (begin_abortable p c)
   unfolding begin_abortable
-  begin_abortable-keeps c = with_call-keeps acting.later.base.quiet c _ (λ d. looks-with _ (λ v said h. opens_at v d (may_begin_abortable v d) refl))
+  begin_abortable-keeps c = with_call-keeps (fine acting.later.base.quiet) c _ (λ d. looks-with _ (λ v said h. opens_at v d (may_begin_abortable v d) refl))
 
   sent_not_begun_by-keeps : (c : Call) (test : Bool) → Keeps I (sent_not_begun_by p c test)
   unfolding sent_not_begun_by
@@ -112,4 +113,4 @@ module _ {p : Image} {actor : Who} {Fits Narrow : Fitting} {Sleeps : Sleeping} {
 
   pub sent_not_begun-keeps : (c : CallNo) → Keeps I (sent_not_begun p c)
   unfolding sent_not_begun
-  sent_not_begun-keeps c = with_call-keeps acting.later.base.quiet c _ (λ d. looks-keeps _ (λ w. sent_not_begun_by-keeps d (is_to_be_cancelled w.time d)))
+  sent_not_begun-keeps c = with_call-keeps (fine acting.later.base.quiet) c _ (λ d. looks-keeps _ (λ w. sent_not_begun_by-keeps d (is_to_be_cancelled w.time d)))

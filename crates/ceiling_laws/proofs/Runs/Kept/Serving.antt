@@ -4,14 +4,15 @@ use Rattle.ann_base.specs.declared.exceptions.Raised.TheVariants as exception
 use Rattle.ann_base.specs.declared.identities.CallNo.{CallNo}
 use Rattle.ann_base.specs.declared.identities.ObjectNo.{ObjectNo}
 use Rattle.ceiling_laws.proofs.Runs.ActingMoves.{ActingMoves, Admitting}
-use Rattle.ceiling_laws.proofs.Runs.Kept.CallEnds.{deliver-keeps, resume-keeps}
-use Rattle.ceiling_laws.proofs.Runs.Kept.Calls.{attempt_with-keeps, edit_call-alters, enqueue-keeps, forget_call-alters, with_call-keeps}
-use Rattle.ceiling_laws.proofs.Runs.Kept.Frames.{edit_top-alters, leaves-keeps, pass_on-keeps, pop-alters}
+use Rattle.ceiling_laws.proofs.Fine.Kept.CallEnds.{deliver-keeps, resume-keeps}
+use Rattle.ceiling_laws.proofs.Fine.Kept.Calls.{attempt_with-keeps, edit_call-alters, enqueue-keeps, forget_call-alters, with_call-keeps, keeps_sending-number, keeps_sending-caller}
+use Rattle.ceiling_laws.proofs.Fine.Kept.Frames.{edit_top-alters, leaves-keeps, pass_on-keeps, pop-alters}
 use Rattle.ceiling_laws.proofs.Runs.Kept.Protected.{edit_top_protected-alters, serve_call-keeps}
 use Rattle.ceiling_laws.proofs.Runs.Kept.Sending.{begin_abortable-keeps, open_abortable-alters, send_on-keeps, sent_not_begun-keeps, wait_for_call-keeps}
 use Rattle.ceiling_laws.proofs.Runs.Kept.Tasks.{edit_object-alters, plain-alters, says-keeps}
 use Rattle.ceiling_laws.proofs.Runs.LevelMoves.{FitsAll, Fitting, Silences, Sleeping}
 use Rattle.ceiling_laws.proofs.Runs.Triples.{Alters, Keeps, State, changes-keeps, looks-keeps, nothing-keeps, then-keeps, when-keeps}
+use Rattle.ceiling_laws.proofs.Runs.Finer.{fine, fine_base}
 use Rattle.profile_machine.specs.Act.{call}
 use Rattle.profile_machine.specs.Calls.{forget_call, formals_count}
 use Rattle.profile_machine.specs.Dispatching.{block}
@@ -51,11 +52,11 @@ use Rattle.machine_laws.proofs.FineMoves.{Naming}
 module _ {X : State} (quiet : Silences X) where
   pub keep_values-keeps : (p : Image) (c : CallNo) (cells : List Value) → Keeps X (keep_values p c cells)
   unfolding keep_values
-  keep_values-keeps p c cells = with_call-keeps quiet c _ (λ d. changes-keeps _ (edit_call-alters quiet c (with_values cells (formals_count p d))))
+  keep_values-keeps p c cells = with_call-keeps (fine quiet) c _ (λ d. changes-keeps _ (edit_call-alters (fine quiet) c (with_values cells (formals_count p d)) (λ d. refl) (λ d. refl)))
 
   pub end_body_of_entry-keeps : (p : Image) (c : CallNo) (cells : List Value) (leaving : Leaving) → Keeps X (end_body_of_entry p c cells leaving)
   unfolding end_body_of_entry
-  end_body_of_entry-keeps p c cells leaving = then-keeps _ _ (changes-keeps _ (edit_call-alters quiet c (keeps_sending leaving))) (keep_values-keeps p c cells)
+  end_body_of_entry-keeps p c cells leaving = then-keeps _ _ (changes-keeps _ (edit_call-alters (fine quiet) c (keeps_sending leaving) (keeps_sending-number leaving) (keeps_sending-caller leaving))) (keep_values-keeps p c cells)
 
   pub close_action-alters : (name : Who) (o : ObjectNo) → Alters X (close_action name o)
   close_action-alters name o = edit_object-alters quiet o (λ x. record x { actions = without (is_action_of name) x.actions }) (λ x. refl)
@@ -77,8 +78,8 @@ module _ {p : Image} {actor : Who} {Fits Narrow : Fitting} {Sleeps : Sleeping} {
   wait_or_unwind-keeps : (c : Call) (test : Bool) → Keeps I (wait_or_unwind p actor c test)
   unfolding wait_or_unwind
   wait_or_unwind-keeps c true =
-      attempt_with-keeps acting.later.base.quiet p Own c (changes (forget_call c.number) ▷ leaves actor how.Abort) (wait_for_call c)
-      (then-keeps _ _ (changes-keeps _ (forget_call-alters acting.later.base.quiet c.number)) (leaves-keeps acting.later.base.quiet actor how.Abort)) (wait_for_call-keeps acting.later c)
+      attempt_with-keeps (fine acting.later.base.quiet) p Own c (changes (forget_call c.number) ▷ leaves actor how.Abort) (wait_for_call c)
+      (then-keeps _ _ (changes-keeps _ (forget_call-alters (fine acting.later.base.quiet) c.number)) (leaves-keeps (fine acting.later.base.quiet) actor how.Abort)) (wait_for_call-keeps acting.later c)
   wait_or_unwind-keeps c false = wait_for_call-keeps acting.later c
 
   wait_for_own-keeps : (c : Call) (test : Bool) → Keeps I (wait_for_own p actor c test)
@@ -88,20 +89,20 @@ module _ {p : Image} {actor : Who} {Fits Narrow : Fitting} {Sleeps : Sleeping} {
 
   resume_own-keeps : (c : Call) (outcome : Option Outcome) → Keeps I (resume_own p actor c outcome)
   unfolding resume_own
-  resume_own-keeps c (Some outcome) = resume-keeps acting.later.base.quiet p TheBlock c outcome
+  resume_own-keeps c (Some outcome) = resume-keeps (fine acting.later.base.quiet) p TheBlock c outcome
   resume_own-keeps c None = looks-keeps _ (λ w. wait_for_own-keeps c (may_open_abortable w actor c))
 
   behind_action-keeps : (m : ProtectedMark) (n : Option ℕ) (c : Option CallNo) → Keeps I (behind_action p actor m n c)
   unfolding behind_action
   behind_action-keeps m (Some release) call = end_release-keeps acting.later.base.quiet (acting.later.blocks who.Agent waits_for.Release) release
-  behind_action-keeps m None None = pass_on-keeps acting.later.base.quiet p actor m.body_left
-  behind_action-keeps m None (Some c) = with_call-keeps acting.later.base.quiet c _ (λ d. resume_own-keeps d d.outcome)
+  behind_action-keeps m None None = pass_on-keeps (fine acting.later.base.quiet) p actor m.body_left
+  behind_action-keeps m None (Some c) = with_call-keeps (fine acting.later.base.quiet) c _ (λ d. resume_own-keeps d d.outcome)
 
   pub release_object-keeps : (m : ProtectedMark) → Keeps I (release_object p actor m)
   unfolding release_object
   release_object-keeps m =
       then-keeps _ _ (says-keeps acting.later.base.quiet Own (line.Exit actor m.object) refl)
-      (then-keeps _ _ (changes-keeps _ (pop-alters acting.later.base.quiet actor))
+      (then-keeps _ _ (changes-keeps _ (pop-alters (fine acting.later.base.quiet) actor))
       (then-keeps _ _ (changes-keeps _ (close_action-alters acting.later.base.quiet actor m.object))
       (then-keeps _ _ (acting.loses (inherited_by.Ceiling m.object)) (then-keeps _ _ acting.sets_deferred (behind_action-keeps m m.release m.own_call)))))
 
@@ -123,8 +124,8 @@ module _ {p : Image} {actor : Who} {Fits Narrow : Fitting} {Sleeps : Sleeping} {
   serve_chosen-keeps : (m : ProtectedMark) (is_sent : Bool) (again : Step) (c : Option CallNo) → Keeps I again → Keeps I (serve_chosen p actor m is_sent again c)
   serve_chosen-keeps m is_sent again None kept = release_object-keeps m
   serve_chosen-keeps m is_sent again (Some c) kept =
-      with_call-keeps acting.later.base.quiet c _ (λ d. serve_call-keeps acting.later.base.quiet p (part_of_start is_sent) actor m.object d (begins_part p is_sent c) _ (begins_part-keeps is_sent c)
-      (then-keeps _ again (deliver-keeps acting.later.base (part_of_start is_sent) c (call_ended.ToRaise exception.Storage) (fits_start is_sent)) kept))
+      with_call-keeps (fine acting.later.base.quiet) c _ (λ d. serve_call-keeps acting.later.base.quiet p (part_of_start is_sent) actor m.object d (begins_part p is_sent c) _ (begins_part-keeps is_sent c)
+      (then-keeps _ again (deliver-keeps (fine_base acting.later.base) (part_of_start is_sent) c (call_ended.ToRaise exception.Storage) (fits_start is_sent)) kept))
 
   serve_next-keeps : (fuel : ℕ) (m : ProtectedMark) (sent : Option CallNo) → Keeps I (serve_next fuel p actor m sent)
   unfolding serve_next
@@ -146,22 +147,22 @@ module _ {p : Image} {actor : Who} {Fits Narrow : Fitting} {Sleeps : Sleeping} {
   unfolding end_operation
   end_operation-keeps m leaving =
       then-keeps _ _ (changes-keeps _ (edit_top_protected-alters acting.later.base.quiet actor (with_body_left leaving)))
-      (then-keeps _ _ (changes-keeps _ (edit_top-alters acting.later.base.quiet actor not_left)) (go_on_by_mode-keeps (with_body_left leaving m) m.mode))
+      (then-keeps _ _ (changes-keeps _ (edit_top-alters (fine acting.later.base.quiet) actor not_left)) (go_on_by_mode-keeps (with_body_left leaving m) m.mode))
 
   finish_raised-keeps : (m : ProtectedMark) (c : Call) (e : Raised) → Keeps I (finish_raised p actor m c e)
   unfolding finish_raised
   finish_raised-keeps m c e =
       then-keeps _ _ (says-keeps acting.later.base.quiet TheFinish (line.Finish actor c.number (meeting.Raised e)) refl)
-      (then-keeps _ _ (deliver-keeps acting.later.base TheFinish c.number (outcome_by (is_own_call actor m.own_call c) e) acting.fits_finish) (serve_calls-keeps m None))
+      (then-keeps _ _ (deliver-keeps (fine_base acting.later.base) TheFinish c.number (outcome_by (is_own_call actor m.own_call c) e) acting.fits_finish) (serve_calls-keeps m None))
 
   finish_well-keeps : (m : ProtectedMark) (c : Call) (sending : Option Sending) → Keeps I (finish_well p actor m c sending)
   unfolding finish_well
   finish_well-keeps m c None =
       then-keeps _ _ (says-keeps acting.later.base.quiet TheFinish (line.Finish actor c.number meeting.Ok) refl)
-      (then-keeps _ _ (deliver-keeps acting.later.base TheFinish c.number call_ended.Finished acting.fits_finish) (serve_calls-keeps m None))
+      (then-keeps _ _ (deliver-keeps (fine_base acting.later.base) TheFinish c.number call_ended.Finished acting.fits_finish) (serve_calls-keeps m None))
   finish_well-keeps m c (Some s) =
       then-keeps _ _ (says-keeps acting.later.base.quiet TheFinish (line.Finish actor c.number meeting.Requeue) refl)
-      (then-keeps _ _ (send_on-keeps acting.later.base.quiet c.number s) (then-keeps _ _ (enqueue-keeps acting.later.base.quiet p c.number) (serve_calls-keeps m (Some c.number))))
+      (then-keeps _ _ (send_on-keeps acting.later.base.quiet c.number s) (then-keeps _ _ (enqueue-keeps (fine acting.later.base.quiet) p c.number) (serve_calls-keeps m (Some c.number))))
 
   finish_call-keeps : (m : ProtectedMark) (leaving : Leaving) (c : Call) → Keeps I (finish_call p actor m leaving c)
   unfolding finish_call
@@ -176,7 +177,7 @@ module _ {p : Image} {actor : Who} {Fits Narrow : Fitting} {Sleeps : Sleeping} {
   unfolding end_entry_body
   end_entry_body-keeps m leaving c =
       then-keeps _ _ (changes-keeps _ (edit_top_protected-alters acting.later.base.quiet actor no_longer_serves))
-      (then-keeps _ _ (changes-keeps _ (edit_top-alters acting.later.base.quiet actor not_left)) (with_call-keeps acting.later.base.quiet c _ (finish_call-keeps (no_longer_serves m) leaving)))
+      (then-keeps _ _ (changes-keeps _ (edit_top-alters (fine acting.later.base.quiet) actor not_left)) (with_call-keeps (fine acting.later.base.quiet) c _ (finish_call-keeps (no_longer_serves m) leaving)))
 
   end_in_protected_by-keeps : (m : ProtectedMark) (leaving : Leaving) (c : Option CallNo) → Keeps I (end_in_protected_by p actor m leaving c)
   unfolding end_in_protected_by

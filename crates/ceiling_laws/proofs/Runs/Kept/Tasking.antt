@@ -2,17 +2,18 @@
 use Rattle.ann_base.specs.declared.exceptions.Raised.TheVariants as exception
 use Rattle.ann_base.specs.declared.identities.RegionNo.{RegionNo}
 use Rattle.ceiling_laws.proofs.Runs.ActingMoves.{ActingMoves, Admitting, IsNew, SelectMoves}
-use Rattle.ceiling_laws.proofs.Runs.Kept.Controlled.{edit_top_scope-alters, finalize-keeps}
-use Rattle.ceiling_laws.proofs.Runs.Kept.Frames.{edit_top-alters, given-keeps, given-through, goes-keeps, pass_on-keeps, pop-alters, raise_if-keeps, raise_if-through, raises-keeps, weakly}
+use Rattle.ceiling_laws.proofs.Fine.Kept.Controlled.{edit_top_scope-alters, finalize-keeps}
+use Rattle.ceiling_laws.proofs.Fine.Kept.Frames.{edit_top-alters, given-keeps, given-through, goes-keeps, pass_on-keeps, pop-alters, raise_if-keeps, raise_if-through, raises-keeps, weakly}
 use Rattle.ceiling_laws.proofs.Runs.Kept.Masters.{complete-keeps, end_activation-keeps, fits_part, leave_by_terminate-keeps, terminate-leads}
-use Rattle.ceiling_laws.proofs.Runs.Kept.Scopes.{end_scope-alters, open_scope-alters}
+use Rattle.ceiling_laws.proofs.Fine.Kept.Scopes.{end_scope-alters, open_scope-alters}
 use Rattle.ceiling_laws.proofs.Runs.Kept.Serving.{end_body_of_entry-keeps}
-use Rattle.ceiling_laws.proofs.Runs.Kept.Subprograms.{end_subprogram-keeps}
+use Rattle.ceiling_laws.proofs.Fine.Kept.Subprograms.{end_subprogram-keeps}
 use Rattle.ceiling_laws.proofs.Runs.Kept.Tasks.{edit_task-alters, plain-alters, says-keeps}
-use Rattle.ceiling_laws.proofs.Runs.Kept.Unwinding.{strike_outermost-alters, unwind-keeps}
+use Rattle.ceiling_laws.proofs.Fine.Kept.Unwinding.{strike_outermost-alters, unwind-keeps}
 use Rattle.ceiling_laws.proofs.Runs.Kept.Waking.{each-both, filter-each, filter-tested, for_each_task-keeps}
 use Rattle.ceiling_laws.proofs.Runs.LevelMoves.{BaseMoves, EachTask, Fitting, Silences, Sleeping}
 use Rattle.ceiling_laws.proofs.Runs.Triples.{Alters, At, Keeps, Leads, State, branch-keeps, changes-keeps, for_each-keeps, for_some-keeps, from-leads, from_at, looks-keeps, looks-leads, looks-with, nothing-keeps, nothing-leads, sees-keeps, then-keeps, then-leads, to-leads, when-keeps, when-leads}
+use Rattle.ceiling_laws.proofs.Runs.Finer.{fine, fine_base}
 use Rattle.profile_machine.specs.Controlled.{finalize, next_to_finalize}
 use Rattle.profile_machine.specs.Dispatching.{active_of, says_block}
 use Rattle.profile_machine.specs.Frames.{goes, has_room, in_protected, is_deferred, pass_on, pop}
@@ -70,8 +71,8 @@ module _ {X : State} (quiet : Silences X) where
 module _ {p : Image} {Fits : Fitting} {Sleeps : Sleeping} {X : State} (moves : BaseMoves p Fits Sleeps X) (actor : Who) (fits : (name : Who) → Fits (part_of actor name) name) where
   unwind_by-keeps : (name : Who) (acts : Bool) → Fits (cond acts Own (OfOther name)) name → Keeps X (unwind_by p name acts)
   unfolding unwind_by
-  unwind_by-keeps name false fit = unwind-keeps moves (OfOther name) name fit
-  unwind_by-keeps name true fit = looks-keeps _ (λ w. when-keeps (is_runnable (task_of w name)) _ (unwind-keeps moves Own name fit))
+  unwind_by-keeps name false fit = unwind-keeps (fine_base moves) (OfOther name) name fit
+  unwind_by-keeps name true fit = looks-keeps _ (λ w. when-keeps (is_runnable (task_of w name)) _ (unwind-keeps (fine_base moves) Own name fit))
 
   unwind_one-keeps : (t : world.Task) → Keeps X (unwind_one p actor t)
   unfolding unwind_one
@@ -119,9 +120,9 @@ module _ {p : Image} {actor : Who} {Fits Narrow : Fitting} {Sleeps : Sleeping} {
   unfolding create
   create-leads s d part =
       looks-with _ (λ v said h. let q = seen_by p v actor in
-      raise_if-through acting.fresh (λ w k m. m.0) acting.starts actor (in_protected v actor || is_deferred v actor) exception.Program _
-      (raise_if-through acting.fresh (λ w k m. m.0) acting.starts actor (leb 256 (length v.tasks)) exception.Storage _
-      (given-through acting.fresh (λ w k m. m.0) acting.starts Own actor (optional_span q (task_unit_of p (unit_of_declaration p d)).relative_deadline) _ (λ span.
+      raise_if-through (fine acting.fresh) (λ w k m. m.0) acting.starts actor (in_protected v actor || is_deferred v actor) exception.Program _
+      (raise_if-through (fine acting.fresh) (λ w k m. m.0) acting.starts actor (leb 256 (length v.tasks)) exception.Storage _
+      (given-through (fine acting.fresh) (λ w k m. m.0) acting.starts Own actor (optional_span q (task_unit_of p (unit_of_declaration p d)).relative_deadline) _ (λ span.
       create_task-at v s d (home v (declaration_of p d).scope q.within) (created_task q d (unit_of_declaration p d) part span v.drawn.tasks) (record { numbered = refl; made = refl; undeferred = refl })))))
 
   -- ---- activation
@@ -140,7 +141,7 @@ module _ {p : Image} {actor : Who} {Fits Narrow : Fitting} {Sleeps : Sleeping} {
   begin_task-keeps : (v : World) (level : ℕ) (t : world.Task) → Unmade v t.who → Keeps (N v) (begin_task p actor level t)
   unfolding begin_task
   begin_task-keeps v level t other =
-      looks-keeps _ (λ w. then-keeps _ _ (changes-keeps _ (open_scope-alters (acting.since v).quiet p t.who (unit_of_task p t).scope (plainly t.outer) opened_for.Task))
+      looks-keeps _ (λ w. then-keeps _ _ (changes-keeps _ (open_scope-alters (fine (acting.since v).quiet) p t.who (unit_of_task p t).scope (plainly t.outer) opened_for.Task))
       (then-keeps _ _ (changes-keeps _ (edit_task-alters (acting.since v).quiet t.who (activated_task actor w.time) (λ u. refl)))
       (then-keeps _ _ (changes-keeps _ (acting.inherits_activation v t.who level other)) (acting.activates v t.who other))))
 
@@ -151,7 +152,7 @@ module _ {p : Image} {actor : Who} {Fits Narrow : Fitting} {Sleeps : Sleeping} {
   await_group-keeps : (begins failed : Bool) → Keeps I (await_group actor begins failed)
   unfolding await_group
   await_group-keeps true failed = acting.later.blocks actor waits_for.Activation
-  await_group-keeps false true = raises-keeps acting.later.base.quiet TheBlock actor exception.Tasking
+  await_group-keeps false true = raises-keeps (fine acting.later.base.quiet) TheBlock actor exception.Tasking
   await_group-keeps false false = nothing-keeps
 
   -- of the tasks of a list those that are made are others
@@ -170,7 +171,7 @@ module _ {p : Image} {actor : Who} {Fits Narrow : Fitting} {Sleeps : Sleeping} {
   activate_group-keeps s part =
       then-keeps _ (looks (λ w. await_group actor (has_activating w actor) (task_of w actor).group_failed))
       (looks-with _ (λ v said h. let test = is_to_activate (top_region_of_scope v actor) part in
-      since_at v _ (then-keeps (goes actor (next_of p s)) _ (goes-keeps (acting.since v).quiet actor (next_of p s))
+      since_at v _ (then-keeps (goes actor (next_of p s)) _ (goes-keeps (fine (acting.since v).quiet) actor (next_of p s))
       (then-keeps (changes (edit_task actor no_failure)) _ (changes-keeps _ (edit_task-alters (acting.since v).quiet actor no_failure (λ u. refl)))
       (for_each_task-keeps (λ t. Unmade v t.who) (filter test v.tasks) (activate_one p actor (active_of p v actor))
       (made_each v said h test (λ t e. first_of_three (is_made t) (is_the same_region t.master (top_region_of_scope v actor)) (eqb t.declarative_part part) e)) (activate_one-keeps v (active_of p v actor)))))))
@@ -178,7 +179,7 @@ module _ {p : Image} {actor : Who} {Fits Narrow : Fitting} {Sleeps : Sleeping} {
 
   pub activate-keeps : (s : StatementNo) (part : ℕ) → Keeps I (activate p actor s part)
   unfolding activate
-  activate-keeps s part = looks-keeps _ (λ w. raise_if-keeps acting.later.base.quiet actor (in_protected w actor || is_deferred w actor) exception.Program _ (activate_group-keeps s part))
+  activate-keeps s part = looks-keeps _ (λ w. raise_if-keeps (fine acting.later.base.quiet) actor (in_protected w actor || is_deferred w actor) exception.Program _ (activate_group-keeps s part))
 
   -- ---- who acts may have fallen
 
@@ -189,7 +190,7 @@ module _ {p : Image} {actor : Who} {Fits Narrow : Fitting} {Sleeps : Sleeping} {
   unfolding end_own_activation
   end_own_activation-keeps s =
       looks-with _ (λ v said h. let base = acting.owing v in
-      from-leads _ (owing_at v) (then-leads (goes actor (next_of p s)) _ (goes-keeps base.quiet actor (next_of p s))
+      from-leads _ (owing_at v) (then-leads (goes actor (next_of p s)) _ (goes-keeps (fine base.quiet) actor (next_of p s))
       (then-leads (end_activation p actor actor false) (fall_from p actor v) (end_activation-keeps base actor (fits_part acting.later) actor (acting.loses_owed v) false) (acting.pays v))))
 
   complete_if_task-keeps : (purpose : Purpose) → Keeps I (complete_if_task p actor purpose)
@@ -213,8 +214,8 @@ module _ {p : Image} {actor : Who} {Fits Narrow : Fitting} {Sleeps : Sleeping} {
   leave_region-keeps : (m : ScopeMark) (leaving : Leaving) (r : RegionNo) → Keeps I (leave_region p actor m leaving r)
   unfolding leave_region
   leave_region-keeps m leaving r =
-      then-keeps _ _ (changes-keeps _ (edit_top_scope-alters acting.later.base.quiet actor being_left_mark))
-      (then-keeps _ _ (changes-keeps _ (edit_top-alters acting.later.base.quiet actor (left_so_frame leaving)))
+      then-keeps _ _ (changes-keeps _ (edit_top_scope-alters (fine acting.later.base.quiet) actor being_left_mark))
+      (then-keeps _ _ (changes-keeps _ (edit_top-alters (fine acting.later.base.quiet) actor (left_so_frame leaving)))
       (then-keeps _ _ (says-keeps acting.later.base.quiet Own (line.Leave actor r (leaves_as leaving)) refl)
       (then-keeps _ _ (looks-with _ (λ v said h. since_at v _ (for_each_task-keeps (λ t. Unmade v t.who) (filter (is_made_in r) v.tasks) (end_made p actor) (made_each v said h (is_made_in r) (λ t e. (and_parts (is_made t) (is_the same_region t.master r) e).0)) (end_made-keeps v))))
       (then-keeps _ _ (complete_if_task-keeps m.purpose) (wait_for_dependents-keeps r)))))
@@ -232,28 +233,28 @@ module _ {p : Image} {actor : Who} {Fits Narrow : Fitting} {Sleeps : Sleeping} {
   not_left w said h = acting.rests w said (acting.ceases w said (acting.starts w said h))
 
   at_first : (step : Step) → Keeps F step → Leads F W step
-  at_first step kept = weakly acting.fresh not_left step kept
+  at_first step kept = weakly (fine acting.fresh) not_left step kept
 
   end_body-keeps : (leaving : Leaving) (normally : Step) → Keeps F normally → Leads F W (end_body p actor leaving normally)
-  end_body-keeps leaving normally kept = at_first (end_body p actor leaving normally) (branch-keeps (is_normal leaving) normally (pass_on p actor leaving) kept (pass_on-keeps acting.fresh p actor leaving))
+  end_body-keeps leaving normally kept = at_first (end_body p actor leaving normally) (branch-keeps (is_normal leaving) normally (pass_on p actor leaving) kept (pass_on-keeps (fine acting.fresh) p actor leaving))
 
   behind_scope-leads : (purpose : Purpose) (cells : List Value) (leaving : Leaving) → Leads F W (behind_scope p actor purpose cells leaving)
   unfolding behind_scope
-  behind_scope-leads (opened_for.Block s) cells leaving = at_first (pass_on p actor leaving) (pass_on-keeps acting.fresh p actor leaving)
-  behind_scope-leads (opened_for.Subprogram back to) cells leaving = end_body-keeps leaving (end_subprogram p actor cells back to leaving) (end_subprogram-keeps acting.fresh p actor cells back to leaving)
+  behind_scope-leads (opened_for.Block s) cells leaving = at_first (pass_on p actor leaving) (pass_on-keeps (fine acting.fresh) p actor leaving)
+  behind_scope-leads (opened_for.Subprogram back to) cells leaving = end_body-keeps leaving (end_subprogram p actor cells back to leaving) (end_subprogram-keeps (fine acting.fresh) p actor cells back to leaving)
   behind_scope-leads (opened_for.EntryBody c) cells leaving = end_body-keeps leaving (end_body_of_entry p c cells leaving) (end_body_of_entry-keeps acting.fresh p c cells leaving)
   behind_scope-leads opened_for.Task cells leaving = end_task-leads leaving
 
   end_of_scope-leads : (m : ScopeMark) (leaving : Leaving) → Leads F W (end_of_scope p actor m leaving)
   unfolding end_of_scope
   end_of_scope-leads m leaving =
-      looks-leads _ (λ w. then-leads (changes (pop actor)) _ (changes-keeps _ (pop-alters acting.fresh actor))
-      (then-leads (changes (end_scope m.within)) _ (changes-keeps _ (end_scope-alters acting.fresh m.within))
+      looks-leads _ (λ w. then-leads (changes (pop actor)) _ (changes-keeps _ (pop-alters (fine acting.fresh) actor))
+      (then-leads (changes (end_scope m.within)) _ (changes-keeps _ (end_scope-alters (fine acting.fresh) m.within))
       (then-leads (says_left actor m leaving) _ (says_left-keeps acting.fresh actor m leaving) (behind_scope-leads m.purpose (cells_of (scope_in_use w m.within)) (left_by m leaving)))))
 
   next_finalized-leads : (m : ScopeMark) (leaving : Leaving) (found : Option Registered) → Leads F W (elim found as (λ _. Step) [ None ↦ end_of_scope p actor m leaving | Some x ↦ finalize p actor x ])
   next_finalized-leads m leaving None = end_of_scope-leads m leaving
-  next_finalized-leads m leaving (Some x) = at_first (finalize p actor x) (finalize-keeps acting.fresh p actor x)
+  next_finalized-leads m leaving (Some x) = at_first (finalize p actor x) (finalize-keeps (fine acting.fresh) p actor x)
 
   go_on_leaving-leads : (m : ScopeMark) (leaving : Leaving) (r : RegionNo) (test : Bool) → Leads F W (go_on_leaving p actor m leaving r test)
   unfolding go_on_leaving
@@ -274,7 +275,7 @@ module _ {p : Image} {actor : Who} {Fits Narrow : Fitting} {Sleeps : Sleeping} {
 
   struck_or_ended : (v : World) (t : world.Task) (b : Bool) → (b ≡ true → Unmade v t.who) → Keeps (N v) (cond b (end_made p actor t) (changes (strike_outermost t.who)))
   struck_or_ended v t true other = end_made-keeps v t (other refl)
-  struck_or_ended v t false other = changes-keeps _ (strike_outermost-alters (acting.since v).quiet t.who)
+  struck_or_ended v t false other = changes-keeps _ (strike_outermost-alters (fine (acting.since v).quiet) t.who)
 
   abort_one-keeps : (v : World) (t : world.Task) → (is_made t ≡ true → Unmade v t.who) → Keeps (N v) (abort_one p actor t)
   unfolding abort_one
@@ -289,6 +290,6 @@ module _ {p : Image} {actor : Who} {Fits Narrow : Fitting} {Sleeps : Sleeping} {
   pub abort_statement-keeps : (s : StatementNo) (tasks : List DeclNo) → Keeps I (abort_statement p actor s tasks)
   unfolding abort_statement
   abort_statement-keeps s tasks =
-      sees-keeps p actor _ (λ q. raise_if-keeps acting.later.base.quiet actor (in_protected q.world actor) exception.Program _ (given-keeps acting.later.base.quiet Own actor (named_tasks q tasks) _ (λ aborted.
-      then-keeps _ _ (goes-keeps acting.later.base.quiet actor (next_of p s))
+      sees-keeps p actor _ (λ q. raise_if-keeps (fine acting.later.base.quiet) actor (in_protected q.world actor) exception.Program _ (given-keeps (fine acting.later.base.quiet) Own actor (named_tasks q tasks) _ (λ aborted.
+      then-keeps _ _ (goes-keeps (fine acting.later.base.quiet) actor (next_of p s))
       (looks-with _ (λ v said h. since_at v _ (abort_all-keeps v (filter (is_to_abort v aborted) v.tasks) (filter-each (λ t. is_made t ≡ true → Unmade v t.who) (is_to_abort v aborted) v.tasks (acting.made_differ v said h))))))))

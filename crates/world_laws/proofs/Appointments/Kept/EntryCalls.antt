@@ -38,7 +38,7 @@ use Rattle.profile_machine.specs.Rendezvous.{is_callable, accept_for, delay_mome
 use Rattle.profile_machine.specs.Steps.{Step, nothing}
 use Rattle.profile_machine.specs.Tasks.{waiting_of}
 use Rattle.machine_laws.proofs.Moves.{StepRelation, MoveRelation}
-use Rattle.world_laws.proofs.Appointments.Delays.{Caller}
+use Rattle.ceiling_laws.proofs.Fine.Cores.{Caller}
 use Rattle.world_laws.proofs.Appointments.FineMoves.{FineMoves}
 use Rattle.world_laws.proofs.Appointments.Kept.Appointments.{appoint-alters}
 use Rattle.world_laws.proofs.Appointments.Kept.CallEnds.{gone-keeps}

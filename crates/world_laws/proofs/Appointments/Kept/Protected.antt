@@ -33,7 +33,8 @@ use Rattle.profile_machine.specs.Protected.{entering, ceiling_of, new_protected_
 use Rattle.profile_machine.specs.Steps.{Step, says, changes, looks, ◌▷◌}
 use Rattle.profile_machine.specs.Values.{object_of}
 use Rattle.machine_laws.proofs.Moves.{StepRelation, MoveRelation}
-use Rattle.world_laws.proofs.Appointments.Delays.{Caller, nature}
+use Rattle.world_laws.proofs.Appointments.Delays.{nature}
+use Rattle.ceiling_laws.proofs.Fine.Cores.{Caller}
 use Rattle.world_laws.proofs.Appointments.FineMoves.{FineMoves}
 use Rattle.world_laws.proofs.Appointments.Kept.Calls.{edit_call-alters, unqueued-alters}
 use Rattle.world_laws.proofs.Appointments.Kept.Combinators.{then_at-from, from-keeps, changes-from, branch-keeps, changes-keeps, keeps-from, looks-keeps, says-keeps, sees-keeps, then-keeps}

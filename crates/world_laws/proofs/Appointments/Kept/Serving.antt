@@ -34,7 +34,7 @@ use Rattle.profile_machine.specs.Unwinding.{may_unwind}
 use Rattle.profile_machine.specs.Values.{object_of}
 use Rattle.ann_base.specs.Lists.{is_empty}
 use Rattle.machine_laws.proofs.Moves.{StepRelation, MoveRelation, own}
-use Rattle.world_laws.proofs.Appointments.Delays.{Caller}
+use Rattle.ceiling_laws.proofs.Fine.Cores.{Caller}
 use Rattle.world_laws.proofs.Appointments.FineMoves.{FineMoves}
 use Rattle.world_laws.proofs.Appointments.Kept.CallEnds.{resume-keeps, deliver-keeps}
 use Rattle.world_laws.proofs.Appointments.Kept.Calls.{edit_call-alters, forget_call-alters, with_call-keeps, enqueue-keeps, attempt_with-keeps}

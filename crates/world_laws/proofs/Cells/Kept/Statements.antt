@@ -29,7 +29,7 @@ use Rattle.world_laws.proofs.Cells.Kept.Frames.{goes-keeps, raises-keeps, exit_l
 use Rattle.world_laws.proofs.Cells.Kept.Scopes.{put_cells-alters, write_cell-alters, open_scope-alters}
 use Rattle.world_laws.proofs.Cells.Kept.Appointments.{appoint-alters}
 use Rattle.world_laws.proofs.Cells.Kept.CallEnds.{store-gives}
-use Rattle.ceiling_laws.proofs.Runs.Kept.Statements.{bounds_put}
+use Rattle.ceiling_laws.proofs.Fine.Kept.Statements.{bounds_put}
 
 pub becomes-keeps : {p : Image} (part : Part) (name : Who) (result : Valued World) → Gives p result → Keeps p (becomes part name result)
 unfolding becomes

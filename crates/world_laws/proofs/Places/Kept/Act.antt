@@ -1,25 +1,25 @@
 -- The effect of an action: it leads from what holds at first to what holds behind it.
 use Rattle.ann_base.specs.declared.exceptions.Raised.{Raised}
 use Rattle.ann_base.specs.declared.identities.CallNo.{CallNo}
-use Rattle.world_laws.proofs.Appointments.Delays.{CallerIn}
+use Rattle.ceiling_laws.proofs.Fine.Cores.{CallerIn}
 use Rattle.world_laws.proofs.Places.ActingMoves.{ActingMoves, Lasting, LastingOf}
-use Rattle.world_laws.proofs.Places.Kept.CallEnds.{end_top_abortable-keeps}
-use Rattle.world_laws.proofs.Places.Kept.Calls.{attempt_with-leads}
-use Rattle.world_laws.proofs.Places.Kept.Controlled.{assign_controlled-keeps, end_in_assign-keeps, end_in_finalize-keeps, end_in_initialize-keeps, initialize-keeps}
-use Rattle.world_laws.proofs.Places.Kept.Declarations.{declare-keeps}
+use Rattle.ceiling_laws.proofs.Fine.Kept.CallEnds.{end_top_abortable-keeps}
+use Rattle.ceiling_laws.proofs.Fine.Kept.Calls.{attempt_with-leads}
+use Rattle.ceiling_laws.proofs.Fine.Kept.Controlled.{assign_controlled-keeps, end_in_assign-keeps, end_in_finalize-keeps, end_in_initialize-keeps, initialize-keeps}
+use Rattle.ceiling_laws.proofs.Fine.Kept.Declarations.{declare-keeps}
 use Rattle.world_laws.proofs.Places.Kept.EntryCalls.{asynchronous_select-leads, entry_call-leads, requeue-keeps}
-use Rattle.world_laws.proofs.Places.Kept.Frames.{edit_top-alters, goes-keeps, open_if_ready-keeps, pass_on-keeps, pop-alters, raises-keeps, weakly, with_room-keeps}
+use Rattle.ceiling_laws.proofs.Fine.Kept.Frames.{edit_top-alters, goes-keeps, open_if_ready-keeps, pass_on-keeps, pop-alters, raises-keeps, weakly, with_room-keeps}
 use Rattle.world_laws.proofs.Places.Kept.Handlers.{add_member-keeps, add_to_budget-keeps, call_handler-leads, cancel_budget-keeps, cancel_event-keeps, cancel_timer-keeps, remove_member-keeps, replenish-keeps, set_budget-keeps, set_event-keeps, set_timer-keeps}
 use Rattle.world_laws.proofs.Places.Kept.Priorities.{delay_and_set_deadline-leads, delay_until-leads, set_deadline_of-leads, set_priority-leads, set_quantum-keeps}
 use Rattle.world_laws.proofs.Places.Kept.Protected.{call_operation-leads, call_own_operation-keeps}
 use Rattle.world_laws.proofs.Places.Kept.Rendezvous.{accept-leads, end_in_accept-keeps, goes_later, not_later, selective_accept-leads}
-use Rattle.world_laws.proofs.Places.Kept.Scopes.{drop_appointment-alters, open_scope-alters}
+use Rattle.ceiling_laws.proofs.Fine.Kept.Scopes.{drop_appointment-alters, open_scope-alters}
 use Rattle.world_laws.proofs.Places.Kept.Serving.{end_in_protected-leads}
-use Rattle.world_laws.proofs.Places.Kept.Statements.{assign-keeps, assign_array-keeps, block_statement-keeps, case_statement-keeps, exit_statement-keeps, first_turn-keeps, for_bounds-keeps, if_statement-keeps, later_turn-keeps, null-keeps, put_line-keeps, raise_again-keeps, while_turn-keeps}
-use Rattle.world_laws.proofs.Places.Kept.Subprograms.{call_subprogram-keeps, return-keeps, return_value-keeps}
+use Rattle.ceiling_laws.proofs.Fine.Kept.Statements.{assign-keeps, assign_array-keeps, block_statement-keeps, case_statement-keeps, exit_statement-keeps, first_turn-keeps, for_bounds-keeps, if_statement-keeps, later_turn-keeps, null-keeps, put_line-keeps, raise_again-keeps, while_turn-keeps}
+use Rattle.ceiling_laws.proofs.Fine.Kept.Subprograms.{call_subprogram-keeps, return-keeps, return_value-keeps}
 use Rattle.world_laws.proofs.Places.Kept.Tasking.{abort_statement-keeps, activate-leads, create-leads, end_own_activation-keeps, end_scope_mark-leads, take_terminates-leads, unwind_all-keeps}
-use Rattle.world_laws.proofs.Places.Kept.Tasks.{calls_in, edit_task-alters}
-use Rattle.world_laws.proofs.Places.LevelMoves.{Silences}
+use Rattle.ceiling_laws.proofs.Fine.Kept.Tasks.{calls_in, edit_task-alters}
+use Rattle.ceiling_laws.proofs.Fine.LevelMoves.{Silences}
 use Rattle.world_laws.proofs.Places.Owning.{OwnCall, edit-calls}
 use Rattle.ceiling_laws.proofs.Runs.Triples.{Alters, At, Keeps, Leads, State, With, changes-keeps, changes-leads, cond-leads, for_some-leads, from-leads, from_at, looks-keeps, looks-leads, looks-with, nothing-keeps, option-leads, sees-leads, then-keeps, then-leads, to-leads, unchanged-alters}
 use Rattle.profile_machine.specs.Act.{act, act_frame, act_statement, act_top, act_without, behind_handled, below, call, call_main, drop_trigger, end_abortable_by, end_handled, end_in_abortable, end_mark, end_top, handle_or_pass, handler_for, keeping, wait_for_trigger, waiting_mark}

@@ -4,20 +4,20 @@ use Rattle.ann_base.specs.declared.exceptions.Raised.TheVariants as exception
 use Rattle.ann_base.specs.declared.identities.CallNo.{CallNo}
 use Rattle.ann_base.specs.declared.identities.ObjectNo.{ObjectNo}
 use Rattle.ann_base.specs.declared.identities.TaskNo.{TaskNo}
-use Rattle.world_laws.proofs.Appointments.CallLemmas.{added-caller}
-use Rattle.world_laws.proofs.Places.Cores.{Same}
+use Rattle.ceiling_laws.proofs.Fine.CallLemmas.{added-caller}
+use Rattle.ceiling_laws.proofs.Fine.Cores.{Same}
 use Rattle.world_laws.proofs.Places.ActingMoves.{ActingMoves, Lasting, LastingOf}
-use Rattle.world_laws.proofs.Places.Kept.CallEnds.{gone-keeps}
-use Rattle.world_laws.proofs.Places.Kept.Calls.{edit_call-alters, enqueue-keeps, forget_call-alters, says_call-keeps}
-use Rattle.world_laws.proofs.Places.Kept.Frames.{given-keeps, given-through, goes-keeps, leaves-keeps, raise_if-keeps, raise_if-through, raises-keeps, weakly, with_room-keeps, with_room-through}
+use Rattle.ceiling_laws.proofs.Fine.Kept.CallEnds.{gone-keeps}
+use Rattle.ceiling_laws.proofs.Fine.Kept.Calls.{edit_call-alters, enqueue-keeps, forget_call-alters, says_call-keeps}
+use Rattle.ceiling_laws.proofs.Fine.Kept.Frames.{given-keeps, given-through, goes-keeps, leaves-keeps, raise_if-keeps, raise_if-through, raises-keeps, weakly, with_room-keeps, with_room-through}
 use Rattle.world_laws.proofs.Places.Kept.Protected.{Admitted, admitted_changes, admitted_says, begin_action_on-leads, has_entered, not_yet, serve_call-leads, where_let_inside-leads}
 use Rattle.world_laws.proofs.Places.Kept.Rendezvous.{accepting_sleeps, meet-leads, meet_without_room-leads}
-use Rattle.world_laws.proofs.Places.Kept.Scopes.{appoint-alters}
+use Rattle.ceiling_laws.proofs.Fine.Kept.Scopes.{appoint-alters}
 use Rattle.world_laws.proofs.Places.Kept.Sending.{not_accepted-leads, open_abortable-alters}
-use Rattle.world_laws.proofs.Places.Kept.Tasks.{same-alters, says-keeps}
-use Rattle.world_laws.proofs.Places.Kept.Waking.{asleep_at, asleep_quiet}
-use Rattle.world_laws.proofs.Places.LevelMoves.{Silences}
-use Rattle.world_laws.proofs.Places.SameLemmas.{edit_task-same}
+use Rattle.ceiling_laws.proofs.Fine.Kept.Tasks.{same-alters, says-keeps}
+use Rattle.ceiling_laws.proofs.Fine.Kept.Waking.{asleep_at, asleep_quiet}
+use Rattle.ceiling_laws.proofs.Fine.LevelMoves.{Silences}
+use Rattle.ceiling_laws.proofs.Fine.SameLemmas.{edit_task-same}
 use Rattle.ceiling_laws.proofs.Runs.Triples.{Alters, At, Keeps, Leads, State, With, branch-leads, changes-keeps, from-leads, from_at, looks-keeps, looks-leads, looks-with, nothing-keeps, sees-keeps, sees-leads, then-keeps, then-leads, to-leads, unchanged-alters}
 use Rattle.profile_machine.specs.Calls.{is_full, says_call}
 use Rattle.profile_machine.specs.Dispatching.{active_of, block}
@@ -59,7 +59,7 @@ use Rattle.ceiling_laws.proofs.Runs.ActingMoves.{Admitting}
 use Rattle.machine_laws.proofs.FineMoves.{Naming}
 
 add_call-same : (c : Call) (w : World) → Same w (add_call c w)
-add_call-same c w = record { tasks = refl; agent = refl; objects = refl; drawn_tasks = refl; callers = λ k n m. added-caller c w.calls w.drawn.calls n k m; delays = λ t e. e }
+add_call-same c w = record { tasks = refl; agent = refl; objects = refl; drawn_tasks = refl; drawn_objects = refl; callers = λ k n m. added-caller c w.calls w.drawn.calls n k m; delays = λ t e. e }
 
 module _ {X : State} (quiet : Silences X) where
   pub add_call-alters : (c : Call) → Alters X (add_call c)

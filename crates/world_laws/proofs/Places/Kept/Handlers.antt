@@ -2,14 +2,14 @@
 use Rattle.ann_base.specs.declared.exceptions.Raised.TheVariants as exception
 use Rattle.ann_base.specs.declared.identities.ObjectNo.{ObjectNo}
 use Rattle.world_laws.proofs.Places.ActingMoves.{ActingMoves, Lasting, LastingOf}
-use Rattle.world_laws.proofs.Places.Kept.Frames.{becomes-keeps, given-keeps, goes-keeps, raise_if-keeps}
+use Rattle.ceiling_laws.proofs.Fine.Kept.Frames.{becomes-keeps, given-keeps, goes-keeps, raise_if-keeps}
 use Rattle.world_laws.proofs.Places.Kept.Protected.{Admitted, admitted_starts, begin_action_on-leads, find_held-keeps, has_entered}
-use Rattle.world_laws.proofs.Places.Kept.Scopes.{appoint-alters, drop_appointment-alters, open_scope-alters}
+use Rattle.ceiling_laws.proofs.Fine.Kept.Scopes.{appoint-alters, drop_appointment-alters, open_scope-alters}
 use Rattle.world_laws.proofs.Places.Kept.Serving.{end_release-leads}
-use Rattle.world_laws.proofs.Places.Kept.Statements.{store-gives}
-use Rattle.world_laws.proofs.Places.Kept.Tasks.{edit_task-alters, plain-alters, says-keeps}
-use Rattle.world_laws.proofs.Places.Kept.Waking.{ready-at}
-use Rattle.world_laws.proofs.Places.LevelMoves.{BaseMoves, Silences}
+use Rattle.ceiling_laws.proofs.Fine.Kept.Statements.{store-gives}
+use Rattle.ceiling_laws.proofs.Fine.Kept.Tasks.{edit_task-alters, plain-alters, says-keeps}
+use Rattle.ceiling_laws.proofs.Fine.Kept.Waking.{ready-at}
+use Rattle.ceiling_laws.proofs.Fine.LevelMoves.{BaseMoves, Silences}
 use Rattle.ceiling_laws.proofs.Runs.Triples.{Alters, At, Keeps, Leads, State, branch-leads, changes-keeps, for_some-keeps, from-leads, from_at, looks-keeps, looks-leads, looks-with, nothing-keeps, sees-keeps, then-keeps, then-leads}
 use Rattle.profile_machine.specs.CallEnds.{store}
 use Rattle.profile_machine.specs.Frames.{has_room}

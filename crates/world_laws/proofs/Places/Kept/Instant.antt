@@ -1,17 +1,18 @@
 -- The parts of an instant beside the effect of the action that ended: each step keeps what its parts keep.
 use Rattle.ann_base.specs.declared.identities.CallNo.{CallNo}
 use Rattle.ann_base.specs.declared.identities.TaskNo.{TaskNo}
-use Rattle.world_laws.proofs.Places.Kept.CallEnds.{deliver-keeps, trigger_at-keeps}
-use Rattle.world_laws.proofs.Places.Kept.Calls.{unqueued-alters, with_call-keeps}
-use Rattle.world_laws.proofs.Places.Kept.Frames.{open_sequence-keeps}
+use Rattle.ceiling_laws.proofs.Fine.Kept.CallEnds.{deliver-keeps, trigger_at-keeps}
+use Rattle.ceiling_laws.proofs.Fine.Kept.Calls.{unqueued-alters, with_call-keeps}
+use Rattle.ceiling_laws.proofs.Fine.Kept.Frames.{open_sequence-keeps}
 use Rattle.world_laws.proofs.Places.Kept.Handlers.{clear_timer-alters, interrupt-keeps, release-keeps}
-use Rattle.world_laws.proofs.Places.Kept.Scopes.{dropped-same}
-use Rattle.world_laws.proofs.Places.Kept.Tasks.{plain-alters, says-keeps}
-use Rattle.world_laws.proofs.Places.Kept.Unwinding.{unwind-keeps}
-use Rattle.world_laws.proofs.Places.LevelMoves.{BaseMoves}
-use Rattle.world_laws.proofs.Places.SameLemmas.{edit_task-same}
+use Rattle.ceiling_laws.proofs.Fine.Kept.Scopes.{dropped-same}
+use Rattle.ceiling_laws.proofs.Fine.Kept.Tasks.{plain-alters, says-keeps}
+use Rattle.ceiling_laws.proofs.Fine.Kept.Unwinding.{unwind-keeps}
+use Rattle.ceiling_laws.proofs.Fine.LevelMoves.{BaseMoves}
+use Rattle.ceiling_laws.proofs.Fine.SameLemmas.{edit_task-same}
 use Rattle.ceiling_laws.proofs.Runs.Triples.{Alters, At, Ends, Keeps, Leads, State, With, changes-keeps, changes-leads, for_each-keeps, for_some-keeps, from-leads, from_at, looks-keeps, looks-with, nothing-keeps, then-keeps, then-leads, when-leads}
-use Rattle.world_laws.proofs.Places.Cores.{Same, is_delayed}
+use Rattle.ceiling_laws.proofs.Fine.Cores.{Same}
+use Rattle.ceiling_laws.specs.Cores.{is_delayed}
 use Rattle.profile_machine.specs.Appointments.{drop_appointment, first_due, is_an_event, is_delay_of}
 use Rattle.profile_machine.specs.CallEnds.{trigger_at}
 use Rattle.profile_machine.specs.Dispatching.{active, ready, to_tail}

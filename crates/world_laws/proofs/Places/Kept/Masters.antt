@@ -2,12 +2,12 @@
 use Rattle.ann_base.specs.declared.exceptions.Raised.TheVariants as exception
 use Rattle.ann_base.specs.declared.identities.RegionNo.{RegionNo}
 use Rattle.world_laws.proofs.Places.ActingMoves.{LaterMoves, SelectMoves}
-use Rattle.world_laws.proofs.Places.Kept.CallEnds.{end_call-keeps, gone-keeps}
-use Rattle.world_laws.proofs.Places.Kept.Frames.{leaves-keeps, open_sequence-keeps, raises-keeps}
-use Rattle.world_laws.proofs.Places.Kept.Scopes.{drop_delay-alters}
-use Rattle.world_laws.proofs.Places.Kept.Tasks.{edit_task-alters}
-use Rattle.world_laws.proofs.Places.Kept.Waking.{asleep_at, ready-at}
-use Rattle.world_laws.proofs.Places.LevelMoves.{BaseMoves}
+use Rattle.ceiling_laws.proofs.Fine.Kept.CallEnds.{end_call-keeps, gone-keeps}
+use Rattle.ceiling_laws.proofs.Fine.Kept.Frames.{leaves-keeps, open_sequence-keeps, raises-keeps}
+use Rattle.ceiling_laws.proofs.Fine.Kept.Scopes.{drop_delay-alters}
+use Rattle.ceiling_laws.proofs.Fine.Kept.Tasks.{edit_task-alters}
+use Rattle.ceiling_laws.proofs.Fine.Kept.Waking.{asleep_at, ready-at}
+use Rattle.ceiling_laws.proofs.Fine.LevelMoves.{BaseMoves}
 use Rattle.ceiling_laws.proofs.Runs.Triples.{At, Keeps, Leads, State, With, changes-keeps, for_each-keeps, for_some-keeps, from_at, looks-keeps, looks-leads, looks-with, nothing-keeps, then-keeps, then-leads, when-keeps, when-leads}
 use Rattle.profile_machine.specs.Appointments.{drop_delay}
 use Rattle.profile_machine.specs.Dispatching.{ready}

@@ -3,10 +3,10 @@ use Rattle.ann_base.specs.Results.{◌>>=◌}
 use Rattle.ann_base.specs.declared.exceptions.Raised.TheVariants as exception
 use Rattle.ann_base.specs.declared.identities.TaskNo.{TaskNo}
 use Rattle.world_laws.proofs.Places.ActingMoves.{ActingMoves, Lasting, LastingOf}
-use Rattle.world_laws.proofs.Places.Kept.Calls.{edit_call-alters, edit_queue-alters, with_call-keeps}
-use Rattle.world_laws.proofs.Places.Kept.Frames.{given-keeps, given-through, goes-keeps, raise_if-through, raises-keeps, weakly}
-use Rattle.world_laws.proofs.Places.Kept.Tasks.{plain-alters, says-keeps}
-use Rattle.world_laws.proofs.Places.LevelMoves.{Silences}
+use Rattle.ceiling_laws.proofs.Fine.Kept.Calls.{edit_call-alters, edit_queue-alters, with_call-keeps}
+use Rattle.ceiling_laws.proofs.Fine.Kept.Frames.{given-keeps, given-through, goes-keeps, raise_if-through, raises-keeps, weakly}
+use Rattle.ceiling_laws.proofs.Fine.Kept.Tasks.{plain-alters, says-keeps}
+use Rattle.ceiling_laws.proofs.Fine.LevelMoves.{Silences}
 use Rattle.ceiling_laws.proofs.Runs.Triples.{Alters, At, Keeps, Leads, State, changes-keeps, for_some-keeps, looks-keeps, looks-leads, nothing-keeps, nothing-leads, sees-keeps, sees-leads, then-keeps, then-leads, to-leads, unchanged-alters, when-keeps}
 use Rattle.profile_machine.specs.Calls.{place_of_entry, put_call, take_call}
 use Rattle.profile_machine.specs.Dispatching.{active_of, block, to_tail}

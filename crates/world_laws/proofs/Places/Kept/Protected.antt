@@ -4,15 +4,15 @@ use Rattle.ann_base.specs.declared.exceptions.Raised.TheVariants as exception
 use Rattle.ann_base.specs.declared.identities.CallNo.{CallNo}
 use Rattle.ann_base.specs.declared.identities.ObjectNo.{ObjectNo}
 use Rattle.world_laws.proofs.Places.ActingMoves.{ActingMoves, Lasting, LastingOf}
-use Rattle.world_laws.proofs.Places.Kept.Calls.{edit_call-alters, unqueued-alters}
-use Rattle.world_laws.proofs.Places.Kept.Frames.{edit_top-alters, given-through, push-alters, raise_if-through, raises-keeps, weakly, with_room-keeps, with_room-through}
-use Rattle.world_laws.proofs.Places.Kept.Scopes.{open_scope-alters}
-use Rattle.world_laws.proofs.Places.Kept.Subprograms.{begin_body-keeps, handing-keeps, handing-through}
-use Rattle.world_laws.proofs.Places.Kept.Tasks.{edit_object-alters, says-keeps}
-use Rattle.world_laws.proofs.Places.LevelMoves.{Silences}
-use Rattle.world_laws.proofs.Places.SameLemmas.{edit_task-same}
+use Rattle.ceiling_laws.proofs.Fine.Kept.Calls.{edit_call-alters, unqueued-alters}
+use Rattle.ceiling_laws.proofs.Fine.Kept.Frames.{edit_top-alters, given-through, push-alters, raise_if-through, raises-keeps, weakly, with_room-keeps, with_room-through}
+use Rattle.ceiling_laws.proofs.Fine.Kept.Scopes.{open_scope-alters}
+use Rattle.ceiling_laws.proofs.Fine.Kept.Subprograms.{begin_body-keeps, handing-keeps, handing-through}
+use Rattle.ceiling_laws.proofs.Fine.Kept.Tasks.{edit_object-alters, says-keeps}
+use Rattle.ceiling_laws.proofs.Fine.LevelMoves.{Silences}
+use Rattle.ceiling_laws.proofs.Fine.SameLemmas.{edit_task-same}
 use Rattle.ceiling_laws.proofs.Runs.Triples.{Alters, At, Ends, Keeps, Leads, State, With, branch-leads, changes-keeps, changes-leads, from-leads, from_at, looks-keeps, looks-leads, looks-with, sees-keeps, sees-leads, then-keeps, then-leads, to-leads}
-use Rattle.world_laws.proofs.Places.Cores.{Same}
+use Rattle.ceiling_laws.proofs.Fine.Cores.{Same}
 use Rattle.profile_machine.specs.Act.{call}
 use Rattle.profile_machine.specs.Frames.{edit_first, edit_top, goes, goes_on, new_frame, raises, with_mark}
 use Rattle.profile_machine.specs.Handlers.{release}

@@ -3,15 +3,15 @@ use Rattle.ann_base.specs.declared.exceptions.Raised.TheVariants as exception
 use Rattle.ann_base.specs.declared.identities.CallNo.{CallNo}
 use Rattle.ann_base.specs.declared.identities.TaskNo.{TaskNo}
 use Rattle.world_laws.proofs.Places.ActingMoves.{ActingMoves, Lasting, LastingOf}
-use Rattle.world_laws.proofs.Places.Kept.CallEnds.{deliver-keeps, gone-keeps}
-use Rattle.world_laws.proofs.Places.Kept.Calls.{edit_call-alters, enqueue-keeps, keeps_sending-caller, keeps_sending-number, with_call-keeps}
-use Rattle.world_laws.proofs.Places.Kept.Frames.{given-through, goes-keeps, open_sequence-keeps, pass_on-keeps, pop-alters, push-alters, raise_if-through, raises-keeps, weakly}
+use Rattle.ceiling_laws.proofs.Fine.Kept.CallEnds.{deliver-keeps, gone-keeps}
+use Rattle.ceiling_laws.proofs.Fine.Kept.Calls.{edit_call-alters, enqueue-keeps, keeps_sending-caller, keeps_sending-number, with_call-keeps}
+use Rattle.ceiling_laws.proofs.Fine.Kept.Frames.{given-through, goes-keeps, open_sequence-keeps, pass_on-keeps, pop-alters, push-alters, raise_if-through, raises-keeps, weakly}
 use Rattle.world_laws.proofs.Places.Kept.Protected.{begin_call-keeps}
-use Rattle.world_laws.proofs.Places.Kept.Scopes.{begin_scope-alters, drop_delay-alters, end_scope-alters}
+use Rattle.ceiling_laws.proofs.Fine.Kept.Scopes.{begin_scope-alters, drop_delay-alters, end_scope-alters}
 use Rattle.world_laws.proofs.Places.Kept.Sending.{begin_abortable-keeps, send_on-keeps, sent_not_begun-keeps}
-use Rattle.world_laws.proofs.Places.Kept.Tasks.{says-keeps}
-use Rattle.world_laws.proofs.Places.Kept.Waking.{Asleep, asleep_at, asleep_quiet}
-use Rattle.world_laws.proofs.Places.LevelMoves.{BaseMoves, Silences}
+use Rattle.ceiling_laws.proofs.Fine.Kept.Tasks.{says-keeps}
+use Rattle.ceiling_laws.proofs.Fine.Kept.Waking.{Asleep, asleep_at, asleep_quiet}
+use Rattle.ceiling_laws.proofs.Fine.LevelMoves.{BaseMoves, Silences}
 use Rattle.ceiling_laws.proofs.Runs.Triples.{Alters, At, Keeps, Leads, State, With, branch-leads, changes-keeps, for_some-keeps, from-leads, from_at, looks-keeps, looks-leads, looks-with, nothing-keeps, sees-leads, then-keeps, then-leads, to-leads, unchanged-alters}
 use Rattle.profile_machine.specs.Appointments.{drop_delay}
 use Rattle.profile_machine.specs.CallEnds.{deliver}

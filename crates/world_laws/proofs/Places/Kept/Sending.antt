@@ -1,13 +1,13 @@
 -- Calls that are sent on, and abortable parts that begin: each step keeps what its parts keep.
 use Rattle.ann_base.specs.declared.identities.CallNo.{CallNo}
 use Rattle.world_laws.proofs.Places.ActingMoves.{ActingMoves, Lasting, LastingOf}
-use Rattle.world_laws.proofs.Places.Kept.CallEnds.{deliver-keeps, resume-keeps}
-use Rattle.world_laws.proofs.Places.Kept.Calls.{attempt_with-keeps, edit_call-alters, says_call-keeps, unqueued-alters, with_call-keeps}
-use Rattle.world_laws.proofs.Places.Kept.Frames.{push-alters}
-use Rattle.world_laws.proofs.Places.Kept.Scopes.{appoint-alters}
-use Rattle.world_laws.proofs.Places.Kept.Tasks.{says-keeps}
-use Rattle.world_laws.proofs.Places.Kept.Waking.{asleep_at, asleep_quiet}
-use Rattle.world_laws.proofs.Places.LevelMoves.{BaseMoves, Silences}
+use Rattle.ceiling_laws.proofs.Fine.Kept.CallEnds.{deliver-keeps, resume-keeps}
+use Rattle.ceiling_laws.proofs.Fine.Kept.Calls.{attempt_with-keeps, edit_call-alters, says_call-keeps, unqueued-alters, with_call-keeps}
+use Rattle.ceiling_laws.proofs.Fine.Kept.Frames.{push-alters}
+use Rattle.ceiling_laws.proofs.Fine.Kept.Scopes.{appoint-alters}
+use Rattle.ceiling_laws.proofs.Fine.Kept.Tasks.{says-keeps}
+use Rattle.ceiling_laws.proofs.Fine.Kept.Waking.{asleep_at, asleep_quiet}
+use Rattle.ceiling_laws.proofs.Fine.LevelMoves.{BaseMoves, Silences}
 use Rattle.ceiling_laws.proofs.Runs.Triples.{Alters, At, Keeps, Leads, State, changes-keeps, from_at, looks-keeps, looks-leads, looks-with, nothing-keeps, then-keeps, then-leads, to-leads, unchanged-alters}
 use Rattle.profile_machine.specs.Act.{call}
 use Rattle.profile_machine.specs.CallEnds.{abortable_depth, resume, waits_for_call}

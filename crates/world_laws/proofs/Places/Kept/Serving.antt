@@ -3,16 +3,16 @@ use Rattle.ann_base.specs.declared.exceptions.Raised.{Raised}
 use Rattle.ann_base.specs.declared.exceptions.Raised.TheVariants as exception
 use Rattle.ann_base.specs.declared.identities.CallNo.{CallNo}
 use Rattle.ann_base.specs.declared.identities.ObjectNo.{ObjectNo}
-use Rattle.world_laws.proofs.Appointments.Delays.{Caller}
+use Rattle.ceiling_laws.proofs.Fine.Cores.{Caller}
 use Rattle.world_laws.proofs.Places.ActingMoves.{ActingMoves, Lasting, LastingOf}
-use Rattle.world_laws.proofs.Places.Kept.CallEnds.{deliver-keeps, resume-keeps}
+use Rattle.ceiling_laws.proofs.Fine.Kept.CallEnds.{deliver-keeps, resume-keeps}
 use Rattle.profile_machine.specs.CallEnds.{deliver}
-use Rattle.world_laws.proofs.Places.Kept.Calls.{attempt_with-leads, edit_call-alters, enqueue-keeps, forget_call-alters, keeps_sending-caller, keeps_sending-number, with_call-keeps}
-use Rattle.world_laws.proofs.Places.Kept.Frames.{edit_top-alters, leaves-keeps, pass_on-keeps, pop-alters}
+use Rattle.ceiling_laws.proofs.Fine.Kept.Calls.{attempt_with-leads, edit_call-alters, enqueue-keeps, forget_call-alters, keeps_sending-caller, keeps_sending-number, with_call-keeps}
+use Rattle.ceiling_laws.proofs.Fine.Kept.Frames.{edit_top-alters, leaves-keeps, pass_on-keeps, pop-alters}
 use Rattle.world_laws.proofs.Places.Kept.Protected.{edit_top_protected-alters, serve_call-leads}
 use Rattle.world_laws.proofs.Places.Kept.Sending.{begin_abortable-keeps, open_abortable-alters, send_on-keeps, sent_not_begun-keeps, wait_for_call-leads}
-use Rattle.world_laws.proofs.Places.Kept.Tasks.{edit_object-alters, plain-alters, says-keeps}
-use Rattle.world_laws.proofs.Places.LevelMoves.{BaseMoves, Silences}
+use Rattle.ceiling_laws.proofs.Fine.Kept.Tasks.{edit_object-alters, plain-alters, says-keeps}
+use Rattle.ceiling_laws.proofs.Fine.LevelMoves.{BaseMoves, Silences}
 use Rattle.world_laws.proofs.Places.Owning.{OwnCall, calling_deferred, calling_loses, own_moves, owning}
 use Rattle.ceiling_laws.proofs.Runs.Triples.{Alters, At, Keeps, Leads, State, With, changes-keeps, for_some-leads, from-leads, from_at, looks-leads, looks-with, nothing-keeps, nothing-leads, then-keeps, then-leads, to-leads, when-leads}
 use Rattle.profile_machine.specs.Act.{call}

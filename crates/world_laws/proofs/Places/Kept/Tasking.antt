@@ -2,15 +2,15 @@
 use Rattle.ann_base.specs.declared.exceptions.Raised.TheVariants as exception
 use Rattle.ann_base.specs.declared.identities.RegionNo.{RegionNo}
 use Rattle.world_laws.proofs.Places.ActingMoves.{ActingMoves, AreApart, IsNew, Lasting, LastingOf, SelectMoves}
-use Rattle.world_laws.proofs.Places.Kept.Controlled.{edit_top_scope-alters, finalize-keeps}
-use Rattle.world_laws.proofs.Places.Kept.Frames.{edit_top-alters, given-keeps, given-through, goes-keeps, pass_on-keeps, pop-alters, raise_if-keeps, raise_if-through, raises-keeps, weakly}
+use Rattle.ceiling_laws.proofs.Fine.Kept.Controlled.{edit_top_scope-alters, finalize-keeps}
+use Rattle.ceiling_laws.proofs.Fine.Kept.Frames.{edit_top-alters, given-keeps, given-through, goes-keeps, pass_on-keeps, pop-alters, raise_if-keeps, raise_if-through, raises-keeps, weakly}
 use Rattle.world_laws.proofs.Places.Kept.Masters.{complete-keeps, end_activation-keeps, fits_part, leave_by_terminate-keeps, terminate-leads}
-use Rattle.world_laws.proofs.Places.Kept.Scopes.{end_scope-alters, open_scope-alters}
+use Rattle.ceiling_laws.proofs.Fine.Kept.Scopes.{end_scope-alters, open_scope-alters}
 use Rattle.world_laws.proofs.Places.Kept.Serving.{end_body_of_entry-keeps}
-use Rattle.world_laws.proofs.Places.Kept.Subprograms.{end_subprogram-keeps}
-use Rattle.world_laws.proofs.Places.Kept.Tasks.{edit_task-alters, plain-alters, says-keeps}
-use Rattle.world_laws.proofs.Places.Kept.Unwinding.{leave_by_abort-keeps, strike_outermost-alters, unwind-keeps}
-use Rattle.world_laws.proofs.Places.LevelMoves.{BaseMoves, Silences}
+use Rattle.ceiling_laws.proofs.Fine.Kept.Subprograms.{end_subprogram-keeps}
+use Rattle.ceiling_laws.proofs.Fine.Kept.Tasks.{edit_task-alters, plain-alters, says-keeps}
+use Rattle.ceiling_laws.proofs.Fine.Kept.Unwinding.{leave_by_abort-keeps, strike_outermost-alters, unwind-keeps}
+use Rattle.ceiling_laws.proofs.Fine.LevelMoves.{BaseMoves, Silences}
 use Rattle.ceiling_laws.proofs.Runs.Triples.{Alters, At, Keeps, Leads, State, branch-keeps, branch-leads, changes-keeps, for_each-keeps, for_some-keeps, from-leads, looks-keeps, looks-leads, looks-with, nothing-keeps, nothing-leads, sees-keeps, then-keeps, then-leads, to-leads, when-keeps, when-leads}
 use Rattle.profile_machine.specs.Controlled.{finalize, next_to_finalize}
 use Rattle.profile_machine.specs.Dispatching.{active_of, says_block}

@@ -28,7 +28,7 @@ use Rattle.profile_machine.specs.Scopes.{put_cells}
 use Rattle.world_laws.proofs.Queues.Kept.Combinators.{Alters, Gives, Keeps, Quiets, bind-gives, changes-keeps, looks-from, looks-keeps, nothing-keeps, ok-gives, says-keeps, sees-keeps, then-keeps}
 use Rattle.world_laws.proofs.Queues.Kept.Frames.{appoint-keeps, block-keeps, edit_cells-quiets, exit_loop-keeps, given-keeps, given_world-from, goes-keeps, open_scope-alters, raise_if-keeps, raises-keeps, store-gives, to_tail-keeps, with_room-keeps, write_cell-alters, write_cell-quiets}
 use Rattle.world_laws.proofs.Queues.Standing.{Kind, calm-then}
-use Rattle.ceiling_laws.proofs.Runs.Kept.Statements.{bounds_put}
+use Rattle.ceiling_laws.proofs.Fine.Kept.Statements.{bounds_put}
 
 pub null-keeps : {E : Kind} (p : Image) (name : Who) (s : StatementNo) → Keeps E name (null p name s)
 unfolding null

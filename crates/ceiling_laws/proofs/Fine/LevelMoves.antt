@@ -1,7 +1,7 @@
 -- What changes that the machine makes of a world, and the lines that it says with them, keep: of all steps but those by which
 -- somebody is placed, blocks, or gets another priority or deadline.
 use Rattle.ceiling_laws.proofs.Runs.Triples.{Leads, State, With}
-use Rattle.world_laws.proofs.Places.Cores.{Same}
+use Rattle.ceiling_laws.proofs.Fine.Cores.{Same}
 use Rattle.profile_machine.specs.Dispatching.{ready}
 use Rattle.profile_machine.specs.Inheritance.{inherit, same_cause}
 use Rattle.profile_machine.specs.Scopes.{end_scope}

@@ -8,7 +8,7 @@ use Rattle.profile_machine.specs.declared.world.calls.Call.{Call}
 use Rattle.profile_machine.specs.Calls.{is_call}
 use Rattle.profile_machine.specs.EntryCalls.{numbered}
 use Rattle.profile_machine.specs.Words.{edit_where, without}
-use Rattle.world_laws.proofs.Appointments.Delays.{CallerIn}
+use Rattle.ceiling_laws.proofs.Fine.Cores.{CallerIn}
 use Rattle.line_laws.proofs.Leaving.CallLemmas.{edited-before, gone-before, not_newer}
 
 pub edited-caller : (c : CallNo) (f : Call → Call) (calls : List Call) (drawn : ℕ) → ((x : Call) → (f x).number ≡ x.number) → ((x : Call) → (f x).caller ≡ x.caller) → (name : Who) (k : CallNo) → CallerIn calls drawn k name → CallerIn (edit_where (is_call c) f calls) drawn k name

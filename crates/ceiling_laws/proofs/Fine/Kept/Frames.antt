@@ -2,11 +2,11 @@
 use Rattle.ann_base.specs.Results.{◌>>=◌}
 use Rattle.ann_base.specs.declared.exceptions.Raised.{Raised}
 use Rattle.ann_base.specs.declared.exceptions.Raised.TheVariants as exception
-use Rattle.world_laws.proofs.Places.Kept.Tasks.{edit_task-alters, says-keeps}
-use Rattle.world_laws.proofs.Places.LevelMoves.{Silences}
-use Rattle.world_laws.proofs.Places.SameLemmas.{same_then}
+use Rattle.ceiling_laws.proofs.Fine.Kept.Tasks.{edit_task-alters, says-keeps}
+use Rattle.ceiling_laws.proofs.Fine.LevelMoves.{Silences}
+use Rattle.ceiling_laws.proofs.Fine.SameLemmas.{same_then}
 use Rattle.ceiling_laws.proofs.Runs.Triples.{Alters, At, Keeps, Leads, State, branch-keeps, branch-leads, changes-keeps, changes-leads, from-leads, from_at, looks-keeps, looks-leads, nothing-keeps, then-keeps, then-leads, to-leads, when-keeps}
-use Rattle.world_laws.proofs.Places.Cores.{Same}
+use Rattle.ceiling_laws.proofs.Fine.Cores.{Same}
 use Rattle.profile_machine.specs.Frames.{edit_first, edit_top, exit_loop, given, goes, goes_on, has_room, leaves, left_so, new_frame, onward_of, open_at, open_handled, open_if_ready, open_sequence, pass_on, pop, push, raise_if, raises, stands_in, top_of, with_room}
 use Rattle.profile_machine.specs.Operators.{Valued}
 use Rattle.profile_machine.specs.Program.{form_of, next_of}

@@ -1,11 +1,11 @@
 -- Changes of tasks and lines that tell nothing of levels: each step keeps what its parts keep.
 use Rattle.ann_base.specs.declared.identities.ObjectNo.{ObjectNo}
 use Rattle.ann_base.specs.declared.identities.TaskNo.{TaskNo}
-use Rattle.world_laws.proofs.Appointments.Delays.{CallerIn}
-use Rattle.world_laws.proofs.Places.LevelMoves.{Silences}
-use Rattle.world_laws.proofs.Places.SameLemmas.{edit_object-same, edit_task-same}
+use Rattle.ceiling_laws.proofs.Fine.Cores.{CallerIn, Same, core}
+use Rattle.ceiling_laws.specs.Cores.{ceiling_in, is_delayed}
+use Rattle.ceiling_laws.proofs.Fine.LevelMoves.{Silences}
+use Rattle.ceiling_laws.proofs.Fine.SameLemmas.{edit_object-same, edit_task-same}
 use Rattle.ceiling_laws.proofs.Runs.Triples.{Alters, Ends, Keeps, State}
-use Rattle.world_laws.proofs.Places.Cores.{Same, ceiling_in, core, is_delayed}
 use Rattle.profile_machine.specs.Calls.{edit_object}
 use Rattle.profile_machine.specs.Notation.{agent}
 use Rattle.profile_machine.specs.Steps.{says}
@@ -25,15 +25,19 @@ use Rattle.ceiling_laws.proofs.Runs.LevelMoves.{is_apart}
 abbrev pub calls_in : World → List Call × ℕ
 calls_in w = (w.calls, w.drawn.calls)
 
+-- the numbers of the last task and of the last object
+abbrev pub drawn_in : World → ℕ × ℕ
+drawn_in w = (w.drawn.tasks, w.drawn.objects)
+
 module _ {X : State} (quiet : Silences X) where
   pub same-alters : (f : World → World) → ((w : World) → Same w (f w)) → Alters X f
   same-alters f same = record { turns = λ w said h. quiet.silently w (f w) said (same w) h }
 
   -- the change touches none of these lists
-  pub plain-alters : (f : World → World) → ((w : World) → (f w).tasks ≡ w.tasks) → ((w : World) → (f w).agent ≡ w.agent) → ((w : World) → (f w).objects ≡ w.objects) → ((w : World) → (f w).drawn.tasks ≡ w.drawn.tasks) → ((w : World) → calls_in (f w) ≡ calls_in w)
+  pub plain-alters : (f : World → World) → ((w : World) → (f w).tasks ≡ w.tasks) → ((w : World) → (f w).agent ≡ w.agent) → ((w : World) → (f w).objects ≡ w.objects) → ((w : World) → drawn_in (f w) ≡ drawn_in w) → ((w : World) → calls_in (f w) ≡ calls_in w)
       → ((w : World) (t : TaskNo) → is_delayed t (f w) ≡ true → is_delayed t w ≡ true) → Alters X f
-  plain-alters f tasks agent objects drawn_tasks calls delays =
-      same-alters f (λ w. record { tasks = ap (map core) (tasks w); agent = ap core (agent w); objects = ap (map ceiling_in) (objects w); drawn_tasks = drawn_tasks w; callers = λ c n k. subst (λ q. CallerIn q.0 q.1 c n) (sym (calls w)) k; delays = delays w })
+  plain-alters f tasks agent objects drawn calls delays =
+      same-alters f (λ w. record { tasks = ap (map core) (tasks w); agent = ap core (agent w); objects = ap (map ceiling_in) (objects w); drawn_tasks = ap (λ d. d.0) (drawn w); drawn_objects = ap (λ d. d.1) (drawn w); callers = λ c n k. subst (λ q. CallerIn q.0 q.1 c n) (sym (calls w)) k; delays = delays w })
 
   pub edit_task-alters : (name : Who) (f : Task → Task) → ((t : Task) → core (f t) ≡ core t) → Alters X (edit_task name f)
   edit_task-alters name f same = same-alters (edit_task name f) (λ w. edit_task-same name f w same)

@@ -1,10 +1,10 @@
 -- Initialize, Finalize and assignment: each step keeps what its parts keep.
 use Rattle.ann_base.specs.declared.exceptions.Raised.TheVariants as exception
 use Rattle.ann_base.specs.declared.identities.RegionNo.{RegionNo}
-use Rattle.ceiling_laws.proofs.Runs.Kept.Frames.{edit_top-alters, given-keeps, goes-keeps, leaves-keeps, pass_on-keeps, pop-alters, push-alters, raises-keeps, with_room-keeps}
-use Rattle.ceiling_laws.proofs.Runs.Kept.Scopes.{open_scope-alters, write_cell-alters}
-use Rattle.ceiling_laws.proofs.Runs.Kept.Tasks.{plain-alters, says-keeps}
-use Rattle.ceiling_laws.proofs.Runs.LevelMoves.{Silences}
+use Rattle.ceiling_laws.proofs.Fine.Kept.Frames.{edit_top-alters, given-keeps, goes-keeps, leaves-keeps, pass_on-keeps, pop-alters, push-alters, raises-keeps, with_room-keeps}
+use Rattle.ceiling_laws.proofs.Fine.Kept.Scopes.{open_scope-alters, write_cell-alters}
+use Rattle.ceiling_laws.proofs.Fine.Kept.Tasks.{plain-alters, says-keeps}
+use Rattle.ceiling_laws.proofs.Fine.LevelMoves.{Silences}
 use Rattle.ceiling_laws.proofs.Runs.Triples.{Alters, Keeps, State, branch-keeps, changes-keeps, cond-keeps, looks-keeps, nothing-keeps, sees-keeps, then-keeps, when-keeps}
 use Rattle.profile_machine.specs.Controlled.{adjust_by, assign_controlled, assign_located, assign_registered, begin_assignment, behind_finalize, copy_object, do_step, edit_assign, edit_scope_mark, edit_top_assign, edit_top_scope, end_in_assign, end_in_finalize, end_in_initialize, finalize_now, finalize, finalize_by, finalize_has_raised, finalize_target_by, first_place, has_room_to_adjust, has_room_to_finalize, initialize, initialize_by, is_assignment, leave_without_room, no_longer_registered, open_finalize, open_operation, register, registered_as, registered_object, registers, step_with, top_region}
 use Rattle.profile_machine.specs.Frames.{pass_on, top_of, with_mark}

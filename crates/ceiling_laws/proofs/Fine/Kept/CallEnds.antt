@@ -1,16 +1,16 @@
 -- How calls end: each step keeps what its parts keep.
 use Rattle.ann_base.specs.declared.identities.CallNo.{CallNo}
 use Rattle.ann_base.specs.declared.identities.TaskNo.{TaskNo}
-use Rattle.world_laws.proofs.Places.Kept.Calls.{edit_call-alters, forget_call-alters, unqueued-alters, with_call-keeps}
-use Rattle.world_laws.proofs.Places.Kept.Frames.{Gives, edit_frames-alters, goes-keeps, leaves-keeps, open_sequence-keeps, pass_on-keeps, pop-alters, raises-keeps}
-use Rattle.world_laws.proofs.Places.Kept.Statements.{store-gives}
-use Rattle.world_laws.proofs.Places.Kept.Tasks.{says-keeps}
-use Rattle.world_laws.proofs.Places.Kept.Unwinding.{unwind-keeps}
-use Rattle.world_laws.proofs.Places.Kept.Waking.{ready-at}
-use Rattle.world_laws.proofs.Places.LevelMoves.{BaseMoves, Silences}
-use Rattle.world_laws.proofs.Places.SameLemmas.{same_self, same_then}
+use Rattle.ceiling_laws.proofs.Fine.Kept.Calls.{edit_call-alters, forget_call-alters, unqueued-alters, with_call-keeps}
+use Rattle.ceiling_laws.proofs.Fine.Kept.Frames.{Gives, edit_frames-alters, goes-keeps, leaves-keeps, open_sequence-keeps, pass_on-keeps, pop-alters, raises-keeps}
+use Rattle.ceiling_laws.proofs.Fine.Kept.Statements.{store-gives}
+use Rattle.ceiling_laws.proofs.Fine.Kept.Tasks.{says-keeps}
+use Rattle.ceiling_laws.proofs.Fine.Kept.Unwinding.{unwind-keeps}
+use Rattle.ceiling_laws.proofs.Fine.Kept.Waking.{ready-at}
+use Rattle.ceiling_laws.proofs.Fine.LevelMoves.{BaseMoves, Silences}
+use Rattle.ceiling_laws.proofs.Fine.SameLemmas.{same_self, same_then}
 use Rattle.ceiling_laws.proofs.Runs.Triples.{Alters, At, Keeps, Leads, State, branch-keeps, changes-keeps, changes-leads, from_at, looks-keeps, looks-with, nothing-keeps, then-keeps, then-leads, unchanged-alters, when-keeps, when-leads}
-use Rattle.world_laws.proofs.Places.Cores.{Same}
+use Rattle.ceiling_laws.proofs.Fine.Cores.{Same}
 use Rattle.profile_machine.specs.Act.{below}
 use Rattle.profile_machine.specs.CallEnds.{abortable_depth, behind_abortable, copy_back, deliver, edit_abortable, edit_abortable_at, edit_depth, edit_frame, end_abortable, end_abortable_in, end_call, end_for, end_for_abortable, end_for_caller, end_top_abortable, end_wait, end_with, ended_by_itself, forget_trigger, go_by_outcome, gone, is_cancelled, or_stored, resume, run_triggered, store, trigger_at, trigger_outcome, triggered_mark, waited_mark, waits_for_call, waits_for_end, with_outcome, with_results}
 use Rattle.profile_machine.specs.Dispatching.{ready}

@@ -1,11 +1,11 @@
 -- Calls of subprograms: each step keeps what its parts keep.
 use Rattle.ann_base.specs.Results.{◌>>=◌}
 use Rattle.ann_base.specs.declared.identities.CallNo.{CallNo}
-use Rattle.world_laws.proofs.Places.Kept.Calls.{edit_call-alters}
-use Rattle.world_laws.proofs.Places.Kept.Frames.{Gives, becomes-keeps, bind-gives, given-keeps, given-through, given_world-keeps, goes-keeps, leaves-keeps, ok-gives, raise_if-keeps, with_room-keeps}
-use Rattle.world_laws.proofs.Places.Kept.Scopes.{cells-same, open_scope-alters}
-use Rattle.world_laws.proofs.Places.Kept.Statements.{store-gives}
-use Rattle.world_laws.proofs.Places.LevelMoves.{Silences}
+use Rattle.ceiling_laws.proofs.Fine.Kept.Calls.{edit_call-alters}
+use Rattle.ceiling_laws.proofs.Fine.Kept.Frames.{Gives, becomes-keeps, bind-gives, given-keeps, given-through, given_world-keeps, goes-keeps, leaves-keeps, ok-gives, raise_if-keeps, with_room-keeps}
+use Rattle.ceiling_laws.proofs.Fine.Kept.Scopes.{cells-same, open_scope-alters}
+use Rattle.ceiling_laws.proofs.Fine.Kept.Statements.{store-gives}
+use Rattle.ceiling_laws.proofs.Fine.LevelMoves.{Silences}
 use Rattle.ceiling_laws.proofs.Runs.Triples.{Alters, Keeps, Leads, State, changes-keeps, looks-keeps, looks-with, nothing-keeps, sees-keeps, sees-leads, then-keeps, unchanged-alters}
 use Rattle.profile_machine.specs.CallEnds.{store}
 use Rattle.profile_machine.specs.Frames.{leaves}

@@ -1,13 +1,13 @@
 -- Declarations of objects, but of protected ones: each step keeps what its parts keep.
 use Rattle.ann_base.specs.Results.{◌>>=◌}
 use Rattle.ann_base.specs.declared.exceptions.Raised.TheVariants as exception
-use Rattle.ceiling_laws.proofs.Runs.Kept.Frames.{Gives, bind-gives, given-leads_at, given_world-keeps, goes-keeps, next-gives, ok-gives}
-use Rattle.ceiling_laws.proofs.Runs.Kept.Scopes.{cells-same, copy_cells-same}
-use Rattle.ceiling_laws.proofs.Runs.Kept.Statements.{store-gives}
-use Rattle.ceiling_laws.proofs.Runs.LevelMoves.{Silences}
-use Rattle.ceiling_laws.proofs.Runs.SameLemmas.{same_self, same_then}
+use Rattle.ceiling_laws.proofs.Fine.Kept.Frames.{Gives, bind-gives, given-leads_at, given_world-keeps, goes-keeps, next-gives, ok-gives}
+use Rattle.ceiling_laws.proofs.Fine.Kept.Scopes.{cells-same, copy_cells-same}
+use Rattle.ceiling_laws.proofs.Fine.Kept.Statements.{store-gives}
+use Rattle.ceiling_laws.proofs.Fine.LevelMoves.{Silences}
+use Rattle.ceiling_laws.proofs.Fine.SameLemmas.{same_self, same_then}
 use Rattle.ceiling_laws.proofs.Runs.Triples.{Keeps, State, looks-with, then-keeps}
-use Rattle.ceiling_laws.specs.Cores.{Same}
+use Rattle.ceiling_laws.proofs.Fine.Cores.{Same}
 use Rattle.profile_machine.specs.CallEnds.{store}
 use Rattle.profile_machine.specs.Declarations.{budget_declared, components_initialized, controlled_declared, declare, declare_by, declare_protected, declare_quietly, declared, default_cells, event_declared, event_drawn, initial_of, initialized, located_here, object_declared, says_object, set_defaults, set_thing, timed_task, timer_declared, with_budget, with_object, with_timer}
 use Rattle.profile_machine.specs.Frames.{goes}
@@ -76,17 +76,17 @@ thing_declared-gives q d v next a =
     ok-gives q.world (set_thing q.program l v next) (same_then q.world next (set_thing q.program l v next) a (set_thing-same q.program l v next)))
 
 event_declared-gives : (q : Seen) (d : DeclNo) → Gives q.world (event_declared q d)
-event_declared-gives q d = thing_declared-gives q d (Thing q.world.drawn.events) (record q.world { drawn = event_drawn q.world.drawn }) (record { tasks = refl; agent = refl; objects = refl; drawn_tasks = refl; drawn_objects = refl; delays = λ t e. e })
+event_declared-gives q d = thing_declared-gives q d (Thing q.world.drawn.events) (record q.world { drawn = event_drawn q.world.drawn }) (record { tasks = refl; agent = refl; objects = refl; drawn_tasks = refl; drawn_objects = refl; callers = λ c n k. k; delays = λ t e. e })
 
 budget_declared-gives : (q : Seen) (d : DeclNo) → Gives q.world (budget_declared q d)
-budget_declared-gives q d = thing_declared-gives q d (Thing (length q.world.budgets)) (with_budget q.world) (record { tasks = refl; agent = refl; objects = refl; drawn_tasks = refl; drawn_objects = refl; delays = λ t e. e })
+budget_declared-gives q d = thing_declared-gives q d (Thing (length q.world.budgets)) (with_budget q.world) (record { tasks = refl; agent = refl; objects = refl; drawn_tasks = refl; drawn_objects = refl; callers = λ c n k. k; delays = λ t e. e })
 
 timer_declared-gives : (q : Seen) (d task : DeclNo) → Gives q.world (timer_declared q d task)
 timer_declared-gives q d task =
     let number = Thing (length q.world.timers) in
     bind-gives (timed_task q task) (λ t. unless (not (leb 256 (length q.world.timers))) exception.TimerResource t >>= λ u. located_here q d >>= λ l. Ok (set_thing q.program l number (with_timer u q.world))) q.world (λ t.
     bind-gives (unless (not (leb 256 (length q.world.timers))) exception.TimerResource t) (λ u. located_here q d >>= λ l. Ok (set_thing q.program l number (with_timer u q.world))) q.world (λ u.
-    thing_declared-gives q d number (with_timer u q.world) (record { tasks = refl; agent = refl; objects = refl; drawn_tasks = refl; drawn_objects = refl; delays = λ t e. e })))
+    thing_declared-gives q d number (with_timer u q.world) (record { tasks = refl; agent = refl; objects = refl; drawn_tasks = refl; drawn_objects = refl; callers = λ c n k. k; delays = λ t e. e })))
 
 declared-gives : (q : Seen) (d : DeclNo) (kind : DeclarationKind) → Gives q.world (declared q d kind)
 declared-gives q d (kind.Object i) = object_declared-gives q d i

@@ -1,9 +1,9 @@
 -- Simple and compound statements: each step keeps what its parts keep.
-use Rattle.ceiling_laws.proofs.Runs.Kept.Frames.{Gives, bind-gives, exit_loop-keeps, given-keeps, given_world-keeps, goes-keeps, ok-gives, raises-keeps, with_room-keeps}
-use Rattle.ceiling_laws.proofs.Runs.Kept.Scopes.{cells-same, copy_cells-same, open_scope-alters, put-same, write_cell-alters}
-use Rattle.ceiling_laws.proofs.Runs.Kept.Tasks.{says-keeps}
-use Rattle.ceiling_laws.proofs.Runs.LevelMoves.{Silences}
-use Rattle.ceiling_laws.proofs.Runs.SameLemmas.{same_then}
+use Rattle.ceiling_laws.proofs.Fine.Kept.Frames.{Gives, bind-gives, exit_loop-keeps, given-keeps, given_world-keeps, goes-keeps, ok-gives, raises-keeps, with_room-keeps}
+use Rattle.ceiling_laws.proofs.Fine.Kept.Scopes.{cells-same, copy_cells-same, open_scope-alters, put-same, write_cell-alters}
+use Rattle.ceiling_laws.proofs.Fine.Kept.Tasks.{says-keeps}
+use Rattle.ceiling_laws.proofs.Fine.LevelMoves.{Silences}
+use Rattle.ceiling_laws.proofs.Fine.SameLemmas.{same_then}
 use Rattle.ceiling_laws.proofs.Runs.Triples.{Keeps, State, changes-keeps, looks-keeps, looks-with, sees-keeps, then-keeps}
 use Rattle.profile_machine.specs.CallEnds.{store}
 use Rattle.profile_machine.specs.Frames.{goes}

@@ -1,18 +1,17 @@
 -- What of a task decides at which level and with which deadline it is placed, and what of an object decides who is let in; and
 -- changes that touch none of these, let no task wait for a moment that waited for none, and leave who made a call.
 use Rattle.ann_base.specs.declared.identities.CallNo.{CallNo}
-use Rattle.ann_base.specs.declared.identities.ObjectNo.{ObjectNo}
 use Rattle.ann_base.specs.declared.identities.TaskNo.{TaskNo}
-use Rattle.world_laws.proofs.Appointments.Delays.{Caller}
-use Rattle.profile_machine.specs.Appointments.{is_delay_of}
+use Rattle.ceiling_laws.specs.Cores.{ceiling_in, is_delayed}
+use Rattle.profile_machine.specs.Calls.{is_call}
 use Rattle.profile_machine.specs.declared.world.World.{World}
-use Rattle.profile_machine.specs.declared.world.objects.Object.{Object}
+use Rattle.profile_machine.specs.declared.world.calls.Call.{Call}
 use Rattle.profile_machine.specs.declared.world.tasks.Inherited.{Inherited}
 use Rattle.profile_machine.specs.declared.world.tasks.State.{State}
 use Rattle.profile_machine.specs.declared.world.tasks.Task.{Task}
-use Rattle.std.specs.List.{list_any}
-use Rattle.std.specs.Prelude.{Bool, List, Option, map, true, ℕ, ℤ, ◌≡◌}
+use Rattle.std.specs.Prelude.{List, Option, Some, find, map, true, ℕ, ℤ, ◌≡◌, ◌≤◌}
 use Rattle.trace_text.specs.declared.events.Who.{Who}
+use Rattle.trace_text.specs.declared.events.Who.TheVariants as who
 
 -- who it is, its state, what its active priority is made of, and its deadline
 pub record Core : Type 0 where
@@ -27,12 +26,12 @@ pub record Core : Type 0 where
 abbrev pub core : Task → Core
 core t = record { who = t.who; state = t.state; base = t.base; inherited = t.inherited; kept_level = t.kept_level; deferred_base = t.deferred_base; deadline = t.deadline }
 
-abbrev pub ceiling_in : Object → ObjectNo × ℕ
-ceiling_in x = (x.number, x.ceiling)
+-- somebody made this call, if it is there
+abbrev pub CallerIn : List Call → ℕ → CallNo → Who → Type 0
+CallerIn calls last c name = (c.0 ≤ last) × ((d : Call) → find (is_call c) calls ≡ Some d → who.Task d.caller ≡ name)
 
--- a moment is appointed for a task
-abbrev pub is_delayed : TaskNo → World → Bool
-is_delayed t w = list_any (λ a. is_delay_of t a.due) w.appointments
+abbrev pub Caller : CallNo → Who → World → Type 0
+Caller c name w = CallerIn w.calls w.drawn.calls c name
 
 -- the second world has the tasks, the agent and the objects of the first, no moment for a task more, and for each call its caller
 pub record Same (a b : World) : Type 0 where
@@ -40,5 +39,6 @@ pub record Same (a b : World) : Type 0 where
   pub agent : core b.agent ≡ core a.agent
   pub objects : map ceiling_in b.objects ≡ map ceiling_in a.objects
   pub drawn_tasks : b.drawn.tasks ≡ a.drawn.tasks
+  pub drawn_objects : b.drawn.objects ≡ a.drawn.objects
   pub callers : (c : CallNo) (name : Who) → Caller c name a → Caller c name b
   pub delays : (t : TaskNo) → is_delayed t b ≡ true → is_delayed t a ≡ true

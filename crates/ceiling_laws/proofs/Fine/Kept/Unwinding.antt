@@ -1,10 +1,10 @@
 -- Constructs that are struck and left: each step keeps what its parts keep.
-use Rattle.ceiling_laws.proofs.Runs.Kept.Calls.{attempt_with-leads, forget_call-alters}
-use Rattle.ceiling_laws.proofs.Runs.Kept.Frames.{edit_frames-alters, leaves-keeps}
-use Rattle.ceiling_laws.proofs.Runs.Kept.Scopes.{drop_delay-alters}
-use Rattle.ceiling_laws.proofs.Runs.Kept.Tasks.{edit_task-alters}
-use Rattle.ceiling_laws.proofs.Runs.Kept.Waking.{asleep_at, asleep_quiet, wide}
-use Rattle.ceiling_laws.proofs.Runs.LevelMoves.{BaseMoves, Fitting, Silences, Sleeping, is_blocked}
+use Rattle.ceiling_laws.proofs.Fine.Kept.Calls.{attempt_with-leads, forget_call-alters}
+use Rattle.ceiling_laws.proofs.Fine.Kept.Frames.{edit_frames-alters, leaves-keeps}
+use Rattle.ceiling_laws.proofs.Fine.Kept.Scopes.{drop_delay-alters}
+use Rattle.ceiling_laws.proofs.Fine.Kept.Tasks.{edit_task-alters}
+use Rattle.ceiling_laws.proofs.Fine.Kept.Waking.{asleep_at, asleep_quiet, wide}
+use Rattle.ceiling_laws.proofs.Fine.LevelMoves.{BaseMoves, Silences}
 use Rattle.ceiling_laws.proofs.Runs.Triples.{Alters, At, Keeps, Leads, State, With, changes-keeps, for_some-leads, from_at, looks-leads, looks-with, nothing-keeps, nothing-leads, then-keeps, then-leads, when-leads}
 use Rattle.profile_machine.specs.Appointments.{drop_delay}
 use Rattle.profile_machine.specs.Calls.{call_of, forget_call}
@@ -25,6 +25,7 @@ use Rattle.profile_machine.specs.declared.world.tasks.Waiting.TheVariants as wai
 use Rattle.std.proofs.Common.{ap, refl, ◌≡◌}
 use Rattle.std.specs.Prelude.{None}
 use Rattle.trace_text.specs.declared.events.Who.{Who}
+use Rattle.ceiling_laws.proofs.Runs.LevelMoves.{Fitting, Sleeping, is_blocked}
 
 module _ {X : State} (quiet : Silences X) where
   pub strike_outermost-alters : (name : Who) → Alters X (strike_outermost name)

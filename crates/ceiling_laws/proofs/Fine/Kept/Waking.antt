@@ -1,5 +1,5 @@
 -- Who waited becomes ready: each step keeps what its parts keep.
-use Rattle.world_laws.proofs.Places.LevelMoves.{BaseMoves, Silences}
+use Rattle.ceiling_laws.proofs.Fine.LevelMoves.{BaseMoves, Silences}
 use Rattle.ceiling_laws.proofs.Runs.Triples.{At, Leads, State, With, from-leads}
 use Rattle.profile_machine.specs.Dispatching.{ready}
 use Rattle.profile_machine.specs.Steps.{Step}

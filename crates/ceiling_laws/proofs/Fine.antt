@@ -1,0 +1,5 @@
+pub mod Cores
+pub mod CallLemmas
+pub mod SameLemmas
+pub mod LevelMoves
+pub mod Kept

@@ -1,5 +1,5 @@
 -- Where a sequence that reads leads: behind its last statement, or behind the action that opens its handlers.
-use Rattle.std.proofs.Common.{◌≡◌, ℕ, suc, true, false, length, List, [], ◌∷◌, Option, Some, None, refl, sym, ap, ◌∙◌}
+use Rattle.std.proofs.Common.{◌≡◌, ℕ, suc, true, length, List, [], ◌∷◌, Option, Some, None, refl, sym, ap, ◌∙◌}
 use Rattle.std.specs.Option.{option_flatten}
 use Rattle.std.proofs.lemmas.Bool.{and_parts, false≢true, eqb-true}
 use Rattle.std.proofs.lemmas.List.{length-map}

@@ -1,5 +1,5 @@
 -- What an expression is made to stands there, and is that of the text: operators, variables, attributes and predefined functions.
-use Rattle.std.proofs.Common.{◌≡◌, ℕ, pos, Bool, true, false, eqb, Option, Some, None, refl, ap, ◌∙◌}
+use Rattle.std.proofs.Common.{◌≡◌, ℕ, pos, Bool, true, eqb, Option, Some, None, refl, ap, ◌∙◌}
 use Rattle.std.specs.Prelude.{unwrap_or}
 use Rattle.std.proofs.lemmas.Bool.{and_from, false≢true, eq-eqb}
 use Rattle.ada_tree.specs.declared.names.Name.{Name}

@@ -1,5 +1,5 @@
 -- The marks and the state of somebody behind an edit of the same one.
-use Rattle.std.proofs.Common.{◌≡◌, true, ◌&&◌, eqb, List, [], ◌∷◌, Some, None, refl, sym, ap, subst, ◌∙◌}
+use Rattle.std.proofs.Common.{◌≡◌, ◌&&◌, eqb, List, [], ◌∷◌, Some, None, refl, sym, ap, subst, ◌∙◌}
 use Rattle.std.proofs.lemmas.Bool.{false≢true}
 use Rattle.std.specs.Prelude.{slice_index_or, option_map}
 use Rattle.trace_text.specs.declared.events.Who.{Who}

@@ -1,6 +1,6 @@
 -- Appointments that are set and dropped: each step keeps a relation that its parts keep.
 use Rattle.profile_machine.specs.declared.image.Image.{Image}
-use Rattle.std.proofs.Common.{ℕ, ℤ, Bool, true, false}
+use Rattle.std.proofs.Common.{ℤ, Bool}
 use Rattle.trace_text.specs.declared.events.Who.{Who}
 use Rattle.trace_text.specs.declared.events.Who.TheVariants as who
 use Rattle.profile_machine.specs.declared.world.World.{World}

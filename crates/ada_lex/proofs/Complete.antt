@@ -1,7 +1,7 @@
 -- What is lexed is read: tokens.
 use Rattle.std.proofs.Common.{◌≡◌, ℕ, zero, suc, ◌+◌, ◌^◌, ◌<◌, ◌≤◌, Bool, true, false, cond, eqb, leb, ◌||◌, List, [], ◌∷◌, length, take, drop, Option, Some, None, Ok, refl, sym, ap, ◌∙◌, subst, arith, length-drop, length-take-le, le-ltb}
 use Rattle.std.specs.Prelude.{position, option_map}
-use Rattle.std.proofs.lemmas.Bool.{false≢true, lt-leb}
+use Rattle.std.proofs.lemmas.Bool.{and_from, and_parts, false≢true, lt-leb}
 use Rattle.std.proofs.lemmas.Grind.{common_steps}
 use Rattle.std.specs.Char.{is_ascii_digit, is_ascii_alphabetic}
 use Rattle.ann_base.specs.declared.places.Place.{Place}
@@ -13,7 +13,7 @@ use Rattle.ada_lex.specs.Reading.{unless_bad, fault_in_word, word_at, number_at,
 use Rattle.ada_lex.specs.Meaning.{whole_of}
 use Rattle.ada_lex.specs.Lexed.{is_run, is_fraction, IsNumber, IsToken, IsWithin, IsApart}
 use Rattle.ada_lex.proofs.Loops.{run_in_list}
-use Rattle.ada_lex.proofs.Runs.{both, both_are, run_longest, run_is, begins_in_front, begins_in_whole}
+use Rattle.ada_lex.proofs.Runs.{run_longest, run_is, begins_in_front, begins_in_whole}
 use Rattle.ada_lex.proofs.Longest.{fraction_fits, fraction_is, number_longest, whole_in_front, behind_front, map_some, plus_two, plus_one, two_or, delimiter_fits, delimiter_first, delimiter_longest}
 use Rattle.ada_lex.specs.declared.scan.TheConstants.{MAX_WORD}
 
@@ -36,11 +36,11 @@ no_fault n (b ∷ rest) le e = rw (le-ltb MAX_WORD n le, e) refl
 pub word_stands : (place : Place) (n : ℕ) (bytes : List ℕ) → Stands kinds.Word n bytes → word_at place bytes ≡ Ok n
 unfolding word_at
 word_stands place n bytes s =
-    let p = both _ _ s.shaped in
+    let p = and_parts _ _ s.shaped in
     let some : 0 < n = begins_pos is_ascii_alphabetic n bytes p.0 in
     let at_least : n ≤ run_length Letters bytes = run_longest Letters n bytes s.fits p.1 in
     let letter : begins_with is_ascii_alphabetic (take (run_length Letters bytes) bytes) ≡ true = begins_in_front is_ascii_alphabetic (run_length Letters bytes) bytes (omega arith) (begins_in_whole is_ascii_alphabetic n bytes p.0) in
-    let at_most : run_length Letters bytes ≤ n = s.longest (run_length Letters bytes) (run_in_list Letters bytes) (both_are _ _ letter (run_is Letters bytes)) in
+    let at_most : run_length Letters bytes ≤ n = s.longest (run_length Letters bytes) (run_in_list Letters bytes) (and_from _ _ letter (run_is Letters bytes)) in
     let is : n ≡ run_length Letters bytes = omega arith in
     let fine : unless_bad (fault_in_word n (drop n bytes)) place n ≡ Ok n = rw (no_fault n (drop n bytes) (omega (arith, s.within, length-take-le n bytes s.fits)) s.apart) refl in
     subst (λ (k : ℕ). unless_bad (fault_in_word k (drop k bytes)) place k ≡ Ok n) is fine

@@ -1,6 +1,6 @@
 -- What is read is lexed.
 use Rattle.std.proofs.Common.{◌≡◌, ℕ, zero, suc, ◌-◌, ◌<◌, ◌≤◌, Bool, true, false, cond, not, eqb, ◌&&◌, ◌⊎◌, List, [], ◌∷◌, ◌++◌, length, take, drop, Option, Some, Result, Ok, Err, refl, sym, ap, ◌∙◌, subst, arith, inl, inr, length-drop, take-append-drop, append_assoc, length-take-le, ltb, ltb-false}
-use Rattle.std.proofs.lemmas.Bool.{false≢true, eqb-true}
+use Rattle.std.proofs.lemmas.Bool.{and_parts, eqb-true, false≢true}
 use Rattle.std.specs.Prelude.{IfOk}
 use Rattle.std.specs.Char.{is_ascii_digit, is_ascii_alphabetic}
 use Rattle.ann_base.specs.Results.{◌>>=◌}
@@ -19,7 +19,6 @@ use Rattle.ada_lex.specs.Lexed.{gap_state, IsToken, LexedFrom, Lexed}
 use Rattle.ada_lex.proofs.Loops.{piece_is}
 use Rattle.ada_lex.proofs.Pieces.{token_some}
 use Rattle.ada_lex.proofs.Longest.{IsRead, token_read}
-use Rattle.ada_lex.proofs.Runs.{both}
 
 -- a separator before a gap
 separator_first : (b : ℕ) (bytes : List ℕ) → is_separator b ≡ true → gap_state false (b ∷ bytes) ≡ gap_state false bytes
@@ -115,7 +114,7 @@ delimiter_begins (b ∷ rest) more some e = by_test (eqb b 10) refl
         absurd (omega (arith, none, e))
 
 token_begins : (kind : Kind) (bytes more : List ℕ) → IsToken kind bytes → begins_with (λ b. not (eqb b 10)) (bytes ++ more) ≡ true
-token_begins kinds.Word bytes more token = not_ten is_ascii_alphabetic bytes more refl (both _ _ token).0
+token_begins kinds.Word bytes more token = not_ten is_ascii_alphabetic bytes more refl (and_parts _ _ token).0
 token_begins kinds.Number bytes more token = not_ten is_ascii_digit bytes more refl token.1
 token_begins kinds.Text bytes more token = not_ten (λ b. eqb b 34) bytes more refl token.0
 token_begins kinds.Delimiter bytes more token = delimiter_begins bytes more token.0 token.1

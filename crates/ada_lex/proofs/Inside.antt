@@ -1,6 +1,6 @@
 -- The tokens of a source lie inside it, and what lies there are tokens.
 use Rattle.std.proofs.Common.{◌≡◌, ℕ, ◌+◌, ◌<◌, ◌≤◌, true, false, ◌&&◌, List, [], ◌∷◌, ◌++◌, length, take, drop, Result, Ok, Err, refl, sym, ap, ◌∙◌, subst, arith, length-append, append_assoc}
-use Rattle.std.proofs.lemmas.Bool.{false≢true}
+use Rattle.std.proofs.lemmas.Bool.{and_parts, false≢true}
 use Rattle.std.proofs.Math.Seq.{take-append_seam, drop-append_seam}
 use Rattle.std.specs.Prelude.{Bool, IfOk}
 use Rattle.ann_base.specs.declared.faults.OrMemory.{OrMemory}
@@ -27,12 +27,8 @@ begun : (test : ℕ → Bool) (bytes : List ℕ) → begins_with test bytes ≡ 
 begun test [] e = absurd (false≢true e)
 begun test (b ∷ rest) e = omega arith
 
-front_true : (p q : Bool) → (p && q) ≡ true → p ≡ true
-front_true true q e = refl
-front_true false q e = e
-
 token_has_bytes : (kind : Kind) (bytes : List ℕ) → IsToken kind bytes → 0 < length bytes
-token_has_bytes kinds.Word bytes is = begun _ bytes (front_true _ _ is)
+token_has_bytes kinds.Word bytes is = begun _ bytes ((and_parts _ _ is).0)
 token_has_bytes kinds.Number bytes is = begun _ bytes is.1
 token_has_bytes kinds.Text bytes is = begun _ bytes is.0
 token_has_bytes kinds.Delimiter bytes is = is.0

@@ -1,7 +1,7 @@
 -- Each token that is read has its shape, is the longest one there, and keeps the limits.
 use Rattle.std.proofs.Common.{◌≡◌, ℕ, zero, suc, ◌+◌, ◌-◌, ◌^◌, ◌<◌, ◌≤◌, min, Bool, true, false, cond, eqb, leb, ltb, ◌&&◌, ◌||◌, ◌⊎◌, List, [], ◌∷◌, length, take, drop, Option, Some, None, Ok, refl, sym, ap, ◌∙◌, subst, arith, inl, inr, length-drop, length-take-le, take-add, ltb-false, leb-false, eqb-true, sub-one}
 use Rattle.std.specs.Prelude.{position}
-use Rattle.std.proofs.lemmas.Bool.{false≢true, cases_lt}
+use Rattle.std.proofs.lemmas.Bool.{and_from, and_parts, cases_lt, false≢true, or_parts}
 use Rattle.std.proofs.lemmas.Grind.{common_steps}
 use Rattle.std.proofs.lemmas.List.{drop-take}
 use Rattle.std.specs.Prelude.{option_map}
@@ -16,7 +16,7 @@ use Rattle.ada_lex.specs.Meaning.{whole_of}
 use Rattle.ada_lex.specs.Lexed.{is_run, is_fraction, IsNumber, IsToken, IsWithin, IsLongest, IsApart}
 use Rattle.ada_lex.proofs.Loops.{run_in_list}
 use Rattle.ada_lex.proofs.Pieces.{unless_bad_ok, number_ok, delimiter_some}
-use Rattle.ada_lex.proofs.Runs.{both, both_are, run_longest, run_is, run_stop, begins_in_front, begins_in_whole}
+use Rattle.ada_lex.proofs.Runs.{run_longest, run_is, run_stop, begins_in_front, begins_in_whole}
 use Rattle.ada_lex.specs.declared.scan.TheConstants.{MAX_WORD}
 
 -- what is known of a token of n bytes at the front
@@ -56,19 +56,15 @@ word_read place bytes n letter some e =
     let run : is_run Letters (take n bytes) ≡ true = subst (λ (k : ℕ). is_run Letters (take k bytes) ≡ true) length_is (run_is Letters bytes) in
     record {
       fits = le;
-      shaped = both_are _ _ (begins_in_front is_ascii_alphabetic n bytes some letter) run;
+      shaped = and_from _ _ (begins_in_front is_ascii_alphabetic n bytes some letter) run;
       within = omega (arith, fine.0, length_is, length-take-le n bytes le);
-      longest = longest_by kinds.Word n bytes le (λ j fits token. omega (arith, run_longest Letters j bytes fits (both _ _ token).1, length_is));
+      longest = longest_by kinds.Word n bytes le (λ j fits token. omega (arith, run_longest Letters j bytes fits (and_parts _ _ token).1, length_is));
       apart = subst (λ (k : ℕ). begins_with (λ b. eqb b 95) (drop k bytes) ≡ false) length_is fine.1;
     }
 
 -- numbers
 pub behind_front : (w f : ℕ) (bytes : List ℕ) → drop w (take (w + f) bytes) ≡ take f (drop w bytes)
 behind_front w f bytes = drop-take w f bytes
-
-pub neither : (p q : Bool) → (p || q) ≡ false → (p ≡ false) × (q ≡ false)
-neither true q e = absurd (false≢true (sym e))
-neither false q e = (refl, e)
 
 pub fraction_fits : (bytes : List ℕ) → fraction_length bytes ≤ length bytes
 fraction_fits [] = omega arith
@@ -86,8 +82,8 @@ fraction_is (b ∷ rest) = from_test (eqb b 46 && begins_with is_ascii_digit res
     from_test : (v : Bool) → (eqb b 46 && begins_with is_ascii_digit rest) ≡ v → is_fraction (take (cond v (suc (run_length Decimals rest)) 0) (b ∷ rest)) ≡ true
     from_test false e = refl
     from_test true e =
-        let p = both (eqb b 46) (begins_with is_ascii_digit rest) e in
-        both_are _ _ (both_are _ _ p.0 (begins_in_front is_ascii_digit (run_length Decimals rest) rest (digits_some rest p.1) p.1)) (run_is Decimals rest)
+        let p = and_parts (eqb b 46) (begins_with is_ascii_digit rest) e in
+        and_from _ _ (and_from _ _ p.0 (begins_in_front is_ascii_digit (run_length Decimals rest) rest (digits_some rest p.1) p.1)) (run_is Decimals rest)
 
 point_stops : (b : ℕ) (rest : List ℕ) → eqb b 46 ≡ true → goes_on Whole (b ∷ rest) ≡ false
 point_stops b rest e = rw (eqb-true b 46 e) refl
@@ -102,12 +98,12 @@ fraction_longest k i bytes some fits e le = behind (drop k bytes) refl
     behind (b ∷ rest) is =
         let j : i ≡ suc (i - 1) = omega arith in
         let read : is_fraction (b ∷ take (i - 1) rest) ≡ true = subst (λ (m : ℕ). is_fraction (take m (b ∷ rest)) ≡ true) j (subst (λ (x : List ℕ). is_fraction (take i x) ≡ true) is e) in
-        let p = both _ _ read in
-        let q = both _ _ p.0 in
+        let p = and_parts _ _ read in
+        let q = and_parts _ _ p.0 in
         let stops : goes_on Whole (drop k bytes) ≡ false = ap (goes_on Whole) is ∙ point_stops b rest q.0 in
         let whole : run_length Whole bytes ≡ k = omega (arith, le, run_stop Whole k bytes stops) in
         let more : begins_with is_ascii_digit rest ≡ true = begins_in_whole is_ascii_digit (i - 1) rest q.1 in
-        let behind_k : fraction_length (drop (run_length Whole bytes) bytes) ≡ suc (run_length Decimals rest) = ap (λ (m : ℕ). fraction_length (drop m bytes)) whole ∙ ap fraction_length is ∙ rw (both_are _ _ q.0 more) refl in
+        let behind_k : fraction_length (drop (run_length Whole bytes) bytes) ≡ suc (run_length Decimals rest) = ap (λ (m : ℕ). fraction_length (drop m bytes)) whole ∙ ap fraction_length is ∙ rw (and_from _ _ q.0 more) refl in
         let rest_fits : i - 1 ≤ length rest = omega (arith, length-drop k bytes, ap length is) in
         let there : i - 1 ≤ run_length Decimals rest = run_longest Decimals (i - 1) rest rest_fits p.1 in
         omega (arith, behind_k, whole, there)
@@ -145,7 +141,7 @@ number_read place bytes n digit some e =
     let w = run_length Whole bytes in
     let m = run_length Whole bytes + fraction_length (drop (run_length Whole bytes) bytes) in
     let is = number_ok (begins_with spoils_number (drop m bytes) || leb (2 ^ 128) (value_of (take w bytes))) place m n e in
-    let no = neither _ _ is.0 in
+    let no = or_parts _ _ is.0 in
     let length_is : run_length Whole bytes + fraction_length (drop (run_length Whole bytes) bytes) ≡ n = is.1 in
     let le : n ≤ length bytes = omega (arith, run_in_list Whole bytes, fraction_fits (drop (run_length Whole bytes) bytes), length-drop (run_length Whole bytes) bytes, length_is) in
     let first : take (run_length Whole bytes) (take n bytes) ≡ take (run_length Whole bytes) bytes = grind (arith, common_steps) in

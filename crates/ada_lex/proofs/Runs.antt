@@ -1,6 +1,6 @@
 -- A run that is read is a run, and the longest one.
 use Rattle.std.proofs.Common.{◌≡◌, ℕ, zero, suc, ◌<◌, ◌≤◌, Bool, true, false, cond, eqb, ◌&&◌, ◌||◌, List, [], ◌∷◌, length, take, drop, refl, arith}
-use Rattle.std.proofs.lemmas.Bool.{false≢true}
+use Rattle.std.proofs.lemmas.Bool.{and_from, and_parts, false≢true, or_left}
 use Rattle.std.specs.Char.{is_ascii_digit, is_ascii_alphanumeric}
 use Rattle.ada_lex.specs.declared.scan.Run.{Run}
 use Rattle.ada_lex.specs.declared.scan.Run.TheVariants.{Letters, Whole, Decimals, Line}
@@ -8,13 +8,6 @@ use Rattle.ada_lex.specs.Shapes.{goes_on, joins, begins_with, run_length}
 use Rattle.ada_lex.specs.Lexed.{is_run}
 
 -- tests on bools
-pub both : (p q : Bool) → (p && q) ≡ true → (p ≡ true) × (q ≡ true)
-both true q e = (refl, e)
-both false q e = absurd (false≢true e)
-
-pub both_are : (p q : Bool) → p ≡ true → q ≡ true → (p && q) ≡ true
-both_are true q e f = f
-both_are false q e f = absurd (false≢true e)
 
 -- what goes on within a front goes on in the whole
 begins_more : (test : ℕ → Bool) (k : ℕ) (bytes : List ℕ) → begins_with test (take k bytes) ≡ true → begins_with test bytes ≡ true
@@ -46,14 +39,10 @@ unfolding is_run run_length
 run_longest run zero bytes le e = omega arith
 run_longest run (suc k) [] le e = absurd (omega arith)
 run_longest run (suc k) (b ∷ rest) le e =
-    let p = both (goes_on run (b ∷ take k rest)) (is_run run (take k rest)) e in
+    let p = and_parts (goes_on run (b ∷ take k rest)) (is_run run (take k rest)) e in
     let here : goes_on run (b ∷ rest) ≡ true = goes_more run k b rest p.0 in
     let there : k ≤ run_length run rest = run_longest run k rest (omega arith) p.1 in
     rw here (omega arith)
-
-or_left : (p q : Bool) → p ≡ true → (p || q) ≡ true
-or_left true q e = refl
-or_left false q e = absurd (false≢true e)
 
 begins_kept : (test : ℕ → Bool) (n : ℕ) (rest : List ℕ) → 0 < n → begins_with test rest ≡ true → begins_with test (take n rest) ≡ true
 begins_kept test zero rest lt e = absurd (omega arith)
@@ -89,7 +78,7 @@ run_is run [] = refl
 run_is run (b ∷ rest) = from_test (goes_on run (b ∷ rest)) refl (run_is run rest)
   where
     from_test : (v : Bool) → goes_on run (b ∷ rest) ≡ v → is_run run (take (run_length run rest) rest) ≡ true → is_run run (take (cond v (suc (run_length run rest)) 0) (b ∷ rest)) ≡ true
-    from_test true e more = both_are (goes_on run (b ∷ take (run_length run rest) rest)) (is_run run (take (run_length run rest) rest)) (goes_kept run b rest e) more
+    from_test true e more = and_from (goes_on run (b ∷ take (run_length run rest) rest)) (is_run run (take (run_length run rest) rest)) (goes_kept run b rest e) more
     from_test false e more = refl
 
 -- a run ends where a byte does not go on

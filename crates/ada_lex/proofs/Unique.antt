@@ -1,6 +1,6 @@
 -- What is lexed is what reading gives.
 use Rattle.std.proofs.Common.{◌≡◌, ℕ, zero, suc, ◌+◌, ◌-◌, ◌<◌, ◌≤◌, Bool, true, false, cond, eqb, leb, ◌&&◌, ◌||◌, ◌⊎◌, List, [], ◌∷◌, ◌++◌, length, take, drop, Result, Ok, refl, sym, ap, ◌∙◌, subst, arith, inl, inr, length-append, take-add, take_at, drop_at}
-use Rattle.std.proofs.lemmas.Bool.{false≢true, eqb-true, cases_lt, lt-leb, leb-true}
+use Rattle.std.proofs.lemmas.Bool.{and_parts, cases_lt, eqb-true, false≢true, leb-true, lt-leb, or_cases}
 use Rattle.std.specs.Char.{is_ascii_digit, is_ascii_alphabetic}
 use Rattle.ann_base.specs.declared.faults.OrMemory.{OrMemory}
 use Rattle.ann_base.specs.Answers.{AnswersAs}
@@ -14,7 +14,6 @@ use Rattle.ada_lex.specs.Shapes.{begins_with, is_separator, is_delimiter, is_dou
 use Rattle.ada_lex.specs.Reading.{behind_all, made, kind_of, token_at, piece_at, with_front, tokens_from, start}
 use Rattle.ada_lex.specs.Lexed.{IsToken, IsWithin, IsApart, StandsThere, LexedFrom, Lexed}
 use Rattle.ada_lex.proofs.Loops.{piece_is}
-use Rattle.ada_lex.proofs.Runs.{both}
 use Rattle.ada_lex.proofs.Found.{behind_append}
 use Rattle.ada_lex.proofs.GapsRead.{gap_skipped, last_gap}
 use Rattle.ada_lex.proofs.Complete.{Stands, word_stands, number_stands, text_stands, delimiter_stands}
@@ -51,27 +50,23 @@ word_begins b more e = (gap_none b more (no_separator is_ascii_alphabetic b refl
 
 number_begins : (b : ℕ) (more : List ℕ) → is_ascii_digit b ≡ true → Begins kinds.Number b more
 number_begins b more e =
-    let p = both _ _ e in
+    let p = and_parts _ _ e in
     let low : b < 65 = omega (arith, leb-true b 57 p.1) in
     (gap_none b more (no_separator is_ascii_digit b refl refl refl refl refl e) (inl (differs is_ascii_digit 45 b refl e)), rw (not_letter b low, e) refl)
 
 text_begins : (b : ℕ) (more : List ℕ) → eqb b 34 ≡ true → Begins kinds.Text b more
 text_begins b more e = (gap_none b more (no_separator (λ c. eqb c 34) b refl refl refl refl refl e) (inl (differs (λ c. eqb c 34) 45 b refl e)), subst (λ (k : ℕ). kind_of k ≡ kinds.Text) (sym (eqb-true b 34 e)) refl)
 
-cases_or : (p q : Bool) → (p || q) ≡ true → (p ≡ true) ⊎ (q ≡ true)
-cases_or true q e = inl refl
-cases_or false q e = inr e
-
 double_single : (a b : ℕ) → is_double_delimiter a b ≡ true → is_delimiter a ≡ true
 double_single a b e =
-    elim (cases_or (((eqb a 61) && (eqb b 62)) || ((eqb a 46) && (eqb b 46))) ((eqb b 61) && (((eqb a 58) || (eqb a 47) || (eqb a 62)) || (eqb a 60))) e) as (λ _. is_delimiter a ≡ true) [
+    elim (or_cases (((eqb a 61) && (eqb b 62)) || ((eqb a 46) && (eqb b 46))) ((eqb b 61) && (((eqb a 58) || (eqb a 47) || (eqb a 62)) || (eqb a 60))) e) as (λ _. is_delimiter a ≡ true) [
       | inl p ↦
-          elim (cases_or ((eqb a 61) && (eqb b 62)) ((eqb a 46) && (eqb b 46)) p) as (λ _. is_delimiter a ≡ true) [ inl q ↦ at 61 refl (both (eqb a 61) (eqb b 62) q).0 | inr q ↦ at 46 refl (both (eqb a 46) (eqb b 46) q).0 ]
+          elim (or_cases ((eqb a 61) && (eqb b 62)) ((eqb a 46) && (eqb b 46)) p) as (λ _. is_delimiter a ≡ true) [ inl q ↦ at 61 refl (and_parts (eqb a 61) (eqb b 62) q).0 | inr q ↦ at 46 refl (and_parts (eqb a 46) (eqb b 46) q).0 ]
       | inr p ↦
-          elim (cases_or ((eqb a 58) || (eqb a 47) || (eqb a 62)) (eqb a 60) (both (eqb b 61) (((eqb a 58) || (eqb a 47) || (eqb a 62)) || (eqb a 60)) p).1) as (λ _. is_delimiter a ≡ true) [
+          elim (or_cases ((eqb a 58) || (eqb a 47) || (eqb a 62)) (eqb a 60) (and_parts (eqb b 61) (((eqb a 58) || (eqb a 47) || (eqb a 62)) || (eqb a 60)) p).1) as (λ _. is_delimiter a ≡ true) [
             | inl q ↦
-                elim (cases_or ((eqb a 58) || (eqb a 47)) (eqb a 62) q) as (λ _. is_delimiter a ≡ true) [
-                  | inl r ↦ elim (cases_or (eqb a 58) (eqb a 47) r) as (λ _. is_delimiter a ≡ true) [ inl s ↦ at 58 refl s | inr s ↦ at 47 refl s ]
+                elim (or_cases ((eqb a 58) || (eqb a 47)) (eqb a 62) q) as (λ _. is_delimiter a ≡ true) [
+                  | inl r ↦ elim (or_cases (eqb a 58) (eqb a 47) r) as (λ _. is_delimiter a ≡ true) [ inl s ↦ at 58 refl s | inr s ↦ at 47 refl s ]
                   | inr r ↦ at 62 refl r
                 ]
             | inr q ↦ at 60 refl q
@@ -91,11 +86,11 @@ not_digit b (inr lt) = rw (lt-leb b 57 lt) (by_test (leb 48 b))
 
 delimiter_plain : (b : ℕ) → is_delimiter b ≡ true → (is_ascii_alphabetic b ≡ false) × (is_ascii_digit b ≡ false)
 delimiter_plain b e =
-    elim (cases_or ((leb 38 b && leb b 47) || (leb 58 b && leb b 62)) (eqb b 124) e) as (λ _. (is_ascii_alphabetic b ≡ false) × (is_ascii_digit b ≡ false)) [
+    elim (or_cases ((leb 38 b && leb b 47) || (leb 58 b && leb b 62)) (eqb b 124) e) as (λ _. (is_ascii_alphabetic b ≡ false) × (is_ascii_digit b ≡ false)) [
       | inl p ↦
-          elim (cases_or (leb 38 b && leb b 47) (leb 58 b && leb b 62) p) as (λ _. (is_ascii_alphabetic b ≡ false) × (is_ascii_digit b ≡ false)) [
-            | inl q ↦ let le : b ≤ 47 = leb-true b 47 (both (leb 38 b) (leb b 47) q).1 in (not_letter b (omega arith), not_digit b (inl (omega arith)))
-            | inr q ↦ let low : 58 ≤ b = leb-true 58 b (both (leb 58 b) (leb b 62) q).0 in let le : b ≤ 62 = leb-true b 62 (both (leb 58 b) (leb b 62) q).1 in (not_letter b (omega arith), not_digit b (inr (omega arith)))
+          elim (or_cases (leb 38 b && leb b 47) (leb 58 b && leb b 62) p) as (λ _. (is_ascii_alphabetic b ≡ false) × (is_ascii_digit b ≡ false)) [
+            | inl q ↦ let le : b ≤ 47 = leb-true b 47 (and_parts (leb 38 b) (leb b 47) q).1 in (not_letter b (omega arith), not_digit b (inl (omega arith)))
+            | inr q ↦ let low : 58 ≤ b = leb-true 58 b (and_parts (leb 58 b) (leb b 62) q).0 in let le : b ≤ 62 = leb-true b 62 (and_parts (leb 58 b) (leb b 62) q).1 in (not_letter b (omega arith), not_digit b (inr (omega arith)))
           ]
       | inr p ↦ subst (λ (k : ℕ). (is_ascii_alphabetic k ≡ false) × (is_ascii_digit k ≡ false)) (sym (eqb-true b 124 p)) (refl, refl)
     ]
@@ -140,7 +135,7 @@ first_passes test zero b more e = absurd (false≢true e)
 first_passes test (suc n) b more e = e
 
 pub begins : (kind : Kind) (n b : ℕ) (more : List ℕ) (spot : Spot) → Stands kind n (b ∷ more) → Begins kind b more × (token_at kind spot.place (b ∷ more) ≡ Ok n)
-begins kinds.Word n b more spot s = (word_begins b more (first_passes is_ascii_alphabetic n b more (both _ _ s.shaped).0), word_stands spot.place n (b ∷ more) s)
+begins kinds.Word n b more spot s = (word_begins b more (first_passes is_ascii_alphabetic n b more (and_parts _ _ s.shaped).0), word_stands spot.place n (b ∷ more) s)
 begins kinds.Number n b more spot s = (number_begins b more (first_passes is_ascii_digit n b more s.shaped.1), number_stands spot.place n (b ∷ more) s)
 begins kinds.Text n b more spot s = (text_begins b more (first_passes (λ c. eqb c 34) n b more s.shaped.0), text_stands spot.place n b more s)
 begins kinds.Delimiter n b more spot s = let p = delimiter_stands spot.place n (b ∷ more) s in (delimiter_begins b n more p.0 p.2 s.apart, p.1)

@@ -1,6 +1,7 @@
 -- A construct that is edited, by how many stand below it.
 use Rattle.std.proofs.Common.{◌≡◌, ◌≢◌, ℕ, ◌+◌, ◌-◌, ◌≤◌, zero, suc, true, false, cond, List, [], ◌∷◌, Some, None, length, eqb, ltb, slice_set, refl, sym, ap, ◌∙◌, arith}
 use Rattle.std.specs.List.{slice_get}
+use Rattle.std.proofs.lemmas.Bool.{eq-eqb}
 use Rattle.profile_machine.specs.declared.world.marks.Frame.{Frame}
 use Rattle.profile_machine.specs.CallEnds.{edit_depth}
 use Rattle.machine_calls.specs.Depths.{place_at}
@@ -10,9 +11,6 @@ place_within n depth i e = grind arith
 
 place_beyond : (n depth : ℕ) → cond (ltb depth n) (Some (n - depth - 1)) None ≡ None → n ≤ depth
 place_beyond n depth e = grind arith
-
-same : (n depth : ℕ) → n ≡ depth → eqb n depth ≡ true
-same n depth e = grind arith
 
 differs : (n depth : ℕ) → n ≢ depth → eqb n depth ≡ false
 differs n depth e = grind arith
@@ -25,7 +23,7 @@ module _ (depth : ℕ) (f : Frame → Frame) where
   set_within [] i x n e = cc
   set_within (y ∷ ys) zero x n e =
       let k : f x ≡ f y = ap f (some_is x y (sym e)) in
-      ap (λ z. z ∷ ys) k ∙ sym (ap (λ b. cond b (f y ∷ ys) (y ∷ edit_depth depth f ys)) (same (length ys) depth (omega arith)))
+      ap (λ z. z ∷ ys) k ∙ sym (ap (λ b. cond b (f y ∷ ys) (y ∷ edit_depth depth f ys)) (eq-eqb (length ys) depth (omega arith)))
   set_within (y ∷ ys) (suc i) x n e =
       ap (λ zs. y ∷ zs) (set_within ys i x (omega arith) e) ∙ sym (ap (λ b. cond b (f y ∷ ys) (y ∷ edit_depth depth f ys)) (differs (length ys) depth (omega arith)))
 

@@ -1,13 +1,10 @@
 -- The first line of bytes that begin with bytes without a line feed.
 use Rattle.std.proofs.Common.{◌≡◌, ℕ, Bool, true, false, ◌==◌, ◌||◌, if◌then◌else◌, List, [], ◌∷◌, ◌++◌, refl, ap, ◌∙◌}
+use Rattle.std.proofs.lemmas.Bool.{or_parts}
 use Rattle.outside_bytes.specs.Bytes.{first_line, has_feed, is_some_byte}
 
-by_test : (b rest : Bool) → (b || rest) ≡ false → (b ≡ false) × (rest ≡ false)
-by_test true rest h = cc
-by_test false rest h = (refl, h)
-
 no_feed : (byte : ℕ) (bytes : List ℕ) → has_feed (byte ∷ bytes) ≡ false → ((byte == 10) ≡ false) × (has_feed bytes ≡ false)
-no_feed byte bytes h = by_test (byte == 10) (has_feed bytes) h
+no_feed byte bytes h = or_parts (byte == 10) (has_feed bytes) h
 
 pub first_line-append : (line more : List ℕ) → has_feed line ≡ false → first_line (line ++ more) ≡ line ++ first_line more
 first_line-append [] more h = refl

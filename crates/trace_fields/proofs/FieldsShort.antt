@@ -3,7 +3,7 @@ use Rattle.std.proofs.Common.{◌≡◌, ℕ, zero, suc, pos, ◌||◌, ◌+◌,
 use Rattle.std.specs.List.{list_all}
 use Rattle.std.specs.Str.{bytes_eq}
 use Rattle.std.specs.Str.Parse.{digits_value}
-use Rattle.std.proofs.lemmas.Bool.{leb-true}
+use Rattle.std.proofs.lemmas.Bool.{and_parts, leb-true}
 use Rattle.std.proofs.lemmas.Fmt.{length-decimal-le}
 use Rattle.std.proofs.lemmas.List.{take-append-drop}
 use Rattle.std.proofs.lemmas.Slice.Eq.{bytes_eq-Decides}
@@ -35,10 +35,6 @@ or_some (Some x) other P h k = h
 pub weaker : {X : Type 0} (read : Option X) (P Q : Type 0) → IfSome read (λ _. P) → (P → Q) → IfSome read (λ _. Q)
 weaker None P Q h k = tt
 weaker (Some x) P Q h k = k h
-
-both : (a b : Bool) → (a && b) ≡ true → (a ≡ true) × (b ≡ true)
-both true b e = (refl, e)
-both false b e = cc
 
 -- ---- words
 
@@ -72,7 +68,7 @@ ended_short (byte ∷ bytes) = tt
 pub spelt_short : {X : Type 0} (n : ℕ) (text : X → List ℕ) (all : List X) → list_all (λ x. leb (length (text x)) n) all ≡ true → IsShort n (spelt_in text all)
 spelt_short n text [] e bytes = tt
 spelt_short n text (x ∷ all) e bytes =
-    let parts = both (leb (length (text x)) n) (list_all (λ y. leb (length (text y)) n) all) e in
+    let parts = and_parts (leb (length (text x)) n) (list_all (λ y. leb (length (text y)) n) all) e in
     if_some (bytes_eq (text x) bytes) (Some x) (spelt_in text all bytes) (λ _. length bytes ≤ n)
     (λ same. omega (arith, ap length ((bytes_eq-Decides (text x) bytes).0 same), leb-true (length (text x)) n parts.0)) (spelt_short n text all parts.1 bytes)
 
@@ -82,7 +78,7 @@ pub number_short : (most k : ℕ) → 0 < k → most < 10 ^ k → most < 2 ^ 64 
 number_short most k some fits small bytes =
     if_some (is_number bytes && leb (digits_value 10 bytes) most) (Some (digits_value 10 bytes)) None (λ _. length bytes ≤ k)
     (λ e.
-    let parts = both (is_number bytes) (leb (digits_value 10 bytes) most) e in
+    let parts = and_parts (is_number bytes) (leb (digits_value 10 bytes) most) e in
     let value : digits_value 10 bytes ≤ most = leb-true (digits_value 10 bytes) most parts.1 in
     let few = length-decimal-le k (digits_value 10 bytes) some (omega (arith, value, fits)) (omega (arith, value, small)) in
     omega (arith, few, ap length (decimal-digits bytes parts.0 (omega (arith, value, small))))) tt
@@ -129,10 +125,10 @@ object_short = marked_short 112 (λ n. record { 0 = n })
 -- ---- names
 
 pub name_short : IsShort 1000 name_in
-name_short bytes = if_some (is_name_from false bytes && leb (length bytes) 1000) (Some bytes) None (λ _. length bytes ≤ 1000) (λ e. leb-true (length bytes) 1000 (both (is_name_from false bytes) (leb (length bytes) 1000) e).1) tt
+name_short bytes = if_some (is_name_from false bytes && leb (length bytes) 1000) (Some bytes) None (λ _. length bytes ≤ 1000) (λ e. leb-true (length bytes) 1000 (and_parts (is_name_from false bytes) (leb (length bytes) 1000) e).1) tt
 
 pub text_short : IsShort 1000 text_in
-text_short bytes = if_some (list_all is_text_byte bytes && leb (length bytes) 1000) (Some bytes) None (λ _. length bytes ≤ 1000) (λ e. leb-true (length bytes) 1000 (both (list_all is_text_byte bytes) (leb (length bytes) 1000) e).1) tt
+text_short bytes = if_some (list_all is_text_byte bytes && leb (length bytes) 1000) (Some bytes) None (λ _. length bytes ≤ 1000) (λ e. leb-true (length bytes) 1000 (and_parts (list_all is_text_byte bytes) (leb (length bytes) 1000) e).1) tt
 
 pub exception_short : IsShort 1000 exception_in
 exception_short bytes = if_some (bytes_eq bytes (codes "ok") || bytes_eq bytes (codes "requeue")) None (name_in bytes) (λ _. length bytes ≤ 1000) (λ e. tt) (name_short bytes)

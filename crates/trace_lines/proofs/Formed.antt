@@ -2,6 +2,7 @@
 use Rattle.std.proofs.Common.{◌≡◌, ℕ, Bool, true, false, not, ◌&&◌, ◌||◌, eqb, leb, List, [], ◌∷◌, ◌++◌, refl, ap, sym, ◌∙◌, inl, inr}
 use Rattle.std.specs.Map.{keys_of}
 use Rattle.std.proofs.lemmas.Bool.Decides.{eqb_tells}
+use Rattle.std.proofs.lemmas.Bool.{and_parts}
 use Rattle.trace_text.specs.declared.lines.TheConstants.{LAST_TICK}
 use Rattle.trace_text.specs.declared.events.Who.{Who}
 use Rattle.trace_text.specs.declared.events.Who.TheVariants as subject
@@ -106,16 +107,12 @@ and_and : (a b c : Bool) → (a && (b && c)) ≡ ((a && b) && c)
 and_and true b c = refl
 and_and false b c = refl
 
-both : (a b : Bool) → (a && b) ≡ true → (a ≡ true) × (b ≡ true)
-both true b e = (refl, e)
-both false b e = cc
-
 pub same_kept : (s : Shape) (seen : Seen) (lines : List TraceLine) → Same s (shape_of seen) → follows_lines see_shape is_formed_next s lines ≡ true → Same (seen_from see_shape s lines) (shape_of (seen_after seen lines))
 same_kept s seen [] h e = h
 same_kept s seen (line ∷ lines) h e =
-    let parts = both (is_formed_next s line.1) (follows_lines see_shape is_formed_next (see_shape s line.1) lines) e in
+    let parts = and_parts (is_formed_next s line.1) (follows_lines see_shape is_formed_next (see_shape s line.1) lines) e in
     same_kept (see_shape s line.1) (see_line seen line) lines
-    (stays_same s seen line.0 line.1 h (both (not s.is_ended) (is_subject_formed s line.1) parts.0).1) parts.1
+    (stays_same s seen line.0 line.1 h (and_parts (not s.is_ended) (is_subject_formed s line.1) parts.0).1) parts.1
 
 pub follows_lines-append : {S : Type 0} (see : S → Event → S) (lawful : S → Event → Bool) (s : S) (lines : List TraceLine) (line : TraceLine)
     → follows_lines see lawful s (lines ++ line ∷ []) ≡ (follows_lines see lawful s lines && lawful (seen_from see s lines) line.1)
@@ -135,7 +132,7 @@ nothing_same = record { queue = refl; tasks = λ number. refl; objects = λ numb
 
 pub form_shows : (lines : List TraceLine) (tick : ℕ) (event : Event) → follows_form lines ≡ true → is_formed_after (seen_of lines) tick event ≡ follows_form (with_line lines tick event)
 form_shows lines tick event e =
-    let parts = both (follows_order 0 lines) (follows_lines see_shape is_formed_next no_shape lines) e in
+    let parts = and_parts (follows_order 0 lines) (follows_lines see_shape is_formed_next no_shape lines) e in
     let order : follows_order 0 (with_line lines tick event) ≡ (leb (last_from 0 lines) tick && leb tick LAST_TICK) =
     follows_order-append 0 lines (tick, event) ∙ ap (λ b. b && (leb (last_from 0 lines) tick && leb tick LAST_TICK)) parts.0 in
     let shapes : follows_lines see_shape is_formed_next no_shape (with_line lines tick event) ≡ is_formed_next (seen_from see_shape no_shape lines) event =

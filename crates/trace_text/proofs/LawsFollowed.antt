@@ -1,6 +1,6 @@
 -- A test that follows the lines says what a law says at each tick or at each line.
 use Rattle.std.proofs.Common.{◌≡◌, ℕ, ◌<◌, ◌≤◌, Bool, true, false, cond, ◌&&◌, ◌||◌, leb, List, [], ◌∷◌, ◌++◌, Option, Some, None, IsTrue, refl, eq-eqb, ap, subst, arith, inl, inr}
-use Rattle.std.proofs.lemmas.Bool.{cases_lt, le-leb, leb-true, eqb-true}
+use Rattle.std.proofs.lemmas.Bool.{and_parts, cases_lt, eqb-true, le-leb, leb-true, lt-leb}
 use Rattle.std.proofs.lemmas.Bool.Decides.{nat_tests}
 use Rattle.trace_text.specs.declared.lines.TheConstants.{LAST_TICK}
 use Rattle.trace_text.specs.declared.events.Event.{Event}
@@ -13,24 +13,17 @@ pub last_from-ge : (tick : ℕ) (lines : List TraceLine) → RisesFrom tick line
 last_from-ge tick [] rises = omega arith
 last_from-ge tick (line ∷ lines) rises = omega (arith, rises.0, last_from-ge line.0 lines rises.1)
 
-both : (a b : Bool) → (a && b) ≡ true → (a ≡ true) × (b ≡ true)
-both true b e = (refl, e)
-both false b e = cc
-
 either : (a b : Bool) → (a || b) ≡ true → a ≡ false → b ≡ true
 either true b e f = cc
 either false b e f = e
-
-leb_no : (a b : ℕ) → b < a → leb a b ≡ false
-leb_no a b h = grind (arith, nat_tests)
 
 pub ticks_hold : {S : Type 0} (see : S → Event → S) (right : S → Bool) (Right : S → Type 0) → ((s : S) → right s ≡ true → Right s)
     → (tick : ℕ) (s : S) (lines : List TraceLine) → follows_ticks see right tick s lines ≡ true → (n : ℕ) → tick ≤ n → n < last_from tick lines → Right (seen_from see s (up_to n lines))
 ticks_hold see right Right tells tick s [] e n low high = absurd (omega arith)
 ticks_hold see right Right tells tick s (line ∷ lines) e n low high =
-    let parts = both (leb line.0 tick || right s) (follows_ticks see right line.0 (see s line.1) lines) e in
+    let parts = and_parts (leb line.0 tick || right s) (follows_ticks see right line.0 (see s line.1) lines) e in
     elim (cases_lt n line.0) [
-      | inl below ↦ rw (leb_no line.0 n below) (tells s (either (leb line.0 tick) (right s) parts.0 (leb_no line.0 tick (omega arith))))
+      | inl below ↦ rw (lt-leb line.0 n below) (tells s (either (leb line.0 tick) (right s) parts.0 (lt-leb line.0 tick (omega arith))))
       | inr at ↦ rw (le-leb line.0 n at) (ticks_hold see right Right tells line.0 (see s line.1) lines parts.1 n at high)
     ]
 
@@ -42,8 +35,8 @@ ticks_followed {S} see right Right tests tick s (line ∷ lines) rises h =
     (λ n low high. subst (λ (t : Bool). Right (seen_from see s (cond t (line ∷ up_to n lines) []))) (le-leb line.0 n low) (h n (omega (arith, rises.0)) high)) in
     elim (cases_lt tick line.0) [
       | inl below ↦
-          let now_right : Right s = subst (λ (t : Bool). Right (seen_from see s (cond t (line ∷ up_to tick lines) []))) (leb_no line.0 tick below) (h tick (omega arith) (omega (arith, last_from-ge line.0 lines rises.1))) in
-          rw (leb_no line.0 tick below, tests s now_right) later
+          let now_right : Right s = subst (λ (t : Bool). Right (seen_from see s (cond t (line ∷ up_to tick lines) []))) (lt-leb line.0 tick below) (h tick (omega arith) (omega (arith, last_from-ge line.0 lines rises.1))) in
+          rw (lt-leb line.0 tick below, tests s now_right) later
       | inr at ↦ rw (le-leb line.0 tick at) later
     ]
 
@@ -53,12 +46,12 @@ lines_hold see lawful s [] e [] line back same = cc
 lines_hold see lawful s [] e (first ∷ front) line back same = cc
 lines_hold see lawful s (one ∷ lines) e [] line back same =
     let heads : one ≡ line = cc in
-    subst (λ l. lawful s l.1 ≡ true) heads (both (lawful s one.1) (follows_lines see lawful (see s one.1) lines) e).0
+    subst (λ l. lawful s l.1 ≡ true) heads (and_parts (lawful s one.1) (follows_lines see lawful (see s one.1) lines) e).0
 lines_hold see lawful s (one ∷ lines) e (first ∷ front) line back same =
     let heads : one ≡ first = cc in
     let rest : lines ≡ front ++ line ∷ back = cc in
     subst (λ l. lawful (seen_from see (see s l.1) front) line.1 ≡ true) heads
-    (lines_hold see lawful (see s one.1) lines (both (lawful s one.1) (follows_lines see lawful (see s one.1) lines) e).1 front line back rest)
+    (lines_hold see lawful (see s one.1) lines (and_parts (lawful s one.1) (follows_lines see lawful (see s one.1) lines) e).1 front line back rest)
 
 pub lines_followed : {S : Type 0} (see : S → Event → S) (lawful : S → Event → Bool) (s : S) (lines : List TraceLine)
     → ((front : List TraceLine) (line : TraceLine) (back : List TraceLine) → lines ≡ front ++ line ∷ back → lawful (seen_from see s front) line.1 ≡ true) → follows_lines see lawful s lines ≡ true
@@ -102,14 +95,14 @@ tells_lines see lawful s lines = (lines_hold see lawful s lines, lines_followed 
 pub ticks_rise : (tick : ℕ) (lines : List TraceLine) → follows_order tick lines ≡ true → RisesFrom tick lines
 ticks_rise tick [] e = tt
 ticks_rise tick (line ∷ lines) e =
-    let parts = both (leb tick line.0 && leb line.0 LAST_TICK) (follows_order line.0 lines) e in
-    (leb-true tick line.0 (both (leb tick line.0) (leb line.0 LAST_TICK) parts.0).0, ticks_rise line.0 lines parts.1)
+    let parts = and_parts (leb tick line.0 && leb line.0 LAST_TICK) (follows_order line.0 lines) e in
+    (leb-true tick line.0 (and_parts (leb tick line.0) (leb line.0 LAST_TICK) parts.0).0, ticks_rise line.0 lines parts.1)
 
 pub ticks_bounded : (tick : ℕ) (lines : List TraceLine) → follows_order tick lines ≡ true → AreTicksBounded lines
 ticks_bounded tick [] e = tt
 ticks_bounded tick (line ∷ lines) e =
-    let parts = both (leb tick line.0 && leb line.0 LAST_TICK) (follows_order line.0 lines) e in
-    ((both (leb tick line.0) (leb line.0 LAST_TICK) parts.0).1, ticks_bounded line.0 lines parts.1)
+    let parts = and_parts (leb tick line.0 && leb line.0 LAST_TICK) (follows_order line.0 lines) e in
+    ((and_parts (leb tick line.0) (leb line.0 LAST_TICK) parts.0).1, ticks_bounded line.0 lines parts.1)
 
 pub order_followed : (tick : ℕ) (lines : List TraceLine) → RisesFrom tick lines → AreTicksBounded lines → follows_order tick lines ≡ true
 order_followed tick [] r b = refl
@@ -118,7 +111,7 @@ order_followed tick (line ∷ lines) r b = rw (le-leb tick line.0 r.0, b.0) (ord
 pub tells_form : (lines : List TraceLine) → (follows_form lines ≡ true → Formed lines) × (Formed lines → follows_form lines ≡ true)
 tells_form lines =
     let tells = tells_lines see_shape is_formed_next no_shape lines in (
-      λ e. let parts = both (follows_order 0 lines) (follows_lines see_shape is_formed_next no_shape lines) e in
+      λ e. let parts = and_parts (follows_order 0 lines) (follows_lines see_shape is_formed_next no_shape lines) e in
           record { rises = ticks_rise 0 lines parts.0; bounded = ticks_bounded 0 lines parts.0; lines_formed = tells.0 parts.1 },
       λ h. rw (order_followed 0 lines h.rises h.bounded) (tells.1 h.lines_formed),
     )
@@ -131,17 +124,17 @@ pub tells_handlers : (lines : List TraceLine) → RisesFrom 0 lines → (follows
 tells_handlers lines rises =
     let order = tells_lines see_releases is_in_order no_releases lines in
     let agent = tells_ticks see_releases is_agent_right (λ state. IsTrue (is_agent_right state)) no_releases (λ state e. e) (λ state e. e) lines rises in (
-      λ e. let parts = both (follows_lines see_releases is_in_order no_releases lines) (follows_ticks see_releases is_agent_right 0 no_releases lines) e in
+      λ e. let parts = and_parts (follows_lines see_releases is_in_order no_releases lines) (follows_ticks see_releases is_agent_right 0 no_releases lines) e in
           record { in_order = order.0 parts.0; agent = agent.0 parts.1 },
       λ h. rw (order.1 h.in_order) (agent.1 h.agent),
     )
 
 pub tells_laws : (lines : List TraceLine) → RisesFrom 0 lines → follows_laws lines ≡ true → KeepsLaws lines
 tells_laws lines rises e =
-    let a = both (follows_dispatch lines && follows_ceilings lines && follows_exclusion lines && follows_handlers lines) (follows_leaving lines) e in
-    let b = both (follows_dispatch lines && follows_ceilings lines && follows_exclusion lines) (follows_handlers lines) a.0 in
-    let c = both (follows_dispatch lines && follows_ceilings lines) (follows_exclusion lines) b.0 in
-    let d = both (follows_dispatch lines) (follows_ceilings lines) c.0 in
+    let a = and_parts (follows_dispatch lines && follows_ceilings lines && follows_exclusion lines && follows_handlers lines) (follows_leaving lines) e in
+    let b = and_parts (follows_dispatch lines && follows_ceilings lines && follows_exclusion lines) (follows_handlers lines) a.0 in
+    let c = and_parts (follows_dispatch lines && follows_ceilings lines) (follows_exclusion lines) b.0 in
+    let d = and_parts (follows_dispatch lines) (follows_ceilings lines) c.0 in
     record {
       dispatch = (tells_dispatch lines rises).0 d.0;
       ceilings = (tells_lines see_levels is_below_ceiling no_levels lines).0 d.1;

@@ -26,12 +26,12 @@ use Rattle.machine_laws.specs.DueLaws.{all_later, none_before}
 use Rattle.machine_laws.specs.Reached.{Comes, opened, ticked, Reached, before, behind}
 use Rattle.machine_laws.proofs.Kept.Handlers.{releasing}
 use Rattle.machine_laws.proofs.FineMoves.{AnyWorld}
-use Rattle.machine_laws.proofs.FinestMoves.{all_of, tocks_of}
+use Rattle.machine_laws.proofs.FinestMoves.{all_of, tocks_of, move_chains, effect-leads}
 use Rattle.machine_laws.proofs.Moves.{Moves, TockMoves}
-use Rattle.machine_laws.proofs.Kept.Combinators.{Keeps, Leads, then-leads, settles-leads, world_behind, kept-world}
 use Rattle.machine_laws.proofs.Kept.Appointments.{is_later}
 use Rattle.machine_laws.proofs.Kept.Instant.{come_due-keeps, moments_due-leads, timers_due-leads, budgets_due-leads, quantum_spent-leads, is_there, or_that}
 use Rattle.machine_laws.proofs.Kept.Run.{before_tick, tock-parts, before_tick-leads, opens-keeps}
+use Rattle.machine_laws.proofs.Kept.Combinators.{Keeps, Leads, kept-world, then-leads, world_behind}
 
 -- ---- those that are due: events, or the others
 
@@ -256,8 +256,8 @@ behind_moments p = timers_due p ▶ budgets_due p ▶ quantum_spent p
 
 behind_moments-leads : (events : Bool) (p : Image) → Leads AnyWorld (NeverMore events) (behind_moments p)
 behind_moments-leads events p =
-    then-leads (all_of (never_more events)).fine (timers_due p) (budgets_due p ▶ quantum_spent p) (timers_due-leads (all_of (never_more events)).fine (all_of (never_more events)).settings (releasing (all_of (never_more events))) p)
-    (then-leads (all_of (never_more events)).fine (budgets_due p) (quantum_spent p) (budgets_due-leads (all_of (never_more events)).fine (all_of (never_more events)).settings (releasing (all_of (never_more events))) p) (quantum_spent-leads (all_of (never_more events)).fine p))
+    then-leads (move_chains (all_of (never_more events)).fine) (timers_due p) (budgets_due p ▶ quantum_spent p) (timers_due-leads (all_of (never_more events)).fine (all_of (never_more events)).settings (releasing (all_of (never_more events))) p)
+    (then-leads (move_chains (all_of (never_more events)).fine) (budgets_due p) (quantum_spent p) (budgets_due-leads (all_of (never_more events)).fine (all_of (never_more events)).settings (releasing (all_of (never_more events))) p) (quantum_spent-leads (all_of (never_more events)).fine p))
 
 instant-none : (events : Bool) (p : Image) (w : World) → due_in events (instant p w).0 ≤ 0
 unfolding Leads
@@ -314,8 +314,8 @@ opening-none : (p : Image) (script : List (ℤ × Item)) → none_before (openin
 unfolding Leads
 opening-none p script =
     let o = (opening p script).0 in
-    let events = (settles-leads (all_of (never_more true)).fine p (opens p) (opens-keeps (all_of (never_more true)) p) (blank_world p script) tt).1 in
-    let others = (settles-leads (all_of (never_more false)).fine p (opens p) (opens-keeps (all_of (never_more false)) p) (blank_world p script) tt).1 in
+    let events = (effect-leads (all_of (never_more true)).fine p (opens p) (opens-keeps (all_of (never_more true)) p) (blank_world p script) tt).1 in
+    let others = (effect-leads (all_of (never_more false)).fine p (opens p) (opens-keeps (all_of (never_more false)) p) (blank_world p script) tt).1 in
     later-none_before o (all_are_later o.time o.appointments events others)
 
 tock-none : (p : Image) (w : World) → due_in true w ≤ 0 → due_in false w ≤ 0 → none_before (tock p w).0 ≡ true

@@ -44,7 +44,7 @@ use Rattle.profile_machine.specs.declared.world.lines.Said.{Said}
 use Rattle.profile_machine.specs.declared.world.lines.Line.{Line}
 use Rattle.profile_machine.specs.declared.world.lines.Line.TheVariants as said
 use Rattle.profile_machine.specs.Words.{edit_at}
-use Rattle.profile_machine.specs.Steps.{placed_by}
+use Rattle.profile_machine.specs.Steps.{Step, placed_by, says, settles}
 use Rattle.profile_machine.specs.Tasks.{edit_task, with_state, with_frames, waiting_of}
 use Rattle.profile_machine.specs.Dispatching.{word_of}
 use Rattle.profile_machine.specs.Frames.{frames_of, top_of, edit_first, edit_top, with_mark, new_frame, push, pop, is_protected, in_protected}
@@ -66,6 +66,8 @@ use Rattle.profile_machine.specs.Instant.{with_port, with_masked, with_kept_inte
 use Rattle.machine_laws.proofs.Moves.{StepRelation, MoveRelation, Moves, TockMoves, LetsIn, FindsHeld, own, lines_of}
 use Rattle.machine_laws.specs.LineKinds.{is_of_tock}
 use Rattle.profile_machine.specs.Run.{with_serving}
+use Rattle.machine_laws.proofs.Chains.{Chains, MoveChains}
+use Rattle.machine_laws.proofs.Kept.Combinators.{Keeps, Leads, said-keeps, settles-leads}
 use Rattle.machine_laws.proofs.FineMoves as coarse
 use Rattle.machine_laws.proofs.FineMoves.{GoodWorld, Naming, EachIs, AnyWorld, Anybody, AnyRegion, AnyRelease, FineMoves, Openings, Exits, finely, openings, exits, release_in, is_abortable, ready_line, gone_on, first_is_false}
 
@@ -205,6 +207,21 @@ pub record FinestMoves (G : GoodWorld) (May Other : Naming) (R : StepRelation) (
   pub adds_timer : (t : TaskNo) (w : World) → G w → R w [] (with_timer t w)
   pub adds_budget : (w : World) → G w → R w [] (with_budget w)
   pub edits_budget : (b : ℕ) (f : Budget → Budget) (w : World) → G w → ((x : Budget) → (f x).handler ≡ x.handler) → R w [] (edit_budget b f w)
+
+module _ {G : GoodWorld} {May Other : Naming} {R : StepRelation} {Q : MoveRelation} (moves : FinestMoves G May Other R Q) where
+  pub chains : Chains G R
+  chains = record { behind = moves.behind; stays = moves.stays; goes_on = moves.goes_on }
+
+  pub move_chains : MoveChains G Q
+  move_chains = record { moved = moves.moved; leads_on = moves.leads_on }
+
+  -- a line that tells no change
+  pub says-keeps : (part : Part) (line : Line) → is_apart line ≡ false → Keeps G R (says part line)
+  says-keeps part line other = said-keeps chains part line (λ w good. moves.says part line w good other)
+
+  -- an effect is over
+  pub effect-leads : (p : Image) (step : Step) → Keeps G R step → Leads G Q (settles p step)
+  effect-leads p step kept = settles-leads Q p (moves.settles p) G step kept
 
 -- What sets or cancels what is released later, the clock of a task that goes on, and the outside.
 pub record SettingMoves (G : GoodWorld) (R : StepRelation) : Type 0 where

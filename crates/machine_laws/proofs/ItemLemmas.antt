@@ -16,11 +16,11 @@ use Rattle.profile_machine.specs.Instant.{with_script, script_item, take_item, i
 use Rattle.machine_laws.specs.ItemLaws.{first_is_later, no_item_due}
 use Rattle.machine_laws.proofs.Kept.Handlers.{releasing}
 use Rattle.machine_laws.proofs.FineMoves.{AnyWorld}
-use Rattle.machine_laws.proofs.FinestMoves.{all_of}
+use Rattle.machine_laws.proofs.FinestMoves.{all_of, move_chains}
 use Rattle.machine_laws.proofs.Moves.{Moves}
-use Rattle.machine_laws.proofs.Kept.Combinators.{Keeps, Leads, then-leads, world_behind, kept-world}
 use Rattle.machine_laws.proofs.Kept.Appointments.{is_later}
 use Rattle.machine_laws.proofs.Kept.Instant.{script_item-keeps, events_due-leads, moments_due-leads, timers_due-leads, budgets_due-leads, quantum_spent-leads}
+use Rattle.machine_laws.proofs.Kept.Combinators.{Keeps, Leads, kept-world, then-leads, world_behind}
 
 -- ---- no step adds an item, and none takes one while the first is later than now
 
@@ -149,10 +149,10 @@ behind_items p = events_due p ▶ moments_due p ▶ timers_due p ▶ budgets_due
 
 behind_items-leads : (p : Image) → Leads AnyWorld ItemsStay (behind_items p)
 behind_items-leads p =
-    then-leads (all_of items_stay).fine (events_due p) (moments_due p ▶ timers_due p ▶ budgets_due p ▶ quantum_spent p) (events_due-leads (all_of items_stay).fine (all_of items_stay).settings (releasing (all_of items_stay)) p)
-    (then-leads (all_of items_stay).fine (moments_due p) (timers_due p ▶ budgets_due p ▶ quantum_spent p) (moments_due-leads (all_of items_stay).fine p)
-    (then-leads (all_of items_stay).fine (timers_due p) (budgets_due p ▶ quantum_spent p) (timers_due-leads (all_of items_stay).fine (all_of items_stay).settings (releasing (all_of items_stay)) p)
-    (then-leads (all_of items_stay).fine (budgets_due p) (quantum_spent p) (budgets_due-leads (all_of items_stay).fine (all_of items_stay).settings (releasing (all_of items_stay)) p) (quantum_spent-leads (all_of items_stay).fine p))))
+    then-leads (move_chains (all_of items_stay).fine) (events_due p) (moments_due p ▶ timers_due p ▶ budgets_due p ▶ quantum_spent p) (events_due-leads (all_of items_stay).fine (all_of items_stay).settings (releasing (all_of items_stay)) p)
+    (then-leads (move_chains (all_of items_stay).fine) (moments_due p) (timers_due p ▶ budgets_due p ▶ quantum_spent p) (moments_due-leads (all_of items_stay).fine p)
+    (then-leads (move_chains (all_of items_stay).fine) (timers_due p) (budgets_due p ▶ quantum_spent p) (timers_due-leads (all_of items_stay).fine (all_of items_stay).settings (releasing (all_of items_stay)) p)
+    (then-leads (move_chains (all_of items_stay).fine) (budgets_due p) (quantum_spent p) (budgets_due-leads (all_of items_stay).fine (all_of items_stay).settings (releasing (all_of items_stay)) p) (quantum_spent-leads (all_of items_stay).fine p))))
 
 pub instants_leave_no_item_due : (p : Image) (w : World) → no_item_due (instant p w).0 ≡ true
 unfolding Leads

@@ -1,6 +1,7 @@
 pub mod ListLemmas
 pub mod Moves
 pub mod FineMoves
+pub mod Chains
 pub mod FinestMoves
 mod AtOnce
 pub mod Kept

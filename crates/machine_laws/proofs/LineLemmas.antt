@@ -19,11 +19,11 @@ use Rattle.profile_machine.specs.Instant.{instant}
 use Rattle.profile_machine.specs.Run.{say, says_run, serve_if_free, serve, says_idle, opens, opening, blank_world, tock}
 use Rattle.profile_machine.specs.declared.run_data.Item.{Item}
 use Rattle.machine_laws.specs.LineKinds.{is_of_effect, is_of_tock, is_no_end, AllAre}
-use Rattle.machine_laws.proofs.FinestMoves.{all_of}
+use Rattle.machine_laws.proofs.FinestMoves.{all_of, effect-leads}
 use Rattle.machine_laws.proofs.Moves.{Moves}
-use Rattle.machine_laws.proofs.Kept.Combinators.{Leads, settles-leads}
 use Rattle.machine_laws.proofs.Kept.Instant.{instant-leads}
 use Rattle.machine_laws.proofs.Kept.Run.{before_tick, tock-parts, opens-keeps}
+use Rattle.machine_laws.proofs.Kept.Combinators.{Leads}
 
 pub AllAre-append : (test : Event → Bool) (xs ys : List Event) → AllAre test xs → AllAre test ys → AllAre test (xs ++ ys)
 AllAre-append test [] ys a b = b
@@ -172,7 +172,7 @@ tock-no_end-lines p w = AllAre-also is_of_tock is_no_end tock-no_end (tock p w).
 
 pub openings_say_effects : (p : Image) (script : List (ℤ × Item)) → AllAre is_of_effect (opening p script).1
 unfolding Leads
-openings_say_effects p script = settles-leads (all_of of_effects).fine p (opens p) (opens-keeps (all_of of_effects) p) (blank_world p script) tt
+openings_say_effects p script = effect-leads (all_of of_effects).fine p (opens p) (opens-keeps (all_of of_effects) p) (blank_world p script) tt
 
 pub opening-no_end : (p : Image) (script : List (ℤ × Item)) → AllAre is_no_end (opening p script).1
 opening-no_end p script = AllAre-also is_of_effect is_no_end effect-no_end (opening p script).1 (openings_say_effects p script)

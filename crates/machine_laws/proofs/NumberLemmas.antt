@@ -27,14 +27,14 @@ use Rattle.profile_machine.specs.Run.{opens, blank_world}
 use Rattle.profile_machine.specs.WellFormed.{all_adjacent, number_in, is_older, tasks_are_numbered, registered_are_numbered, releases_are_numbered}
 use Rattle.machine_laws.specs.NumberLaws.{calls_fall, scopes_fall, objects_fall, appointments_rise}
 use Rattle.machine_laws.specs.Reached.{Reached}
-use Rattle.machine_laws.proofs.FinestMoves.{all_of, tocks_of}
+use Rattle.machine_laws.proofs.FinestMoves.{all_of, tocks_of, effect-leads}
 use Rattle.machine_laws.proofs.ListLemmas.{Falls, Falls-without, Falls-edit_where, Falls-adjacent, Falls-all, Rises, Rises-without, Rises-set_where, Rises-behind, Rises-adjacent, Rises-all, Follows, Follows-behind, Follows-adjacent}
 use Rattle.machine_laws.proofs.AppointmentLemmas.{InOrder, InOrder-put, InOrder-without, InOrder-adjacent}
 use Rattle.machine_laws.proofs.ReachedLemmas.{Lasts, reached-lasts}
 use Rattle.machine_laws.proofs.Moves.{Moves, TockMoves}
-use Rattle.machine_laws.proofs.Kept.Combinators.{Leads, settles-leads}
 use Rattle.machine_laws.proofs.Kept.Instant.{instant-leads}
 use Rattle.machine_laws.proofs.Kept.Run.{tock-parts, before_tick-leads, opens-keeps}
+use Rattle.machine_laws.proofs.Kept.Combinators.{Leads}
 
 -- ---- the numbers
 
@@ -151,7 +151,7 @@ blank-numbered p script = ((omega arith, omega arith), tt, tt, tt, tt, (0, refl)
 numbered-lasts : Lasts Numbered
 unfolding Leads
 numbered-lasts = record {
-  at_opening = λ p script. settles-leads (all_of stays_numbered).fine p (opens p) (opens-keeps (all_of stays_numbered) p) (blank_world p script) tt (blank-numbered p script);
+  at_opening = λ p script. effect-leads (all_of stays_numbered).fine p (opens p) (opens-keeps (all_of stays_numbered) p) (blank_world p script) tt (blank-numbered p script);
   at_instant = λ p w h. instant-leads (all_of stays_numbered) p (record { puts = λ name s pieces text v w good is e k. k }) w tt h;
   at_tock = λ p w h. subst (λ a. Numbered a.0) (sym (tock-parts p w)) (before_tick-leads (all_of stays_numbered) (tocks_of tocks_stay_numbered) p (choose w) w tt h);
 }

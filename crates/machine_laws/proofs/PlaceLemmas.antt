@@ -16,15 +16,15 @@ use Rattle.profile_machine.specs.Instant.{instant}
 use Rattle.profile_machine.specs.Run.{opens, opening, blank_world, tock}
 use Rattle.machine_laws.specs.PlaceLaws.{places_differ, places_fall}
 use Rattle.machine_laws.specs.Reached.{Reached}
-use Rattle.machine_laws.proofs.FinestMoves.{all_of, tocks_of}
+use Rattle.machine_laws.proofs.FinestMoves.{all_of, tocks_of, effect-leads}
 use Rattle.machine_laws.proofs.OrderLemmas.{Descends, Descends-after_all, Descends-adjacent, Differ, Differ-after_all, Differ-all}
 use Rattle.machine_laws.proofs.ReachedLemmas.{Lasts, reached-lasts}
 use Rattle.machine_laws.specs.LineKinds.{is_of_tock, AllAre}
 use Rattle.machine_laws.proofs.Moves.{Moves, TockMoves, lines_of}
 use Rattle.machine_laws.proofs.LineLemmas.{tocks_say_ticks}
-use Rattle.machine_laws.proofs.Kept.Combinators.{Leads, settles-leads}
 use Rattle.machine_laws.proofs.Kept.Instant.{instant-leads}
 use Rattle.machine_laws.proofs.Kept.Run.{before_tick, tock-parts, before_tick-leads, opens-keeps}
+use Rattle.machine_laws.proofs.Kept.Combinators.{Leads}
 
 -- a step moves nobody before its effect is over
 abbrev SamePlaces : {X : Type 0} → World → List X → World → Type 0
@@ -111,7 +111,7 @@ tock_lines-places (x ∷ xs) places a = ap (places_after_all xs) (tock_line-plac
 
 pub openings_place_by_lines : (p : Image) (script : List (ℤ × Item)) → (opening p script).0.places ≡ places_after_all (opening p script).1 []
 unfolding Leads
-openings_place_by_lines p script = settles-leads (all_of place_by_lines).fine p (opens p) (opens-keeps (all_of place_by_lines) p) (blank_world p script) tt
+openings_place_by_lines p script = effect-leads (all_of place_by_lines).fine p (opens p) (opens-keeps (all_of place_by_lines) p) (blank_world p script) tt
 
 pub instants_place_by_lines : (p : Image) (w : World) → (instant p w).0.places ≡ places_after_all (instant p w).1 w.places
 unfolding Leads

@@ -6,11 +6,11 @@ use Rattle.profile_machine.specs.Instant.{instant}
 use Rattle.profile_machine.specs.Run.{tock, opening, blank_world, opens}
 use Rattle.profile_machine.specs.declared.run_data.Item.{Item}
 use Rattle.profile_machine.specs.Dispatching.{choose}
-use Rattle.machine_laws.proofs.FinestMoves.{all_of, tocks_of}
+use Rattle.machine_laws.proofs.FinestMoves.{all_of, tocks_of, effect-leads}
 use Rattle.machine_laws.proofs.Kept.Run.{tock-parts, before_tick-leads, opens-keeps}
 use Rattle.machine_laws.proofs.AtOnce.{at_once}
-use Rattle.machine_laws.proofs.Kept.Combinators.{Leads, settles-leads}
 use Rattle.machine_laws.proofs.Kept.Instant.{instant-leads}
+use Rattle.machine_laws.proofs.Kept.Combinators.{Leads}
 
 pub instants_take_no_time : (p : Image) (w : World) → (instant p w).0.time ≡ w.time
 unfolding Leads
@@ -27,8 +27,8 @@ tocks_take_one_tick p w =
 
 pub opening_now : (p : Image) (script : List (ℤ × Item)) → (opening p script).0.time ≡ 0
 unfolding Leads
-opening_now p script = ap (λ x. x.0) (settles-leads (all_of at_once).fine p (opens p) (opens-keeps (all_of at_once) p) (blank_world p script) tt)
+opening_now p script = ap (λ x. x.0) (effect-leads (all_of at_once).fine p (opens p) (opens-keeps (all_of at_once) p) (blank_world p script) tt)
 
 pub opening-runner : (p : Image) (script : List (ℤ × Item)) → (opening p script).0.ran ≡ None
 unfolding Leads
-opening-runner p script = ap (λ x. x.1) (settles-leads (all_of at_once).fine p (opens p) (opens-keeps (all_of at_once) p) (blank_world p script) tt)
+opening-runner p script = ap (λ x. x.1) (effect-leads (all_of at_once).fine p (opens p) (opens-keeps (all_of at_once) p) (blank_world p script) tt)

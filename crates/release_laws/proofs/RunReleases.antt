@@ -11,7 +11,6 @@ use Rattle.profile_machine.specs.declared.world.marks.Purpose.TheVariants as ope
 use Rattle.profile_machine.specs.Scopes.{plainly}
 use Rattle.profile_machine.specs.Run.{environment, opens, opening, blank_world, stop, tock}
 use Rattle.machine_laws.proofs.FineMoves.{AnyWorld}
-use Rattle.machine_laws.proofs.Kept.Combinators.{Keeps, Leads, then-keeps, changes-keeps, says-keeps, settles-leads}
 use Rattle.release_laws.specs.ReleaseLaws.{Passage, machine_of, passage, history_from, Account, first_account, account_behind, HistoryOk, ReleasesAll, OfEveryRun}
 use Rattle.release_laws.proofs.Untouched.{budget_in, sight_of, Untouched, Calmly, CalmMove, calm, calm_openings}
 use Rattle.release_laws.proofs.BudgetSteps.{one_or_none}
@@ -23,19 +22,21 @@ use Rattle.release_laws.proofs.InstantReleases.{releases-all, agrees-behind}
 use Rattle.machine_laws.proofs.Kept.Dispatching.{to_tail-keeps}
 use Rattle.machine_laws.proofs.Kept.Frames.{open_sequence-keeps}
 use Rattle.machine_laws.proofs.Kept.Scopes.{open_scope-alters}
+use Rattle.machine_laws.proofs.FinestMoves.{chains, effect-leads, says-keeps}
+use Rattle.machine_laws.proofs.Kept.Combinators.{Keeps, Leads, changes-keeps, then-keeps}
 
 -- ---- at first nothing was asked for
 
 opens-calm : (p : Image) → Keeps AnyWorld Calmly (opens p)
 unfolding opens
 opens-calm p =
-    then-keeps calm _ _ (changes-keeps calm _ (open_scope-alters calm_openings p environment p.environment (plainly None) opened_for.Task tt))
-    (then-keeps calm _ _ (says-keeps calm Own (line.New (created.Task (record { 0 = 0 })) None p.main.priority) refl)
-    (then-keeps calm _ _ (to_tail-keeps calm p Own environment tt) (open_sequence-keeps calm p Own environment tt)))
+    then-keeps (chains calm) _ _ (changes-keeps (chains calm) _ (open_scope-alters calm_openings p environment p.environment (plainly None) opened_for.Task tt))
+    (then-keeps (chains calm) _ _ (says-keeps calm Own (line.New (created.Task (record { 0 = 0 })) None p.main.priority) refl)
+    (then-keeps (chains calm) _ _ (to_tail-keeps calm p Own environment tt) (open_sequence-keeps calm p Own environment tt)))
 
 pub opening-calm : (p : Image) (script : List (ℤ × Item)) → CalmMove (blank_world p script) (opening p script).1 (opening p script).0
 unfolding Leads
-opening-calm p script = settles-leads calm p (opens p) (opens-calm p) (blank_world p script) tt
+opening-calm p script = effect-leads calm p (opens p) (opens-calm p) (blank_world p script) tt
 
 blank-handlers : (p : Image) (script : List (ℤ × Item)) (i : ℕ) → one_or_none (budget_in (blank_world p script).budgets i).handler ≡ []
 blank-handlers p script i = ap (λ (b : Budget). one_or_none b.handler) (none-there i)

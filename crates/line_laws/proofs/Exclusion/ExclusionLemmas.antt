@@ -37,10 +37,9 @@ use Rattle.profile_machine.specs.Calls.{edit_object}
 use Rattle.profile_machine.specs.Instant.{instant}
 use Rattle.profile_machine.specs.Run.{opens, opening, blank_world, tock, run_of}
 use Rattle.machine_laws.specs.LineKinds.{is_of_tock}
-use Rattle.machine_laws.proofs.FinestMoves.{all_of, tocks_of}
+use Rattle.machine_laws.proofs.FinestMoves.{all_of, tocks_of, effect-leads}
 use Rattle.machine_laws.proofs.ListLemmas.{Falls, Falls-without, Falls-edit_where}
 use Rattle.machine_laws.proofs.Moves.{Moves, TockMoves, LetsIn, FindsHeld, AreOthers, is_told_apart, own}
-use Rattle.machine_laws.proofs.Kept.Combinators.{Leads, settles-leads}
 use Rattle.machine_laws.proofs.Kept.Instant.{instant-leads}
 use Rattle.machine_laws.proofs.Kept.Run.{tock-parts, before_tick-leads, opens-keeps}
 use Rattle.line_laws.proofs.Ticks.LineByLine.{seen_behind, seen_behind-append, Follow, Follow-append, Leads_on, OfRuns, run-at_each_line}
@@ -49,6 +48,7 @@ use Rattle.line_laws.proofs.Exclusion.OwnLines.{told, Told, Told-append, Told-in
 use Rattle.line_laws.proofs.Exclusion.ObjectLists.{object_number, changed, found-below, left-found}
 use Rattle.line_laws.proofs.Exclusion.ActionLists.{on, Once, closed-other, closed-only, closed-new, none-without, Once-without, free-beside, all-beside, held-by_other, other_excludes, shown-any}
 use Rattle.line_laws.proofs.Ticks.ReleaseLemmas.{events_of}
+use Rattle.machine_laws.proofs.Kept.Combinators.{Leads}
 
 -- ---- what an effect says of actions
 
@@ -337,7 +337,7 @@ OpenActions s w = ShowsActions s w
 openings-lead_on : (p : Image) (script : List (ℤ × Item)) → Leads_on actions_after enters_rightly OpenActions [] (opening p script).1 (opening p script).0
 unfolding Leads OpenActions
 openings-lead_on p script =
-    let h = settles-leads (all_of tells).fine p (opens p) (opens-keeps (all_of tells) p) (blank_world p script) tt [] (λ o x e. absurd cc, λ n high. refl, tt) in
+    let h = effect-leads (all_of tells).fine p (opens p) (opens-keeps (all_of tells) p) (blank_world p script) tt [] (λ o x e. absurd cc, λ n high. refl, tt) in
     record { follow = h.0; shows = h.1 }
 
 instants-lead_on : (p : Image) (s : List shown.Action) (w : World) → OpenActions s w → Leads_on actions_after enters_rightly OpenActions s (instant p w).1 (instant p w).0

@@ -10,7 +10,7 @@ use Rattle.trace_text.specs.declared.events.Ended.TheVariants as why
 use Rattle.trace_text.specs.declared.events.Who.TheVariants as who
 use Rattle.profile_machine.specs.declared.world.tasks.Task.{Task}
 use Rattle.profile_machine.specs.Tasks.{nobody, is_who}
-use Rattle.machine_laws.proofs.FinestMoves.{natures}
+use Rattle.machine_laws.proofs.FinestMoves.{natures, effect-leads}
 use Rattle.line_laws.proofs.Exits.OpenCounts.{count}
 use Rattle.trace_text.specs.Queue.{TraceLine, follows_lines}
 use Rattle.trace_text.specs.Laws.{actions_after, is_exclusive, ExclusiveOk}
@@ -26,12 +26,12 @@ use Rattle.line_laws.proofs.Ticks.LineByLine.{Follow-append, seen_behind-append}
 use Rattle.line_laws.specs.ExclusionLaws.{enters_rightly}
 use Rattle.line_laws.proofs.Exclusion.ExclusionLemmas.{runs_exclude}
 use Rattle.line_laws.specs.ExitLaws.{IsRunnerFree, RunnersAreFree, exits_rightly}
-use Rattle.machine_laws.proofs.Kept.Combinators.{Leads, settles-leads}
 use Rattle.machine_laws.proofs.Kept.Instant.{instant-from}
 use Rattle.machine_laws.proofs.Kept.Run.{tock-parts, before_tick-leads, opens-keeps}
 use Rattle.line_laws.proofs.Exits.FreeActs.{stays_held, acts_free, runner-free}
 use Rattle.line_laws.proofs.Exits.ExitTies.{Tied, RightOf, actions_behind, no_credit}
 use Rattle.line_laws.proofs.Exits.ExitMoves.{telling, tock_moves}
+use Rattle.machine_laws.proofs.Kept.Combinators.{Leads}
 
 -- what lines lead to: each is right, and they are tied to the world behind
 abbrev LedOn : List shown.Action → List Event → World → Type 0
@@ -48,7 +48,7 @@ blank-tied p script who.Agent o = omega arith
 
 opening-led : (p : Image) (script : List (ℤ × Item)) → let o = opening p script in LedOn [] o.1 o.0
 unfolding Leads
-opening-led p script = settles-leads telling.fine p (opens p) (opens-keeps telling p) (blank_world p script) tt no_credit [] (blank-tied p script)
+opening-led p script = effect-leads telling.fine p (opens p) (opens-keeps telling p) (blank_world p script) tt no_credit [] (blank-tied p script)
 
 instant-led : (p : Image) (s : List shown.Action) (w : World) → IsRunnerFree w → Tied s no_credit w → let i = instant p w in LedOn s i.1 i.0
 instant-led p s w free h = instant-from telling stays_held acts_free p (record { puts = λ name number pieces text v x good is e c q g. (q, refl, g) }) w tt (λ name ran over. runner-free w free name ran over) no_credit s h

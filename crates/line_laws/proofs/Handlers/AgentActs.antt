@@ -41,7 +41,6 @@ use Rattle.profile_machine.specs.Act.{end_mark, act_frame, act_without, act_top,
 use Rattle.profile_machine.specs.Instant.{effect}
 use Rattle.machine_laws.proofs.Moves.{LetsIn, Puts, own}
 use Rattle.machine_laws.proofs.FineMoves.{Nature, nature, natures}
-use Rattle.machine_laws.proofs.Kept.Combinators.{Keeps, Kept, From, keeps-from, looks-keeps, then-keeps}
 use Rattle.machine_laws.proofs.Kept.Frames.{open_sequence-keeps}
 use Rattle.machine_laws.proofs.Kept.Inheritance.{inherit_running-keeps}
 use Rattle.machine_laws.proofs.Kept.Entering.{entering-inside, entering-held}
@@ -59,6 +58,8 @@ use Rattle.line_laws.proofs.Handlers.Mixed.{from_by, keeps_at, then_by, looks_by
 use Rattle.line_laws.proofs.Handlers.Attending.{Marked, Attending, Placing, calm_so, closes_so, called-append, or_false, Acted, busy-attends, busy-acted, attending-spared, then_spared}
 use Rattle.line_laws.proofs.Handlers.AgentEnds.{own_end-from}
 use Rattle.line_laws.proofs.Handlers.AgentServes.{emptied-stands, end_release-from, action_end-from}
+use Rattle.machine_laws.proofs.FinestMoves.{chains}
+use Rattle.machine_laws.proofs.Kept.Combinators.{From, Keeps, Kept, keeps-from, looks-keeps, then-keeps}
 
 -- ---- the handler of the release is called
 
@@ -93,7 +94,7 @@ action-from p o n w good h =
     (told-from o w good h)
     (λ v xs s. then_by (BusyStep Emptied None) (BusyStep Rooted None) (BusyStep Rooted None) inherits (changes (push who.Agent (new_frame mark None))) v
     (λ u t ys zs k l. busy_on Emptied Rooted v u t ys zs k l)
-    (keeps-from (busies emptied None) inherits v s.busy (looks-keeps (busies emptied None) (λ u. inherit_running p who.Agent (inherited_by.Ceiling o) (ceiling_of (object_of u o))) (λ u. inherit_running-keeps (busies emptied None) p who.Agent (inherited_by.Ceiling o) (ceiling_of (object_of u o)) tt)))
+    (keeps-from (chains (busies emptied None)) inherits v s.busy (looks-keeps (chains (busies emptied None)) (λ u. inherit_running p who.Agent (inherited_by.Ceiling o) (ceiling_of (object_of u o))) (λ u. inherit_running-keeps (busies emptied None) p who.Agent (inherited_by.Ceiling o) (ceiling_of (object_of u o)) tt)))
     (λ u ys k. changes_by (BusyStep Rooted None) (push who.Agent (new_frame mark None)) u (first_mark mark u k.busy refl refl refl refl)))
 
 handler-from : (p : Image) (r : Release) (w : World) → Busy Emptied None w → LetsIn who.Agent r.handler.object Write w → From Acted w (begin_handler p r)
@@ -141,7 +142,7 @@ statement-from : (p : Image) (f : Frame) (s : StatementNo) (w : World) → Busy 
 unfolding act_frame
 statement-from p f s w good =
     from_by (BusyStep Rooted None) Acted _ w (λ v xs k. busy-acted Rooted stands_rooted None w xs v good.runs k)
-    (keeps-from (busies rooted None) _ w good (act_statement-keeps (busies rooted None) (busy_openings None) (busy_settings rooted None) busy_releasing p (busy_puts p) who.Agent s (form_of p s) tt refl))
+    (keeps-from (chains (busies rooted None)) _ w good (act_statement-keeps (busies rooted None) (busy_openings None) (busy_settings rooted None) busy_releasing p (busy_puts p) who.Agent s (form_of p s) tt refl))
 
 -- the end of a mark on top
 unaction-from : (p : Image) (f : Frame) (mark : Mark) (w : World) → Busy Rooted None w → top_of w who.Agent ≡ Some f → f.mark ≡ mark → is_protected mark ≡ false → From Acted w (end_mark p who.Agent f mark)
@@ -217,7 +218,7 @@ opens_at-none p w runs h none (Some s) e = cc
 
 opening-from : (p : Image) (w : World) → Busy Rooted None w → From (BusyStep Rooted None) w (looks (λ v. open_at p Own who.Agent (onward_of v who.Agent)))
 unfolding open_sequence
-opening-from p w good = keeps-from (busies rooted None) (open_sequence p Own who.Agent) w good (open_sequence-keeps (busies rooted None) p Own who.Agent tt)
+opening-from p w good = keeps-from (chains (busies rooted None)) (open_sequence p Own who.Agent) w good (open_sequence-keeps (busies rooted None) p Own who.Agent tt)
 
 -- with marks it opens what stands above them
 sequence_above-from : (p : Image) (w : World) → Busy Rooted None w → From Opened w (looks (λ v. open_at p Own who.Agent (onward_of v who.Agent)))
@@ -274,7 +275,7 @@ module _ (colour : Colour) where
   unfolding take_terminates
   behind-keeps p =
       let moves = spares colour false in
-      then-keeps moves _ (unwind_all p who.Agent) (then-keeps moves _ (looks (λ w. block_at_terminate who.Agent (waiting_of w who.Agent))) (all_terminate-keeps moves p who.Agent) no_block-keeps) (unwind_all-keeps moves p who.Agent)
+      then-keeps (chains moves) _ (unwind_all p who.Agent) (then-keeps (chains moves) _ (looks (λ w. block_at_terminate who.Agent (waiting_of w who.Agent))) (all_terminate-keeps moves p who.Agent) no_block-keeps) (unwind_all-keeps moves p who.Agent)
 
 -- ---- the effect
 

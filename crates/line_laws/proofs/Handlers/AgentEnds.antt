@@ -21,13 +21,14 @@ use Rattle.profile_machine.specs.Masters.{region_of_mark, has_dependents}
 use Rattle.profile_machine.specs.Tasking.{wait_for_dependents, leave_region}
 use Rattle.profile_machine.specs.Act.{end_mark}
 use Rattle.machine_laws.proofs.FineMoves.{natures}
-use Rattle.machine_laws.proofs.Kept.Combinators.{Keeps, From, keeps-from, looks-from, when-keeps-if}
 use Rattle.machine_laws.proofs.Kept.Tasking.{leave_region-from}
 use Rattle.machine_laws.proofs.Kept.Act.{end_mark-from}
 use Rattle.line_laws.proofs.Handlers.AgentWorlds.{MarksOwned, RegionOwned}
 use Rattle.line_laws.proofs.Handlers.AgentMarks.{Rooted, rooted, has_top, no_dependents}
 use Rattle.line_laws.proofs.Handlers.OwnMoves.{Busy, BusyStep, busies, busy_openings}
 use Rattle.line_laws.proofs.Handlers.Mixed.{from_by}
+use Rattle.machine_laws.proofs.FinestMoves.{chains}
+use Rattle.machine_laws.proofs.Kept.Combinators.{From, Keeps, keeps-from, looks-from, when-keeps-if}
 
 -- ---- a kept scope of the agent begins to be left
 
@@ -38,8 +39,8 @@ module _ (r : RegionNo) where
   wait-keeps : Keeps (Busy Rooted (Some r)) (BusyStep Rooted (Some r)) (wait_for_dependents who.Agent r)
   unfolding wait_for_dependents
   wait-keeps =
-      looks-from (busies rooted (Some r)) (λ w. when (has_dependents w r) (block TheBlock who.Agent (waits_for.Dependents r))) (λ w good. keeps-from (busies rooted (Some r)) _ w good
-      (when-keeps-if (busies rooted (Some r)) (has_dependents w r) (block TheBlock who.Agent (waits_for.Dependents r)) (λ is. depends-none w good is)))
+      looks-from (chains (busies rooted (Some r))) (λ w. when (has_dependents w r) (block TheBlock who.Agent (waits_for.Dependents r))) (λ w good. keeps-from (chains (busies rooted (Some r))) _ w good
+      (when-keeps-if (chains (busies rooted (Some r))) (has_dependents w r) (block TheBlock who.Agent (waits_for.Dependents r)) (λ is. depends-none w good is)))
 
   leave-from : (p : Image) (m : ScopeMark) (leaving : Leaving) (f : Frame) (w : World) → Busy Rooted (Some r) w → top_of w who.Agent ≡ Some f → f.mark ≡ Scope m → m.region ≡ Some r → m.being_left ≡ false → From (BusyStep Rooted (Some r)) w (leave_region p who.Agent m leaving r)
   leave-from p m leaving f w good top is region left = leave_region-from (busies rooted (Some r)) (busy_openings (Some r)) p who.Agent f m leaving r w good tt top is region left wait-keeps

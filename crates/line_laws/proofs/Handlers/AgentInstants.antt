@@ -18,7 +18,6 @@ use Rattle.profile_machine.specs.Instant.{effect, is_over, effect_of_runner, fin
 use Rattle.profile_machine.specs.Run.{environment, blank_world, opens, opening}
 use Rattle.machine_laws.proofs.Moves.{lines_of}
 use Rattle.machine_laws.proofs.FineMoves.{natures}
-use Rattle.machine_laws.proofs.Kept.Combinators.{Keeps, Kept, From, Leads, changes-keeps, says-keeps, then-keeps}
 use Rattle.machine_laws.proofs.Kept.Dispatching.{to_tail-keeps}
 use Rattle.machine_laws.proofs.Kept.Frames.{open_sequence-keeps}
 use Rattle.machine_laws.proofs.Kept.Scopes.{open_scope-alters}
@@ -31,6 +30,8 @@ use Rattle.line_laws.proofs.Handlers.Mixed.{from_by, keeps_at}
 use Rattle.line_laws.proofs.Handlers.Attending.{Marked, Attending, Acted, placing-lines, spared-acted}
 use Rattle.line_laws.proofs.Handlers.AgentActs.{agent_effect-from}
 use Rattle.line_laws.proofs.Handlers.TaskActs.{task_effect-from}
+use Rattle.machine_laws.proofs.FinestMoves.{chains, says-keeps}
+use Rattle.machine_laws.proofs.Kept.Combinators.{From, Keeps, Kept, Leads, changes-keeps, then-keeps}
 
 -- ---- moves
 
@@ -123,9 +124,9 @@ opens-keeps : (colour : Colour) (p : Image) → Keeps (Apart colour) (Spared col
 unfolding opens
 opens-keeps colour p =
     let moves = spares colour true in
-    then-keeps moves _ _ (changes-keeps moves _ (open_scope-alters (spared_openings colour true) p environment p.environment (plainly None) opened_for.Task tt))
-    (then-keeps moves _ _ (says-keeps moves Own (said.New (created.Task (record { 0 = 0 })) None p.main.priority) refl)
-    (then-keeps moves _ _ (to_tail-keeps moves p Own environment tt) (open_sequence-keeps moves p Own environment tt)))
+    then-keeps (chains moves) _ _ (changes-keeps (chains moves) _ (open_scope-alters (spared_openings colour true) p environment p.environment (plainly None) opened_for.Task tt))
+    (then-keeps (chains moves) _ _ (says-keeps moves Own (said.New (created.Task (record { 0 = 0 })) None p.main.priority) refl)
+    (then-keeps (chains moves) _ _ (to_tail-keeps moves p Own environment tt) (open_sequence-keeps moves p Own environment tt)))
 
 pub opening-attended : (p : Image) (script : List (ℤ × Item)) → Attended (blank_world p script) (opening p script).1 (opening p script).0
 opening-attended p script =

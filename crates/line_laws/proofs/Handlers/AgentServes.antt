@@ -43,7 +43,6 @@ use Rattle.profile_machine.specs.Unwinding.{may_unwind}
 use Rattle.profile_machine.specs.Serving.{wait_for_own, resume_own, may_open_abortable, serves_nothing, is_served_now, serve_ends, end_release, close_action, behind_action, release_object, settle_sent, begins_part, chosen_is_sent, part_of_start, serve_chosen, serve_next, serve_calls, go_on_by_mode, with_body_left, not_left, end_operation, is_own_call, outcome_by, finish_raised, finish_well, finish_call, no_longer_serves, end_entry_body, end_in_protected_by, end_in_protected}
 use Rattle.machine_laws.proofs.Moves.{own}
 use Rattle.machine_laws.proofs.FineMoves.{Nature, nature, natures}
-use Rattle.machine_laws.proofs.Kept.Combinators.{from-keeps, looks-keeps, Keeps, Kept, From, changes-keeps, says-keeps, then-keeps, keeps-from, nothing-keeps}
 use Rattle.machine_laws.proofs.Kept.Frames.{edit_top-alters, pass_on-keeps}
 use Rattle.machine_laws.proofs.Kept.Inheritance.{lose_running-keeps}
 use Rattle.machine_laws.proofs.Kept.Priorities.{set_deferred-keeps}
@@ -59,6 +58,8 @@ use Rattle.line_laws.proofs.Handlers.SparedMoves.{Spared, NoRelease, spares}
 use Rattle.line_laws.proofs.Handlers.OwnMoves.{Busy, BusyStep, busies, busy_openings, spared, agent_marked, owned-popped}
 use Rattle.line_laws.proofs.Handlers.Attending.{Acted, calm_so, closes_so, busy-acted, busy_then, spared_then}
 use Rattle.line_laws.proofs.Handlers.Mixed.{from_by, keeps_at, then_by, looks_by, when_by, some_by, either_by, nothing_by}
+use Rattle.machine_laws.proofs.FinestMoves.{chains, says-keeps}
+use Rattle.machine_laws.proofs.Kept.Combinators.{From, Keeps, Kept, changes-keeps, from-keeps, keeps-from, looks-keeps, nothing-keeps, then-keeps}
 
 -- ---- the release has been served
 
@@ -144,13 +145,13 @@ exit-from Stands m w h stands before = (own (said.Exit who.Agent m.object) ∷ [
 module _ (colour : Colour) where
   own_waits-keeps : (p : Image) (c : Call) (test : Bool) → Keeps (Apart colour) (Spared colour true) (wait_for_own p who.Agent c test)
   unfolding wait_for_own
-  own_waits-keeps p c true = changes-keeps (spares colour true) _ (open_abortable-alters (spares colour true) p (who.Task c.caller) c.statement (Some c.number) tt)
-  own_waits-keeps p c false = looks-keeps (spares colour true) _ (λ w. wait_or_unwind-keeps (spares colour true) p who.Agent c (may_unwind (frames_of w who.Agent)))
+  own_waits-keeps p c true = changes-keeps (chains (spares colour true)) _ (open_abortable-alters (spares colour true) p (who.Task c.caller) c.statement (Some c.number) tt)
+  own_waits-keeps p c false = looks-keeps (chains (spares colour true)) _ (λ w. wait_or_unwind-keeps (spares colour true) p who.Agent c (may_unwind (frames_of w who.Agent)))
 
   own_resumes-keeps : (p : Image) (c : Call) (outcome : Option Outcome) → Keeps (Apart colour) (Spared colour true) (resume_own p who.Agent c outcome)
   unfolding resume_own
   own_resumes-keeps p c (Some outcome) = resume-keeps (spares colour true) p TheBlock c outcome
-  own_resumes-keeps p c None = looks-keeps (spares colour true) _ (λ w. own_waits-keeps p c (may_open_abortable w who.Agent c))
+  own_resumes-keeps p c None = looks-keeps (chains (spares colour true)) _ (λ w. own_waits-keeps p c (may_open_abortable w who.Agent c))
 
   own_call-keeps : (p : Image) (c : CallNo) → Keeps (Apart colour) (Spared colour true) (with_call c (λ d. resume_own p who.Agent d d.outcome))
   own_call-keeps p c = with_call-keeps (spares colour true) c _ (λ d. own_resumes-keeps p d d.outcome)
@@ -164,21 +165,21 @@ own_call-from p c w good =
 goes_on-keeps : (p : Image) (m : ProtectedMark) (call : Option CallNo) → Keeps (Busy Rooted None) (BusyStep Rooted None) (behind_action p who.Agent m None call)
 unfolding behind_action
 goes_on-keeps p m None = pass_on-keeps (busies rooted None) p who.Agent m.body_left
-goes_on-keeps p m (Some c) = from-keeps (busies rooted None) _ (λ w good. own_call-from p c w good)
+goes_on-keeps p m (Some c) = from-keeps (chains (busies rooted None)) _ (λ w good. own_call-from p c w good)
 
 behind_inner-from : (p : Image) (m : ProtectedMark) (call : Option CallNo) (w : World) → Busy Rooted None w → From (BusyStep Rooted None) w (lose_running p who.Agent (inherited_by.Ceiling m.object) ▷ set_deferred p who.Agent ▷ behind_action p who.Agent m None call)
 behind_inner-from p m call w good =
     let moves = busies rooted None in
-    keeps-from moves _ w good (then-keeps moves _ _ (lose_running-keeps moves p who.Agent (inherited_by.Ceiling m.object) tt) (then-keeps moves _ _ (set_deferred-keeps moves p who.Agent tt) (goes_on-keeps p m call)))
+    keeps-from (chains moves) _ w good (then-keeps (chains moves) _ _ (lose_running-keeps moves p who.Agent (inherited_by.Ceiling m.object) tt) (then-keeps (chains moves) _ _ (set_deferred-keeps moves p who.Agent tt) (goes_on-keeps p m call)))
 
 behind_lowest-from : (p : Image) (m : ProtectedMark) (n : ℕ) (call : Option CallNo) (w : World) → Busy Emptied None w → From Acted w (lose_running p who.Agent (inherited_by.Ceiling m.object) ▷ set_deferred p who.Agent ▷ behind_action p who.Agent m (Some n) call)
 unfolding behind_action
 behind_lowest-from p m n call w good =
     let moves = busies emptied None in
     then_by (BusyStep Emptied None) Acted Acted (lose_running p who.Agent (inherited_by.Ceiling m.object)) (set_deferred p who.Agent ▷ end_release n) w (λ v u xs zs s k. busy_then Emptied emptied-stands None w v u xs zs good.runs s k)
-    (keeps-from moves _ w good (lose_running-keeps moves p who.Agent (inherited_by.Ceiling m.object) tt))
+    (keeps-from (chains moves) _ w good (lose_running-keeps moves p who.Agent (inherited_by.Ceiling m.object) tt))
     (λ v xs s. then_by (BusyStep Emptied None) Acted Acted (set_deferred p who.Agent) (end_release n) v (λ u t ys zs k l. busy_then Emptied emptied-stands None v u t ys zs s.busy.runs k l)
-    (keeps-from moves _ v s.busy (set_deferred-keeps moves p who.Agent tt))
+    (keeps-from (chains moves) _ v s.busy (set_deferred-keeps moves p who.Agent tt))
     (λ u ys k. end_release-from n u k.busy))
 
 -- by the release that ends with it
@@ -227,14 +228,14 @@ settles-keeps colour p sent served = settle_sent-keeps (spares colour true) p se
 begins-keeps : (p : Image) (sent : Bool) (c : CallNo) → Keeps (Busy Rooted None) (BusyStep Rooted None) (begins_part p sent c)
 unfolding begins_part
 begins-keeps p true c = begin_abortable-keeps (busies rooted None) p c
-begins-keeps p false c = nothing-keeps (busies rooted None)
+begins-keeps p false c = nothing-keeps (chains (busies rooted None))
 
 -- the body of a queued call opens
 opens-from : (p : Image) (c : Call) (o : ObjectNo) (sent : Bool) (number : CallNo) (w : World) → Busy Rooted None w → From Acted w (body_opens p who.Agent o c ▷ begins_part p sent number)
 opens-from p c o sent number w good =
     let moves = busies rooted None in
     from_by (BusyStep Rooted None) Acted (body_opens p who.Agent o c ▷ begins_part p sent number) w (λ v xs s. busy-acted Rooted stands_rooted None w xs v good.runs s)
-    (keeps-from moves _ w good (then-keeps moves _ _ (body_opens-keeps moves (busy_openings None) p who.Agent o c tt) (begins-keeps p sent number)))
+    (keeps-from (chains moves) _ w good (then-keeps (chains moves) _ _ (body_opens-keeps moves (busy_openings None) p who.Agent o c tt) (begins-keeps p sent number)))
 
 -- ---- queued calls are served, and then the object is released
 
@@ -307,8 +308,8 @@ module _ (p : Image) (m : ProtectedMark) where
 module _ (p : Image) (m : ProtectedMark) (leaving : Leaving) where
   edits_then : (f : ProtectedMark → ProtectedMark) (g : Step) (w : World) → ((x : ProtectedMark) → (f x).release ≡ x.release) → ((x : ProtectedMark) → (f x).object ≡ x.object) → Heads m.release w → ((v : World) → Heads m.release v → From Acted v g) → From Acted w (changes (edit_top_protected who.Agent f) ▷ changes (edit_top who.Agent not_left) ▷ g)
   edits_then f g w same alike h onward =
-      step_then m.release (changes (edit_top_protected who.Agent f)) _ w h (λ colour. changes-keeps (spares colour true) _ (edit_top_protected-alters (spares colour true) who.Agent f same alike))
-      (λ v k. step_then m.release (changes (edit_top who.Agent not_left)) g v k (λ colour. changes-keeps (spares colour true) _ (edit_top-alters (spares colour true) who.Agent not_left (λ x. refl))) onward)
+      step_then m.release (changes (edit_top_protected who.Agent f)) _ w h (λ colour. changes-keeps (chains (spares colour true)) _ (edit_top_protected-alters (spares colour true) who.Agent f same alike))
+      (λ v k. step_then m.release (changes (edit_top who.Agent not_left)) g v k (λ colour. changes-keeps (chains (spares colour true)) _ (edit_top-alters (spares colour true) who.Agent not_left (λ x. refl))) onward)
 
   operation-from : (w : World) → Heads m.release w → From Acted w (end_operation p who.Agent m leaving)
   unfolding end_operation

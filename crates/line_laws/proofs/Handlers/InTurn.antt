@@ -28,9 +28,8 @@ use Rattle.profile_machine.specs.Handlers.{charge}
 use Rattle.profile_machine.specs.Instant.{instant}
 use Rattle.profile_machine.specs.declared.world.appointments.HandlerOf.{HandlerOf}
 use Rattle.profile_machine.specs.Run.{opens, opening, blank_world, with_serving, say, serve_if_free, serve, says_idle, one_tick_less, begin_action, tock, run_of}
-use Rattle.machine_laws.proofs.FinestMoves.{all_of}
+use Rattle.machine_laws.proofs.FinestMoves.{all_of, effect-leads}
 use Rattle.machine_laws.proofs.Moves.{Moves, AreOthers, own, is_told_apart}
-use Rattle.machine_laws.proofs.Kept.Combinators.{Leads, Alters, settles-leads}
 use Rattle.machine_laws.proofs.Kept.Handlers.{charge-alters}
 use Rattle.machine_laws.proofs.Kept.Instant.{instant-leads}
 use Rattle.machine_laws.proofs.Kept.Run.{opens-keeps, before_tick, tock-parts}
@@ -38,6 +37,7 @@ use Rattle.line_laws.proofs.Ticks.LineByLine.{seen_behind, seen_behind-append, F
 use Rattle.line_laws.proofs.Ticks.ReleaseLemmas.{Pending, Pending-behind, Pending-within, events_of, charged}
 use Rattle.line_laws.proofs.Exclusion.OwnLines.{told, Told, Told-append, Told-in_order}
 use Rattle.line_laws.specs.HandlerLaws.{ServedInTurn}
+use Rattle.machine_laws.proofs.Kept.Combinators.{Alters, Leads}
 
 -- ---- what an effect tells of releases
 
@@ -271,7 +271,7 @@ nothing_shown p script = record { fits_now = record { all_came = refl; within = 
 openings-lead_on : (p : Image) (script : List (ℤ × Item)) → LeadsOn no_releases (opening p script).1 (opening p script).0
 unfolding Leads
 openings-lead_on p script =
-    moves-lead_on no_releases (blank_world p script) (opening p script).1 (opening p script).0 (settles-leads (all_of tells_turns).fine p (opens p) (opens-keeps (all_of tells_turns) p) (blank_world p script) tt) (nothing_shown p script)
+    moves-lead_on no_releases (blank_world p script) (opening p script).1 (opening p script).0 (effect-leads (all_of tells_turns).fine p (opens p) (opens-keeps (all_of tells_turns) p) (blank_world p script) tt) (nothing_shown p script)
 
 instants-lead_on : (p : Image) (s : Releases) (w : World) → ShowsTurn s w → LeadsOn s (instant p w).1 (instant p w).0
 unfolding Leads

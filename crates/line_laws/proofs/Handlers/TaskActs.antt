@@ -16,7 +16,6 @@ use Rattle.profile_machine.specs.declared.world.appointments.Release.{Release}
 use Rattle.profile_machine.specs.Act.{act_without, act}
 use Rattle.profile_machine.specs.Instant.{effect}
 use Rattle.machine_laws.proofs.FineMoves.{natures, release_in}
-use Rattle.machine_laws.proofs.Kept.Combinators.{Keeps, nothing-keeps, From, keeps-from, then-keeps, then-from, changes_then-from}
 use Rattle.machine_laws.proofs.Kept.Frames.{open_if_ready-keeps}
 use Rattle.machine_laws.proofs.Kept.Serving.{end_in_protected-from, stays_anyhow}
 use Rattle.machine_laws.proofs.Kept.Tasking.{take_terminates-keeps, unwind_all-keeps}
@@ -26,6 +25,8 @@ use Rattle.line_laws.proofs.Handlers.AgentMarks.{has_top}
 use Rattle.line_laws.proofs.Handlers.SparedMoves.{Spared, spares, spared_openings, spared_regions, spared_settings, spared_ends, spared_puts}
 use Rattle.line_laws.proofs.Handlers.SparedReleases.{spared_releasing}
 use Rattle.line_laws.proofs.Handlers.AgentServes.{spared-ending}
+use Rattle.machine_laws.proofs.FinestMoves.{chains}
+use Rattle.machine_laws.proofs.Kept.Combinators.{From, Keeps, changes_then-from, keeps-from, nothing-keeps, then-from, then-keeps}
 
 -- ---- its action
 
@@ -38,14 +39,14 @@ module _ (colour : Colour) where
 
   without-keeps : (p : Image) (n : TaskNo) (serving : Option Release) → Keeps (Apart colour) (Spared colour true) (act_without p (who.Task n) serving)
   unfolding act_without
-  without-keeps p n None = nothing-keeps (spares colour true)
-  without-keeps p n (Some r) = nothing-keeps (spares colour true)
+  without-keeps p n None = nothing-keeps (chains (spares colour true))
+  without-keeps p n (Some r) = nothing-keeps (chains (spares colour true))
 
   task_act-from : (p : Image) (n : TaskNo) (w : World) → Apart colour w → From (Spared colour true) w (act p (who.Task n))
   task_act-from p n w good =
       act-from (spares colour true) (spared_openings colour true) (spared_regions colour true) p (who.Task n) w good tt
-      (keeps-from (spares colour true) _ w good (without-keeps p n w.serving))
-      (λ f s top is. keeps-from (spares colour true) _ w good (act_statement-keeps (spares colour true) (spared_openings colour true) (spared_settings colour true) (spared_releasing colour) p (spared_puts colour true p) (who.Task n) s (form_of p s) tt refl))
+      (keeps-from (chains (spares colour true)) _ w good (without-keeps p n w.serving))
+      (λ f s top is. keeps-from (chains (spares colour true)) _ w good (act_statement-keeps (spares colour true) (spared_openings colour true) (spared_settings colour true) (spared_releasing colour) p (spared_puts colour true p) (who.Task n) s (form_of p s) tt refl))
       (λ f m top is. end_in_protected-from (spares colour true) (spared_openings colour true) (spared_ends colour true) (spared-ending colour) stays_anyhow p (who.Task n) m (leaving_of f) tt (no_release n f m w good top is) w good tt)
 
   -- ---- its effect
@@ -57,6 +58,6 @@ module _ (colour : Colour) where
       let begun = edit_task (who.Task n) (with_ticks None) w in
       let first : Spared colour true w [] begun = moves.edits_task (who.Task n) (with_ticks None) w good (λ t. refl) (λ t. refl) (λ t. refl) (λ t. refl) (λ t. refl) in
       let behind = open_if_ready p (who.Task n) ▷ take_terminates p (who.Task n) ▷ unwind_all p (who.Task n) in
-      changes_then-from moves (edit_task (who.Task n) (with_ticks None)) (act p (who.Task n) ▷ behind) w first
-      (then-from moves (act p (who.Task n)) behind begun (task_act-from p n begun first.apart)
-      (then-keeps moves _ _ (open_if_ready-keeps moves p (who.Task n) tt) (then-keeps moves _ _ (take_terminates-keeps moves p (who.Task n) tt) (unwind_all-keeps moves p (who.Task n)))))
+      changes_then-from (chains moves) (edit_task (who.Task n) (with_ticks None)) (act p (who.Task n) ▷ behind) w first
+      (then-from (chains moves) (act p (who.Task n)) behind begun (task_act-from p n begun first.apart)
+      (then-keeps (chains moves) _ _ (open_if_ready-keeps moves p (who.Task n) tt) (then-keeps (chains moves) _ _ (take_terminates-keeps moves p (who.Task n) tt) (unwind_all-keeps moves p (who.Task n)))))

@@ -31,13 +31,12 @@ use Rattle.profile_machine.specs.Rendezvous.{finish_rendezvous, behind_accept, f
 use Rattle.profile_machine.specs.Controlled.{register, registers, end_in_initialize, behind_finalize, is_assignment, end_in_finalize, do_step, step_with, end_in_assign, registered_object}
 use Rattle.profile_machine.specs.Act.{behind_handled, end_handled, end_top, wait_for_trigger, drop_trigger, below, end_abortable_by, end_in_abortable}
 use Rattle.machine_laws.proofs.Moves.{StepRelation}
-use Rattle.line_laws.proofs.Leaving.FineMoves.{Nature, nature, Free, Awake, top_leaving, is_special}
+use Rattle.line_laws.proofs.Leaving.FineMoves.{Nature, nature, Free, Awake, top_leaving, is_special, chains}
 use Rattle.line_laws.proofs.Leaving.FreeWorlds.{Inv}
 use Rattle.line_laws.proofs.Leaving.RegionTies.{popped-tied}
 use Rattle.line_laws.proofs.Leaving.CoreMoves.{Base, base-then, pop-base, popped-free}
 use Rattle.line_laws.proofs.Leaving.Moving.{Moved, GoodAs}
 use Rattle.line_laws.proofs.Leaving.Modes.{acting, acting-self, Known, Steady, none, going, steady}
-use Rattle.line_laws.proofs.Leaving.Kept.Combinators.{keeps-from, then-keeps, looks-keeps, changes-keeps, cond-keeps, nothing-keeps}
 use Rattle.line_laws.proofs.Leaving.Kept.Frames.{raises-keeps, pass_on-keeps}
 use Rattle.line_laws.proofs.Leaving.Kept.Scopes.{end_scope-alters}
 use Rattle.line_laws.proofs.Leaving.Kept.Calls.{edit_call-alters, with_call-keeps, attempt_on-keeps}
@@ -47,7 +46,7 @@ use Rattle.line_laws.proofs.Leaving.Kept.Rendezvous.{finish_rendezvous-keeps, be
 use Rattle.line_laws.proofs.Leaving.Kept.Controlled.{register-keeps, behind_finalize-keeps, do_step-keeps}
 use Rattle.line_laws.proofs.Leaving.Kept.Act.{behind_handled-keeps, wait_for_trigger-keeps, drop_trigger-alters}
 use Rattle.machine_laws.proofs.FinestMoves.{being_left_in}
-use Rattle.machine_laws.proofs.Kept.Combinators.{From, Keeps, Kept}
+use Rattle.machine_laws.proofs.Kept.Combinators.{From, Keeps, Kept, changes-keeps, cond-keeps, keeps-from, looks-keeps, nothing-keeps, then-keeps}
 
 -- ---- steps that are put together, whatever each of them knows
 
@@ -90,7 +89,7 @@ pub plainly-from : (a : Who) (f : Frame) (g : Step) (w : World) → Inv w → Aw
 unfolding From
 plainly-from a f g w inv awake top plain kept said =
     let out = (none a true).pops a f w (inv, tt) tt awake top plain in
-    silent-from a w (pop a w) g out.core.base (weak a (Free a) (pop a w) g (keeps-from (going a) g (pop a w) (out.core.base.inv, popped-free a f w inv top plain) kept)) said
+    silent-from a w (pop a w) g out.core.base (weak a (Free a) (pop a w) g (keeps-from (chains (going a)) g (pop a w) (out.core.base.inv, popped-free a f w inv top plain) kept)) said
 
 pub handled-from : (p : Image) (a : Who) (s : StatementNo) (leaving : Leaving) (f : Frame) (w : World) → Inv w → Awake a w → top_of w a ≡ Some f → is_special f.mark ≡ false → From (Does a) w (end_handled p a s leaving)
 unfolding end_handled
@@ -100,14 +99,14 @@ pub initialized-from : (p : Image) (a : Who) (l : Located) (leaving : Leaving) (
 unfolding end_in_initialize
 initialized-from p a l leaving f w inv awake top plain =
     plainly-from a f (cond (registers leaving) (register p a l) (pass_on p a leaving)) w inv awake top plain
-    (cond-keeps (going a) (registers leaving) (register p a l) (pass_on p a leaving) (register-keeps (going a) p a l refl) (pass_on-keeps (going a) p a leaving refl))
+    (cond-keeps (chains (going a)) (registers leaving) (register p a l) (pass_on p a leaving) (register-keeps (going a) p a l refl) (pass_on-keeps (going a) p a leaving refl))
 
 pub finalized-from : (p : Image) (a : Who) (leaving : Leaving) (w : World) → Inv w → Awake a w → From (Does a) w (end_in_finalize p a leaving)
 unfolding end_in_finalize From
 finalized-from p a leaving w inv awake said =
     let out = pop-base (acting a) true a w inv awake (λ s h. popped-tied s a w h) in
     let g = looks (λ v. behind_finalize p a leaving (is_assignment (top_of v a))) in
-    silent-from a w (pop a w) g out (weak a Known (pop a w) g (keeps-from (none a true) g (pop a w) (out.inv, tt) (looks-keeps (none a true) _ (λ v. behind_finalize-keeps (none a true) p a leaving (is_assignment (top_of v a)))))) said
+    silent-from a w (pop a w) g out (weak a Known (pop a w) g (keeps-from (chains (none a true)) g (pop a w) (out.inv, tt) (looks-keeps (chains (none a true)) _ (λ v. behind_finalize-keeps (none a true) p a leaving (is_assignment (top_of v a)))))) said
 
 popped-alone : (a : Who) (f : Frame) (w : World) → Inv w → Awake a w → From (Does a) w (changes (pop a))
 unfolding From Kept
@@ -117,9 +116,9 @@ free-top : (a : Who) (f : Frame) (w : World) → top_of w a ≡ Some f → being
 free-top a f w top not_left = ap top_leaving top ∙ not_left
 
 do_step-from : (p : Image) (a : Who) (step : AssignStep) (target source : Registered) (f : Frame) (w : World) → Inv w → Awake a w → Free a w → From (Does a) w (do_step p a step target source)
-do_step-from p a assigning.FinalizeTarget target source f w inv awake free = weak a (Free a) w _ (keeps-from (going a) _ w (inv, free) (do_step-keeps (going a) p a assigning.FinalizeTarget target source refl (λ e. cc)))
-do_step-from p a assigning.CopyComponents target source f w inv awake free = weak a (Free a) w _ (keeps-from (going a) _ w (inv, free) (do_step-keeps (going a) p a assigning.CopyComponents target source refl (λ e. cc)))
-do_step-from p a assigning.AdjustTarget target source f w inv awake free = weak a (Free a) w _ (keeps-from (going a) _ w (inv, free) (do_step-keeps (going a) p a assigning.AdjustTarget target source refl (λ e. cc)))
+do_step-from p a assigning.FinalizeTarget target source f w inv awake free = weak a (Free a) w _ (keeps-from (chains (going a)) _ w (inv, free) (do_step-keeps (going a) p a assigning.FinalizeTarget target source refl (λ e. cc)))
+do_step-from p a assigning.CopyComponents target source f w inv awake free = weak a (Free a) w _ (keeps-from (chains (going a)) _ w (inv, free) (do_step-keeps (going a) p a assigning.CopyComponents target source refl (λ e. cc)))
+do_step-from p a assigning.AdjustTarget target source f w inv awake free = weak a (Free a) w _ (keeps-from (chains (going a)) _ w (inv, free) (do_step-keeps (going a) p a assigning.AdjustTarget target source refl (λ e. cc)))
 do_step-from p a assigning.Assigned target source f w inv awake free = popped-alone a f w inv awake
 
 step_with-from : (p : Image) (a : Who) (step : AssignStep) (target source : Option Registered) (f : Frame) (w : World) → Inv w → Awake a w → Free a w → From (Does a) w (step_with p a step target source)
@@ -139,7 +138,7 @@ top_steady a f w awake top = record { awake = awake; top = record { frame = f; f
 
 pub steady-then : (a : Who) (n : Nature) (f g : Step) (w : World) → Inv w → Steady a n w → Keeps (GoodAs (Steady a n)) (Moved (acting a) true (Steady a n)) f → ((v : World) (xs : List Said) → Does a w xs v → Inv v → Steady a n v → From (Does a) v g) → From (Does a) w (f ▷ g)
 steady-then a n f g w inv stays kept next =
-    joined a (Moved (acting a) true (Steady a n)) f g w (λ v xs h. h.core.base) (keeps-from (steady a n) f w (inv, stays) kept) (λ v xs h. next v xs h.core.base h.core.base.inv h.extra)
+    joined a (Moved (acting a) true (Steady a n)) f g w (λ v xs h. h.core.base) (keeps-from (chains (steady a n)) f w (inv, stays) kept) (λ v xs h. next v xs h.core.base h.core.base.inv h.extra)
 
 end_top-from : (p : Image) (a : Who) (w : World) → Inv w → Awake a w → From (Does a) w (end_top p a)
 unfolding end_top
@@ -150,10 +149,10 @@ steady-free a n w not_left s = ap top_leaving s.top.first ∙ ap (λ k. k.leavin
 
 attempted-from : (p : Image) (a : Who) (leaving : Leaving) (n : Nature) (d : Call) (test : Bool) (w : World) → Inv w → Steady a n w → n.leaving ≡ false → From (Does a) w (elim test as (λ _. Step) [ true ↦ end_top p a | false ↦ wait_for_trigger a d leaving ])
 attempted-from p a leaving n d true w inv stays not_left = end_top-from p a w inv stays.awake
-attempted-from p a leaving n d false w inv stays not_left = weak a (Free a) w _ (keeps-from (going a) _ w (inv, steady-free a n w not_left stays) (wait_for_trigger-keeps (going a) a d leaving refl))
+attempted-from p a leaving n d false w inv stays not_left = weak a (Free a) w _ (keeps-from (chains (going a)) _ w (inv, steady-free a n w not_left stays) (wait_for_trigger-keeps (going a) a d leaving refl))
 
 by_call-from : (p : Image) (a : Who) (leaving : Leaving) (n : Nature) (found : Option Call) (w : World) → Inv w → Steady a n w → n.leaving ≡ false → From (Does a) w (for_some found (λ d. attempt_with p Own d (end_top p a) (wait_for_trigger a d leaving)))
-by_call-from p a leaving n None w inv stays not_left = weak a Known w nothing (keeps-from (none a true) nothing w (inv, tt) (nothing-keeps (none a true)))
+by_call-from p a leaving n None w inv stays not_left = weak a Known w nothing (keeps-from (chains (none a true)) nothing w (inv, tt) (nothing-keeps (chains (none a true))))
 by_call-from p a leaving n (Some d) w inv stays not_left =
     steady-then a n (attempt_on p Own d) (elim (is_cancellable d) as (λ _. Step) [ true ↦ end_top p a | false ↦ wait_for_trigger a d leaving ]) w inv stays (attempt_on-keeps (steady a n) p Own d)
     (λ v xs h inv_v stays_v. attempted-from p a leaving n d (is_cancellable d) v inv_v stays_v not_left)
@@ -163,7 +162,7 @@ by_own-from : (p : Image) (a : Who) (m : AbortableMark) (leaving : Leaving) (n :
 unfolding From
 by_own-from p a m leaving n None w inv stays not_left said =
     steady-then a n (looks (λ v. changes (drop_trigger a (below (frames_of v a))))) (end_top p a) w inv stays
-    (looks-keeps (steady a n) _ (λ v. changes-keeps (steady a n) _ (drop_trigger-alters (steady a n) a (below (frames_of v a)))))
+    (looks-keeps (chains (steady a n)) _ (λ v. changes-keeps (chains (steady a n)) _ (drop_trigger-alters (steady a n) a (below (frames_of v a)))))
     (λ v xs h inv_v stays_v. end_top-from p a v inv_v stays_v.awake) said
 by_own-from p a m leaving n (Some c) w inv stays not_left said = by_call-from p a leaving n (call_of w c) w inv stays not_left said
 
@@ -185,8 +184,8 @@ accepted-from p a m leaving f w inv awake top plain said =
     let g = changes (end_scope m.within) ▷ changes (edit_call m.call (finished_call p (cells_of (scope_in_use w m.within)) leaving)) ▷ with_call m.call (λ c. finish_rendezvous p a c leaving) in
     let rest = lose_running p a (inherited_by.Rendezvous m.call) ▷ behind_accept p a leaving in
     plainly-from a f (g ▷ rest) w inv awake top plain
-    (then-keeps G g rest
-    (then-keeps G (changes (end_scope m.within)) _ (changes-keeps G _ (end_scope-alters G m.within))
-    (then-keeps G (changes (edit_call m.call (finished_call p (cells_of (scope_in_use w m.within)) leaving))) _ (changes-keeps G _ (edit_call-alters G m.call (finished_call p (cells_of (scope_in_use w m.within)) leaving) (finished_call-number p (cells_of (scope_in_use w m.within)) leaving) (finished_call-caller p (cells_of (scope_in_use w m.within)) leaving)))
+    (then-keeps (chains G) g rest
+    (then-keeps (chains G) (changes (end_scope m.within)) _ (changes-keeps (chains G) _ (end_scope-alters G m.within))
+    (then-keeps (chains G) (changes (edit_call m.call (finished_call p (cells_of (scope_in_use w m.within)) leaving))) _ (changes-keeps (chains G) _ (edit_call-alters G m.call (finished_call p (cells_of (scope_in_use w m.within)) leaving) (finished_call-number p (cells_of (scope_in_use w m.within)) leaving) (finished_call-caller p (cells_of (scope_in_use w m.within)) leaving)))
     (with_call-keeps G m.call _ (λ c. finish_rendezvous-keeps G p a c leaving))))
-    (then-keeps G (lose_running p a (inherited_by.Rendezvous m.call)) (behind_accept p a leaving) (lose_running-keeps G p a (inherited_by.Rendezvous m.call) (acting-self a)) (behind_accept-keeps G p a leaving refl))) said
+    (then-keeps (chains G) (lose_running p a (inherited_by.Rendezvous m.call)) (behind_accept p a leaving) (lose_running-keeps G p a (inherited_by.Rendezvous m.call) (acting-self a)) (behind_accept-keeps G p a leaving refl))) said

@@ -20,14 +20,13 @@ use Rattle.profile_machine.specs.Tasks.{edit_task}
 use Rattle.profile_machine.specs.Frames.{top_of, leaving_of}
 use Rattle.profile_machine.specs.Act.{end_mark, act_frame, act_without, act_top, act}
 use Rattle.machine_laws.proofs.Moves.{StepRelation, own, Puts}
-use Rattle.line_laws.proofs.Leaving.FineMoves.{Free, Awake, is_special}
+use Rattle.line_laws.proofs.Leaving.FineMoves.{Free, Awake, is_special, chains}
 use Rattle.line_laws.proofs.Leaving.TaskLemmas.{awake-edited}
 use Rattle.line_laws.proofs.Leaving.FreeWorlds.{Inv}
 use Rattle.line_laws.proofs.Leaving.RegionLines.{NotLeaving}
 use Rattle.line_laws.proofs.Leaving.CoreMoves.{Base, base-then, onward-free, claim-quiet, edited-state}
 use Rattle.line_laws.proofs.Leaving.Moving.{Moved, GoodAs}
 use Rattle.line_laws.proofs.Leaving.Modes.{acting, acting-self, Known, none, going}
-use Rattle.line_laws.proofs.Leaving.Kept.Combinators.{keeps-from, looks-keeps, nothing-keeps}
 use Rattle.line_laws.proofs.Leaving.Kept.Handlers.{call_handler-keeps}
 use Rattle.line_laws.proofs.Leaving.Kept.Act.{act_statement-keeps}
 use Rattle.line_laws.proofs.Leaving.ActSteps.{Does, weak, handled-from, initialized-from, finalized-from, assigned-from, end_abortable-from, accepted-from}
@@ -49,8 +48,8 @@ use Rattle.profile_machine.specs.Masters.{waits_at_terminate, may_terminate, lea
 use Rattle.profile_machine.specs.Tasking.{block_at_terminate, take_terminates, unwind_all}
 use Rattle.profile_machine.specs.Instant.{effect}
 use Rattle.machine_laws.proofs.FinestMoves.{being_left_in}
-use Rattle.machine_laws.proofs.Kept.Combinators.{From, Keeps, Kept}
 use Rattle.machine_laws.proofs.QueueLemmas.{by_test}
+use Rattle.machine_laws.proofs.Kept.Combinators.{From, Keeps, Kept, keeps-from, looks-keeps, nothing-keeps}
 
 -- ---- an action, by the mark on top
 
@@ -85,18 +84,18 @@ puts_going p a = record { puts = λ name s pieces text v w good is e. put-moved 
 frame-from : (p : Image) (a : Who) (f : Frame) (onward : Option StatementNo) (w : World) → Inv w → Awake a w → top_of w a ≡ Some f → f.onward ≡ onward → From (Does a) w (act_frame p a f onward)
 unfolding act_frame
 frame-from p a f (Some s) w inv awake top is =
-    weak a (Free a) w _ (keeps-from (going a) _ w (inv, onward-free a f s w inv top is) (act_statement-keeps (going a) p (puts_going p a) a s (form_of p s) refl tt refl))
+    weak a (Free a) w _ (keeps-from (chains (going a)) _ w (inv, onward-free a f s w inv top is) (act_statement-keeps (going a) p (puts_going p a) a s (form_of p s) refl tt refl))
 frame-from p a f None w inv awake top is = mark-from p a f f.mark w inv awake top is refl
 
 without-keeps : (p : Image) (a name : Who) (r : Option Release) → Keeps (GoodAs Known) (Moved (acting a) true Known) (act_without p name r)
 unfolding act_without
-without-keeps p a name None = nothing-keeps (none a true)
+without-keeps p a name None = nothing-keeps (chains (none a true))
 without-keeps p a who.Agent (Some r) = call_handler-keeps (none a true) p r tt
-without-keeps p a (who.Task t) (Some r) = nothing-keeps (none a true)
+without-keeps p a (who.Task t) (Some r) = nothing-keeps (chains (none a true))
 
 top-from : (p : Image) (a : Who) (top : Option Frame) (w : World) → Inv w → Awake a w → top_of w a ≡ top → From (Does a) w (act_top p a top)
 unfolding act_top
-top-from p a None w inv awake is = weak a Known w _ (keeps-from (none a true) _ w (inv, tt) (looks-keeps (none a true) _ (λ v. without-keeps p a a v.serving)))
+top-from p a None w inv awake is = weak a Known w _ (keeps-from (chains (none a true)) _ w (inv, tt) (looks-keeps (chains (none a true)) _ (λ v. without-keeps p a a v.serving)))
 top-from p a (Some f) w inv awake is = frame-from p a f f.onward w inv awake is refl
 
 act-from : (p : Image) (a : Who) (w : World) → Inv w → Awake a w → From (Does a) w (act p a)
@@ -191,7 +190,7 @@ said-of R f x l k = k l
 
 unwound-kept : (p : Image) (a : Who) (w v : World) (said xs : List Said) → Settled a w xs v → Kept (Settled a) w said (unwind_all p a v (said ++ xs))
 unwound-kept p a w v said xs first =
-    settled-kept a w v said xs (unwind_all p a v (said ++ xs)) first (strict-kept a v (said ++ xs) (unwind_all p a v (said ++ xs)) (said-of (Moved (acting a) false Known) (unwind_all p a) v (said ++ xs) (keeps-from (none a false) (unwind_all p a) v (first.inv, tt) (unwind_all-keeps (none a false) p a))))
+    settled-kept a w v said xs (unwind_all p a v (said ++ xs)) first (strict-kept a v (said ++ xs) (unwind_all p a v (said ++ xs)) (said-of (Moved (acting a) false Known) (unwind_all p a) v (said ++ xs) (keeps-from (chains (none a false)) (unwind_all p a) v (first.inv, tt) (unwind_all-keeps (none a false) p a))))
 
 abbrev All_terminate : Image → Who → Step
 All_terminate p a = looks (λ w. for_each (filter (may_terminate w) w.tasks) (leave_by_terminate p a))
@@ -210,13 +209,13 @@ unfolding take_terminates
 terminated-kept p a w v said xs h =
     subst (λ d. Kept (Settled a) w said d) (regrouped (Blocks_there a) (unwind_all p a) (All_terminate p a v (said ++ xs)))
     (behind-kept (Does a) (Settled a) (Blocks_there a ▷ unwind_all p a) w v said xs (All_terminate p a v (said ++ xs))
-    (said-of (Does a) (All_terminate p a) v (said ++ xs) (weak a Known v (All_terminate p a) (keeps-from (none a true) (All_terminate p a) v (h.inv, tt) (all_terminate-keeps (none a true) p a))))
+    (said-of (Does a) (All_terminate p a) v (said ++ xs) (weak a Known v (All_terminate p a) (keeps-from (chains (none a true)) (All_terminate p a) v (h.inv, tt) (all_terminate-keeps (none a true) p a))))
     (λ u ys k. ended-kept p a w u said (xs ++ ys) (base-then (acting a) true w v u xs ys h k)))
 
 opened-kept : (p : Image) (a : Who) (w v : World) (said xs : List Said) → Does a w xs v → Kept (Settled a) w said ((open_if_ready p a ▷ take_terminates p a ▷ unwind_all p a) v (said ++ xs))
 opened-kept p a w v said xs h =
     behind-kept (Does a) (Settled a) (take_terminates p a ▷ unwind_all p a) w v said xs (open_if_ready p a v (said ++ xs))
-    (said-of (Does a) (open_if_ready p a) v (said ++ xs) (weak a Known v (open_if_ready p a) (keeps-from (none a true) (open_if_ready p a) v (h.inv, tt) (open_if_ready-keeps (none a true) p a tt))))
+    (said-of (Does a) (open_if_ready p a) v (said ++ xs) (weak a Known v (open_if_ready p a) (keeps-from (chains (none a true)) (open_if_ready p a) v (h.inv, tt) (open_if_ready-keeps (none a true) p a tt))))
     (λ u ys k. terminated-kept p a w u said (xs ++ ys) (base-then (acting a) true w v u xs ys h k))
 
 pub effect-from : (p : Image) (a : Who) (w : World) → Inv w → Awake a w → From (Settled a) w (effect p a)

@@ -44,10 +44,10 @@ use Rattle.profile_machine.specs.declared.world.lines.Said.{Said}
 use Rattle.profile_machine.specs.declared.world.lines.Line.{Line}
 use Rattle.profile_machine.specs.declared.world.lines.Line.TheVariants as said
 use Rattle.profile_machine.specs.Words.{edit_at}
-use Rattle.profile_machine.specs.Steps.{placed_by}
+use Rattle.profile_machine.specs.Steps.{placed_by, Step, says, settles}
 use Rattle.profile_machine.specs.Tasks.{edit_task, with_state, with_frames, waiting_in, waiting_of}
 use Rattle.profile_machine.specs.Dispatching.{word_of, keep_level, grant_quantum, without_kept_level}
-use Rattle.profile_machine.specs.Frames.{top_of, push, pop, goes_on}
+use Rattle.profile_machine.specs.Frames.{top_of, push, pop}
 use Rattle.profile_machine.specs.Scopes.{edit_cells, begin_scope, open_scope, end_scope}
 use Rattle.profile_machine.specs.Appointments.{appoint, drop_appointment}
 use Rattle.std.proofs.Common.{◌≤◌}
@@ -67,6 +67,8 @@ use Rattle.profile_machine.specs.Instant.{with_port, with_masked, with_kept_inte
 use Rattle.machine_laws.proofs.Moves.{StepRelation, MoveRelation, is_told_apart, LetsIn, FindsHeld, own, lines_of}
 use Rattle.machine_laws.proofs.FineMoves.{GoodWorld, Naming, is_placing, ready_line, gone_on}
 use Rattle.machine_laws.proofs.FinestMoves.{being_left_in}
+use Rattle.machine_laws.proofs.Chains.{Chains, MoveChains}
+use Rattle.machine_laws.proofs.Kept.Combinators.{Keeps, Leads, said-keeps, settles-leads}
 
 -- ---- what a mark is, whatever is edited in it: its region, whether it is being left, and whether nothing goes on below it when
 -- it has ended
@@ -273,3 +275,17 @@ pub record FineMoves (G : GoodWorld) (May Acts Pushes : Naming) (Stops : Type 0)
   pub masks : (n : ℕ) (flag : Bool) (w : World) → G w → R w [] (with_masked n flag w)
   pub keeps_interrupt : (n : ℕ) (flag : Bool) (w : World) → G w → R w [] (with_kept_interrupt n flag w)
   pub cuts_script : (x : ℤ × Item) (rest : List (ℤ × Item)) (w : World) → G w → w.script ≡ x ∷ rest → int_le x.0 (pos w.time) ≡ true → R w [] (with_script rest w)
+
+-- steps and moves are put together, a line that tells no change is said, and an effect is over
+module _ {G : GoodWorld} {May Acts Pushes : Naming} {Stops : Type 0} {R : StepRelation} {Q : MoveRelation} (moves : FineMoves G May Acts Pushes Stops R Q) where
+  pub chains : Chains G R
+  chains = record { behind = moves.behind; stays = moves.stays; goes_on = moves.goes_on }
+
+  pub move_chains : MoveChains G Q
+  move_chains = record { moved = moves.moved; leads_on = moves.leads_on }
+
+  pub says-keeps : (part : Part) (line : Line) → is_apart line ≡ false → Keeps G R (says part line)
+  says-keeps part line other = said-keeps chains part line (λ w good. moves.says part line w good other)
+
+  pub effect-leads : (p : Image) (step : Step) → Keeps G R step → Leads G Q (settles p step)
+  effect-leads p step kept = settles-leads Q p (moves.settles p) G step kept

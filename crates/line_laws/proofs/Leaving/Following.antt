@@ -25,7 +25,7 @@ use Rattle.profile_machine.specs.Instant.{effect, is_over, effect_of_runner, fin
 use Rattle.profile_machine.specs.Run.{opens, opening, blank_world, environment}
 use Rattle.machine_laws.specs.LineKinds.{is_of_tock}
 use Rattle.machine_laws.proofs.Moves.{lines_of}
-use Rattle.line_laws.proofs.Leaving.FineMoves.{FineMoves, Awake, waits}
+use Rattle.line_laws.proofs.Leaving.FineMoves.{FineMoves, Awake, waits, chains}
 use Rattle.line_laws.proofs.Leaving.TaskLemmas.{awake-edited}
 use Rattle.line_laws.proofs.Leaving.FreeWorlds.{Inv}
 use Rattle.line_laws.proofs.Leaving.PlacingLines.{taken, is_placed, taken_not_placed, quiet_not_placed}
@@ -37,13 +37,12 @@ use Rattle.line_laws.proofs.Leaving.CoreMoves.{Base, state_in}
 use Rattle.line_laws.proofs.Leaving.Moving.{Moved, GoodAs, Ends, fine}
 use Rattle.line_laws.proofs.Leaving.Modes.{acting, Known, Nobody, Anybody, extra-none, known-none}
 use Rattle.line_laws.proofs.Leaving.EffectSteps.{Settled, effect-from, same_acts}
-use Rattle.line_laws.proofs.Leaving.Kept.Combinators.{changes_then-from, said_then-from, then-from, settles-from}
 use Rattle.line_laws.proofs.Leaving.Kept.Dispatching.{to_tail-from}
 use Rattle.line_laws.proofs.Leaving.Kept.Frames.{open_sequence-keeps}
 use Rattle.line_laws.proofs.Leaving.Kept.Instant.{behind_action-leads}
 use Rattle.line_laws.proofs.Leaving.Kept.Run.{TockMoves}
-use Rattle.machine_laws.proofs.Kept.Combinators.{From, Kept, Leads}
 use Rattle.machine_laws.proofs.QueueLemmas.{by_test}
+use Rattle.machine_laws.proofs.Kept.Combinators.{From, Kept, Leads, changes_then-from, said_then-from, settles-from, then-from}
 
 -- ---- whom lines place
 
@@ -204,9 +203,9 @@ opens-from p script =
     let awake : Awake environment v = awake-edited environment environment (λ t. with_frames (f ∷ t.frames) t) (draw_region kept (begin_scope p environment p.environment (plainly None) w)) (λ u. refl) (λ u. refl) (opened-awake p script kept) in
     let good = resting.behind w v first in
     let new = line.New (created.Task (record { 0 = 0 })) None p.main.priority in
-    changes_then-from resting (open_scope p environment p.environment (plainly None) opened_for.Task) (says Own new ▷ to_tail p Own environment ▷ open_sequence p Own environment) w first
-    (said_then-from resting Own new (to_tail p Own environment ▷ open_sequence p Own environment) v (resting.says Own new v good refl)
-    (then-from resting (to_tail p Own environment) (open_sequence p Own environment) v (to_tail-from resting p Own environment v good awake) (open_sequence-keeps resting p Own environment tt)))
+    changes_then-from (chains resting) (open_scope p environment p.environment (plainly None) opened_for.Task) (says Own new ▷ to_tail p Own environment ▷ open_sequence p Own environment) w first
+    (said_then-from (chains resting) Own new (to_tail p Own environment ▷ open_sequence p Own environment) v (resting.says Own new v good refl)
+    (then-from (chains resting) (to_tail p Own environment) (open_sequence p Own environment) v (to_tail-from resting p Own environment v good awake) (open_sequence-keeps resting p Own environment tt)))
 
 pub opening-following : (p : Image) (script : List (ℤ × Item)) → Following (blank_world p script) (opening p script).1 (opening p script).0
-opening-following p script = settles-from resting p (opens p) (blank_world p script) (opens-from p script)
+opening-following p script = settles-from Following p (resting.settles p) (opens p) (blank_world p script) (opens-from p script)

@@ -35,13 +35,12 @@ use Rattle.profile_machine.specs.Protected.{served_next, edit_top_protected, ser
 use Rattle.profile_machine.specs.Sending.{send_on}
 use Rattle.profile_machine.specs.Serving.{close_action, behind_action, release_object, settle_sent, begins_part, chosen_is_sent, part_of_start, serve_chosen, serve_next, serve_calls, go_on_by_mode, with_body_left, not_left, end_operation, outcome_by, is_own_call, finish_raised, finish_well, finish_call, no_longer_serves, end_entry_body, end_in_protected_by, end_in_protected}
 use Rattle.machine_laws.proofs.Moves.{own}
-use Rattle.line_laws.proofs.Leaving.FineMoves.{nature, Free, Awake, Caller, is_special, own_call_of}
+use Rattle.line_laws.proofs.Leaving.FineMoves.{nature, Free, Awake, Caller, is_special, own_call_of, says-keeps, chains}
 use Rattle.line_laws.proofs.Leaving.FreeWorlds.{Inv, good-task}
 use Rattle.line_laws.proofs.Leaving.RegionTies.{popped-tied}
 use Rattle.line_laws.proofs.Leaving.CoreMoves.{pop-base, popped-free}
 use Rattle.line_laws.proofs.Leaving.Moving.{Moved, GoodAs}
 use Rattle.line_laws.proofs.Leaving.Modes.{acting, acting-self, Known, Steady, none, going, steady}
-use Rattle.line_laws.proofs.Leaving.Kept.Combinators.{keeps-from, then-keeps, changes-keeps, says-keeps, nothing-keeps}
 use Rattle.line_laws.proofs.Leaving.Kept.Frames.{edit_top-alters}
 use Rattle.line_laws.proofs.Leaving.Kept.Calls.{enqueue-keeps}
 use Rattle.line_laws.proofs.Leaving.Kept.CallEnds.{deliver-keeps}
@@ -52,7 +51,7 @@ use Rattle.line_laws.proofs.Leaving.Kept.Sending.{send_on-keeps}
 use Rattle.line_laws.proofs.Leaving.Kept.Serving.{end_release-keeps, behind_action-from, settle_sent-keeps, begins_part-keeps}
 use Rattle.line_laws.proofs.Leaving.ActSteps.{Does, weak, joined, told-from, silent-from, steady-then, top_steady, steady-free}
 use Rattle.line_laws.proofs.Leaving.FreeWorlds.{OwnCalls, CallerIn}
-use Rattle.machine_laws.proofs.Kept.Combinators.{From, Keeps}
+use Rattle.machine_laws.proofs.Kept.Combinators.{From, Keeps, changes-keeps, keeps-from, nothing-keeps, then-keeps}
 
 -- ---- the object is released
 
@@ -71,9 +70,9 @@ releasing-plainly p a m w inv free called =
     let G = going a in
     let R = Moved (acting a) true (Free a) in
     joined a R (lose_running p a (inherited_by.Ceiling m.object)) (set_deferred p a ▷ behind_action p a m None m.own_call) w (λ v xs h. h.core.base)
-    (keeps-from G _ w (inv, free) (lose_running-keeps G p a (inherited_by.Ceiling m.object) (acting-self a)))
+    (keeps-from (chains G) _ w (inv, free) (lose_running-keeps G p a (inherited_by.Ceiling m.object) (acting-self a)))
     (λ v xs h. joined a R (set_deferred p a) (behind_action p a m None m.own_call) v (λ u ys k. k.core.base)
-    (keeps-from G _ v (h.core.base.inv, h.extra) (set_deferred-keeps G p a))
+    (keeps-from (chains G) _ v (h.core.base.inv, h.extra) (set_deferred-keeps G p a))
     (λ u ys k. weak a (Free a) u _ (behind_action-from G p a m m.own_call u (k.core.base.inv, k.extra) refl (λ c e d found. let still : Caller c a u = k.core.base.called a c (h.core.base.called a c (called c e)) in still.1 d found))))
 
 released-keeps : (p : Image) (a : Who) (m : ProtectedMark) (n : ℕ) (call : Option CallNo) → Keeps (GoodAs Known) (Moved (acting a) true Known) (behind_action p a m (Some n) call)
@@ -83,9 +82,9 @@ released-keeps p a m n call = end_release-keeps (none a true) n tt
 releasing-specially : (p : Image) (a : Who) (m : ProtectedMark) (n : ℕ) (w : World) → Inv w → From (Does a) w (Releasing p a m (Some n))
 releasing-specially p a m n w inv =
     let G = none a true in
-    weak a Known w _ (keeps-from G _ w (inv, tt)
-    (then-keeps G (lose_running p a (inherited_by.Ceiling m.object)) _ (lose_running-keeps G p a (inherited_by.Ceiling m.object) (acting-self a))
-    (then-keeps G (set_deferred p a) _ (set_deferred-keeps G p a) (released-keeps p a m n m.own_call))))
+    weak a Known w _ (keeps-from (chains G) _ w (inv, tt)
+    (then-keeps (chains G) (lose_running p a (inherited_by.Ceiling m.object)) _ (lose_running-keeps G p a (inherited_by.Ceiling m.object) (acting-self a))
+    (then-keeps (chains G) (set_deferred p a) _ (set_deferred-keeps G p a) (released-keeps p a m n m.own_call))))
 
 closed-base : (a : Who) (o : ObjectNo) (w : World) → Inv w → Does a w (own (line.Exit a o) ∷ []) (close_action a o w)
 closed-base a o w inv = ((none a true).closes a o w (inv, tt)).core.base
@@ -131,7 +130,7 @@ With_room p part a m d test c again room = elim room [
 with_room-from : (p : Image) (a : Who) (m : ProtectedMark) (part : Part) (test : Bool) (d : Call) (c : CallNo) (again : Step) (room : Bool) (v : World) → Inv v → Entered a m v → ((x : World) → Inv x → Entered a m x → From (Does a) x again)
     → From (Does a) v (With_room p part a m d test c again room)
 with_room-from p a m part test d c again true v inv_v stays_v next =
-    weak a (Free a) v _ (keeps-from (going a) _ v (inv_v, steady-free a (nature (InProtected m)) v refl stays_v) (then-keeps (going a) (body_opens p a m.object d) (begins_part p test c) (body_opens-keeps (going a) p a m.object d refl) (begins_part-keeps (going a) p test c)))
+    weak a (Free a) v _ (keeps-from (chains (going a)) _ v (inv_v, steady-free a (nature (InProtected m)) v refl stays_v) (then-keeps (chains (going a)) (body_opens p a m.object d) (begins_part p test c) (body_opens-keeps (going a) p a m.object d refl) (begins_part-keeps (going a) p test c)))
 with_room-from p a m part test d c again false v inv_v stays_v next =
     let n = nature (InProtected m) in
     steady-then a n (says part (line.Finish a d.number (meeting.Raised exception.Storage))) (deliver p part c (call_ended.ToRaise exception.Storage) ▷ again) v inv_v stays_v (says-keeps (steady a n) part (line.Finish a d.number (meeting.Raised exception.Storage)) refl)
@@ -146,7 +145,7 @@ served_call-from p a m part test d c again w inv stays next said =
 
 with_found-from : (p : Image) (a : Who) (m : ProtectedMark) (part : Part) (test : Bool) (c : CallNo) (again : Step) (found : Option Call) (w : World) → Inv w → Entered a m w → ((v : World) → Inv v → Entered a m v → From (Does a) v again)
     → From (Does a) w (for_some found (λ d. serve_call p part a m.object d (begins_part p test c) (deliver p part c (call_ended.ToRaise exception.Storage) ▷ again)))
-with_found-from p a m part test c again None w inv stays next = weak a Known w nothing (keeps-from (none a true) nothing w (inv, tt) (nothing-keeps (none a true)))
+with_found-from p a m part test c again None w inv stays next = weak a Known w nothing (keeps-from (chains (none a true)) nothing w (inv, tt) (nothing-keeps (chains (none a true))))
 with_found-from p a m part test c again (Some d) w inv stays next = served_call-from p a m part test d c again w inv stays next
 
 chosen-from : (p : Image) (a : Who) (m : ProtectedMark) (is_sent : Bool) (again : Step) (chosen : Option CallNo) (w : World) → Inv w → Entered a m w → ((v : World) → Inv v → Entered a m v → From (Does a) v again) → From (Does a) w (serve_chosen p a m is_sent again chosen)
@@ -178,8 +177,8 @@ by_mode-from p a m Write w inv stays = serve_calls-from p a m None w inv stays
 cleared-from : (a : Who) (m : ProtectedMark) (f : ProtectedMark → ProtectedMark) (g : Step) (w : World) → ((x : ProtectedMark) → nature (InProtected (f x)) ≡ nature (InProtected x)) → Inv w → Entered a m w → ((v : World) → Inv v → Entered a m v → From (Does a) v g) → From (Does a) w (changes (edit_top_protected a f) ▷ changes (edit_top a not_left) ▷ g)
 cleared-from a m f g w same inv stays next =
     let n = nature (InProtected m) in
-    steady-then a n (changes (edit_top_protected a f)) (changes (edit_top a not_left) ▷ g) w inv stays (changes-keeps (steady a n) _ (edit_top_protected-alters (steady a n) a f same))
-    (λ v xs h inv_v stays_v. steady-then a n (changes (edit_top a not_left)) g v inv_v stays_v (changes-keeps (steady a n) _ (edit_top-alters (steady a n) a not_left (λ x. refl) (λ x. refl))) (λ u ys k inv_u stays_u. next u inv_u stays_u))
+    steady-then a n (changes (edit_top_protected a f)) (changes (edit_top a not_left) ▷ g) w inv stays (changes-keeps (chains (steady a n)) _ (edit_top_protected-alters (steady a n) a f same))
+    (λ v xs h inv_v stays_v. steady-then a n (changes (edit_top a not_left)) g v inv_v stays_v (changes-keeps (chains (steady a n)) _ (edit_top-alters (steady a n) a not_left (λ x. refl) (λ x. refl))) (λ u ys k inv_u stays_u. next u inv_u stays_u))
 
 operation-from : (p : Image) (a : Who) (m : ProtectedMark) (leaving : Leaving) (w : World) → Inv w → Entered a m w → From (Does a) w (end_operation p a m leaving)
 unfolding end_operation
@@ -218,7 +217,7 @@ finish_call-from p a m how.Abort c w inv stays = finish_well-from p a m c c.send
 finish_call-from p a m how.Terminate c w inv stays = finish_well-from p a m c c.sending w inv stays
 
 found_body-from : (p : Image) (a : Who) (m : ProtectedMark) (leaving : Leaving) (found : Option Call) (w : World) → Inv w → Entered a m w → From (Does a) w (for_some found (finish_call p a m leaving))
-found_body-from p a m leaving None w inv stays = weak a Known w nothing (keeps-from (none a true) nothing w (inv, tt) (nothing-keeps (none a true)))
+found_body-from p a m leaving None w inv stays = weak a Known w nothing (keeps-from (chains (none a true)) nothing w (inv, tt) (nothing-keeps (chains (none a true))))
 found_body-from p a m leaving (Some c) w inv stays = finish_call-from p a m leaving c w inv stays
 
 body_of_call-from : (p : Image) (a : Who) (m : ProtectedMark) (leaving : Leaving) (c : CallNo) (w : World) → Inv w → Entered a m w → From (Does a) w (with_call c (finish_call p a m leaving))

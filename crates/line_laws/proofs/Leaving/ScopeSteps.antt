@@ -29,7 +29,7 @@ use Rattle.profile_machine.specs.Scopes.{end_scope, cells_of, scope_in_use}
 use Rattle.profile_machine.specs.Controlled.{next_to_finalize, finalize, edit_top_scope}
 use Rattle.profile_machine.specs.Tasking.{leaves_as, being_left_mark, left_so_frame, is_made_in, end_made, complete_if_task, wait_for_dependents, leave_region, is_task_scope, behind_scope, raises_behind, left_by, says_left, end_of_scope, go_on_leaving, end_scope_mark_of, end_scope_mark}
 use Rattle.machine_laws.proofs.Moves.{own}
-use Rattle.line_laws.proofs.Leaving.FineMoves.{Alike, Free, Awake, is_special, own_call_of}
+use Rattle.line_laws.proofs.Leaving.FineMoves.{Alike, Free, Awake, is_special, own_call_of, chains}
 use Rattle.line_laws.proofs.Leaving.FreeWorlds.{Inv, Good, edited-inv}
 use Rattle.line_laws.proofs.Leaving.RegionLines.{NotLeaving}
 use Rattle.line_laws.proofs.Leaving.RegionTies.{popped-tied}
@@ -37,7 +37,6 @@ use Rattle.line_laws.proofs.Leaving.Telling.{begins_leaving-tells, has_left-tell
 use Rattle.line_laws.proofs.Leaving.CoreMoves.{pop-base, popped-free, claim-quiet, edited-called, edited-state}
 use Rattle.line_laws.proofs.Leaving.Moving.{Moved, GoodAs}
 use Rattle.line_laws.proofs.Leaving.Modes.{acting, acting-self, Known, none, going}
-use Rattle.line_laws.proofs.Leaving.Kept.Combinators.{keeps-from, then-keeps, changes-keeps}
 use Rattle.line_laws.proofs.Leaving.Kept.Scopes.{end_scope-alters}
 use Rattle.line_laws.proofs.Leaving.Kept.Controlled.{finalize-from}
 use Rattle.line_laws.proofs.Leaving.Kept.Tasking.{behind_scope-keeps, behind_task-keeps, raised_behind-keeps, leaves_on-keeps}
@@ -48,7 +47,7 @@ use Rattle.line_laws.proofs.Leaving.Kept.Frames.{alike}
 use Rattle.profile_machine.specs.Frames.{with_mark}
 use Rattle.profile_machine.specs.Controlled.{edit_scope_mark}
 use Rattle.profile_machine.specs.declared.world.tasks.State.{State}
-use Rattle.machine_laws.proofs.Kept.Combinators.{From, Keeps, Kept}
+use Rattle.machine_laws.proofs.Kept.Combinators.{From, Keeps, Kept, changes-keeps, keeps-from, then-keeps}
 
 -- ---- a region begins to be left
 
@@ -104,7 +103,7 @@ leave_region-from p a f m leaving r w inv awake top stops is region left said =
     let first = begun-base a f m r leaving w inv awake top stops is region left in
     let v = edit_top a (left_so_frame leaving) (edit_top_scope a being_left_mark w) in
     let rest = looks (λ x. for_each (filter (is_made_in r) x.tasks) (end_made p a)) ▷ complete_if_task p a m.purpose ▷ wait_for_dependents a r in
-    told-from a (own (line.Leave a r (leaves_as leaving)) ∷ []) w v rest first (weak a Known v rest (keeps-from (none a true) rest v (first.inv, tt) (leaves_on-keeps (none a true) p a m r (acting-self a) tt))) said
+    told-from a (own (line.Leave a r (leaves_as leaving)) ∷ []) w v rest first (weak a Known v rest (keeps-from (chains (none a true)) rest v (first.inv, tt) (leaves_on-keeps (none a true) p a m r (acting-self a) tt))) said
 
 -- ---- a scope ends
 
@@ -114,26 +113,26 @@ Ending p a id test purpose cells leaving = changes (end_scope id) ▷ when test 
 behind_going : (p : Image) (a : Who) (id : ScopeId) (test : Bool) (purpose : Purpose) (cells : List Value) (leaving : Leaving) → is_task_scope purpose ≡ false → Keeps (GoodAs (Free a)) (Moved (acting a) true (Free a)) (Ending p a id test purpose cells leaving)
 behind_going p a id test purpose cells leaving other =
     let G = going a in
-    then-keeps G (changes (end_scope id)) _ (changes-keeps G _ (end_scope-alters G id)) (then-keeps G (when test (says Own (line.Raise a exception.Program))) (behind_scope p a purpose cells leaving) (raised_behind-keeps G a test) (behind_scope-keeps G p a purpose cells leaving refl other))
+    then-keeps (chains G) (changes (end_scope id)) _ (changes-keeps (chains G) _ (end_scope-alters G id)) (then-keeps (chains G) (when test (says Own (line.Raise a exception.Program))) (behind_scope p a purpose cells leaving) (raised_behind-keeps G a test) (behind_scope-keeps G p a purpose cells leaving refl other))
 
 behind_ended : (p : Image) (a : Who) (id : ScopeId) (test : Bool) (cells : List Value) (leaving : Leaving) → Keeps (GoodAs Known) (Moved (acting a) true Known) (Ending p a id test opened_for.Task cells leaving)
 behind_ended p a id test cells leaving =
     let G = none a true in
-    then-keeps G (changes (end_scope id)) _ (changes-keeps G _ (end_scope-alters G id)) (then-keeps G (when test (says Own (line.Raise a exception.Program))) (behind_scope p a opened_for.Task cells leaving) (raised_behind-keeps G a test) (behind_task-keeps G p a cells leaving tt))
+    then-keeps (chains G) (changes (end_scope id)) _ (changes-keeps (chains G) _ (end_scope-alters G id)) (then-keeps (chains G) (when test (says Own (line.Raise a exception.Program))) (behind_scope p a opened_for.Task cells leaving) (raised_behind-keeps G a test) (behind_task-keeps G p a cells leaving tt))
 
 behind_popped : (p : Image) (a : Who) (id : ScopeId) (test : Bool) (purpose : Purpose) (cells : List Value) (leaving : Leaving) (f : Frame) (w : World) → Inv w → Awake a w → top_of w a ≡ Some f → is_special f.mark ≡ is_task_scope purpose → From (Does a) (pop a w) (Ending p a id test purpose cells leaving)
 behind_popped p a id test opened_for.Task cells leaving f w inv awake top special =
     let out = pop-base (acting a) true a w inv awake (λ s h. popped-tied s a w h) in
-    weak a Known (pop a w) _ (keeps-from (none a true) _ (pop a w) (out.inv, tt) (behind_ended p a id test cells leaving))
+    weak a Known (pop a w) _ (keeps-from (chains (none a true)) _ (pop a w) (out.inv, tt) (behind_ended p a id test cells leaving))
 behind_popped p a id test (opened_for.Block s) cells leaving f w inv awake top special =
     let out = pop-base (acting a) true a w inv awake (λ s h. popped-tied s a w h) in
-    weak a (Free a) (pop a w) _ (keeps-from (going a) _ (pop a w) (out.inv, popped-free a f w inv top special) (behind_going p a id test (opened_for.Block s) cells leaving refl))
+    weak a (Free a) (pop a w) _ (keeps-from (chains (going a)) _ (pop a w) (out.inv, popped-free a f w inv top special) (behind_going p a id test (opened_for.Block s) cells leaving refl))
 behind_popped p a id test (opened_for.Subprogram back to) cells leaving f w inv awake top special =
     let out = pop-base (acting a) true a w inv awake (λ s h. popped-tied s a w h) in
-    weak a (Free a) (pop a w) _ (keeps-from (going a) _ (pop a w) (out.inv, popped-free a f w inv top special) (behind_going p a id test (opened_for.Subprogram back to) cells leaving refl))
+    weak a (Free a) (pop a w) _ (keeps-from (chains (going a)) _ (pop a w) (out.inv, popped-free a f w inv top special) (behind_going p a id test (opened_for.Subprogram back to) cells leaving refl))
 behind_popped p a id test (opened_for.EntryBody c) cells leaving f w inv awake top special =
     let out = pop-base (acting a) true a w inv awake (λ s h. popped-tied s a w h) in
-    weak a (Free a) (pop a w) _ (keeps-from (going a) _ (pop a w) (out.inv, popped-free a f w inv top special) (behind_going p a id test (opened_for.EntryBody c) cells leaving refl))
+    weak a (Free a) (pop a w) _ (keeps-from (chains (going a)) _ (pop a w) (out.inv, popped-free a f w inv top special) (behind_going p a id test (opened_for.EntryBody c) cells leaving refl))
 
 -- what is told of the region
 abbrev left_lines : Who → Option RegionNo → List Said

@@ -23,7 +23,7 @@ use Rattle.line_laws.proofs.Leaving.PlacingLines.{is_placed}
 use Rattle.line_laws.proofs.Leaving.CoreMoves.{state_in}
 use Rattle.line_laws.proofs.Leaving.Kept.Run.{before_tick-leads}
 use Rattle.line_laws.proofs.Leaving.Following.{Following, RanAwake, resting, tock_moves, instant-following, opening-following}
-use Rattle.machine_laws.specs.Reached.{Comes, opened, ticked, before}
+use Rattle.machine_laws.specs.Reached.{Comes, opened, ticked}
 use Rattle.machine_laws.proofs.Kept.Combinators.{Leads}
 use Rattle.machine_laws.proofs.Kept.Run.{before_tick, tock-parts}
 use Rattle.machine_laws.proofs.QueueLemmas.{by_test}

@@ -15,10 +15,10 @@ use Rattle.profile_machine.specs.Values.{seen_by}
 use Rattle.profile_machine.specs.Run.{opens, blank_world, tock, stop, run_of}
 use Rattle.machine_laws.specs.LineKinds.{is_of_tock, AllAre}
 use Rattle.machine_laws.proofs.FineMoves.{AnyWorld}
-use Rattle.machine_laws.proofs.FinestMoves.{all_of}
+use Rattle.machine_laws.proofs.FinestMoves.{all_of, effect-leads}
 use Rattle.machine_laws.proofs.Moves.{is_told_apart, AreOthers, own, Moves, Puts}
 use Rattle.machine_laws.proofs.LineLemmas.{tocks_say_ticks}
-use Rattle.machine_laws.proofs.Kept.Combinators.{Leads, settles-leads}
+use Rattle.machine_laws.proofs.Kept.Combinators.{Leads}
 use Rattle.machine_laws.proofs.Kept.Instant.{instant-leads}
 use Rattle.machine_laws.proofs.Kept.Run.{opens-keeps}
 use Rattle.line_laws.specs.Names.{EachEvent}
@@ -132,7 +132,7 @@ module _ (P : List ℕ → Type 0) where
   parts-put : (p : Image) → Puts AnyWorld (λ before said after. EachSaid said) p → OfParts (OfPut P) p
   unfolding Leads
   parts-put p puts = record {
-    openings = λ script. settles-leads (all_of of_puts).fine p (opens p) (opens-keeps (all_of of_puts) p) (blank_world p script) tt;
+    openings = λ script. effect-leads (all_of of_puts).fine p (opens p) (opens-keeps (all_of of_puts) p) (blank_world p script) tt;
     instants = λ w. instant-leads (all_of of_puts) p puts w tt;
     tocks = λ w. ticks-put (tock p w).1 (tocks_say_ticks p w);
     stops = λ bound w. end-put (stop p bound w);

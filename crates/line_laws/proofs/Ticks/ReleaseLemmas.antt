@@ -27,14 +27,14 @@ use Rattle.profile_machine.specs.Cost.{cost}
 use Rattle.profile_machine.specs.Handlers.{charge}
 use Rattle.profile_machine.specs.Instant.{instant}
 use Rattle.profile_machine.specs.Run.{opens, opening, blank_world, say, says_run, serve_if_free, serve, says_idle, one_tick_less, begin_action, spend_tick, tock, run_of}
-use Rattle.machine_laws.proofs.FinestMoves.{all_of}
+use Rattle.machine_laws.proofs.FinestMoves.{all_of, effect-leads}
 use Rattle.machine_laws.proofs.Moves.{Moves, AreOthers, own, is_told_apart}
-use Rattle.machine_laws.proofs.Kept.Combinators.{Leads, Alters, settles-leads}
 use Rattle.machine_laws.proofs.Kept.Handlers.{charge-alters}
 use Rattle.machine_laws.proofs.Kept.Instant.{instant-leads}
 use Rattle.machine_laws.proofs.Kept.Run.{before_tick, tock-parts, opens-keeps}
 use Rattle.line_laws.specs.TickLaws.{Counts, no_counts, counts_after, is_next_release, ReleasesOk}
 use Rattle.line_laws.proofs.Ticks.LineByLine.{seen_behind, seen_behind-append, Follow, Follow-append, Leads_on, OfRuns, run-at_each_line}
+use Rattle.machine_laws.proofs.Kept.Combinators.{Alters, Leads}
 
 -- ---- the releases that are pending
 
@@ -247,7 +247,7 @@ moves-lead_on c before lines after m h =
 openings-lead_on : (p : Image) (script : List (ℤ × Item)) → LeadsOn no_counts (opening p script).1 (opening p script).0
 unfolding Leads
 openings-lead_on p script =
-    moves-lead_on no_counts (blank_world p script) (opening p script).1 (opening p script).0 (settles-leads (all_of tells_releases).fine p (opens p) (opens-keeps (all_of tells_releases) p) (blank_world p script) tt) (record { released = refl; pending = refl })
+    moves-lead_on no_counts (blank_world p script) (opening p script).1 (opening p script).0 (effect-leads (all_of tells_releases).fine p (opens p) (opens-keeps (all_of tells_releases) p) (blank_world p script) tt) (record { released = refl; pending = refl })
 
 instants-lead_on : (p : Image) (c : Counts) (w : World) → ShowsCounts c w → LeadsOn c (instant p w).1 (instant p w).0
 unfolding Leads

@@ -31,9 +31,8 @@ use Rattle.profile_machine.specs.Tasking.{leave_region}
 use Rattle.profile_machine.specs.Act.{call_main, call, handle_or_pass, behind_handled, end_handled, end_top, wait_for_trigger, drop_trigger, below, end_abortable_by, end_in_abortable, act_statement, end_mark, act_frame, act_without, act_top, act, keeping, waiting_mark}
 use Rattle.machine_laws.proofs.Moves.{StepRelation, MoveRelation, Puts}
 use Rattle.machine_laws.proofs.FineMoves.{GoodWorld, Naming, is_abortable}
-use Rattle.machine_laws.proofs.FinestMoves.{FinestMoves, MarkOpenings, OwnRegions, SettingMoves, AllMoves, Holding, Anyhow, nature}
+use Rattle.machine_laws.proofs.FinestMoves.{FinestMoves, MarkOpenings, OwnRegions, SettingMoves, AllMoves, Holding, Anyhow, nature, chains}
 use Rattle.profile_machine.specs.Tasks.{edit_task, with_ticks}
-use Rattle.machine_laws.proofs.Kept.Combinators.{Keeps, Alters, changes-keeps, cond-keeps, looks-keeps, nothing-keeps, option-keeps, sees-keeps, then-keeps, unchanged-alters, From, keeps-from, looks_at-from, changes_then-from}
 use Rattle.machine_laws.proofs.Kept.Dispatching.{block-keeps}
 use Rattle.machine_laws.proofs.Kept.Frames.{edit_top-alters, goes-keeps, raises-keeps, pass_on-keeps, with_room-keeps, popped}
 use Rattle.machine_laws.proofs.Kept.Scopes.{open_scope-alters}
@@ -57,6 +56,7 @@ use Rattle.profile_machine.specs.declared.world.marks.ScopeMark.{ScopeMark}
 use Rattle.profile_machine.specs.Serving.{end_in_protected}
 use Rattle.machine_laws.proofs.Kept.CallEnds.{end_found_abortable-keeps, abortable-nature}
 use Rattle.profile_machine.specs.CallEnds.{edit_abortable}
+use Rattle.machine_laws.proofs.Kept.Combinators.{Alters, From, Keeps, changes-keeps, changes_then-from, cond-keeps, keeps-from, looks-keeps, looks_at-from, nothing-keeps, option-keeps, sees-keeps, then-keeps, unchanged-alters}
 
 -- a mark that keeps an exception is what it was
 keeping-nature : (e : Raised) (mark : Mark) → nature (keeping e mark) ≡ nature mark
@@ -86,12 +86,12 @@ module _ {G : GoodWorld} {May Other : Naming} {R : StepRelation} {Q : MoveRelati
   pub handle_or_pass-keeps : (p : Image) (name : Who) (e : Raised) (next : Option StatementNo) → Keeps G R (handle_or_pass p name e next)
   unfolding handle_or_pass
   handle_or_pass-keeps p name e None = search (pass_on-keeps)
-  handle_or_pass-keeps p name e (Some first) = search (changes-keeps, edit_top-alters, keeping-nature, then-keeps, goes-keeps)
+  handle_or_pass-keeps p name e (Some first) = search (changes-keeps, edit_top-alters, keeping-nature, then-keeps, goes-keeps, chains)
 
   pub behind_handled-keeps : (p : Image) (name : Who) (s : StatementNo) (leaving : Leaving) → Keeps G R (behind_handled p name s leaving)
   unfolding behind_handled
   behind_handled-keeps p name s (how.Exception e) = search (handle_or_pass-keeps)
-  behind_handled-keeps p name s how.End = search (nothing-keeps)
+  behind_handled-keeps p name s how.End = search (nothing-keeps, chains)
   behind_handled-keeps p name s how.Return = search (pass_on-keeps)
   behind_handled-keeps p name s (how.Exit loop) = search (pass_on-keeps)
   behind_handled-keeps p name s how.Abort = search (pass_on-keeps)
@@ -101,7 +101,7 @@ module _ {G : GoodWorld} {May Other : Naming} {R : StepRelation} {Q : MoveRelati
   unfolding end_handled
   end_handled-from p name s leaving f w good may top free =
       let out = popped moves name f w good may top free in
-      changes_then-from moves (pop name) _ w out (keeps-from moves (behind_handled p name s leaving) (pop name w) (moves.behind w (pop name w) out) (behind_handled-keeps p name s leaving))
+      changes_then-from (chains moves) (pop name) _ w out (keeps-from (chains moves) (behind_handled p name s leaving) (pop name w) (moves.behind w (pop name w) out) (behind_handled-keeps p name s leaving))
 
   pub end_top-keeps : (p : Image) (name : Who) → May name → Keeps G R (end_top p name)
   unfolding end_top
@@ -109,24 +109,24 @@ module _ {G : GoodWorld} {May Other : Naming} {R : StepRelation} {Q : MoveRelati
 
   pub wait_for_trigger-keeps : (name : Who) (c : Call) (leaving : Leaving) → Other name → Keeps G R (wait_for_trigger name c leaving)
   unfolding wait_for_trigger
-  wait_for_trigger-keeps name c leaving other = search (changes-keeps, edit_top-alters, waiting-nature, then-keeps, block-keeps)
+  wait_for_trigger-keeps name c leaving other = search (changes-keeps, edit_top-alters, waiting-nature, then-keeps, block-keeps, chains)
 
   pub drop_trigger-alters : (name : Who) (depth : ℕ) → Alters G R (drop_trigger name depth)
   drop_trigger-alters (who.Task t) depth = drop_appointment-alters moves (is_trigger_of t depth) (λ n h. refl)
-  drop_trigger-alters who.Agent depth = search (unchanged-alters)
+  drop_trigger-alters who.Agent depth = search (unchanged-alters, chains)
 
   pub end_abortable_by-keeps : (p : Image) (name : Who) (m : AbortableMark) (leaving : Leaving) → Other name → Keeps G R (end_abortable_by p name m leaving)
   unfolding end_abortable_by
-  end_abortable_by-keeps p name m leaving other = option-keeps moves m.call (looks (λ w. changes (drop_trigger name (below (frames_of w name)))) ▷ end_top p name) (λ c. with_call c (λ d. attempt_with p Own d (end_top p name) (wait_for_trigger name d leaving))) (search (looks-keeps, changes-keeps, drop_trigger-alters, then-keeps, end_top-keeps, moves.other_may)) (λ c. search (with_call-keeps, attempt_with-keeps, end_top-keeps, wait_for_trigger-keeps, moves.other_may))
+  end_abortable_by-keeps p name m leaving other = option-keeps (chains moves) m.call (looks (λ w. changes (drop_trigger name (below (frames_of w name)))) ▷ end_top p name) (λ c. with_call c (λ d. attempt_with p Own d (end_top p name) (wait_for_trigger name d leaving))) (search (looks-keeps, changes-keeps, drop_trigger-alters, then-keeps, end_top-keeps, moves.other_may, chains)) (λ c. search (with_call-keeps, attempt_with-keeps, end_top-keeps, wait_for_trigger-keeps, moves.other_may))
 
   pub end_in_abortable-keeps : (p : Image) (name : Who) (m : AbortableMark) (leaving : Leaving) → Other name → Keeps G R (end_in_abortable p name m leaving)
   unfolding end_in_abortable
-  end_in_abortable-keeps p name m leaving other = search (cond-keeps, end_top-keeps, end_abortable_by-keeps, moves.other_may)
+  end_in_abortable-keeps p name m leaving other = search (cond-keeps, end_top-keeps, end_abortable_by-keeps, moves.other_may, chains)
 
 module _ {G : GoodWorld} {May Other : Naming} {R : StepRelation} {Q : MoveRelation} (moves : FinestMoves G May Other R Q) (openings : MarkOpenings G May Other R) where
   pub call_main-keeps : (p : Image) (name : Who) (s : StatementNo) → May name → Keeps G R (call_main p name s)
   unfolding call_main
-  call_main-keeps p name s may = search (with_room-keeps, goes-keeps, then-keeps, looks-keeps, changes-keeps, open_scope-alters)
+  call_main-keeps p name s may = search (with_room-keeps, goes-keeps, then-keeps, looks-keeps, changes-keeps, open_scope-alters, chains)
 
   pub call-keeps : (p : Image) (name : Who) (s : StatementNo) (callee : Callee) (actuals : List Actual) (to : Destination) → May name → Keeps G R (call p name s callee actuals to)
   unfolding call
@@ -142,7 +142,7 @@ module _ {G : GoodWorld} {May Other : Naming} {R : StepRelation} {Q : MoveRelati
   end_mark-from p name f (InProtected m) w good may top is leaves action = action m refl
   end_mark-from p name f (InAccept m) w good may top is leaves action = end_in_accept-from moves p name m (leaving_of f) f w good may top (ap is_protected is)
   end_mark-from p name f (Abortable m) w good may top is leaves action =
-      keeps-from moves _ w good (end_in_abortable-keeps moves p name m (leaving_of f) (openings.within_part name f w good may top (ap is_abortable is)))
+      keeps-from (chains moves) _ w good (end_in_abortable-keeps moves p name m (leaving_of f) (openings.within_part name f w good may top (ap is_abortable is)))
   end_mark-from p name f (InInitialize l) w good may top is leaves action = end_in_initialize-from moves p name l (leaving_of f) f w good may top (ap is_protected is)
   end_mark-from p name f (InFinalize o) w good may top is leaves action = end_in_finalize-from moves p name (leaving_of f) f w good may top (ap is_protected is)
   end_mark-from p name f (InAssign m) w good may top is leaves action = end_in_assign-from moves openings p name m f.left_as f w good may top (ap is_protected is)
@@ -156,7 +156,7 @@ module _ {G : GoodWorld} {May Other : Naming} {R : StepRelation} {Q : MoveRelati
   calm_statement-keeps p puts name s (form.Activate part) may is calm = search (activate-keeps)
   calm_statement-keeps p puts name s form.EndActivation may is calm = search (end_own_activation-keeps)
   calm_statement-keeps p puts name s form.CallMain may is calm = search (call_main-keeps)
-  calm_statement-keeps p puts name s (form.Handled handlers first) may is calm = search (nothing-keeps)
+  calm_statement-keeps p puts name s (form.Handled handlers first) may is calm = search (nothing-keeps, chains)
   calm_statement-keeps p puts name s form.Null may is calm = search (null-keeps)
   calm_statement-keeps p puts name s (form.Assign target e) may is calm = search (assign-keeps)
   calm_statement-keeps p puts name s (form.AssignArray target source) may is calm = search (assign_array-keeps)
@@ -174,8 +174,8 @@ module _ {G : GoodWorld} {May Other : Naming} {R : StepRelation} {Q : MoveRelati
   calm_statement-keeps p puts name s (form.ReturnValue function e) may is calm = search (return_value-keeps)
   calm_statement-keeps p puts name s (form.Raise e) may is calm = search (raises-keeps)
   calm_statement-keeps p puts name s (form.RaiseAgain scope) may is calm = search (raise_again-keeps)
-  calm_statement-keeps p puts name s (form.Delay e) may is calm = search (sees-keeps, delay_until-keeps)
-  calm_statement-keeps p puts name s (form.DelayUntil e) may is calm = search (sees-keeps, delay_until-keeps)
+  calm_statement-keeps p puts name s (form.Delay e) may is calm = search (sees-keeps, delay_until-keeps, chains)
+  calm_statement-keeps p puts name s (form.DelayUntil e) may is calm = search (sees-keeps, delay_until-keeps, chains)
   calm_statement-keeps p puts name s (form.Call callee actuals to) may is calm = search (call-keeps)
   calm_statement-keeps p puts name s (form.PutLine pieces) may is calm = put_line-keeps moves p puts name s pieces is
   calm_statement-keeps p puts name s (form.EntryCall entry owner actuals) may is calm = search (entry_call-keeps)
@@ -222,7 +222,7 @@ module _ {G : GoodWorld} {May Other : Naming} {Owns : Who → RegionNo → Type 
       → ((f : Frame) (s : StatementNo) → top_of w name ≡ Some f → f.onward ≡ Some s → From R w (act_statement p name s (form_of p s)))
       → ((f : Frame) (m : ProtectedMark) → top_of w name ≡ Some f → f.mark ≡ InProtected m → From R w (end_in_protected p name m (leaving_of f))) → From R w (act_top p name found)
   unfolding act_top
-  act_top-from p name None w good may is without statement action = looks_at-from moves (λ v. act_without p name v.serving) w without
+  act_top-from p name None w good may is without statement action = looks_at-from (chains moves) (λ v. act_without p name v.serving) w without
   act_top-from p name (Some f) w good may is without statement action = act_frame-from p name f f.onward w good may is (λ s onward. statement f s is onward) (λ m k. action f m is k)
 
   -- an action, but for a statement that is done, the end of a protected action, and who has no rest
@@ -230,7 +230,7 @@ module _ {G : GoodWorld} {May Other : Naming} {Owns : Who → RegionNo → Type 
       → ((f : Frame) (s : StatementNo) → top_of w name ≡ Some f → f.onward ≡ Some s → From R w (act_statement p name s (form_of p s)))
       → ((f : Frame) (m : ProtectedMark) → top_of w name ≡ Some f → f.mark ≡ InProtected m → From R w (end_in_protected p name m (leaving_of f))) → From R w (act p name)
   unfolding act
-  act-from p name w good may without statement action = looks_at-from moves (λ v. act_top p name (top_of v name)) w (act_top-from p name (top_of w name) w good may refl without statement action)
+  act-from p name w good may without statement action = looks_at-from (chains moves) (λ v. act_top p name (top_of v name)) w (act_top-from p name (top_of w name) w good may refl without statement action)
 
 -- ---- where anybody may be changed
 
@@ -253,13 +253,13 @@ acts_anyhow = record { holds = λ name f m w a top is. tt; without_ticks = λ na
 module _ {G : GoodWorld} {Act : Acting} {Holds : Holding} {R : StepRelation} {Q : MoveRelation} (moves : AllMoves G Holds R Q) (stays : Stays Holds) (acts : Acts Act Holds) where
   act_without-keeps : (p : Image) (name : Who) (release : Option Release) → Keeps G R (act_without p name release)
   unfolding act_without
-  act_without-keeps p name None = nothing-keeps moves.fine
+  act_without-keeps p name None = nothing-keeps (chains moves.fine)
   act_without-keeps p who.Agent (Some r) = call_handler-keeps moves.fine moves.openings moves.handlers p r
-  act_without-keeps p (who.Task t) (Some r) = nothing-keeps moves.fine
+  act_without-keeps p (who.Task t) (Some r) = nothing-keeps (chains moves.fine)
 
   pub any_act-from : (p : Image) → Puts G R p → (name : Who) (w : World) → G w → Act name w → From R w (act p name)
   any_act-from p puts name w good acting =
       act-from moves.fine moves.openings moves.regions p name w good tt
-      (keeps-from moves.fine _ w good (act_without-keeps p name w.serving))
-      (λ f s top is. keeps-from moves.fine _ w good (act_statement-keeps moves.fine moves.openings moves.settings (releasing moves) p puts name s (form_of p s) tt refl))
+      (keeps-from (chains moves.fine) _ w good (act_without-keeps p name w.serving))
+      (λ f s top is. keeps-from (chains moves.fine) _ w good (act_statement-keeps moves.fine moves.openings moves.settings (releasing moves) p puts name s (form_of p s) tt refl))
       (λ f m top is. end_in_protected-from moves.fine moves.openings moves.ends (ending moves.fine moves.handlers) stays p name m (leaving_of f) tt tt w good (acts.holds name f m w acting top is))

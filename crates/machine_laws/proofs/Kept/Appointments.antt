@@ -10,7 +10,7 @@ use Rattle.profile_machine.specs.Steps.{changes}
 use Rattle.profile_machine.specs.Appointments.{appoint, drop_appointment, drop_delay, is_delay_of, is_an_event}
 use Rattle.machine_laws.proofs.Moves.{StepRelation, MoveRelation}
 use Rattle.machine_laws.proofs.FineMoves.{GoodWorld, Naming}
-use Rattle.machine_laws.proofs.FinestMoves.{FinestMoves, SparesEvents}
+use Rattle.machine_laws.proofs.FinestMoves.{FinestMoves, SparesEvents, chains}
 use Rattle.machine_laws.proofs.Kept.Combinators.{Alters, From, changes-from, unchanged-alters}
 
 -- a moment that is not past is later
@@ -19,7 +19,7 @@ is_later now moment h = grind (arith, ints)
 
 module _ {G : GoodWorld} {May Other : Naming} {R : StepRelation} {Q : MoveRelation} (moves : FinestMoves G May Other R Q) where
   pub appoint-from : (due : Due) (moment : ℤ) (w : World) → G w → is_an_event due ≡ false → int_lt (pos w.time) moment ≡ true → From R w (changes (appoint due moment))
-  appoint-from due moment w good other later = changes-from moves (appoint due moment) w (moves.appoints due moment w good other later)
+  appoint-from due moment w good other later = changes-from (chains moves) (appoint due moment) w (moves.appoints due moment w good other later)
 
   pub drop_appointment-alters : (test : Due → Bool) → SparesEvents test → Alters G R (drop_appointment test)
   unfolding Alters
@@ -27,4 +27,4 @@ module _ {G : GoodWorld} {May Other : Naming} {R : StepRelation} {Q : MoveRelati
 
   pub drop_delay-alters : (name : Who) → Alters G R (drop_delay name)
   drop_delay-alters (who.Task t) = drop_appointment-alters (is_delay_of t) (λ n h. refl)
-  drop_delay-alters who.Agent = search (unchanged-alters)
+  drop_delay-alters who.Agent = search (unchanged-alters, chains)

@@ -1,5 +1,5 @@
 -- How calls end: each step keeps a relation that its parts keep.
-use Rattle.std.specs.Prelude.{ℕ, Bool, List, [], ◌∷◌, Option, Some, None, Ok, Err, not}
+use Rattle.std.specs.Prelude.{ℕ, Bool, List, [], ◌∷◌, Option, Some, None, Ok, Err, not, slice_set, true, false, cond, eqb, length}
 use Rattle.ann_base.specs.declared.identities.TaskNo.{TaskNo}
 use Rattle.ann_base.specs.declared.identities.CallNo.{CallNo}
 use Rattle.trace_text.specs.declared.events.Who.{Who}
@@ -25,18 +25,17 @@ use Rattle.profile_machine.specs.Frames.{frames_of, top_of, pop, pass_on, leavin
 use Rattle.profile_machine.specs.Scopes.{write_cell}
 use Rattle.profile_machine.specs.Operators.{Valued, checked}
 use Rattle.profile_machine.specs.CallEnds.{go_by_outcome, resume, store, or_stored, copy_back, with_results, edit_depth, edit_frame, edit_abortable, edit_abortable_at, trigger_at, trigger_outcome, forget_trigger, run_triggered, ended_by_itself, behind_abortable, end_abortable, end_abortable_in, end_top_abortable, end_wait, waits_for_end, end_for_abortable, end_for_caller, end_for, end_with, end_call, deliver, gone, waited_mark, is_cancelled}
-use Rattle.std.specs.Prelude.{slice_set, true, false, cond, eqb, length}
 use Rattle.std.proofs.Common.{◌≡◌, refl, ap}
 use Rattle.machine_laws.proofs.Moves.{StepRelation, MoveRelation}
 use Rattle.machine_laws.proofs.FineMoves.{GoodWorld, Naming}
-use Rattle.machine_laws.proofs.FinestMoves.{FinestMoves, nature, natures}
-use Rattle.machine_laws.proofs.Kept.Combinators.{Keeps, Alters, Gives, bind-gives, branch-keeps, changes-keeps, looks-keeps, nothing-keeps, ok-gives, says-keeps, then-keeps, unchanged-alters, when-keeps, changes_then-from, keeps-from, looks-from, looks_at-from, From}
+use Rattle.machine_laws.proofs.FinestMoves.{FinestMoves, nature, natures, chains, says-keeps}
 use Rattle.machine_laws.proofs.Kept.Tasks.{edit_frames-alters}
 use Rattle.machine_laws.proofs.Kept.Dispatching.{ready-keeps}
 use Rattle.machine_laws.proofs.Kept.Frames.{goes-keeps, popped, leaves-keeps, raises-keeps, pass_on-keeps, open_sequence-keeps}
 use Rattle.machine_laws.proofs.Kept.Calls.{edit_call-alters, forget_call-alters, with_call-keeps, unqueued-alters}
 use Rattle.machine_laws.proofs.Kept.Unwinding.{unwind-keeps}
 use Rattle.profile_machine.specs.Dispatching.{ready}
+use Rattle.machine_laws.proofs.Kept.Combinators.{Alters, From, Gives, Keeps, bind-gives, branch-keeps, changes-keeps, changes_then-from, keeps-from, looks-from, looks-keeps, looks_at-from, nothing-keeps, ok-gives, then-keeps, unchanged-alters, when-keeps}
 
 -- an edit of a mark somewhere, and of an abortable part
 at_depth-natures : (test : Bool) (f : Frame → Frame) (x : Frame) (xs ys : List Frame) → nature (f x).mark ≡ nature x.mark → natures ys ≡ natures xs → natures (cond test (f x ∷ xs) (x ∷ ys)) ≡ natures (x ∷ xs)
@@ -67,10 +66,10 @@ module _ {G : GoodWorld} {May Other : Naming} {R : StepRelation} {Q : MoveRelati
 
   pub resume-keeps : (p : Image) (part : Part) (c : Call) (outcome : Outcome) → Keeps G R (resume p part c outcome)
   unfolding resume
-  resume-keeps p part c outcome = search (changes-keeps, forget_call-alters, then-keeps, go_by_outcome-keeps)
+  resume-keeps p part c outcome = search (changes-keeps, forget_call-alters, then-keeps, go_by_outcome-keeps, chains)
 
   pub store-gives : (p : Image) (v : Variable) (value : Value) (w : World) → G w → Gives R w (store p v value w)
-  store-gives p v value w good = bind-gives moves (checked (declaration_of p v.declared).constraint value) (λ x. Ok (write_cell v.within v.place x w)) w (λ x. ok-gives moves w (write_cell v.within v.place x w) (moves.edits_cells v.within (λ cells. slice_set cells v.place x) w good))
+  store-gives p v value w good = bind-gives (chains moves) (checked (declaration_of p v.declared).constraint value) (λ x. Ok (write_cell v.within v.place x w)) w (λ x. ok-gives (chains moves) w (write_cell v.within v.place x w) (moves.edits_cells v.within (λ cells. slice_set cells v.place x) w good))
 
   -- the world behind the results that are copied back
   or_stored-world : (result : Valued World) (again : World → World × Bool) (w : World) → G w → Gives R w result → ((v : World) → G v → R v [] (again v).0) → R w [] (or_stored w result again).0
@@ -99,61 +98,61 @@ module _ {G : GoodWorld} {May Other : Naming} {R : StepRelation} {Q : MoveRelati
 
   pub trigger_at-keeps : (part : Part) (t : TaskNo) (depth : ℕ) → Keeps G R (trigger_at part t depth)
   unfolding trigger_at
-  trigger_at-keeps part t depth = search (changes-keeps, edit_abortable_at-alters, then-keeps, says-keeps, edit_frame-alters) depth 7
+  trigger_at-keeps part t depth = search (changes-keeps, edit_abortable_at-alters, then-keeps, says-keeps, edit_frame-alters, chains) depth 8
 
   pub forget_trigger-alters : (c : Option CallNo) → Alters G R (forget_trigger c)
-  forget_trigger-alters None = search (unchanged-alters)
+  forget_trigger-alters None = search (unchanged-alters, chains)
   forget_trigger-alters (Some c) = search (forget_call-alters)
 
   pub run_triggered-keeps : (p : Image) (part : Part) (name : Who) (select : StatementNo) (outcome : Outcome) → Keeps G R (run_triggered p part name select outcome)
   unfolding run_triggered
   run_triggered-keeps p part name select call_ended.Finished = search (goes-keeps)
-  run_triggered-keeps p part name select call_ended.Cancelled = search (nothing-keeps)
+  run_triggered-keeps p part name select call_ended.Cancelled = search (nothing-keeps, chains)
   run_triggered-keeps p part name select (call_ended.ToRaise e) = search (raises-keeps)
   run_triggered-keeps p part name select (call_ended.WasRaised e) = search (leaves-keeps)
 
   pub behind_abortable-keeps : (p : Image) (part : Part) (name : Who) (m : AbortableMark) (outcome : Outcome) → Keeps G R (behind_abortable p part name m outcome)
   unfolding behind_abortable
-  behind_abortable-keeps p part name m outcome = search (when-keeps, run_triggered-keeps)
+  behind_abortable-keeps p part name m outcome = search (when-keeps, run_triggered-keeps, chains)
 
   -- it ends where it is on top
   end_abortable-from : (p : Image) (part : Part) (name : Who) (m : AbortableMark) (f : Frame) (below : List Frame) (w : World) → G w → May name → top_of w name ≡ Some f → is_protected f.mark ≡ false → From R w (end_abortable p part name m f below)
   unfolding end_abortable
   end_abortable-from p part name m f below w good may top free =
       let out = popped moves name f w good may top free in
-      looks_at-from moves (λ v. changes (pop name) ▷ changes (forget_trigger m.call) ▷ elim (ended_by_itself f below) as (λ _. Step) [ true ↦ behind_abortable p part name m (trigger_outcome v m.call) | false ↦ pass_on p name (leaving_of f) ]) w
-      (changes_then-from moves (pop name) _ w out (keeps-from moves _ (pop name w) (moves.behind w (pop name w) out)
-      (then-keeps moves (changes (forget_trigger m.call)) _ (search (changes-keeps, forget_trigger-alters)) (branch-keeps moves (ended_by_itself f below) (behind_abortable p part name m (trigger_outcome w m.call)) (pass_on p name (leaving_of f)) (search (behind_abortable-keeps)) (search (pass_on-keeps))))))
+      looks_at-from (chains moves) (λ v. changes (pop name) ▷ changes (forget_trigger m.call) ▷ elim (ended_by_itself f below) as (λ _. Step) [ true ↦ behind_abortable p part name m (trigger_outcome v m.call) | false ↦ pass_on p name (leaving_of f) ]) w
+      (changes_then-from (chains moves) (pop name) _ w out (keeps-from (chains moves) _ (pop name w) (moves.behind w (pop name w) out)
+      (then-keeps (chains moves) (changes (forget_trigger m.call)) _ (search (changes-keeps, forget_trigger-alters, chains)) (branch-keeps (chains moves) (ended_by_itself f below) (behind_abortable p part name m (trigger_outcome w m.call)) (pass_on p name (leaving_of f)) (search (behind_abortable-keeps)) (search (pass_on-keeps))))))
 
   end_abortable_in-from : (p : Image) (part : Part) (name : Who) (f : Frame) (below : List Frame) (mark : Mark) (w : World) → G w → May name → top_of w name ≡ Some f → f.mark ≡ mark → From R w (end_abortable_in p part name f below mark)
   unfolding end_abortable_in
   end_abortable_in-from p part name f below (Abortable m) w good may top is = end_abortable-from p part name m f below w good may top (ap is_protected is)
-  end_abortable_in-from p part name f below _ w good may top is = keeps-from moves _ w good (nothing-keeps moves)
+  end_abortable_in-from p part name f below _ w good may top is = keeps-from (chains moves) _ w good (nothing-keeps (chains moves))
 
   end_top_abortable-from : (p : Image) (part : Part) (name : Who) (frames : List Frame) (w : World) → G w → May name → frames_of w name ≡ frames → From R w (end_top_abortable p part name frames)
   unfolding end_top_abortable
-  end_top_abortable-from p part name [] w good may is = keeps-from moves _ w good (nothing-keeps moves)
+  end_top_abortable-from p part name [] w good may is = keeps-from (chains moves) _ w good (nothing-keeps (chains moves))
   end_top_abortable-from p part name (f ∷ below) w good may is = end_abortable_in-from p part name f below f.mark w good may (ap first_of is) refl
 
   pub end_found_abortable-keeps : (p : Image) (part : Part) (name : Who) → May name → Keeps G R (looks (λ w. end_top_abortable p part name (frames_of w name)))
-  end_found_abortable-keeps p part name may = looks-from moves _ (λ w good. end_top_abortable-from p part name (frames_of w name) w good may refl)
+  end_found_abortable-keeps p part name may = looks-from (chains moves) _ (λ w good. end_top_abortable-from p part name (frames_of w name) w good may refl)
 
   pub end_wait-keeps : (p : Image) (part : Part) (c : Call) (depth : ℕ) (outcome : Outcome) → Keeps G R (end_wait p part c depth outcome)
   unfolding end_wait
   end_wait-keeps p part c depth outcome =
       let name = who.Task c.caller in
       let may = moves.other_may name (moves.task_other c.caller) in
-      then-keeps moves (ready p part name) _ (ready-keeps moves p part name (moves.task_other c.caller))
-      (then-keeps moves (changes (edit_abortable_at name depth (waited_mark (not (is_cancelled outcome))))) _ (changes-keeps moves _ (edit_abortable_at-alters name depth (waited_mark (not (is_cancelled outcome)))))
-      (then-keeps moves (looks (λ w. end_top_abortable p part name (frames_of w name))) _ (end_found_abortable-keeps p part name may) (open_sequence-keeps moves p part name may)))
+      then-keeps (chains moves) (ready p part name) _ (ready-keeps moves p part name (moves.task_other c.caller))
+      (then-keeps (chains moves) (changes (edit_abortable_at name depth (waited_mark (not (is_cancelled outcome))))) _ (changes-keeps (chains moves) _ (edit_abortable_at-alters name depth (waited_mark (not (is_cancelled outcome)))))
+      (then-keeps (chains moves) (looks (λ w. end_top_abortable p part name (frames_of w name))) _ (end_found_abortable-keeps p part name may) (open_sequence-keeps moves p part name may)))
 
   pub end_for_abortable-keeps : (p : Image) (part : Part) (c : Call) (depth : ℕ) (outcome : Outcome) → Keeps G R (end_for_abortable p part c depth outcome)
   unfolding end_for_abortable
-  end_for_abortable-keeps p part c depth outcome = looks-keeps moves _ (λ w. branch-keeps moves (waits_for_end c.number (waiting_of w (who.Task c.caller))) (end_wait p part c depth outcome) (trigger_at part c.caller depth) (search (end_wait-keeps)) (search (trigger_at-keeps)))
+  end_for_abortable-keeps p part c depth outcome = looks-keeps (chains moves) _ (λ w. branch-keeps (chains moves) (waits_for_end c.number (waiting_of w (who.Task c.caller))) (end_wait p part c depth outcome) (trigger_at part c.caller depth) (search (end_wait-keeps)) (search (trigger_at-keeps)))
 
   pub end_for_caller-keeps : (p : Image) (part : Part) (c : Call) (outcome : Outcome) → Keeps G R (end_for_caller p part c outcome)
   unfolding end_for_caller
-  end_for_caller-keeps p part c outcome = search (looks-keeps, when-keeps, ready-keeps, then-keeps, resume-keeps, open_sequence-keeps, moves.other_may, moves.task_other) depth 8
+  end_for_caller-keeps p part c outcome = search (looks-keeps, when-keeps, ready-keeps, then-keeps, resume-keeps, open_sequence-keeps, moves.other_may, moves.task_other, chains) depth 9
 
   pub end_for-keeps : (p : Image) (part : Part) (c : Call) (outcome : Outcome) (n : Option ℕ) → Keeps G R (end_for p part c outcome n)
   unfolding end_for
@@ -162,19 +161,19 @@ module _ {G : GoodWorld} {May Other : Naming} {R : StepRelation} {Q : MoveRelati
 
   pub end_with-keeps : (p : Image) (part : Part) (c : Call) (outcome : Outcome) → Keeps G R (end_with p part c outcome)
   unfolding end_with
-  end_with-keeps p part c outcome = search (changes-keeps, edit_call-alters, then-keeps, looks-keeps, end_for-keeps)
+  end_with-keeps p part c outcome = search (changes-keeps, edit_call-alters, then-keeps, looks-keeps, end_for-keeps, chains)
 
   pub end_call-keeps : (p : Image) (part : Part) (c : Call) (outcome : Outcome) → Keeps G R (end_call p part c outcome)
   unfolding end_call
   end_call-keeps p part c outcome =
-      looks-from moves _ (λ w good. let r = with_results p c outcome w in
+      looks-from (chains moves) _ (λ w good. let r = with_results p c outcome w in
       let first = with_results-world p c outcome w good in
-      changes_then-from moves (λ _. r.0) (end_with p part c r.1) w first (keeps-from moves (end_with p part c r.1) r.0 (moves.behind w r.0 first) (end_with-keeps p part c r.1)))
+      changes_then-from (chains moves) (λ _. r.0) (end_with p part c r.1) w first (keeps-from (chains moves) (end_with p part c r.1) r.0 (moves.behind w r.0 first) (end_with-keeps p part c r.1)))
 
   pub deliver-keeps : (p : Image) (part : Part) (c : CallNo) (outcome : Outcome) → Keeps G R (deliver p part c outcome)
   unfolding deliver
-  deliver-keeps p part c outcome = search (with_call-keeps, end_call-keeps, then-keeps, unwind-keeps, moves.task_other)
+  deliver-keeps p part c outcome = search (with_call-keeps, end_call-keeps, then-keeps, unwind-keeps, moves.task_other, chains)
 
   pub gone-keeps : (p : Image) (part : Part) (c : Call) → Keeps G R (gone p part c)
   unfolding gone
-  gone-keeps p part c = search (changes-keeps, unqueued-alters, then-keeps, says-keeps)
+  gone-keeps p part c = search (changes-keeps, unqueued-alters, then-keeps, says-keeps, chains)

@@ -20,10 +20,10 @@ use Rattle.profile_machine.specs.Frames.{top_of, new_frame, edit_first, edit_top
 use Rattle.profile_machine.specs.Operators.{Valued}
 use Rattle.machine_laws.proofs.Moves.{StepRelation, MoveRelation}
 use Rattle.machine_laws.proofs.FineMoves.{GoodWorld, Naming}
-use Rattle.machine_laws.proofs.FinestMoves.{FinestMoves, MarkOpenings, nature, natures}
-use Rattle.machine_laws.proofs.Kept.Combinators.{Keeps, Kept, From, Alters, Gives, branch-keeps, changes-keeps, either-from, keeps-from, looks-from, looks-keeps, looks_at-from, nothing-keeps, says-keeps, then-keeps, when-keeps, changes-from, changes_then-from}
+use Rattle.machine_laws.proofs.FinestMoves.{FinestMoves, MarkOpenings, nature, natures, chains, says-keeps}
 use Rattle.machine_laws.proofs.Kept.Tasks.{edit_frames-alters}
 use Rattle.std.proofs.Common.{◌≡◌, List, [], ◌∷◌, option_and_then, refl, sym, ap, append-nil}
+use Rattle.machine_laws.proofs.Kept.Combinators.{Alters, From, Gives, Keeps, Kept, branch-keeps, changes-from, changes-keeps, changes_then-from, either-from, keeps-from, looks-from, looks-keeps, looks_at-from, nothing-keeps, then-keeps, when-keeps}
 
 -- an edit of a mark on top
 pub first-natures : (f : Frame → Frame) (fs : List Frame) → ((x : Frame) → nature (f x).mark ≡ nature x.mark) → natures (edit_first f fs) ≡ natures fs
@@ -36,7 +36,7 @@ module _ {G : GoodWorld} {May Other : Naming} {R : StepRelation} {Q : MoveRelati
 
   pub goes-keeps : (name : Who) (onward : Option StatementNo) → Keeps G R (goes name onward)
   unfolding goes
-  goes-keeps name onward = search (changes-keeps, edit_top-alters)
+  goes-keeps name onward = search (changes-keeps, edit_top-alters, chains)
 
   -- a mark that is no protected action ends
   pub popped : (name : Who) (f : Frame) (w : World) → G w → May name → top_of w name ≡ Some f → is_protected f.mark ≡ false → R w [] (pop name w)
@@ -44,11 +44,11 @@ module _ {G : GoodWorld} {May Other : Naming} {R : StepRelation} {Q : MoveRelati
 
   pub leaves-keeps : (name : Who) (leaving : Leaving) → Keeps G R (leaves name leaving)
   unfolding leaves
-  leaves-keeps name leaving = search (changes-keeps, edit_top-alters)
+  leaves-keeps name leaving = search (changes-keeps, edit_top-alters, chains)
 
   pub raises-keeps : (part : Part) (name : Who) (e : Raised) → Keeps G R (raises part name e)
   unfolding raises
-  raises-keeps part name e = search (says-keeps, then-keeps, leaves-keeps)
+  raises-keeps part name e = search (says-keeps, then-keeps, leaves-keeps, chains)
 
   -- who goes on opens a mark above the one on top
   goes_push-from : (name : Who) (onward : Option StatementNo) (f g : Frame) (w : World) → R w [] (push name f (edit_top name (goes_on onward) w)) → From R w (goes name onward ▷ changes (push name f))
@@ -58,15 +58,15 @@ module _ {G : GoodWorld} {May Other : Naming} {R : StepRelation} {Q : MoveRelati
   open_handled-from : (p : Image) (part : Part) (name : Who) (s : StatementNo) (form : StatementForm) (g : Frame) (w : World) → G w → May name → top_of w name ≡ Some g → From R w (open_handled p part name s form)
   unfolding open_handled
   open_handled-from p part name s (form.Handled handlers first) g w good may top =
-      looks_at-from moves (λ v. elim (has_room v name 1 0) as (λ _. Step) [ true ↦ goes name (next_of p s) ▷ changes (push name (new_frame (Handled s) (Some first))) | false ↦ raises part name exception.Storage ]) w
-      (either-from moves (has_room w name 1 0) (goes name (next_of p s) ▷ changes (push name (new_frame (Handled s) (Some first)))) (raises part name exception.Storage) w
+      looks_at-from (chains moves) (λ v. elim (has_room v name 1 0) as (λ _. Step) [ true ↦ goes name (next_of p s) ▷ changes (push name (new_frame (Handled s) (Some first))) | false ↦ raises part name exception.Storage ]) w
+      (either-from (chains moves) (has_room w name 1 0) (goes name (next_of p s) ▷ changes (push name (new_frame (Handled s) (Some first)))) (raises part name exception.Storage) w
       (goes_push-from name (next_of p s) (new_frame (Handled s) (Some first)) g w (moves.pushes_on name (next_of p s) (new_frame (Handled s) (Some first)) g w good may top refl refl refl refl))
-      (keeps-from moves (raises part name exception.Storage) w good (raises-keeps part name exception.Storage)))
-  open_handled-from p part name s _ g w good may top = keeps-from moves _ w good (nothing-keeps moves)
+      (keeps-from (chains moves) (raises part name exception.Storage) w good (raises-keeps part name exception.Storage)))
+  open_handled-from p part name s _ g w good may top = keeps-from (chains moves) _ w good (nothing-keeps (chains moves))
 
   nothing_opens : (p : Image) (part : Part) (name : Who) (w : World) → G w → From R w (open_at p part name None)
   unfolding open_at
-  nothing_opens p part name w good = keeps-from moves _ w good (nothing-keeps moves)
+  nothing_opens p part name w good = keeps-from (chains moves) _ w good (nothing-keeps (chains moves))
 
   open_at-from : (p : Image) (part : Part) (name : Who) (next : Option StatementNo) (g : Frame) (w : World) → G w → May name → top_of w name ≡ Some g → From R w (open_at p part name next)
   unfolding open_at
@@ -79,19 +79,19 @@ module _ {G : GoodWorld} {May Other : Naming} {R : StepRelation} {Q : MoveRelati
 
   pub open_sequence-keeps : (p : Image) (part : Part) (name : Who) → May name → Keeps G R (open_sequence p part name)
   unfolding open_sequence
-  open_sequence-keeps p part name may = looks-from moves _ (λ w good. open_found-from p part name w (top_of w name) good may refl)
+  open_sequence-keeps p part name may = looks-from (chains moves) _ (λ w good. open_found-from p part name w (top_of w name) good may refl)
 
   pub open_if_ready-keeps : (p : Image) (name : Who) → May name → Keeps G R (open_if_ready p name)
   unfolding open_if_ready
-  open_if_ready-keeps p name may = search (looks-keeps, when-keeps, open_sequence-keeps)
+  open_if_ready-keeps p name may = search (looks-keeps, when-keeps, open_sequence-keeps, chains)
 
   pub exit_loop-keeps : (p : Image) (name : Who) (loop : StatementNo) → Keeps G R (exit_loop p name loop)
   unfolding exit_loop
-  exit_loop-keeps p name loop = looks-keeps moves _ (λ w. branch-keeps moves (stands_in p loop (top_of w name)) (goes name (next_of p loop)) (leaves name (how.Exit loop)) (search (goes-keeps)) (search (leaves-keeps)))
+  exit_loop-keeps p name loop = looks-keeps (chains moves) _ (λ w. branch-keeps (chains moves) (stands_in p loop (top_of w name)) (goes name (next_of p loop)) (leaves name (how.Exit loop)) (search (goes-keeps)) (search (leaves-keeps)))
 
   pub pass_on-keeps : (p : Image) (name : Who) (leaving : Leaving) → Keeps G R (pass_on p name leaving)
   unfolding pass_on
-  pass_on-keeps p name how.End = search (nothing-keeps)
+  pass_on-keeps p name how.End = search (nothing-keeps, chains)
   pass_on-keeps p name how.Return = search (leaves-keeps)
   pass_on-keeps p name (how.Exit loop) = search (exit_loop-keeps)
   pass_on-keeps p name (how.Exception e) = search (leaves-keeps)
@@ -106,14 +106,14 @@ module _ {G : GoodWorld} {May Other : Naming} {R : StepRelation} {Q : MoveRelati
 
   pub given-from : {X : Type 0} (part : Part) (name : Who) (result : Result X Raised) (f : X → Step) (w : World) → G w → ((x : X) → From R w (f x)) → From R w (given part name result f)
   given-from part name (Ok x) f w good k = k x
-  given-from part name (Err e) f w good k = keeps-from moves (raises part name e) w good (raises-keeps part name e)
+  given-from part name (Err e) f w good k = keeps-from (chains moves) (raises part name e) w good (raises-keeps part name e)
 
   pub given_as-from : {X : Type 0} (part : Part) (name : Who) (result : Result X Raised) (f : X → Step) (w : World) → G w → ((x : X) → result ≡ Ok x → From R w (f x)) → From R w (given part name result f)
   given_as-from part name (Ok x) f w good k = k x refl
-  given_as-from part name (Err e) f w good k = keeps-from moves (raises part name e) w good (raises-keeps part name e)
+  given_as-from part name (Err e) f w good k = keeps-from (chains moves) (raises part name e) w good (raises-keeps part name e)
 
   pub raise_if-from : (name : Who) (test : Bool) (e : Raised) (step : Step) (w : World) → G w → (test ≡ false → From R w step) → From R w (raise_if name test e step)
-  raise_if-from name true e step w good k = keeps-from moves (raises Own name e) w good (raises-keeps Own name e)
+  raise_if-from name true e step w good k = keeps-from (chains moves) (raises Own name e) w good (raises-keeps Own name e)
   raise_if-from name false e step w good k = k refl
 
   -- a step behind the going on
@@ -121,32 +121,32 @@ module _ {G : GoodWorld} {May Other : Naming} {R : StepRelation} {Q : MoveRelati
   unfolding goes Alters
   goes_then-from name onward g w good k =
       let gone = edit_top-alters name (goes_on onward) (λ x. refl) w good in
-      changes_then-from moves (edit_top name (goes_on onward)) g w gone (k (moves.behind w (edit_top name (goes_on onward) w) gone))
+      changes_then-from (chains moves) (edit_top name (goes_on onward)) g w gone (k (moves.behind w (edit_top name (goes_on onward) w) gone))
 
   -- the world that a value gives becomes the world
   pub given_world-from : (part : Part) (name : Who) (result : Valued World) (f : World → Step) (w : World) → G w → Gives R w result → ((next : World) → Keeps G R (f next)) → From R w (given part name result (λ next. changes (λ _. next) ▷ f next))
   unfolding Gives
-  given_world-from part name (Ok next) f w good a k = changes_then-from moves (λ _. next) (f next) w a (keeps-from moves (f next) next (moves.behind w next a) (k next))
-  given_world-from part name (Err e) f w good a k = keeps-from moves (raises part name e) w good (raises-keeps part name e)
+  given_world-from part name (Ok next) f w good a k = changes_then-from (chains moves) (λ _. next) (f next) w a (keeps-from (chains moves) (f next) next (moves.behind w next a) (k next))
+  given_world-from part name (Err e) f w good a k = keeps-from (chains moves) (raises part name e) w good (raises-keeps part name e)
 
   pub becomes-from : (part : Part) (name : Who) (result : Valued World) (w : World) → G w → Gives R w result → From R w (given part name result (λ next. changes (λ _. next)))
   unfolding Gives
-  becomes-from part name (Ok next) w good a = changes-from moves (λ _. next) w a
-  becomes-from part name (Err e) w good a = keeps-from moves (raises part name e) w good (raises-keeps part name e)
+  becomes-from part name (Ok next) w good a = changes-from (chains moves) (λ _. next) w a
+  becomes-from part name (Err e) w good a = keeps-from (chains moves) (raises part name e) w good (raises-keeps part name e)
 
   branch-from : (name : Who) (test : Bool) (e : Raised) (step : Step) (w : World) → G w → From R w step → From R w (elim test as (λ _. Step) [ true ↦ step | false ↦ raises Own name e ])
   branch-from name true e step w good k = k
-  branch-from name false e step w good k = keeps-from moves (raises Own name e) w good (raises-keeps Own name e)
+  branch-from name false e step w good k = keeps-from (chains moves) (raises Own name e) w good (raises-keeps Own name e)
 
   pub with_room-from : (name : Who) (marks cells : ℕ) (step : Step) (w : World) → G w → From R w step → From R w (with_room name marks cells step)
-  with_room-from name marks cells step w good k = looks_at-from moves (λ v. elim (has_room v name marks cells) as (λ _. Step) [ true ↦ step | false ↦ raises Own name exception.Storage ]) w (branch-from name (has_room w name marks cells) exception.Storage step w good k)
+  with_room-from name marks cells step w good k = looks_at-from (chains moves) (λ v. elim (has_room v name marks cells) as (λ _. Step) [ true ↦ step | false ↦ raises Own name exception.Storage ]) w (branch-from name (has_room w name marks cells) exception.Storage step w good k)
 
   pub raise_if-keeps : (name : Who) (test : Bool) (e : Raised) (step : Step) → Keeps G R step → Keeps G R (raise_if name test e step)
   raise_if-keeps name true e step kept = search (raises-keeps)
   raise_if-keeps name false e step kept = search
 
   pub with_room-keeps : (name : Who) (marks cells : ℕ) (step : Step) → Keeps G R step → Keeps G R (with_room name marks cells step)
-  with_room-keeps name marks cells step kept = looks-keeps moves _ (λ w. branch-keeps moves (has_room w name marks cells) step (raises Own name exception.Storage) (search) (search (raises-keeps)))
+  with_room-keeps name marks cells step kept = looks-keeps (chains moves) _ (λ w. branch-keeps (chains moves) (has_room w name marks cells) step (raises Own name exception.Storage) (search) (search (raises-keeps)))
 
   -- ---- who acts opens a mark
 

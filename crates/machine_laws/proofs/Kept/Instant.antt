@@ -23,8 +23,7 @@ use Rattle.profile_machine.specs.Appointments.{first_due, is_an_event, drop_appo
 use Rattle.profile_machine.specs.Instant.{effect, is_over, effect_of_runner, finish_action, with_port, with_masked, with_kept_interrupt, interrupt_comes, deliver_kept_interrupt, script_item, with_script, take_item, items_due, script_items, take_delay, end_delay, time_out, come_due, take_due, all_due, appointments_due, events_due, moments_due, expire, expire_timer, no_timers_due, timers_due, run_out, no_budget_due, budgets_due, spend_quantum, quantum_spent, instant, is_the_same_due}
 use Rattle.machine_laws.proofs.Moves.{StepRelation, MoveRelation, Puts}
 use Rattle.machine_laws.proofs.FineMoves.{GoodWorld, Naming}
-use Rattle.machine_laws.proofs.FinestMoves.{FinestMoves, SettingMoves, SparesEvents, AllMoves, Holding, Anyhow}
-use Rattle.machine_laws.proofs.Kept.Combinators.{Keeps, From, Leads, Alters, changes-from, changes_then-from, settles-from, changes-keeps, for_each-keeps, for_some-keeps, keeps-from, looks-from, looks-keeps, nothing-keeps, says-keeps, settles-leads, then-from, then-keeps, then-leads, when-keeps}
+use Rattle.machine_laws.proofs.FinestMoves.{FinestMoves, SettingMoves, SparesEvents, AllMoves, Holding, Anyhow, chains, move_chains, says-keeps, effect-leads}
 use Rattle.machine_laws.proofs.Kept.Tasks.{edit_task-alters}
 use Rattle.machine_laws.proofs.Kept.Dispatching.{to_tail-keeps, ready-keeps}
 use Rattle.machine_laws.proofs.Kept.Frames.{goes-keeps, open_sequence-keeps, open_if_ready-keeps}
@@ -38,6 +37,7 @@ use Rattle.machine_laws.proofs.Kept.Act.{Acting, Acts, acts_anyhow, any_act-from
 use Rattle.machine_laws.proofs.Kept.Serving.{Stays, stays_anyhow}
 use Rattle.profile_machine.specs.Values.{budget_of}
 use Rattle.profile_machine.specs.Handlers.{clear_timer}
+use Rattle.machine_laws.proofs.Kept.Combinators.{Alters, From, Keeps, Leads, changes-from, changes-keeps, changes_then-from, for_each-keeps, for_some-keeps, keeps-from, looks-from, looks-keeps, nothing-keeps, settles-from, then-from, then-keeps, then-leads, when-keeps}
 
 abbrev pub is_there : {X : Type 0} → Option X → Bool
 is_there (Some x) = true
@@ -51,24 +51,24 @@ module _ {G : GoodWorld} {May Other : Naming} {R : StepRelation} {Q : MoveRelati
   pub take_delay-keeps : (p : Image) (name : Who) (waiting : Option Waiting) → Keeps G R (take_delay p name waiting)
   unfolding take_delay
   take_delay-keeps p name (Some (waits_for.Select accepts (Some delay) terminate)) = search (goes-keeps)
-  take_delay-keeps p name _ = search (nothing-keeps)
+  take_delay-keeps p name _ = search (nothing-keeps, chains)
 
   pub end_delay-keeps : (p : Image) (name : Who) → Other name → Keeps G R (end_delay p name)
   unfolding end_delay
-  end_delay-keeps p name other = search (looks-keeps, take_delay-keeps, then-keeps, ready-keeps, open_sequence-keeps, moves.other_may)
+  end_delay-keeps p name other = search (looks-keeps, take_delay-keeps, then-keeps, ready-keeps, open_sequence-keeps, moves.other_may, chains)
 
   pub time_out-keeps : (p : Image) (c : CallNo) → Keeps G R (time_out p c)
   unfolding time_out
-  time_out-keeps p c = search (with_call-keeps, changes-keeps, unqueued-alters, then-keeps, says-keeps, deliver-keeps) depth 6
+  time_out-keeps p c = search (with_call-keeps, changes-keeps, unqueued-alters, then-keeps, says-keeps, deliver-keeps, chains) depth 7
 
   pub spend_quantum-keeps : (p : Image) (by : Option Who) → Keeps G R (spend_quantum p by)
   unfolding spend_quantum
-  spend_quantum-keeps p None = search (nothing-keeps)
-  spend_quantum-keeps p (Some who.Agent) = search (nothing-keeps)
-  spend_quantum-keeps p (Some (who.Task t)) = search (looks-keeps, when-keeps, says-keeps, then-keeps, to_tail-keeps, moves.other_may, moves.task_other) depth 7
+  spend_quantum-keeps p None = search (nothing-keeps, chains)
+  spend_quantum-keeps p (Some who.Agent) = search (nothing-keeps, chains)
+  spend_quantum-keeps p (Some (who.Task t)) = search (looks-keeps, when-keeps, says-keeps, then-keeps, to_tail-keeps, moves.other_may, moves.task_other, chains) depth 8
 
   pub quantum_spent-leads : (p : Image) → Leads G Q (quantum_spent p)
-  quantum_spent-leads p = search (settles-leads, looks-keeps, spend_quantum-keeps)
+  quantum_spent-leads p = search (effect-leads, looks-keeps, spend_quantum-keeps, chains)
 
   -- an appointment that is no event
   pub moment_due-keeps : (p : Image) (due : Due) → is_an_event due ≡ false → Keeps G R (come_due p due)
@@ -76,7 +76,7 @@ module _ {G : GoodWorld} {May Other : Naming} {R : StepRelation} {Q : MoveRelati
   moment_due-keeps p (due_for.Event n h) other = absurd (false≢true (sym other))
   moment_due-keeps p (due_for.Delay t) other = search (end_delay-keeps, moves.task_other)
   moment_due-keeps p (due_for.Timeout c) other = search (time_out-keeps)
-  moment_due-keeps p (due_for.Trigger t depth) other = search (trigger_at-keeps, then-keeps, unwind-keeps, moves.task_other)
+  moment_due-keeps p (due_for.Trigger t depth) other = search (trigger_at-keeps, then-keeps, unwind-keeps, moves.task_other, chains)
 
   spares-events : (due : Due) → is_an_event due ≡ false → SparesEvents (is_the_same_due due)
   spares-events (due_for.Event n h) other m k = absurd (false≢true (sym other))
@@ -86,8 +86,8 @@ module _ {G : GoodWorld} {May Other : Naming} {R : StepRelation} {Q : MoveRelati
 
   take_moment-keeps : (p : Image) (again : Step) (a : Appointment) → is_an_event a.due ≡ false → Keeps G R again → Keeps G R (take_due p again (Some a))
   take_moment-keeps p again a other kept =
-      then-keeps moves (changes (drop_appointment (is_the_same_due a.due))) _ (changes-keeps moves _ (drop_appointment-alters moves (is_the_same_due a.due) (spares-events a.due other)))
-      (then-keeps moves (come_due p a.due) again (moment_due-keeps p a.due other) kept)
+      then-keeps (chains moves) (changes (drop_appointment (is_the_same_due a.due))) _ (changes-keeps (chains moves) _ (drop_appointment-alters moves (is_the_same_due a.due) (spares-events a.due other)))
+      (then-keeps (chains moves) (come_due p a.due) again (moment_due-keeps p a.due other) kept)
 
   -- what is found is no event
   found_other : (due event : Bool) (a b : Appointment) (rest : Option Appointment) → event ≡ is_an_event a.due → cond (due && same_bool event false) (Some a) rest ≡ Some b → (rest ≡ Some b → is_an_event b.due ≡ false) → is_an_event b.due ≡ false
@@ -100,17 +100,17 @@ module _ {G : GoodWorld} {May Other : Naming} {R : StepRelation} {Q : MoveRelati
   first_due-other time (x ∷ xs) a h = found_other (int_le x.moment (pos time)) (is_an_event x.due) x a (first_due false time xs) refl h (first_due-other time xs a)
 
   taken-from : (p : Image) (again : Step) (w : World) (found : Option Appointment) → G w → first_due false w.time w.appointments ≡ found → Keeps G R again → From R w (take_due p again found)
-  taken-from p again w None good is kept = keeps-from moves nothing w good (nothing-keeps moves)
-  taken-from p again w (Some a) good is kept = keeps-from moves _ w good (take_moment-keeps p again a (first_due-other w.time w.appointments a is) kept)
+  taken-from p again w None good is kept = keeps-from (chains moves) nothing w good (nothing-keeps (chains moves))
+  taken-from p again w (Some a) good is kept = keeps-from (chains moves) _ w good (take_moment-keeps p again a (first_due-other w.time w.appointments a is) kept)
 
   all_moments-keeps : (fuel : ℕ) (p : Image) → Keeps G R (all_due fuel p false)
   unfolding all_due
-  all_moments-keeps zero p = nothing-keeps moves
+  all_moments-keeps zero p = nothing-keeps (chains moves)
   all_moments-keeps (suc fuel) p =
-      looks-from moves _ (λ w good. taken-from p (all_due fuel p false) w (first_due false w.time w.appointments) good refl (all_moments-keeps fuel p))
+      looks-from (chains moves) _ (λ w good. taken-from p (all_due fuel p false) w (first_due false w.time w.appointments) good refl (all_moments-keeps fuel p))
 
   pub moments_due-leads : (p : Image) → Leads G Q (moments_due p)
-  moments_due-leads p = settles-leads moves p _ (looks-keeps moves _ (λ w. all_moments-keeps (length w.appointments) p))
+  moments_due-leads p = effect-leads moves p _ (looks-keeps (chains moves) _ (λ w. all_moments-keeps (length w.appointments) p))
 
 -- ---- what is due, and may release
 
@@ -129,39 +129,39 @@ module _ {G : GoodWorld} {May Other : Naming} {R : StepRelation} {Q : MoveRelati
 
   pub interrupt_comes-keeps : (p : Image) (n : ℕ) (test : Bool) → Keeps G R (interrupt_comes p n test)
   unfolding interrupt_comes
-  interrupt_comes-keeps p n true = search (says-keeps, then-keeps, changes-keeps, with_kept_interrupt-alters)
+  interrupt_comes-keeps p n true = search (says-keeps, then-keeps, changes-keeps, with_kept_interrupt-alters, chains)
   interrupt_comes-keeps p n false = search (interrupt-keeps)
 
   pub deliver_kept_interrupt-keeps : (p : Image) (n : ℕ) (test : Bool) → Keeps G R (deliver_kept_interrupt p n test)
   unfolding deliver_kept_interrupt
-  deliver_kept_interrupt-keeps p n true = search (changes-keeps, with_kept_interrupt-alters, then-keeps, interrupt-keeps)
-  deliver_kept_interrupt-keeps p n false = search (nothing-keeps)
+  deliver_kept_interrupt-keeps p n true = search (changes-keeps, with_kept_interrupt-alters, then-keeps, interrupt-keeps, chains)
+  deliver_kept_interrupt-keeps p n false = search (nothing-keeps, chains)
 
   pub script_item-keeps : (p : Image) (it : Item) → Keeps G R (script_item p it)
   unfolding script_item
-  script_item-keeps p (item.Interrupt n) = search (looks-keeps, interrupt_comes-keeps)
-  script_item-keeps p (item.Port n value) = search (changes-keeps, with_port-alters, then-keeps, says-keeps)
-  script_item-keeps p (item.Mask n) = search (changes-keeps, with_masked-alters, then-keeps, says-keeps)
-  script_item-keeps p (item.Unmask n) = search (changes-keeps, with_masked-alters, then-keeps, says-keeps, looks-keeps, deliver_kept_interrupt-keeps) depth 7
+  script_item-keeps p (item.Interrupt n) = search (looks-keeps, interrupt_comes-keeps, chains)
+  script_item-keeps p (item.Port n value) = search (changes-keeps, with_port-alters, then-keeps, says-keeps, chains)
+  script_item-keeps p (item.Mask n) = search (changes-keeps, with_masked-alters, then-keeps, says-keeps, chains)
+  script_item-keeps p (item.Unmask n) = search (changes-keeps, with_masked-alters, then-keeps, says-keeps, looks-keeps, deliver_kept_interrupt-keeps, chains) depth 8
 
   take_item_if-from : (p : Image) (again : Step) (x : ℤ × Item) (xs : List (ℤ × Item)) (w : World) (test : Bool) → G w → w.script ≡ x ∷ xs → int_le x.0 (pos w.time) ≡ test → Keeps G R again → From R w (elim test as (λ _. Step) [ true ↦ changes (with_script xs) ▷ script_item p x.1 ▷ again | false ↦ nothing ])
   take_item_if-from p again x xs w true good is due kept =
-      then-from moves (changes (with_script xs)) (script_item p x.1 ▷ again) w (changes-from moves (with_script xs) w (settings.cuts_script x xs w good is due))
-      (then-keeps moves (script_item p x.1) again (script_item-keeps p x.1) kept)
-  take_item_if-from p again x xs w false good is due kept = keeps-from moves nothing w good (nothing-keeps moves)
+      then-from (chains moves) (changes (with_script xs)) (script_item p x.1 ▷ again) w (changes-from (chains moves) (with_script xs) w (settings.cuts_script x xs w good is due))
+      (then-keeps (chains moves) (script_item p x.1) again (script_item-keeps p x.1) kept)
+  take_item_if-from p again x xs w false good is due kept = keeps-from (chains moves) nothing w good (nothing-keeps (chains moves))
 
   take_item-from : (p : Image) (again : Step) (w : World) (script : List (ℤ × Item)) → G w → w.script ≡ script → Keeps G R again → From R w (take_item p w.time again script)
-  take_item-from p again w [] good is kept = keeps-from moves nothing w good (nothing-keeps moves)
+  take_item-from p again w [] good is kept = keeps-from (chains moves) nothing w good (nothing-keeps (chains moves))
   take_item-from p again w (x ∷ xs) good is kept = take_item_if-from p again x xs w (int_le x.0 (pos w.time)) good is refl kept
 
   items_due-keeps : (fuel : ℕ) (p : Image) → Keeps G R (items_due fuel p)
   unfolding items_due
-  items_due-keeps zero p = search (nothing-keeps)
+  items_due-keeps zero p = search (nothing-keeps, chains)
   items_due-keeps (suc fuel) p =
-      looks-from moves _ (λ w good. take_item-from p (items_due fuel p) w w.script good refl (items_due-keeps fuel p))
+      looks-from (chains moves) _ (λ w good. take_item-from p (items_due fuel p) w w.script good refl (items_due-keeps fuel p))
 
   pub script_items-leads : (p : Image) → Leads G Q (script_items p)
-  script_items-leads p = search (settles-leads, looks-keeps, items_due-keeps)
+  script_items-leads p = search (effect-leads, looks-keeps, items_due-keeps, chains)
 
   pub come_due-keeps : (p : Image) (due : Due) → Keeps G R (come_due p due)
   unfolding come_due
@@ -175,51 +175,51 @@ module _ {G : GoodWorld} {May Other : Naming} {R : StepRelation} {Q : MoveRelati
   dropped-alters test w good = settings.drops_any test w good
 
   pub take_due-keeps : (p : Image) (again : Step) (a : Option Appointment) → Keeps G R again → Keeps G R (take_due p again a)
-  take_due-keeps p again None kept = search (nothing-keeps)
-  take_due-keeps p again (Some a) kept = search (changes-keeps, dropped-alters, then-keeps, come_due-keeps)
+  take_due-keeps p again None kept = search (nothing-keeps, chains)
+  take_due-keeps p again (Some a) kept = search (changes-keeps, dropped-alters, then-keeps, come_due-keeps, chains)
 
   all_due-keeps : (fuel : ℕ) (p : Image) (events : Bool) → Keeps G R (all_due fuel p events)
   unfolding all_due
-  all_due-keeps zero p events = search (nothing-keeps)
+  all_due-keeps zero p events = search (nothing-keeps, chains)
   all_due-keeps (suc fuel) p events =
-      looks-keeps moves _ (λ w. take_due-keeps p (all_due fuel p events) (first_due events w.time w.appointments) (all_due-keeps fuel p events))
+      looks-keeps (chains moves) _ (λ w. take_due-keeps p (all_due fuel p events) (first_due events w.time w.appointments) (all_due-keeps fuel p events))
 
   pub appointments_due-leads : (p : Image) (events : Bool) → Leads G Q (appointments_due p events)
-  appointments_due-leads p events = search (settles-leads, looks-keeps, all_due-keeps)
+  appointments_due-leads p events = search (effect-leads, looks-keeps, all_due-keeps, chains)
 
   pub events_due-leads : (p : Image) → Leads G Q (events_due p)
   events_due-leads p = search (appointments_due-leads)
 
   pub expire-keeps : (p : Image) (k : ℕ) (setting : Option TimerSetting) → Keeps G R (expire p k setting)
   unfolding expire
-  expire-keeps p k None = search (nothing-keeps)
-  expire-keeps p k (Some s) = then-keeps moves (changes (clear_timer k)) _ (search (changes-keeps, clear_timer-alters)) (releasing.releases p s.handler (Some k))
+  expire-keeps p k None = search (nothing-keeps, chains)
+  expire-keeps p k (Some s) = then-keeps (chains moves) (changes (clear_timer k)) _ (search (changes-keeps, clear_timer-alters, chains)) (releasing.releases p s.handler (Some k))
 
   pub expire_timer-keeps : (p : Image) (k : ℕ) → Keeps G R (expire_timer p k)
   unfolding expire_timer
-  expire_timer-keeps p k = search (looks-keeps, expire-keeps)
+  expire_timer-keeps p k = search (looks-keeps, expire-keeps, chains)
 
   no_timers_due-alters : Alters G R no_timers_due
   unfolding Alters
   no_timers_due-alters w good = settings.sets_timers_due [] w good
 
   pub timers_due-leads : (p : Image) → Leads G Q (timers_due p)
-  timers_due-leads p = search (settles-leads, looks-keeps, for_each-keeps, expire_timer-keeps, then-keeps, changes-keeps, no_timers_due-alters) depth 7
+  timers_due-leads p = search (effect-leads, looks-keeps, for_each-keeps, expire_timer-keeps, then-keeps, changes-keeps, no_timers_due-alters, chains) depth 8
 
   pub run_out-keeps : (p : Image) (b : ℕ) → Keeps G R (run_out p b)
   unfolding run_out
-  run_out-keeps p b = looks-keeps moves _ (λ w. for_some-keeps moves (budget_of w b).handler _ (λ h. releasing.releases p h (Some b)))
+  run_out-keeps p b = looks-keeps (chains moves) _ (λ w. for_some-keeps (chains moves) (budget_of w b).handler _ (λ h. releasing.releases p h (Some b)))
 
   no_budget_due-alters : Alters G R no_budget_due
   unfolding Alters
   no_budget_due-alters w good = settings.sets_budget_due None w good
 
   pub budgets_due-leads : (p : Image) → Leads G Q (budgets_due p)
-  budgets_due-leads p = search (settles-leads, looks-keeps, for_some-keeps, run_out-keeps, then-keeps, changes-keeps, no_budget_due-alters) depth 7
+  budgets_due-leads p = search (effect-leads, looks-keeps, for_some-keeps, run_out-keeps, then-keeps, changes-keeps, no_budget_due-alters, chains) depth 8
 
   -- all of an instant but the effect of the action that ended
   pub behind_action-leads : (p : Image) → Leads G Q (script_items p ▶ events_due p ▶ moments_due p ▶ timers_due p ▶ budgets_due p ▶ quantum_spent p)
-  behind_action-leads p = search (then-leads, script_items-leads, events_due-leads, moments_due-leads, timers_due-leads, budgets_due-leads, quantum_spent-leads) depth 8
+  behind_action-leads p = search (then-leads, script_items-leads, events_due-leads, moments_due-leads, timers_due-leads, budgets_due-leads, quantum_spent-leads, move_chains) depth 9
 
 -- ---- where anybody may be changed
 
@@ -229,13 +229,13 @@ module _ {G : GoodWorld} {Act : Acting} {Holds : Holding} {R : StepRelation} {Q 
   effect-from name w good acting =
       let v = edit_task name (with_ticks None) w in
       let first = edit_task-alters moves.fine name (with_ticks None) (λ t. refl) (λ t. refl) (λ t. refl) (λ t. refl) (λ t. refl) w good in
-      changes_then-from moves.fine (edit_task name (with_ticks None)) _ w first
-      (then-from moves.fine (act p name) _ v (any_act-from moves stays acts p puts name v (moves.fine.behind w v first) (acts.without_ticks name w acting))
-      (then-keeps moves.fine _ _ (open_if_ready-keeps moves.fine p name tt)
-      (then-keeps moves.fine _ _ (take_terminates-keeps moves.fine p name tt) (unwind_all-keeps moves.fine p name))))
+      changes_then-from (chains moves.fine) (edit_task name (with_ticks None)) _ w first
+      (then-from (chains moves.fine) (act p name) _ v (any_act-from moves stays acts p puts name v (moves.fine.behind w v first) (acts.without_ticks name w acting))
+      (then-keeps (chains moves.fine) _ _ (open_if_ready-keeps moves.fine p name tt)
+      (then-keeps (chains moves.fine) _ _ (take_terminates-keeps moves.fine p name tt) (unwind_all-keeps moves.fine p name))))
 
   over-leads : (name : Who) (w : World) (test : Bool) → G w → (test ≡ true → Act name w) → let d = (elim test as (λ _. Move) [ true ↦ settles p (effect p name) | false ↦ rests ]) w in Q w d.1 d.0
-  over-leads name w true good acting = settles-from moves.fine p (effect p name) w (effect-from name w good (acting refl))
+  over-leads name w true good acting = settles-from Q p (moves.fine.settles p) (effect p name) w (effect-from name w good (acting refl))
   over-leads name w false good acting = moves.fine.rests w good
 
   runner-leads : (by : Option Who) (w : World) → G w → ((name : Who) → by ≡ Some name → is_over (task_of w name).ticks_left ≡ true → Act name w) → let d = effect_of_runner p by w in Q w d.1 d.0

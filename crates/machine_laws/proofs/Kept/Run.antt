@@ -23,14 +23,14 @@ use Rattle.profile_machine.specs.Handlers.{charge}
 use Rattle.profile_machine.specs.Run.{opens, say, silently, says_run, with_serving, serve_if_free, serve, begin_action, one_tick_less, spend_tick, next_tick, says_idle, tock_of, tock, environment}
 use Rattle.machine_laws.proofs.Moves.{StepRelation, MoveRelation}
 use Rattle.machine_laws.specs.LineKinds.{is_of_tock}
-use Rattle.machine_laws.proofs.Kept.Combinators.{Keeps, Leads, Alters, then-keeps, changes-keeps, says-keeps, then-leads, rests-leads, watches-leads}
 use Rattle.machine_laws.proofs.Kept.Dispatching.{to_tail-keeps}
 use Rattle.machine_laws.proofs.Kept.Frames.{open_sequence-keeps}
 use Rattle.machine_laws.proofs.Kept.Scopes.{open_scope-alters}
 use Rattle.machine_laws.proofs.Kept.Handlers.{charge-alters}
 use Rattle.machine_laws.proofs.FineMoves.{GoodWorld}
-use Rattle.machine_laws.proofs.FinestMoves.{AllMoves, TockChanges, Holding}
+use Rattle.machine_laws.proofs.FinestMoves.{AllMoves, TockChanges, Holding, chains, move_chains, says-keeps}
 use Rattle.profile_machine.specs.Scopes.{plainly}
+use Rattle.machine_laws.proofs.Kept.Combinators.{Alters, Keeps, Leads, changes-keeps, then-keeps, then-leads, watches-leads}
 
 -- ---- a tock up to its tick
 
@@ -56,9 +56,9 @@ module _ {G : GoodWorld} {Holds : Holding} {R : StepRelation} {Q : MoveRelation}
   pub opens-keeps : (p : Image) → Keeps G R (opens p)
   unfolding opens
   opens-keeps p =
-      then-keeps moves.fine _ _ (changes-keeps moves.fine _ (open_scope-alters moves.openings p environment p.environment (plainly None) opened_for.Task tt))
-      (then-keeps moves.fine _ _ (says-keeps moves.fine Own (line_said.New (created.Task (record { 0 = 0 })) None p.main.priority) refl)
-      (then-keeps moves.fine _ _ (to_tail-keeps moves.fine p Own environment tt) (open_sequence-keeps moves.fine p Own environment tt)))
+      then-keeps (chains moves.fine) _ _ (changes-keeps (chains moves.fine) _ (open_scope-alters moves.openings p environment p.environment (plainly None) opened_for.Task tt))
+      (then-keeps (chains moves.fine) _ _ (says-keeps moves.fine Own (line_said.New (created.Task (record { 0 = 0 })) None p.main.priority) refl)
+      (then-keeps (chains moves.fine) _ _ (to_tail-keeps moves.fine p Own environment tt) (open_sequence-keeps moves.fine p Own environment tt)))
 
   begin_action-alters : (p : Image) (name : Who) → Alters G R (begin_action p name)
   unfolding Alters
@@ -78,15 +78,17 @@ module _ {G : GoodWorld} {Holds : Holding} {R : StepRelation} {Q : MoveRelation}
     say-leads event a w good = tocks.tells event w good a
 
     says_run-test : (same : Bool) (name : Who) → Leads G Q (cond same rests (say (line.Run name)))
-    says_run-test true name = rests-leads moves.fine
-    says_run-test false name = say-leads (line.Run name) refl
+    unfolding Leads
+    says_run-test true name w good = moves.fine.rests w good
+    says_run-test false name w good = say-leads (line.Run name) refl w good
 
     says_run-leads : (name : Who) (ran : Option Who) → Leads G Q (says_run name ran)
     says_run-leads name ran = says_run-test (same_option same_who ran (Some name)) name
 
     says_idle-leads : (ran : Option Who) → Leads G Q (says_idle ran)
-    says_idle-leads None = rests-leads moves.fine
-    says_idle-leads (Some name) = say-leads line.Idle refl
+    unfolding Leads
+    says_idle-leads None w good = moves.fine.rests w good
+    says_idle-leads (Some name) w good = say-leads line.Idle refl w good
 
     serve_if_free-leads : (serving : Option Release) (frames : List Frame) (releases : List Release) (w : World) → G w → w.releases ≡ releases → let done = serve_if_free serving frames releases w in Q w done.1 done.0
     serve_if_free-leads None [] [] w good a = moves.fine.rests w good
@@ -100,9 +102,9 @@ module _ {G : GoodWorld} {Holds : Holding} {R : StepRelation} {Q : MoveRelation}
     serve-leads who.Agent w good = serve_if_free-leads w.serving w.agent.frames w.releases w good refl
 
     pub before_tick-leads : (p : Image) (chosen : Option Who) → Leads G Q (before_tick p chosen)
-    before_tick-leads p None = watches-leads moves.fine _ (λ w. says_idle-leads w.ran)
+    before_tick-leads p None = watches-leads (move_chains moves.fine) _ (λ w. says_idle-leads w.ran)
     before_tick-leads p (Some name) =
-        then-leads moves.fine _ _ (watches-leads moves.fine _ (λ w. says_run-leads name w.ran))
-        (then-leads moves.fine _ _ (serve-leads name)
-        (then-leads moves.fine _ _ (silently-leads (begin_action p name) (begin_action-alters p name))
-        (then-leads moves.fine _ _ (silently-leads (charge p name) (charge-alters moves.fine moves.settings p name)) (silently-leads (spend_tick name) (spend_tick-alters name)))))
+        then-leads (move_chains moves.fine) _ _ (watches-leads (move_chains moves.fine) _ (λ w. says_run-leads name w.ran))
+        (then-leads (move_chains moves.fine) _ _ (serve-leads name)
+        (then-leads (move_chains moves.fine) _ _ (silently-leads (begin_action p name) (begin_action-alters p name))
+        (then-leads (move_chains moves.fine) _ _ (silently-leads (charge p name) (charge-alters moves.fine moves.settings p name)) (silently-leads (spend_tick name) (spend_tick-alters name)))))

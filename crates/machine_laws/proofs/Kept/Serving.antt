@@ -42,8 +42,7 @@ use Rattle.profile_machine.specs.Serving.{serves_nothing, is_served_now, serve_e
 use Rattle.std.proofs.Common.{◌≡◌, refl, sym, subst}
 use Rattle.machine_laws.proofs.Moves.{StepRelation, MoveRelation, own}
 use Rattle.machine_laws.proofs.FineMoves.{GoodWorld, Naming, Anybody, AnyRelease}
-use Rattle.machine_laws.proofs.FinestMoves.{FinestMoves, MarkOpenings, ActionEnds, HandlerMoves, Holding, Anyhow}
-use Rattle.machine_laws.proofs.Kept.Combinators.{Keeps, Kept, From, world_behind, then-kept, looks_at-from, either-from, changes-keeps, keeps-from, looks-from, looks-keeps, then-from, nothing-keeps, says-keeps, then-keeps, when-keeps}
+use Rattle.machine_laws.proofs.FinestMoves.{FinestMoves, MarkOpenings, ActionEnds, HandlerMoves, Holding, Anyhow, chains, says-keeps}
 use Rattle.machine_laws.proofs.Kept.Dispatching.{block-keeps}
 use Rattle.machine_laws.proofs.Kept.Frames.{edit_top-alters, leaves-keeps, pass_on-keeps}
 use Rattle.machine_laws.proofs.Kept.Inheritance.{lose_running-keeps}
@@ -52,6 +51,7 @@ use Rattle.machine_laws.proofs.Kept.CallEnds.{resume-keeps, deliver-keeps}
 use Rattle.machine_laws.proofs.Kept.Protected.{edit_top_protected-alters, begin_call-keeps, body_opens-keeps}
 use Rattle.machine_laws.proofs.Kept.Priorities.{set_deferred-keeps}
 use Rattle.machine_laws.proofs.Kept.Sending.{open_abortable-alters, wait_for_call-keeps, send_on-keeps, begin_abortable-keeps, sent_not_begun-keeps}
+use Rattle.machine_laws.proofs.Kept.Combinators.{From, Keeps, Kept, changes-keeps, either-from, keeps-from, looks-from, looks-keeps, looks_at-from, nothing-keeps, then-from, then-keeps, then-kept, when-keeps, world_behind}
 
 -- what is known of who has a protected action stays so while calls are served
 pub record Stays (Holds : Holding) : Type 0 where
@@ -90,18 +90,18 @@ module _ {G : GoodWorld} {R : StepRelation} {Q : MoveRelation} (moves : FinestMo
   serve_ends-from : (r : Release) (n : ℕ) (w : World) → G w → w.serving ≡ Some r → n ≡ r.number → From R w (serve_ends n)
   unfolding serve_ends
   serve_ends-from r n w good is e =
-      then-from moves (says Own (line.Served n) ▷ changes serves_nothing) (looks (λ v. when (is_empty v.releases) (block TheBlock who.Agent waits_for.Release))) w
+      then-from (chains moves) (says Own (line.Served n) ▷ changes serves_nothing) (looks (λ v. when (is_empty v.releases) (block TheBlock who.Agent waits_for.Release))) w
       (told_served-from r n w good is e)
-      (looks-keeps moves _ (λ v. when-keeps moves (is_empty v.releases) _ (block-keeps moves TheBlock who.Agent waits_for.Release tt)))
+      (looks-keeps (chains moves) _ (λ v. when-keeps (chains moves) (is_empty v.releases) _ (block-keeps moves TheBlock who.Agent waits_for.Release tt)))
 
   end_served-from : (n : ℕ) (w : World) (serving : Option Release) (test : Bool) → G w → w.serving ≡ serving → is_served_now n serving ≡ test → From R w (when test (serve_ends n))
   end_served-from n w None true good is e = cc
   end_served-from n w (Some r) true good is e = serve_ends-from r n w good is (eqb-true n r.number e)
-  end_served-from n w serving false good is e = keeps-from moves nothing w good (nothing-keeps moves)
+  end_served-from n w serving false good is e = keeps-from (chains moves) nothing w good (nothing-keeps (chains moves))
 
   pub end_release-keeps : (n : ℕ) → Keeps G R (end_release n)
   unfolding end_release
-  end_release-keeps n = looks-from moves _ (λ w good. end_served-from n w w.serving (is_served_now n w.serving) good refl refl)
+  end_release-keeps n = looks-from (chains moves) _ (λ w good. end_served-from n w w.serving (is_served_now n w.serving) good refl refl)
 
   pub ending : Ending G AnyRelease R
   ending = record { ends = λ name n may. end_release-keeps n }
@@ -111,29 +111,29 @@ module _ {G : GoodWorld} {R : StepRelation} {Q : MoveRelation} (moves : FinestMo
 module _ {G : GoodWorld} {May Other : Naming} {R : StepRelation} {Q : MoveRelation} (moves : FinestMoves G May Other R Q) where
   pub wait_or_unwind-keeps : (p : Image) (name : Who) (c : Call) (test : Bool) → Keeps G R (wait_or_unwind p name c test)
   unfolding wait_or_unwind
-  wait_or_unwind-keeps p name c true = search (attempt_with-keeps, changes-keeps, forget_call-alters, then-keeps, leaves-keeps, wait_for_call-keeps)
+  wait_or_unwind-keeps p name c true = search (attempt_with-keeps, changes-keeps, forget_call-alters, then-keeps, leaves-keeps, wait_for_call-keeps, chains)
   wait_or_unwind-keeps p name c false = search (wait_for_call-keeps)
 
   pub wait_for_own-keeps : (p : Image) (name : Who) (c : Call) (test : Bool) → Other name → Keeps G R (wait_for_own p name c test)
   unfolding wait_for_own
-  wait_for_own-keeps p name c true other = search (changes-keeps, open_abortable-alters, moves.task_other)
-  wait_for_own-keeps p name c false other = search (looks-keeps, wait_or_unwind-keeps)
+  wait_for_own-keeps p name c true other = search (changes-keeps, open_abortable-alters, moves.task_other, chains)
+  wait_for_own-keeps p name c false other = search (looks-keeps, wait_or_unwind-keeps, chains)
 
   pub resume_own-keeps : (p : Image) (name : Who) (c : Call) (outcome : Option Outcome) → Other name → Keeps G R (resume_own p name c outcome)
   unfolding resume_own
   resume_own-keeps p name c (Some outcome) other = search (resume-keeps)
-  resume_own-keeps p name c None other = search (looks-keeps, wait_for_own-keeps)
+  resume_own-keeps p name c None other = search (looks-keeps, wait_for_own-keeps, chains)
 
   pub settle_sent-keeps : (p : Image) (c : Option CallNo) (test : Bool) → Keeps G R (settle_sent p c test)
   unfolding settle_sent
-  settle_sent-keeps p None is_served = search (nothing-keeps)
-  settle_sent-keeps p (Some c) true = search (nothing-keeps)
+  settle_sent-keeps p None is_served = search (nothing-keeps, chains)
+  settle_sent-keeps p (Some c) true = search (nothing-keeps, chains)
   settle_sent-keeps p (Some c) false = search (sent_not_begun-keeps)
 
   begins_part-keeps : (p : Image) (test : Bool) (c : CallNo) → Keeps G R (begins_part p test c)
   unfolding begins_part
   begins_part-keeps p true c = search (begin_abortable-keeps)
-  begins_part-keeps p false c = search (nothing-keeps)
+  begins_part-keeps p false c = search (nothing-keeps, chains)
 
 -- ---- a protected action goes on and ends: what is known of whose it is stays so up to its end
 
@@ -141,18 +141,18 @@ module _ {G : GoodWorld} {May Other : Naming} {MayEnd : Who → Option ℕ → T
   -- a step that leaves it there, and what is done behind it
   kept_then : (me : Who) (o : ObjectNo) (g : Step) (w : World) (said : List Said) (d : Done) → Kept R w said d → Holds me o (world_behind d) → ((v : World) → G v → Holds me o v → From R v g) → Kept R w said (goes_on_with g d)
   unfolding From Kept
-  kept_then me o g w said (done v ys) a h k = then-kept moves w v said ys (g v ys) a (k v (moves.behind w v a.2) h ys)
+  kept_then me o g w said (done v ys) a h k = then-kept (chains moves) w v said ys (g v ys) a (k v (moves.behind w v a.2) h ys)
 
   step_then : (me : Who) (o : ObjectNo) (f g : Step) (w : World) → G w → Keeps G R f → ((said : List Said) → Holds me o (world_behind (f w said))) → ((v : World) → G v → Holds me o v → From R v g) → From R w (f ▷ g)
   unfolding From Keeps
   step_then me o f g w good a b k said = kept_then me o g w said (f w said) (a w good said) (b said) k
 
   some_from : {X : Type 0} (x : Option X) (f : X → Step) (w : World) → G w → ((y : X) → From R w (f y)) → From R w (for_some x f)
-  some_from None f w good k = keeps-from moves nothing w good (nothing-keeps moves)
+  some_from None f w good k = keeps-from (chains moves) nothing w good (nothing-keeps (chains moves))
   some_from (Some x) f w good k = k x
 
   call_then : (c : CallNo) (f : Call → Step) (w : World) → G w → ((d : Call) → From R w (f d)) → From R w (with_call c f)
-  call_then c f w good k = looks_at-from moves (λ v. for_some (call_of v c) f) w (some_from (call_of w c) f w good k)
+  call_then c f w good k = looks_at-from (chains moves) (λ v. for_some (call_of v c) f) w (some_from (call_of w c) f w good k)
 
   module _ (p : Image) (name : Who) (other : Other name) where
     behind_action-keeps : (m : ProtectedMark) (n : Option ℕ) (c : Option CallNo) → MayEnd name n → Keeps G R (behind_action p name m n c)
@@ -169,10 +169,10 @@ module _ {G : GoodWorld} {May Other : Naming} {MayEnd : Who → Option ℕ → T
     release_object-from : (w : World) → G w → Holds name m.object w → From R w (release_object p name m)
     unfolding release_object
     release_object-from w good h =
-        then-from moves (says Own (line.Exit name m.object) ▷ changes (pop name) ▷ changes (close_action name m.object)) (lose_running p name (inherited_by.Ceiling m.object) ▷ set_deferred p name ▷ behind_action p name m m.release m.own_call) w
+        then-from (chains moves) (says Own (line.Exit name m.object) ▷ changes (pop name) ▷ changes (close_action name m.object)) (lose_running p name (inherited_by.Ceiling m.object) ▷ set_deferred p name ▷ behind_action p name m m.release m.own_call) w
         (told_exit-from w good h)
-        (then-keeps moves _ _ (lose_running-keeps moves p name (inherited_by.Ceiling m.object) (moves.other_may name other))
-        (then-keeps moves _ _ (set_deferred-keeps moves p name (moves.other_may name other)) (behind_action-keeps p name other m m.release m.own_call may_end)))
+        (then-keeps (chains moves) _ _ (lose_running-keeps moves p name (inherited_by.Ceiling m.object) (moves.other_may name other))
+        (then-keeps (chains moves) _ _ (set_deferred-keeps moves p name (moves.other_may name other)) (behind_action-keeps p name other m m.release m.own_call may_end)))
 
     -- queued calls are served, and then the object is released
     served-from : (is_sent : Bool) (c : CallNo) (d : Call) (again : Step) (w : World) → ((v : World) → G v → Holds name m.object v → From R v again) → G w → Holds name m.object w
@@ -181,10 +181,10 @@ module _ {G : GoodWorld} {May Other : Naming} {MayEnd : Who → Option ℕ → T
         let part = part_of_start is_sent in
         let otherwise = deliver p part c (call_ended.ToRaise exception.Storage) ▷ again in
         let by_room = λ (b : Bool). elim b as (λ _. Step) [ true ↦ body_opens p name m.object d ▷ begins_part p is_sent c | false ↦ says part (line.Finish name d.number (meeting.Raised exception.Storage)) ▷ otherwise ] in
-        looks_at-from moves (λ v. begin_call p part name d ▷ by_room (has_room_for_body p v name d.entry)) w
+        looks_at-from (chains moves) (λ v. begin_call p part name d ▷ by_room (has_room_for_body p v name d.entry)) w
         (step_then name m.object (begin_call p part name d) (by_room (has_room_for_body p w name d.entry)) w good (begin_call-keeps moves p part name d) (λ said. stays.begins_call name m.object p part d w said h)
-        (λ v fine k. either-from moves (has_room_for_body p w name d.entry) (body_opens p name m.object d ▷ begins_part p is_sent c) (says part (line.Finish name d.number (meeting.Raised exception.Storage)) ▷ otherwise) v
-        (keeps-from moves _ v fine (then-keeps moves _ _ (body_opens-keeps moves openings p name m.object d (moves.other_may name other)) (begins_part-keeps moves p is_sent c)))
+        (λ v fine k. either-from (chains moves) (has_room_for_body p w name d.entry) (body_opens p name m.object d ▷ begins_part p is_sent c) (says part (line.Finish name d.number (meeting.Raised exception.Storage)) ▷ otherwise) v
+        (keeps-from (chains moves) _ v fine (then-keeps (chains moves) _ _ (body_opens-keeps moves openings p name m.object d (moves.other_may name other)) (begins_part-keeps moves p is_sent c)))
         (step_then name m.object (says part (line.Finish name d.number (meeting.Raised exception.Storage))) otherwise v fine (says-keeps moves part (line.Finish name d.number (meeting.Raised exception.Storage)) refl) (λ said. k)
         (λ u good_u l. step_then name m.object (deliver p part c (call_ended.ToRaise exception.Storage)) again u good_u (deliver-keeps moves p part c (call_ended.ToRaise exception.Storage)) (λ said. stays.delivers name m.object p part c (call_ended.ToRaise exception.Storage) u said l) onward))))
 
@@ -197,13 +197,13 @@ module _ {G : GoodWorld} {May Other : Naming} {MayEnd : Who → Option ℕ → T
     serve_next-from zero sent w good h = release_object-from w good h
     serve_next-from (suc fuel) sent w good h =
         let chosen = λ (v : World). served_next p v name (object_of v m.object) in
-        looks_at-from moves (λ v. settle_sent p sent (chosen_is_sent sent (chosen v)) ▷ serve_chosen p name m (chosen_is_sent sent (chosen v)) (serve_next fuel p name m None) (chosen v)) w
+        looks_at-from (chains moves) (λ v. settle_sent p sent (chosen_is_sent sent (chosen v)) ▷ serve_chosen p name m (chosen_is_sent sent (chosen v)) (serve_next fuel p name m None) (chosen v)) w
         (step_then name m.object (settle_sent p sent (chosen_is_sent sent (chosen w))) _ w good (settle_sent-keeps moves p sent (chosen_is_sent sent (chosen w))) (λ said. stays.settles_sent name m.object p sent (chosen_is_sent sent (chosen w)) w said h)
         (λ v fine k. serve_chosen-from (chosen_is_sent sent (chosen w)) (serve_next fuel p name m None) (chosen w) v (λ u good_u l. serve_next-from fuel None u good_u l) fine k))
 
     serve_calls-from : (sent : Option CallNo) (w : World) → G w → Holds name m.object w → From R w (serve_calls p name m sent)
     unfolding serve_calls
-    serve_calls-from sent w good h = looks_at-from moves (λ v. serve_next (suc (length v.calls)) p name m sent) w (serve_next-from (suc (length w.calls)) sent w good h)
+    serve_calls-from sent w good h = looks_at-from (chains moves) (λ v. serve_next (suc (length v.calls)) p name m sent) w (serve_next-from (suc (length w.calls)) sent w good h)
 
     by_mode-from : (mode : Mode) (w : World) → G w → Holds name m.object w → From R w (go_on_by_mode p name m mode)
     unfolding go_on_by_mode
@@ -243,8 +243,8 @@ module _ {G : GoodWorld} {May Other : Naming} {MayEnd : Who → Option ℕ → T
     edits_then : (f : ProtectedMark → ProtectedMark) (g : Step) (w : World) → ((x : ProtectedMark) → (f x).release ≡ x.release) → ((x : ProtectedMark) → (f x).object ≡ x.object) → G w → Holds name m.object w → ((v : World) → G v → Holds name m.object v → From R v g)
         → From R w (changes (edit_top_protected name f) ▷ changes (edit_top name not_left) ▷ g)
     edits_then f g w same alike good h onward =
-        step_then name m.object (changes (edit_top_protected name f)) _ w good (changes-keeps moves _ (edit_top_protected-alters moves name f same alike)) (λ said. stays.edits_action name m.object f w same alike h)
-        (λ v fine k. step_then name m.object (changes (edit_top name not_left)) g v fine (changes-keeps moves _ (edit_top-alters moves name not_left (λ x. refl))) (λ said. stays.goes_on name m.object v k) onward)
+        step_then name m.object (changes (edit_top_protected name f)) _ w good (changes-keeps (chains moves) _ (edit_top_protected-alters moves name f same alike)) (λ said. stays.edits_action name m.object f w same alike h)
+        (λ v fine k. step_then name m.object (changes (edit_top name not_left)) g v fine (changes-keeps (chains moves) _ (edit_top-alters moves name not_left (λ x. refl))) (λ said. stays.goes_on name m.object v k) onward)
 
     operation-from : (w : World) → G w → Holds name m.object w → From R w (end_operation p name m leaving)
     unfolding end_operation
@@ -278,8 +278,8 @@ keeps_sending-number how.Terminate c = refl
 module _ {G : GoodWorld} {May Other : Naming} {R : StepRelation} {Q : MoveRelation} (moves : FinestMoves G May Other R Q) where
   pub keep_values-keeps : (p : Image) (c : CallNo) (cells : List Value) → Keeps G R (keep_values p c cells)
   unfolding keep_values
-  keep_values-keeps p c cells = search (with_call-keeps, changes-keeps, edit_call-alters)
+  keep_values-keeps p c cells = search (with_call-keeps, changes-keeps, edit_call-alters, chains)
 
   pub end_body_of_entry-keeps : (p : Image) (c : CallNo) (cells : List Value) (leaving : Leaving) → Keeps G R (end_body_of_entry p c cells leaving)
   unfolding end_body_of_entry
-  end_body_of_entry-keeps p c cells leaving = search (changes-keeps, edit_call-alters, then-keeps, keep_values-keeps, keeps_sending-number)
+  end_body_of_entry-keeps p c cells leaving = search (changes-keeps, edit_call-alters, then-keeps, keep_values-keeps, keeps_sending-number, chains)

@@ -33,13 +33,13 @@ use Rattle.profile_machine.specs.Statements.{null, assign, cells_from, copy_cell
 use Rattle.profile_machine.specs.Scopes.{put_cells}
 use Rattle.machine_laws.proofs.Moves.{StepRelation, MoveRelation, Puts}
 use Rattle.machine_laws.proofs.FineMoves.{GoodWorld, Naming}
-use Rattle.machine_laws.proofs.FinestMoves.{FinestMoves, MarkOpenings}
-use Rattle.machine_laws.proofs.Kept.Combinators.{Keeps, From, Alters, Gives, bind-gives, changes-keeps, keeps-from, looks-from, looks-keeps, nothing-keeps, ok-gives, said-keeps, sees-keeps, then-from, then-keeps}
+use Rattle.machine_laws.proofs.FinestMoves.{FinestMoves, MarkOpenings, chains}
 use Rattle.machine_laws.proofs.Kept.Frames.{given_world-from, goes-keeps, raises-keeps, exit_loop-keeps, given-keeps, raise_if-keeps, with_room-keeps}
 use Rattle.machine_laws.proofs.Kept.Dispatching.{to_tail-keeps, block-keeps}
 use Rattle.machine_laws.proofs.Kept.Scopes.{write_cell-alters, open_scope-alters}
 use Rattle.machine_laws.proofs.Kept.Appointments.{appoint-from}
 use Rattle.machine_laws.proofs.Kept.CallEnds.{store-gives}
+use Rattle.machine_laws.proofs.Kept.Combinators.{Alters, From, Gives, Keeps, bind-gives, changes-keeps, keeps-from, looks-from, looks-keeps, nothing-keeps, ok-gives, said-keeps, sees-keeps, then-from, then-keeps}
 
 module _ {G : GoodWorld} {May Other : Naming} {R : StepRelation} {Q : MoveRelation} (moves : FinestMoves G May Other R Q) where
   pub null-keeps : (p : Image) (name : Who) (s : StatementNo) → Keeps G R (null p name s)
@@ -49,9 +49,9 @@ module _ {G : GoodWorld} {May Other : Naming} {R : StepRelation} {Q : MoveRelati
   pub assign-keeps : (p : Image) (name : Who) (s : StatementNo) (target : VariableName) (e : ExprNo) → Keeps G R (assign p name s target e)
   unfolding assign
   assign-keeps p name s target e =
-      looks-from moves _ (λ w good. let q = seen_by p w name in
+      looks-from (chains moves) _ (λ w good. let q = seen_by p w name in
       given_world-from moves Own name (variable q target >>= λ v. value q e >>= λ x. store p v x w) (λ _. goes name (next_of p s)) w good
-      (bind-gives moves (variable q target) (λ v. value q e >>= λ x. store p v x w) w (λ v. bind-gives moves (value q e) (λ x. store p v x w) w (λ x. store-gives moves p v x w good)))
+      (bind-gives (chains moves) (variable q target) (λ v. value q e >>= λ x. store p v x w) w (λ v. bind-gives (chains moves) (value q e) (λ x. store p v x w) w (λ x. store-gives moves p v x w good)))
       (λ _. goes-keeps moves name (next_of p s)))
 
   pub copy_cells-alters : (p : Image) (target source : Variable) → Alters G R (copy_cells p target source)
@@ -61,20 +61,20 @@ module _ {G : GoodWorld} {May Other : Naming} {R : StepRelation} {Q : MoveRelati
   array_copied-gives : (p : Image) (q : Seen) (target source : ObjectName) → G q.world → Gives R q.world (array_copied p q target source)
   unfolding Alters
   array_copied-gives p q target source good =
-      bind-gives moves (object_cell q target) (λ t. object_cell q source >>= λ f. Ok (copy_cells p t f q.world)) q.world (λ t.
-      bind-gives moves (object_cell q source) (λ f. Ok (copy_cells p t f q.world)) q.world (λ f.
-      ok-gives moves q.world (copy_cells p t f q.world) (copy_cells-alters p t f q.world good)))
+      bind-gives (chains moves) (object_cell q target) (λ t. object_cell q source >>= λ f. Ok (copy_cells p t f q.world)) q.world (λ t.
+      bind-gives (chains moves) (object_cell q source) (λ f. Ok (copy_cells p t f q.world)) q.world (λ f.
+      ok-gives (chains moves) q.world (copy_cells p t f q.world) (copy_cells-alters p t f q.world good)))
 
   pub assign_array-keeps : (p : Image) (name : Who) (s : StatementNo) (target source : ObjectName) → Keeps G R (assign_array p name s target source)
   unfolding assign_array
   assign_array-keeps p name s target source =
-      looks-from moves _ (λ w good.
+      looks-from (chains moves) _ (λ w good.
       given_world-from moves Own name (array_copied p (seen_by p w name) target source) (λ _. goes name (next_of p s)) w good
       (array_copied-gives p (seen_by p w name) target source good) (λ _. goes-keeps moves name (next_of p s)))
 
   pub if_statement-keeps : (p : Image) (name : Who) (e : ExprNo) (first : StatementNo) (otherwise : Option StatementNo) → Keeps G R (if_statement p name e first otherwise)
   unfolding if_statement
-  if_statement-keeps p name e first otherwise = search (sees-keeps, given-keeps, goes-keeps) depth 6
+  if_statement-keeps p name e first otherwise = search (sees-keeps, given-keeps, goes-keeps, chains) depth 7
 
   go_to_alternative-keeps : (name : Who) (first : Option StatementNo) → Keeps G R (go_to_alternative name first)
   unfolding go_to_alternative
@@ -83,11 +83,11 @@ module _ {G : GoodWorld} {May Other : Naming} {R : StepRelation} {Q : MoveRelati
 
   pub case_statement-keeps : (p : Image) (name : Who) (e : ExprNo) (alternatives : List CaseAlternative) → Keeps G R (case_statement p name e alternatives)
   unfolding case_statement
-  case_statement-keeps p name e alternatives = search (sees-keeps, given-keeps, go_to_alternative-keeps) depth 6
+  case_statement-keeps p name e alternatives = search (sees-keeps, given-keeps, go_to_alternative-keeps, chains) depth 7
 
   pub while_turn-keeps : (p : Image) (name : Who) (s : StatementNo) (e : ExprNo) (body : StatementNo) → Keeps G R (while_turn p name s e body)
   unfolding while_turn
-  while_turn-keeps p name s e body = search (sees-keeps, given-keeps, goes-keeps) depth 6
+  while_turn-keeps p name s e body = search (sees-keeps, given-keeps, goes-keeps, chains) depth 7
 
   pub put-alters : (v : Variable) (x : Value) → Alters G R (put v x)
   put-alters v x = search (write_cell-alters)
@@ -100,36 +100,36 @@ module _ {G : GoodWorld} {May Other : Naming} {R : StepRelation} {Q : MoveRelati
   bounds_put-gives q reverse l h x y good =
       let first = put x (first_bound reverse l h) q.world in
       let begun = put-alters x (first_bound reverse l h) q.world good in
-      ok-gives moves q.world (put y (last_bound reverse l h) first)
+      ok-gives (chains moves) q.world (put y (last_bound reverse l h) first)
       (moves.goes_on q.world first (put y (last_bound reverse l h) first) begun (put-alters y (last_bound reverse l h) first (moves.behind q.world first begun)))
 
   bounds_set-gives : (q : Seen) (d : DeclNo) (reverse : Bool) (low high : ExprNo) → G q.world → Gives R q.world (bounds_set q d reverse low high)
   unfolding bounds_put
   bounds_set-gives q d reverse low high good =
-      bind-gives moves (value q low) (λ l. value q high >>= λ h. loop_cell q d 0 >>= λ x. loop_cell q d 1 >>= bounds_put q reverse l h x) q.world (λ l.
-      bind-gives moves (value q high) (λ h. loop_cell q d 0 >>= λ x. loop_cell q d 1 >>= bounds_put q reverse l h x) q.world (λ h.
-      bind-gives moves (loop_cell q d 0) (λ x. loop_cell q d 1 >>= bounds_put q reverse l h x) q.world (λ x.
-      bind-gives moves (loop_cell q d 1) (bounds_put q reverse l h x) q.world (λ y. bounds_put-gives q reverse l h x y good))))
+      bind-gives (chains moves) (value q low) (λ l. value q high >>= λ h. loop_cell q d 0 >>= λ x. loop_cell q d 1 >>= bounds_put q reverse l h x) q.world (λ l.
+      bind-gives (chains moves) (value q high) (λ h. loop_cell q d 0 >>= λ x. loop_cell q d 1 >>= bounds_put q reverse l h x) q.world (λ h.
+      bind-gives (chains moves) (loop_cell q d 0) (λ x. loop_cell q d 1 >>= bounds_put q reverse l h x) q.world (λ x.
+      bind-gives (chains moves) (loop_cell q d 1) (bounds_put q reverse l h x) q.world (λ y. bounds_put-gives q reverse l h x y good))))
 
   pub for_bounds-keeps : (p : Image) (name : Who) (d : DeclNo) (reverse : Bool) (low high : ExprNo) (turn : StatementNo) → Keeps G R (for_bounds p name d reverse low high turn)
   unfolding for_bounds
   for_bounds-keeps p name d reverse low high turn =
-      looks-from moves _ (λ w good.
+      looks-from (chains moves) _ (λ w good.
       given_world-from moves Own name (bounds_set (seen_by p w name) d reverse low high) (λ _. goes name (Some turn)) w good
       (bounds_set-gives (seen_by p w name) d reverse low high good) (λ _. goes-keeps moves name (Some turn)))
 
   pub first_turn-keeps : (p : Image) (name : Who) (s : StatementNo) (d : DeclNo) (reverse : Bool) (body : StatementNo) → Keeps G R (first_turn p name s d reverse body)
   unfolding first_turn
-  first_turn-keeps p name s d reverse body = search (sees-keeps, given-keeps, goes-keeps) depth 6
+  first_turn-keeps p name s d reverse body = search (sees-keeps, given-keeps, goes-keeps, chains) depth 7
 
   pub advance-keeps : (name : Who) (x : Variable) (reverse : Bool) (v : Value) (body : StatementNo) (past : Option StatementNo) (test : Bool) → Keeps G R (advance name x reverse v body past test)
   unfolding advance
   advance-keeps name x reverse v body past true = search (goes-keeps)
-  advance-keeps name x reverse v body past false = search (changes-keeps, put-alters, then-keeps, goes-keeps)
+  advance-keeps name x reverse v body past false = search (changes-keeps, put-alters, then-keeps, goes-keeps, chains)
 
   pub later_turn-keeps : (p : Image) (name : Who) (s : StatementNo) (d : DeclNo) (reverse : Bool) (body : StatementNo) → Keeps G R (later_turn p name s d reverse body)
   unfolding later_turn
-  later_turn-keeps p name s d reverse body = search (sees-keeps, given-keeps, advance-keeps) depth 6
+  later_turn-keeps p name s d reverse body = search (sees-keeps, given-keeps, advance-keeps, chains) depth 7
 
   pub exit_where-keeps : (p : Image) (name : Who) (s loop : StatementNo) (test : Bool) → Keeps G R (exit_where p name s loop test)
   unfolding exit_where
@@ -139,39 +139,39 @@ module _ {G : GoodWorld} {May Other : Naming} {R : StepRelation} {Q : MoveRelati
   pub exit_statement-keeps : (p : Image) (name : Who) (s loop : StatementNo) (e : Option ExprNo) → Keeps G R (exit_statement p name s loop e)
   unfolding exit_statement
   exit_statement-keeps p name s loop None = search (exit_loop-keeps)
-  exit_statement-keeps p name s loop (Some e) = search (sees-keeps, given-keeps, exit_where-keeps) depth 6
+  exit_statement-keeps p name s loop (Some e) = search (sees-keeps, given-keeps, exit_where-keeps, chains) depth 7
 
   pub raise_again-keeps : (p : Image) (name : Who) (scope : ScopeNo) → Keeps G R (raise_again p name scope)
   unfolding raise_again
-  raise_again-keeps p name scope = search (sees-keeps, given-keeps, raises-keeps) depth 6
+  raise_again-keeps p name scope = search (sees-keeps, given-keeps, raises-keeps, chains) depth 7
 
   wait_until-from : (p : Image) (name : Who) (until : ℤ) (test : Bool) (w : World) → G w → int_lt (pos w.time) until ≡ test → From R w (wait_until p name until test)
   unfolding wait_until
   wait_until-from p (who.Task t) until true w good is =
-      then-from moves (changes (appoint (due_for.Delay t) until)) (block TheBlock (who.Task t) waits_for.Moment) w (appoint-from moves (due_for.Delay t) until w good refl is) (search (block-keeps, moves.task_other))
-  wait_until-from p (who.Task t) until false w good is = keeps-from moves _ w good (search (to_tail-keeps, moves.other_may, moves.task_other))
-  wait_until-from p who.Agent until future w good is = keeps-from moves _ w good (search (nothing-keeps))
+      then-from (chains moves) (changes (appoint (due_for.Delay t) until)) (block TheBlock (who.Task t) waits_for.Moment) w (appoint-from moves (due_for.Delay t) until w good refl is) (search (block-keeps, moves.task_other))
+  wait_until-from p (who.Task t) until false w good is = keeps-from (chains moves) _ w good (search (to_tail-keeps, moves.other_may, moves.task_other))
+  wait_until-from p who.Agent until future w good is = keeps-from (chains moves) _ w good (search (nothing-keeps, chains))
 
   pub delay_to-keeps : (p : Image) (name : Who) (until : ℤ) → Keeps G R (delay_to p name until)
   unfolding delay_to
-  delay_to-keeps p name until = looks-from moves _ (λ w good. wait_until-from p name until (int_lt (pos w.time) until) w good refl)
+  delay_to-keeps p name until = looks-from (chains moves) _ (λ w good. wait_until-from p name until (int_lt (pos w.time) until) w good refl)
 
   pub delay_until-keeps : (p : Image) (name : Who) (s : StatementNo) (until : Valued ℤ) → Keeps G R (delay_until p name s until)
   unfolding delay_until
-  delay_until-keeps p name s until = search (looks-keeps, raise_if-keeps, given-keeps, goes-keeps, then-keeps, delay_to-keeps) depth 7
+  delay_until-keeps p name s until = search (looks-keeps, raise_if-keeps, given-keeps, goes-keeps, then-keeps, delay_to-keeps, chains) depth 8
 
   put_text-keeps : (p : Image) → Puts G R p → (name : Who) (s : StatementNo) (pieces : List Piece) (v : World) (text : Valued (List ℕ)) → form_of p s ≡ form.PutLine pieces → text_of_pieces (seen_by p v name) pieces ≡ text → Keeps G R (given Own name text (λ text. goes name (next_of p s) ▷ says Own (line.Put name text)))
   put_text-keeps p puts name s pieces v (Ok text) is e =
-      then-keeps moves (goes name (next_of p s)) (says Own (line.Put name text)) (goes-keeps moves name (next_of p s))
-      (said-keeps moves Own (line.Put name text) (λ w good. puts.puts name s pieces text v w good is e))
+      then-keeps (chains moves) (goes name (next_of p s)) (says Own (line.Put name text)) (goes-keeps moves name (next_of p s))
+      (said-keeps (chains moves) Own (line.Put name text) (λ w good. puts.puts name s pieces text v w good is e))
   put_text-keeps p puts name s pieces v (Err raised) is e = raises-keeps moves Own name raised
 
   pub put_line-keeps : (p : Image) → Puts G R p → (name : Who) (s : StatementNo) (pieces : List Piece) → form_of p s ≡ form.PutLine pieces → Keeps G R (put_line p name s pieces)
   unfolding put_line
   put_line-keeps p puts name s pieces is =
-      looks-keeps moves _ (λ v. put_text-keeps p puts name s pieces v (text_of_pieces (seen_by p v name) pieces) is refl)
+      looks-keeps (chains moves) _ (λ v. put_text-keeps p puts name s pieces v (text_of_pieces (seen_by p v name) pieces) is refl)
 
 module _ {G : GoodWorld} {May Other : Naming} {R : StepRelation} {Q : MoveRelation} (moves : FinestMoves G May Other R Q) (openings : MarkOpenings G May Other R) where
   pub block_statement-keeps : (p : Image) (name : Who) (s : StatementNo) (scope : ScopeNo) → May name → Keeps G R (block_statement p name s scope)
   unfolding block_statement
-  block_statement-keeps p name s scope may = search (with_room-keeps, goes-keeps, then-keeps, looks-keeps, changes-keeps, open_scope-alters)
+  block_statement-keeps p name s scope may = search (with_room-keeps, goes-keeps, then-keeps, looks-keeps, changes-keeps, open_scope-alters, chains)

@@ -33,8 +33,7 @@ use Rattle.std.proofs.Common.{◌≡◌, refl, sym, ap, ◌∙◌}
 use Rattle.profile_machine.specs.Values.{seen_by}
 use Rattle.machine_laws.proofs.Moves.{StepRelation, MoveRelation, own}
 use Rattle.machine_laws.proofs.FineMoves.{GoodWorld, Naming, EachIs, first_is_false}
-use Rattle.machine_laws.proofs.FinestMoves.{FinestMoves, MarkOpenings, OwnRegions}
-use Rattle.machine_laws.proofs.Kept.Combinators.{Keeps, From, changes_told-from, Alters, branch-keeps, changes-keeps, cond-keeps, for_each-keeps, for_some-keeps, looks-from, looks-keeps, nothing-keeps, says-keeps, sees-keeps, then-keeps, when-keeps, for_each_task-keeps, some_of-others, listed-keeps, when-keeps-if, keeps-from, looks_at-from, changes_then-from}
+use Rattle.machine_laws.proofs.FinestMoves.{FinestMoves, MarkOpenings, OwnRegions, chains, says-keeps}
 use Rattle.machine_laws.proofs.Kept.Frames.{raise_if-from, given-from, goes-keeps, raises-keeps, pass_on-keeps, given-keeps, raise_if-keeps, popped}
 use Rattle.machine_laws.proofs.Kept.Tasks.{edit_task-alters}
 use Rattle.machine_laws.proofs.Kept.Dispatching.{to_head-keeps, ready-keeps, says_block-keeps, block-keeps}
@@ -54,6 +53,7 @@ use Rattle.profile_machine.specs.Tasks.{edit_task, task_of, waiting_of}
 use Rattle.profile_machine.specs.Dispatching.{active_of}
 use Rattle.profile_machine.specs.Unwinding.{any_struck}
 use Rattle.profile_machine.specs.Masters.{region_of_mark, has_dependents, may_terminate, leave_by_terminate, has_activating}
+use Rattle.machine_laws.proofs.Kept.Combinators.{Alters, From, Keeps, branch-keeps, changes-keeps, changes_then-from, changes_told-from, cond-keeps, for_each-keeps, for_each_task-keeps, for_some-keeps, keeps-from, listed-keeps, looks-from, looks-keeps, looks_at-from, nothing-keeps, sees-keeps, some_of-others, then-keeps, when-keeps, when-keeps-if}
 
 pub same_region_in : (r q : RegionNo) (region : Option RegionNo) → region ≡ Some r → region ≡ Some q → q ≡ r
 same_region_in r q region a b = let one : Some q ≡ Some r = sym b ∙ a in cc
@@ -64,7 +64,7 @@ no_region q region a b = absurd (let one : None ≡ Some q = sym a ∙ b in cc)
 module _ {G : GoodWorld} {May Other : Naming} {R : StepRelation} {Q : MoveRelation} (moves : FinestMoves G May Other R Q) where
   says_created-keeps : (d : DeclNo) (t : world.Task) → Keeps G R (says_created d t)
   unfolding says_created
-  says_created-keeps d t = looks-keeps moves _ (λ w. says-keeps moves Own (line.New (created.Task (record { 0 = w.drawn.tasks - 1 })) (Some d) t.base) refl)
+  says_created-keeps d t = looks-keeps (chains moves) _ (λ w. says-keeps moves Own (line.New (created.Task (record { 0 = w.drawn.tasks - 1 })) (Some d) t.base) refl)
 
   -- the object's cell gets the task's number
   abbrev name_task : Image → DeclNo → ScopeId → Step
@@ -75,44 +75,44 @@ module _ {G : GoodWorld} {May Other : Naming} {R : StepRelation} {Q : MoveRelati
   unfolding goes From
   added_then-from name onward t g w a kept said =
       let added = add_task t (edit_top name (goes_on onward) w) in
-      changes_then-from moves (λ v. added) g w a (keeps-from moves g added (moves.behind w added a) kept) said
+      changes_then-from (chains moves) (λ v. added) g w a (keeps-from (chains moves) g added (moves.behind w added a) kept) said
 
   create_task-from : (p : Image) (name : Who) (s : StatementNo) (d : DeclNo) (id : Option ScopeId) (t : world.Task) (w : World) → G w → Other name → t.who ≡ who.Task (record { 0 = w.drawn.tasks }) → t.frames ≡ [] → t.master ≡ Some (top_region w name) → t.cpu_ticks ≡ 0 → From R w (create_task p name s d id t)
   unfolding create_task
   create_task-from p name s d id t w good other same_who none master clock =
       added_then-from name (next_of p s) t (for_some id (name_task p d) ▷ says_created d t) w (moves.adds_task name (next_of p s) t w good other same_who none master clock)
-      (search (then-keeps, for_some-keeps, looks-keeps, changes-keeps, set_thing-alters, says_created-keeps) depth 8)
+      (search (then-keeps, for_some-keeps, looks-keeps, changes-keeps, set_thing-alters, says_created-keeps, chains) depth 9)
 
   pub fall_from-keeps : (p : Image) (name : Who) (before : World) → May name → Keeps G R (fall_from p name before)
   unfolding fall_from
-  fall_from-keeps p name before may = search (looks-keeps, when-keeps, to_head-keeps)
+  fall_from-keeps p name before may = search (looks-keeps, when-keeps, to_head-keeps, chains)
 
   pub says_done-keeps : (part : Part) (name : Who) → Keeps G R (says_done part name)
   unfolding says_done
   says_done-keeps part (who.Task t) = search (says-keeps)
-  says_done-keeps part who.Agent = search (nothing-keeps)
+  says_done-keeps part who.Agent = search (nothing-keeps, chains)
 
   pub fail_to_begin-keeps : (p : Image) (activator : Who) (t : world.Task) → Keeps G R (fail_to_begin p activator t)
   unfolding fail_to_begin
-  fail_to_begin-keeps p activator t = search (says-keeps, then-keeps, says_done-keeps, changes-keeps, edit_task-alters, terminate-keeps) depth 7
+  fail_to_begin-keeps p activator t = search (says-keeps, then-keeps, says_done-keeps, changes-keeps, edit_task-alters, terminate-keeps, chains) depth 8
 
   pub await_group-keeps : (name : Who) (begins failed : Bool) → Other name → Keeps G R (await_group name begins failed)
   unfolding await_group
   await_group-keeps name true failed other = search (block-keeps)
   await_group-keeps name false true other = search (raises-keeps)
-  await_group-keeps name false false other = search (nothing-keeps)
+  await_group-keeps name false false other = search (nothing-keeps, chains)
 
   pub end_own_activation-keeps : (p : Image) (name : Who) (s : StatementNo) → May name → Keeps G R (end_own_activation p name s)
   unfolding end_own_activation
-  end_own_activation-keeps p name s may = search (looks-keeps, goes-keeps, then-keeps, end_activation-keeps, fall_from-keeps)
+  end_own_activation-keeps p name s may = search (looks-keeps, goes-keeps, then-keeps, end_activation-keeps, fall_from-keeps, chains)
 
   pub end_made-keeps : (p : Image) (actor : Who) (t : world.Task) → Keeps G R (end_made p actor t)
   unfolding end_made
-  end_made-keeps p actor t = search (says_done-keeps, then-keeps, terminate-keeps)
+  end_made-keeps p actor t = search (says_done-keeps, then-keeps, terminate-keeps, chains)
 
   pub complete_if_task-keeps : (p : Image) (name : Who) (purpose : Purpose) → May name → Keeps G R (complete_if_task p name purpose)
   unfolding complete_if_task
-  complete_if_task-keeps p name purpose may = search (looks-keeps, when-keeps, complete-keeps, then-keeps, fall_from-keeps)
+  complete_if_task-keeps p name purpose may = search (looks-keeps, when-keeps, complete-keeps, then-keeps, fall_from-keeps, chains)
 
   end_environment-alters : (leaving : Leaving) → Alters G R (end_environment leaving)
   unfolding Alters
@@ -120,10 +120,10 @@ module _ {G : GoodWorld} {May Other : Naming} {R : StepRelation} {Q : MoveRelati
 
   pub end_task-keeps : (p : Image) (name : Who) (leaving : Leaving) → Keeps G R (end_task p name leaving)
   unfolding end_task
-  end_task-keeps p name leaving = search (says_done-keeps, then-keeps, looks-keeps, end_activation-keeps, terminate-keeps, when-keeps, changes-keeps, end_environment-alters) depth 8
+  end_task-keeps p name leaving = search (says_done-keeps, then-keeps, looks-keeps, end_activation-keeps, terminate-keeps, when-keeps, changes-keeps, end_environment-alters, chains) depth 9
 
   pub end_body-keeps : (p : Image) (name : Who) (leaving : Leaving) (normally : Step) → Keeps G R normally → Keeps G R (end_body p name leaving normally)
-  end_body-keeps p name leaving normally kept = branch-keeps moves (is_normal leaving) normally (pass_on p name leaving) (search) (search (pass_on-keeps))
+  end_body-keeps p name leaving normally kept = branch-keeps (chains moves) (is_normal leaving) normally (pass_on p name leaving) (search) (search (pass_on-keeps))
 
   pub behind_scope-keeps : (p : Image) (name : Who) (purpose : Purpose) (cells : List Value) (leaving : Leaving) → Keeps G R (behind_scope p name purpose cells leaving)
   unfolding behind_scope
@@ -134,7 +134,7 @@ module _ {G : GoodWorld} {May Other : Naming} {R : StepRelation} {Q : MoveRelati
 
   -- Program_Error, where a Finalize raised
   raised_behind-keeps : (name : Who) (test : Bool) → Keeps G R (when test (says Own (line.Raise name exception.Program)))
-  raised_behind-keeps name test = search (when-keeps, says-keeps)
+  raised_behind-keeps name test = search (when-keeps, says-keeps, chains)
 
   -- the scope is no longer there
   ended : (name : Who) (id : ScopeId) (r : RegionNo) (w : World) → R w (own (line.Left name r) ∷ []) (pop name w) → R w (own (line.Left name r) ∷ []) (end_scope id (pop name w))
@@ -145,32 +145,32 @@ module _ {G : GoodWorld} {May Other : Naming} {R : StepRelation} {Q : MoveRelati
   left-from : (name : Who) (id : ScopeId) (region : Option RegionNo) (raised : Bool) (g : Step) (w : World) → R w [] (pop name w) → ((r : RegionNo) → region ≡ Some r → R w (own (line.Left name r) ∷ []) (pop name w)) → Keeps G R g
       → From R w (changes (pop name) ▷ changes (end_scope id) ▷ (for_some region (λ r. says Own (line.Left name r)) ▷ when raised (says Own (line.Raise name exception.Program))) ▷ g)
   left-from name id None raised g w out told kept =
-      changes_then-from moves (pop name) _ w out (keeps-from moves _ (pop name w) (moves.behind w (pop name w) out)
-      (then-keeps moves (changes (end_scope id)) _ (search (changes-keeps, end_scope-alters)) (then-keeps moves _ g (then-keeps moves nothing _ (nothing-keeps moves) (raised_behind-keeps name raised)) kept)))
+      changes_then-from (chains moves) (pop name) _ w out (keeps-from (chains moves) _ (pop name w) (moves.behind w (pop name w) out)
+      (then-keeps (chains moves) (changes (end_scope id)) _ (search (changes-keeps, end_scope-alters, chains)) (then-keeps (chains moves) _ g (then-keeps (chains moves) nothing _ (nothing-keeps (chains moves)) (raised_behind-keeps name raised)) kept)))
   left-from name id (Some r) raised g w out told kept =
-      changes_told-from moves (pop name) (end_scope id) Own (line.Left name r) (when raised (says Own (line.Raise name exception.Program)) ▷ g) w
-      (ended name id r w (told r refl)) (then-keeps moves _ g (raised_behind-keeps name raised) kept)
+      changes_told-from (chains moves) (pop name) (end_scope id) Own (line.Left name r) (when raised (says Own (line.Raise name exception.Program)) ▷ g) w
+      (ended name id r w (told r refl)) (then-keeps (chains moves) _ g (raised_behind-keeps name raised) kept)
 
   pub end_of_scope-from : (p : Image) (name : Who) (m : ScopeMark) (leaving : Leaving) (w : World) → R w [] (pop name w) → ((r : RegionNo) → m.region ≡ Some r → R w (own (line.Left name r) ∷ []) (pop name w)) → From R w (end_of_scope p name m leaving)
   unfolding end_of_scope says_left
   end_of_scope-from p name m leaving w out told =
-      looks_at-from moves (λ v. changes (pop name) ▷ changes (end_scope m.within) ▷ says_left name m leaving ▷ behind_scope p name m.purpose (cells_of (scope_in_use v m.within)) (left_by m leaving)) w
+      looks_at-from (chains moves) (λ v. changes (pop name) ▷ changes (end_scope m.within) ▷ says_left name m leaving ▷ behind_scope p name m.purpose (cells_of (scope_in_use v m.within)) (left_by m leaving)) w
       (left-from name m.within m.region (raises_behind m leaving) (behind_scope p name m.purpose (cells_of (scope_in_use w m.within)) (left_by m leaving)) w out told (search (behind_scope-keeps)))
 
   pub says_abort-keeps : (actor name : Who) → Keeps G R (says_abort actor name)
   unfolding says_abort
   says_abort-keeps (who.Task actor) (who.Task t) = search (says-keeps)
-  says_abort-keeps (who.Task actor) who.Agent = search (nothing-keeps)
-  says_abort-keeps who.Agent t = search (nothing-keeps)
+  says_abort-keeps (who.Task actor) who.Agent = search (nothing-keeps, chains)
+  says_abort-keeps who.Agent t = search (nothing-keeps, chains)
 
   pub abort_one-keeps : (p : Image) (actor : Who) (t : world.Task) → Keeps G R (abort_one p actor t)
   unfolding abort_one
-  abort_one-keeps p actor t = search (says_abort-keeps, then-keeps, cond-keeps, end_made-keeps, changes-keeps, strike_outermost-alters)
+  abort_one-keeps p actor t = search (says_abort-keeps, then-keeps, cond-keeps, end_made-keeps, changes-keeps, strike_outermost-alters, chains)
 
   unwind_by-keeps : (p : Image) (name : Who) (acts : Bool) → Other name → Keeps G R (unwind_by p name acts)
   unfolding unwind_by
   unwind_by-keeps p name false other = search (unwind-keeps)
-  unwind_by-keeps p name true other = search (looks-keeps, when-keeps, unwind-keeps)
+  unwind_by-keeps p name true other = search (looks-keeps, when-keeps, unwind-keeps, chains)
 
   pub unwind_one-keeps : (p : Image) (actor : Who) (t : world.Task) → Other t.who → Keeps G R (unwind_one p actor t)
   unfolding unwind_one
@@ -179,40 +179,40 @@ module _ {G : GoodWorld} {May Other : Naming} {R : StepRelation} {Q : MoveRelati
   pub abort_all-keeps : (p : Image) (actor : Who) (tasks : List world.Task) → EachIs Other tasks → Keeps G R (abort_all p actor tasks)
   unfolding abort_all
   abort_all-keeps p actor tasks others =
-      then-keeps moves (for_each tasks (λ t. changes (edit_task t.who abnormal_task))) _ (search (for_each-keeps, changes-keeps, edit_task-alters))
-      (then-keeps moves (for_each tasks (abort_one p actor)) _ (search (for_each-keeps, abort_one-keeps)) (for_each_task-keeps moves tasks (unwind_one p actor) others (λ t other. unwind_one-keeps p actor t other)))
+      then-keeps (chains moves) (for_each tasks (λ t. changes (edit_task t.who abnormal_task))) _ (search (for_each-keeps, changes-keeps, edit_task-alters, chains))
+      (then-keeps (chains moves) (for_each tasks (abort_one p actor)) _ (search (for_each-keeps, abort_one-keeps, chains)) (for_each_task-keeps (chains moves) Other tasks (unwind_one p actor) others (λ t other. unwind_one-keeps p actor t other)))
 
   abort_named-keeps : (p : Image) (name : Who) (aborted : List TaskNo) → Keeps G R (looks (λ w. abort_all p name (filter (is_to_abort w aborted) w.tasks)))
   abort_named-keeps p name aborted =
-      looks-from moves _ (λ w good. keeps-from moves _ w good (abort_all-keeps p name (filter (is_to_abort w aborted) w.tasks) (some_of-others moves (is_to_abort w aborted) w.tasks (moves.listed w good))))
+      looks-from (chains moves) _ (λ w good. keeps-from (chains moves) _ w good (abort_all-keeps p name (filter (is_to_abort w aborted) w.tasks) (some_of-others Other (is_to_abort w aborted) w.tasks (moves.listed w good))))
 
   pub abort_statement-keeps : (p : Image) (name : Who) (s : StatementNo) (tasks : List DeclNo) → Keeps G R (abort_statement p name s tasks)
   unfolding abort_statement
   abort_statement-keeps p name s tasks =
-      sees-keeps moves p name _ (λ q. raise_if-keeps moves name (in_protected q.world name) exception.Program _ (given-keeps moves Own name (named_tasks q tasks) _ (λ aborted.
-      then-keeps moves (goes name (next_of p s)) _ (goes-keeps moves name (next_of p s)) (abort_named-keeps p name aborted))))
+      sees-keeps (chains moves) p name _ (λ q. raise_if-keeps moves name (in_protected q.world name) exception.Program _ (given-keeps moves Own name (named_tasks q tasks) _ (λ aborted.
+      then-keeps (chains moves) (goes name (next_of p s)) _ (goes-keeps moves name (next_of p s)) (abort_named-keeps p name aborted))))
 
   pub block_at_terminate-keeps : (name : Who) (waiting : Option Waiting) → Other name → Keeps G R (block_at_terminate name waiting)
   unfolding block_at_terminate
-  block_at_terminate-keeps name None other = search (nothing-keeps)
-  block_at_terminate-keeps name (Some waiting) other = search (when-keeps, says_block-keeps)
+  block_at_terminate-keeps name None other = search (nothing-keeps, chains)
+  block_at_terminate-keeps name (Some waiting) other = search (when-keeps, says_block-keeps, chains)
 
   pub all_terminate-keeps : (p : Image) (actor : Who) → Keeps G R (looks (λ w. for_each (filter (may_terminate w) w.tasks) (leave_by_terminate p actor)))
-  all_terminate-keeps p actor = listed-keeps moves may_terminate (λ w. leave_by_terminate p actor) (λ w t other. leave_by_terminate-keeps moves p actor t other)
+  all_terminate-keeps p actor = listed-keeps (chains moves) Other moves.listed may_terminate (λ w. leave_by_terminate p actor) (λ w t other. leave_by_terminate-keeps moves p actor t other)
 
   pub take_terminates-keeps : (p : Image) (actor : Who) → Other actor → Keeps G R (take_terminates p actor)
   unfolding take_terminates
-  take_terminates-keeps p actor other = then-keeps moves _ (looks (λ w. block_at_terminate actor (waiting_of w actor))) (all_terminate-keeps p actor) (search (looks-keeps, block_at_terminate-keeps))
+  take_terminates-keeps p actor other = then-keeps (chains moves) _ (looks (λ w. block_at_terminate actor (waiting_of w actor))) (all_terminate-keeps p actor) (search (looks-keeps, block_at_terminate-keeps, chains))
 
   pub unwind_all-keeps : (p : Image) (actor : Who) → Keeps G R (unwind_all p actor)
   unfolding unwind_all
-  unwind_all-keeps p actor = listed-keeps moves (λ w t. any_struck t.frames) (λ w. unwind_one p actor) (λ w t other. unwind_one-keeps p actor t other)
+  unwind_all-keeps p actor = listed-keeps (chains moves) Other moves.listed (λ w t. any_struck t.frames) (λ w. unwind_one p actor) (λ w t other. unwind_one-keeps p actor t other)
 
 module _ {G : GoodWorld} {May Other : Naming} {R : StepRelation} {Q : MoveRelation} (moves : FinestMoves G May Other R Q) (openings : MarkOpenings G May Other R) where
   pub create-keeps : (p : Image) (name : Who) (s : StatementNo) (d : DeclNo) (part : ℕ) → May name → Keeps G R (create p name s d part)
   unfolding create
   create-keeps p name s d part may =
-      looks-from moves _ (λ w good. let q = seen_by p w name in
+      looks-from (chains moves) _ (λ w good. let q = seen_by p w name in
       raise_if-from moves name (in_protected w name || is_deferred w name) exception.Program _ w good (λ allowed.
       raise_if-from moves name (leb 256 (length w.tasks)) exception.Storage _ w good (λ few.
       given-from moves Own name (optional_span q (task_unit_of p (unit_of_declaration p d)).relative_deadline) _ w good (λ span.
@@ -220,38 +220,38 @@ module _ {G : GoodWorld} {May Other : Naming} {R : StepRelation} {Q : MoveRelati
 
   pub begin_task-keeps : (p : Image) (activator : Who) (level : ℕ) (t : world.Task) → Other t.who → Keeps G R (begin_task p activator level t)
   unfolding begin_task
-  begin_task-keeps p activator level t other = search (looks-keeps, changes-keeps, open_scope-alters, then-keeps, edit_task-alters, inherit-alters, ready-keeps, moves.other_may) depth 10
+  begin_task-keeps p activator level t other = search (looks-keeps, changes-keeps, open_scope-alters, then-keeps, edit_task-alters, inherit-alters, ready-keeps, moves.other_may, chains) depth 11
 
   pub activate_one-keeps : (p : Image) (activator : Who) (level : ℕ) (t : world.Task) → Other t.who → Keeps G R (activate_one p activator level t)
   unfolding activate_one
-  activate_one-keeps p activator level t other = looks-keeps moves _ (λ w. branch-keeps moves (has_room w t.who 1 (scope_of p (unit_of_task p t).scope).size) (begin_task p activator level t) (fail_to_begin p activator t) (search (begin_task-keeps)) (search (fail_to_begin-keeps)))
+  activate_one-keeps p activator level t other = looks-keeps (chains moves) _ (λ w. branch-keeps (chains moves) (has_room w t.who 1 (scope_of p (unit_of_task p t).scope).size) (begin_task p activator level t) (fail_to_begin p activator t) (search (begin_task-keeps)) (search (fail_to_begin-keeps)))
 
   -- the tasks of the group, in order
   begin_group-keeps : (p : Image) (name : Who) (s : StatementNo) (part : ℕ) → Keeps G R (looks (λ w. goes name (next_of p s) ▷ changes (edit_task name no_failure) ▷ for_each (filter (is_to_activate (top_region_of_scope w name) part) w.tasks) (activate_one p name (active_of p w name))))
   begin_group-keeps p name s part =
-      looks-from moves _ (λ w good. keeps-from moves _ w good
-      (then-keeps moves (goes name (next_of p s)) _ (search (goes-keeps))
-      (then-keeps moves (changes (edit_task name no_failure)) _ (search (changes-keeps, edit_task-alters))
-      (for_each_task-keeps moves (filter (is_to_activate (top_region_of_scope w name) part) w.tasks) (activate_one p name (active_of p w name)) (some_of-others moves (is_to_activate (top_region_of_scope w name) part) w.tasks (moves.listed w good))
+      looks-from (chains moves) _ (λ w good. keeps-from (chains moves) _ w good
+      (then-keeps (chains moves) (goes name (next_of p s)) _ (search (goes-keeps))
+      (then-keeps (chains moves) (changes (edit_task name no_failure)) _ (search (changes-keeps, edit_task-alters, chains))
+      (for_each_task-keeps (chains moves) Other (filter (is_to_activate (top_region_of_scope w name) part) w.tasks) (activate_one p name (active_of p w name)) (some_of-others Other (is_to_activate (top_region_of_scope w name) part) w.tasks (moves.listed w good))
       (λ t other. activate_one-keeps p name (active_of p w name) t other)))))
 
   activate_group-keeps : (p : Image) (name : Who) (s : StatementNo) (part : ℕ) → Other name → Keeps G R (activate_group p name s part)
   unfolding activate_group
   activate_group-keeps p name s part other =
-      then-keeps moves _ (looks (λ w. await_group name (has_activating w name) (task_of w name).group_failed)) (begin_group-keeps p name s part) (search (looks-keeps, await_group-keeps))
+      then-keeps (chains moves) _ (looks (λ w. await_group name (has_activating w name) (task_of w name).group_failed)) (begin_group-keeps p name s part) (search (looks-keeps, await_group-keeps, chains))
 
   pub activate-keeps : (p : Image) (name : Who) (s : StatementNo) (part : ℕ) → May name → Keeps G R (activate p name s part)
   unfolding activate
   activate-keeps p name s part may =
-      looks-from moves _ (λ w good. raise_if-from moves name (in_protected w name || is_deferred w name) exception.Program _ w good
-      (λ allowed. keeps-from moves _ w good (activate_group-keeps p name s part (openings.outside name w good may (first_is_false (in_protected w name) (is_deferred w name) allowed)))))
+      looks-from (chains moves) _ (λ w good. raise_if-from moves name (in_protected w name || is_deferred w name) exception.Program _ w good
+      (λ allowed. keeps-from (chains moves) _ w good (activate_group-keeps p name s part (openings.outside name w good may (first_is_false (in_protected w name) (is_deferred w name) allowed)))))
 
   pub leave_region-from : (p : Image) (name : Who) (f : Frame) (m : ScopeMark) (leaving : Leaving) (r : RegionNo) (w : World) → G w → May name → top_of w name ≡ Some f → f.mark ≡ Scope m → m.region ≡ Some r → m.being_left ≡ false → Keeps G R (wait_for_dependents name r) → From R w (leave_region p name m leaving r)
   unfolding leave_region
   leave_region-from p name f m leaving r w good may top is region left waits =
-      changes_told-from moves (edit_top_scope name being_left_mark) (edit_top name (left_so_frame leaving)) Own (line.Leave name r (leaves_as leaving)) (looks (λ v. for_each (filter (is_made_in r) v.tasks) (end_made p name)) ▷ complete_if_task p name m.purpose ▷ wait_for_dependents name r) w
+      changes_told-from (chains moves) (edit_top_scope name being_left_mark) (edit_top name (left_so_frame leaving)) Own (line.Leave name r (leaves_as leaving)) (looks (λ v. for_each (filter (is_made_in r) v.tasks) (end_made p name)) ▷ complete_if_task p name m.purpose ▷ wait_for_dependents name r) w
       (moves.begins_leaving name f m r leaving w good may top is region left)
-      (search (then-keeps, looks-keeps, for_each-keeps, end_made-keeps, complete_if_task-keeps, waits) depth 8)
+      (search (then-keeps, looks-keeps, for_each-keeps, end_made-keeps, complete_if_task-keeps, waits, chains) depth 9)
 
   -- an object of the region is finalized, or the scope has ended
   next_finalized-from : (p : Image) (name : Who) (f : Frame) (m : ScopeMark) (leaving : Leaving) (r : RegionNo) (found : Option Registered) (w : World) → G w → May name → top_of w name ≡ Some f → f.mark ≡ Scope m → m.region ≡ Some r → m.being_left ≡ true → next_to_finalize w r ≡ found
@@ -264,7 +264,7 @@ module _ {G : GoodWorld} {May Other : Naming} {R : StepRelation} {Q : MoveRelati
   go_on_leaving-from : (p : Image) (name : Who) (f : Frame) (m : ScopeMark) (leaving : Leaving) (r : RegionNo) (test : Bool) (w : World) → G w → May name → top_of w name ≡ Some f → f.mark ≡ Scope m → m.region ≡ Some r → m.being_left ≡ test → (test ≡ false → From R w (leave_region p name m leaving r)) → From R w (go_on_leaving p name m leaving r test)
   unfolding go_on_leaving
   go_on_leaving-from p name f m leaving r false w good may top is region left leaves = leaves refl
-  go_on_leaving-from p name f m leaving r true w good may top is region left leaves = looks_at-from moves (λ v. elim (next_to_finalize v r) as (λ _. Step) [ None ↦ end_of_scope p name m leaving | Some x ↦ finalize p name x ]) w (next_finalized-from p name f m leaving r (next_to_finalize w r) w good may top is region left refl)
+  go_on_leaving-from p name f m leaving r true w good may top is region left leaves = looks_at-from (chains moves) (λ v. elim (next_to_finalize v r) as (λ _. Step) [ None ↦ end_of_scope p name m leaving | Some x ↦ finalize p name x ]) w (next_finalized-from p name f m leaving r (next_to_finalize w r) w good may top is region left refl)
 
   end_scope_mark_of-from : (p : Image) (name : Who) (m : ScopeMark) (leaving : Leaving) (r : Option RegionNo) (f : Frame) (w : World) → G w → May name → top_of w name ≡ Some f → f.mark ≡ Scope m → m.region ≡ r → ((q : RegionNo) → m.region ≡ Some q → m.being_left ≡ false → From R w (leave_region p name m leaving q)) → From R w (end_scope_mark_of p name m leaving r)
   unfolding end_scope_mark_of
@@ -281,8 +281,8 @@ module _ {G : GoodWorld} {May Other : Naming} {Owns : Who → RegionNo → Type 
   pub wait_for_dependents-keeps : (name : Who) (r : RegionNo) → May name → Owns name r → Keeps G R (wait_for_dependents name r)
   unfolding wait_for_dependents
   wait_for_dependents-keeps name r may owns =
-      looks-from moves _ (λ w good. keeps-from moves _ w good
-      (when-keeps-if moves (has_dependents w r) _ (λ is. block-keeps moves TheBlock name (waits_for.Dependents r) (regions.awaits_dependents name r w good may owns is))))
+      looks-from (chains moves) _ (λ w good. keeps-from (chains moves) _ w good
+      (when-keeps-if (chains moves) (has_dependents w r) _ (λ is. block-keeps moves TheBlock name (waits_for.Dependents r) (regions.awaits_dependents name r w good may owns is))))
 
   pub own_region-from : (p : Image) (name : Who) (f : Frame) (m : ScopeMark) (leaving : Leaving) (r : RegionNo) (w : World) → G w → May name → top_of w name ≡ Some f → f.mark ≡ Scope m → m.region ≡ Some r → m.being_left ≡ false → From R w (leave_region p name m leaving r)
   own_region-from p name f m leaving r w good may top is region left =

@@ -38,8 +38,7 @@ use Rattle.world_laws.proofs.Appointments.ActingEnds.{excused, any_lasting, acti
 use Rattle.world_laws.proofs.Appointments.DelayMoves.{fine, unplaces_then, settled-unplaces, nobody_excused, follows_then, Unplaces, MovedOn, Moved, GoodAs}
 use Rattle.world_laws.proofs.Appointments.DelaySteps.{act-ends}
 use Rattle.world_laws.proofs.Appointments.Delays.{natures, is_false, delayed, OwnIn, Idle, Good}
-use Rattle.world_laws.proofs.Appointments.FineMoves.{FineMoves}
-use Rattle.world_laws.proofs.Appointments.Kept.Combinators.{then-keeps, settles-leads, says-keeps, changes-keeps}
+use Rattle.world_laws.proofs.Appointments.FineMoves.{FineMoves, chains, effect-leads, says-keeps}
 use Rattle.world_laws.proofs.Appointments.Kept.Dispatching.{to_tail-keeps}
 use Rattle.world_laws.proofs.Appointments.Kept.Frames.{open_sequence-keeps, open_if_ready-keeps}
 use Rattle.world_laws.proofs.Appointments.Kept.Handlers.{charge-alters}
@@ -50,11 +49,11 @@ use Rattle.world_laws.proofs.Appointments.Kept.Tasks.{edit_task-alters}
 use Rattle.world_laws.proofs.Appointments.Led.{then_to-from, moved-led, moved-from, looks_to-from, led_then-from, Led}
 use Rattle.world_laws.proofs.Sequences.FineMoves.{Nobody}
 use Rattle.line_laws.proofs.Leaving.PlacingLines.{is_placed}
-use Rattle.machine_laws.proofs.Kept.Combinators.{From, Kept, Keeps, Alters, Leads}
 use Rattle.machine_laws.proofs.QueueLemmas.{by_test}
 use Rattle.machine_laws.proofs.FineMoves.{AnyWorld}
 use Rattle.line_laws.proofs.Leaving.TaskLemmas.{who_path}
 use Rattle.line_laws.proofs.Leaving.WakingRuns.{head-placed}
+use Rattle.machine_laws.proofs.Kept.Combinators.{Alters, From, Keeps, Kept, Leads, changes-keeps, then-keeps}
 
 -- ---- of nobody in particular, and of who may wait at a terminate alternative
 
@@ -120,7 +119,7 @@ module _ (a : Who) where
   unfolding effect
   effect-led p w good idle =
       then_to-from (Moved nobody_excused (Idle a)) (Whole) (Whole) (changes (edit_task a (with_ticks None))) _ w
-      (moved-from nobody_excused (Idle a) (changes (edit_task a (with_ticks None))) w (good, idle) (changes-keeps (acting a) _ (edit_task-alters (acting a) a (with_ticks None) (λ u. refl) (λ u. refl) (λ u. refl))))
+      (moved-from nobody_excused (Idle a) (changes (edit_task a (with_ticks None))) w (good, idle) (changes-keeps (chains (acting a)) _ (edit_task-alters (acting a) a (with_ticks None) (λ u. refl) (λ u. refl) (λ u. refl))))
       (λ v xs k.
       led_then-from nobody_excused (excused a) nobody_excused (act p a) _ v (act-ends p a v (k.good, k.extra)) (λ u good_u.
       led_then-from (excused a) (excused a) nobody_excused (open_if_ready p a) _ u (moved-led (excused a) AnyWorld (open_if_ready p a) u (good_u, tt) (open_if_ready-keeps choosing p a)) (λ x good_x.
@@ -271,13 +270,13 @@ opens-keeps : (p : Image) → Keeps (Acting environment) (Moved nobody_excused (
 unfolding opens
 opens-keeps p =
     let moves = acting environment in
-    then-keeps moves _ _ (changes-keeps moves _ (open_scope-alters moves p environment p.environment (plainly None) opened_for.Task))
-    (then-keeps moves _ _ (says-keeps moves Own (said.New (created.Task (record { 0 = 0 })) None p.main.priority) refl)
-    (then-keeps moves _ _ (to_tail-keeps moves p Own environment refl) (open_sequence-keeps moves p Own environment)))
+    then-keeps (chains moves) _ _ (changes-keeps (chains moves) _ (open_scope-alters moves p environment p.environment (plainly None) opened_for.Task))
+    (then-keeps (chains moves) _ _ (says-keeps moves Own (said.New (created.Task (record { 0 = 0 })) None p.main.priority) refl)
+    (then-keeps (chains moves) _ _ (to_tail-keeps moves p Own environment refl) (open_sequence-keeps moves p Own environment)))
 
 opening-moved : (p : Image) (script : List (ℤ × Item)) → MovedOn nobody_excused (Idle environment) (blank_world p script) (opening p script).1 (opening p script).0
 unfolding Leads
-opening-moved p script = settles-leads (acting environment) p (opens p) (opens-keeps p) (blank_world p script) (blank-good p script, blank-idle p script environment)
+opening-moved p script = effect-leads (acting environment) p (opens p) (opens-keeps p) (blank_world p script) (blank-good p script, blank-idle p script environment)
 
 opening-between : (p : Image) (script : List (ℤ × Item)) → Between (opening p script).0
 opening-between p script =

@@ -39,15 +39,14 @@ use Rattle.world_laws.proofs.Appointments.ActingEnds.{wait_until-ends, select_wa
 use Rattle.world_laws.proofs.Appointments.DelayMoves.{nobody_excused, follows_then, fine, MovedOn, Moved, Lasting, GoodAs}
 use Rattle.world_laws.proofs.Appointments.Delays.{natures, nature, idle-later, OwnIn, Idle, Good}
 use Rattle.ceiling_laws.proofs.Fine.Cores.{CallerIn, Caller}
-use Rattle.world_laws.proofs.Appointments.FineMoves.{is_apart, FineMoves}
+use Rattle.world_laws.proofs.Appointments.FineMoves.{is_apart, FineMoves, chains}
 use Rattle.world_laws.proofs.Appointments.Kept.Act.{is_delay_form, end_mark-keeps, act_without-keeps, act_plain-keeps}
-use Rattle.world_laws.proofs.Appointments.Kept.Combinators.{unchanged-alters, then-keeps, nothing-keeps, changes-keeps}
 use Rattle.world_laws.proofs.Appointments.Kept.Dispatching.{to_tail-keeps}
 use Rattle.world_laws.proofs.Appointments.Kept.Frames.{goes-keeps, edit_top-alters}
 use Rattle.world_laws.proofs.Appointments.Kept.Rendezvous.{wait_at_select-keeps, accept_chosen-keeps}
 use Rattle.world_laws.proofs.Appointments.Led.{to-from, then_to-from, moved-from, Led}
-use Rattle.machine_laws.proofs.Kept.Combinators.{From, Kept, Alters}
 use Rattle.machine_laws.proofs.FineMoves.{GoodWorld}
+use Rattle.machine_laws.proofs.Kept.Combinators.{Alters, From, Kept, changes-keeps, nothing-keeps, then-keeps, unchanged-alters}
 
 module _ (a : Who) where
   -- who acts is there still, and none is appointed for it
@@ -92,7 +91,7 @@ wait-ends : (p : Image) (a : Who) (until : ℤ) (test : Bool) (w : World) → Ac
 unfolding wait_until
 wait-ends p (who.Task t) until true w good here = wait_until-ends t until w good.0 here
 wait-ends p (who.Task t) until false w good here = plain (who.Task t) (to_tail p ThePlacing (who.Task t)) w good (to_tail-keeps (acting (who.Task t)) p ThePlacing (who.Task t) refl)
-wait-ends p who.Agent until test w good here = plain who.Agent nothing w good (nothing-keeps (acting who.Agent))
+wait-ends p who.Agent until test w good here = plain who.Agent nothing w good (nothing-keeps (chains (acting who.Agent)))
 
 module _ (p : Image) (a : Who) where
   delay_to-ends : (until : ℤ) (w : World) → Acting a w → Present a w → Ends a w (delay_to p a until)
@@ -124,7 +123,7 @@ module _ (p : Image) (a : Who) where
 waits_for-ends : (a : Who) (m : ℤ) (accepts : List StatementNo) (delay : StatementNo) (terminate : Bool) (w : World) → Acting a w → Present a w → Ends a w (changes (appoint_delay a m) ▷ wait_at_select a accepts (Some delay) terminate)
 waits_for-ends (who.Task t) m accepts delay terminate w good here = select_waits-ends t m accepts delay terminate w good.0 here
 waits_for-ends who.Agent m accepts delay terminate w good here =
-    plain who.Agent _ w good (then-keeps (acting who.Agent) (changes (λ v. v)) _ (changes-keeps (acting who.Agent) (λ v. v) (unchanged-alters (acting who.Agent))) (wait_at_select-keeps (acting who.Agent) who.Agent accepts (Some delay) terminate refl))
+    plain who.Agent _ w good (then-keeps (chains (acting who.Agent)) (changes (λ v. v)) _ (changes-keeps (chains (acting who.Agent)) (λ v. v) (unchanged-alters (chains (acting who.Agent)))) (wait_at_select-keeps (acting who.Agent) who.Agent accepts (Some delay) terminate refl))
 
 module _ (p : Image) (a : Who) where
   select_delay-ends : (s : StatementNo) (accepts : List StatementNo) (m : DelayMoment) (terminate test : Bool) (w : World) → Acting a w → Present a w → Ends a w (select_delay p a s accepts m terminate test)
@@ -134,7 +133,7 @@ module _ (p : Image) (a : Who) where
 
   select_wait-ends : (s : StatementNo) (accepts : List StatementNo) (terminate : Bool) (moment : Option DelayMoment) (w : World) → Acting a w → Present a w → Ends a w (select_wait p a s accepts terminate moment)
   unfolding select_wait
-  select_wait-ends s accepts terminate None w good here = plain a _ w good (then-keeps (acting a) (goes a (next_of p s)) _ (goes-keeps (acting a) a (next_of p s)) (wait_at_select-keeps (acting a) a accepts None terminate refl))
+  select_wait-ends s accepts terminate None w good here = plain a _ w good (then-keeps (chains (acting a)) (goes a (next_of p s)) _ (goes-keeps (acting a) a (next_of p s)) (wait_at_select-keeps (acting a) a accepts None terminate refl))
   select_wait-ends s accepts terminate (Some m) w good here = looks_at-ends a (λ v. select_delay p a s accepts m terminate (int_le m.at (pos v.time))) w (select_delay-ends s accepts m terminate (int_le m.at (pos w.time)) w good here)
 
   select_otherwise-ends : (s : StatementNo) (kinds : List SelectKind) (m : Option DelayMoment) (next : Option StatementNo) (w : World) → Acting a w → Present a w → Ends a w (select_otherwise p a s kinds m next)

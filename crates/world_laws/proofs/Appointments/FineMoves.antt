@@ -46,7 +46,7 @@ use Rattle.profile_machine.specs.Masters.{forget_task}
 use Rattle.profile_machine.specs.Protected.{open_action}
 use Rattle.profile_machine.specs.Scopes.{edit_cells, begin_scope, region_drawn, end_scope}
 use Rattle.profile_machine.specs.Serving.{close_action, serves_nothing}
-use Rattle.profile_machine.specs.Steps.{placed_by}
+use Rattle.profile_machine.specs.Steps.{placed_by, Step, says, settles}
 use Rattle.profile_machine.specs.Tasking.{add_task, end_environment}
 use Rattle.profile_machine.specs.Tasks.{edit_task, with_state, with_frames, waiting_in, waiting_of}
 use Rattle.profile_machine.specs.WellFormed.{waits_for_delay}
@@ -55,6 +55,8 @@ use Rattle.machine_laws.proofs.Moves.{StepRelation, MoveRelation, lines_of}
 use Rattle.machine_laws.proofs.FineMoves.{GoodWorld, Naming, ready_line}
 use Rattle.world_laws.proofs.Appointments.Delays.{Idle, nature, natures, EachTask}
 use Rattle.ceiling_laws.proofs.Fine.Cores.{Caller}
+use Rattle.machine_laws.proofs.Chains.{Chains, MoveChains}
+use Rattle.machine_laws.proofs.Kept.Combinators.{Keeps, Leads, said-keeps, settles-leads}
 
 -- ---- lines that place somebody or take it out, which are said only together with what they tell
 
@@ -133,3 +135,17 @@ pub record FineMoves (G : GoodWorld) (May : Naming) (R : StepRelation) (Q : Move
   pub masks : (n : ℕ) (flag : Bool) (w : World) → G w → R w [] (with_masked n flag w)
   pub keeps_interrupt : (n : ℕ) (flag : Bool) (w : World) → G w → R w [] (with_kept_interrupt n flag w)
   pub cuts_script : (rest : List (ℤ × Item)) (w : World) → G w → R w [] (with_script rest w)
+
+-- steps and moves are put together, a line that tells no change is said, and an effect is over
+module _ {G : GoodWorld} {May : Naming} {R : StepRelation} {Q : MoveRelation} (moves : FineMoves G May R Q) where
+  pub chains : Chains G R
+  chains = record { behind = moves.behind; stays = moves.stays; goes_on = moves.goes_on }
+
+  pub move_chains : MoveChains G Q
+  move_chains = record { moved = moves.moved; leads_on = moves.leads_on }
+
+  pub says-keeps : (part : Part) (line : Line) → is_apart line ≡ false → Keeps G R (says part line)
+  says-keeps part line other = said-keeps chains part line (λ w good. moves.says part line w good other)
+
+  pub effect-leads : (p : Image) (step : Step) → Keeps G R step → Leads G Q (settles p step)
+  effect-leads p step kept = settles-leads Q p (moves.settles p) G step kept

@@ -19,12 +19,12 @@ use Rattle.profile_machine.specs.Run.{opens, blank_world, with_serving, next_tic
 use Rattle.machine_laws.specs.Reached.{Reached}
 use Rattle.machine_laws.proofs.Moves.{Puts}
 use Rattle.machine_laws.proofs.FineMoves.{GoodWorld, FineMoves, Openings, Exits, Anybody, AnyRegion, AnyRelease, nature}
-use Rattle.machine_laws.proofs.FinestMoves.{AllMoves, TockChanges, Anyhow, finest, begun, setting_moves, mark_openings, own_regions, action_ends}
+use Rattle.machine_laws.proofs.FinestMoves.{AllMoves, TockChanges, Anyhow, finest, begun, setting_moves, mark_openings, own_regions, action_ends, effect-leads}
 use Rattle.machine_laws.proofs.ReachedLemmas.{Lasts, reached-lasts}
-use Rattle.machine_laws.proofs.Kept.Combinators.{Leads, settles-leads}
 use Rattle.machine_laws.proofs.Kept.Instant.{instant-leads}
 use Rattle.machine_laws.proofs.Kept.Run.{before_tick, tock-parts, opens-keeps, before_tick-leads}
 use Rattle.world_laws.proofs.Sequences.FineMoves.{Behind, BehindMove}
+use Rattle.machine_laws.proofs.Kept.Combinators.{Leads}
 
 -- the fact holds of the world behind
 
@@ -64,7 +64,7 @@ module _ {G : GoodWorld} (fact : KeepsFact G) where
   lasts : Lasts G
   unfolding Leads
   lasts = record {
-    at_opening = λ p script. settles-leads all.fine p (opens p) (opens-keeps all p) (blank_world p script) (fact.at_first p script);
+    at_opening = λ p script. effect-leads all.fine p (opens p) (opens-keeps all p) (blank_world p script) (fact.at_first p script);
     at_instant = λ p w good. instant-leads all p (puts p) w good;
     at_tock = λ p w good. subst (λ (a : World × List Event). G a.0) (sym (tock-parts p w)) (fact.ticks (choose w) (before_tick p (choose w) w).0 (before_tick-leads all tocks p (choose w) w good));
   }

@@ -48,10 +48,10 @@ use Rattle.profile_machine.specs.declared.world.lines.Said.{Said}
 use Rattle.profile_machine.specs.declared.world.lines.Line.{Line}
 use Rattle.profile_machine.specs.declared.world.lines.Line.TheVariants as said
 use Rattle.profile_machine.specs.Words.{edit_at}
-use Rattle.profile_machine.specs.Steps.{placed_by}
+use Rattle.profile_machine.specs.Steps.{placed_by, Step, says, settles}
 use Rattle.profile_machine.specs.Tasks.{edit_task, with_state, waiting_of}
 use Rattle.profile_machine.specs.Dispatching.{word_of}
-use Rattle.profile_machine.specs.Frames.{frames_of, top_of, edit_top, new_frame, push, pop, goes_on, in_protected}
+use Rattle.profile_machine.specs.Frames.{frames_of, top_of, edit_top, new_frame, push, pop, in_protected}
 use Rattle.profile_machine.specs.Scopes.{edit_cells, begin_scope, open_scope, end_scope}
 use Rattle.profile_machine.specs.Appointments.{appoint, drop_appointment}
 use Rattle.profile_machine.specs.Calls.{edit_call, forget_call, edit_object}
@@ -72,6 +72,8 @@ use Rattle.profile_machine.specs.Run.{with_serving}
 use Rattle.machine_laws.proofs.Moves.{StepRelation, MoveRelation, LetsIn, FindsHeld, own, lines_of}
 use Rattle.machine_laws.proofs.FineMoves.{AnyRegion, Anybody, EachIs, GoodWorld, Naming, is_abortable, ready_line, gone_on}
 use Rattle.line_laws.proofs.Leaving.FineMoves.{is_apart}
+use Rattle.machine_laws.proofs.Chains.{Chains, MoveChains}
+use Rattle.machine_laws.proofs.Kept.Combinators.{Keeps, Leads, said-keeps, settles-leads}
 
 -- ---- lines that are said only together with what they tell
 
@@ -214,3 +216,17 @@ pub record RegionMoves (G : GoodWorld) (R : StepRelation) (Q : MoveRelation) : T
 pub record TockMoves (G : GoodWorld) (Q : MoveRelation) : Type 0 where
   pub tells : (event : Event) (w : World) → G w → is_of_tock event ≡ true → Q w (event ∷ []) w
   pub serves : (r : Release) (rest : List Release) (w : World) → G w → w.releases ≡ r ∷ rest → Q w [] (with_serving r rest w)
+
+-- steps and moves are put together, a line that tells no change is said, and an effect is over
+module _ {G : GoodWorld} {May Other : Naming} {R : StepRelation} {Q : MoveRelation} (moves : FineMoves G May Other R Q) where
+  pub chains : Chains G R
+  chains = record { behind = moves.behind; stays = moves.stays; goes_on = moves.goes_on }
+
+  pub move_chains : MoveChains G Q
+  move_chains = record { moved = moves.moved; leads_on = moves.leads_on }
+
+  pub says-keeps : (part : Part) (line : Line) → is_apart line ≡ false → Keeps G R (says part line)
+  says-keeps part line other = said-keeps chains part line (λ w good. moves.says part line w good other)
+
+  pub effect-leads : (p : Image) (step : Step) → Keeps G R step → Leads G Q (settles p step)
+  effect-leads p step kept = settles-leads Q p (moves.settles p) G step kept

@@ -18,14 +18,13 @@ use Rattle.machine_laws.specs.Reached.{Comes, opened, ticked, Reached, before, b
 use Rattle.line_laws.proofs.Leaving.WakingRuns.{comes-awake}
 use Rattle.line_laws.specs.ExitLaws.{IsRunnerFree}
 use Rattle.world_laws.proofs.Marks.MarkFacts.{GoodMarks}
-use Rattle.world_laws.proofs.Marks.Kept.Combinators.{settles-from}
 use Rattle.world_laws.proofs.Marks.Kept.Instant.{HasRunnerBegun, instant-leads}
 use Rattle.world_laws.proofs.Marks.Kept.Run.{before_tick-leads, opens-from}
-use Rattle.world_laws.proofs.Marks.MarkMoves.{moves, tock_moves}
+use Rattle.world_laws.proofs.Marks.MarkMoves.{GoodBehind, moves, tock_moves}
 use Rattle.world_laws.proofs.Scopes.Runs.{told-lines}
-use Rattle.machine_laws.proofs.Kept.Combinators.{Leads}
 use Rattle.machine_laws.proofs.Kept.Run.{tock-parts}
 use Rattle.line_laws.proofs.Exits.AwakeRuns.{awake-free}
+use Rattle.machine_laws.proofs.Kept.Combinators.{Leads, settles-from}
 
 -- ---- who acts waits for no entry call
 
@@ -58,7 +57,7 @@ blank-good p script = record {
 }
 
 opening-good : (p : Image) (script : List (ℤ × Item)) → GoodMarks (opening p script).0
-opening-good p script = settles-from moves.fine p (opens p) (blank_world p script) (opens-from moves p (blank_world p script) (blank-good p script) (λ d. refl))
+opening-good p script = settles-from GoodBehind p (moves.fine.settles p) (opens p) (blank_world p script) (opens-from moves p (blank_world p script) (blank-good p script) (λ d. refl))
 
 instant-good : (p : Image) (w : World) → IsRunnerFree w → HasRunnerBegun w → GoodMarks w → GoodMarks (instant p w).0
 instant-good p w free begun good = instant-leads moves p (record { puts = λ name number pieces text v x g is e. moves.fine.stays x g }) w good free begun

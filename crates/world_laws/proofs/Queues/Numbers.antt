@@ -12,14 +12,14 @@ use Rattle.profile_machine.specs.Dispatching.{choose}
 use Rattle.profile_machine.specs.Run.{opens, blank_world}
 use Rattle.machine_laws.specs.NumberLaws.{calls_fall}
 use Rattle.machine_laws.specs.Reached.{Reached}
-use Rattle.machine_laws.proofs.FinestMoves.{all_of, tocks_of}
+use Rattle.machine_laws.proofs.FinestMoves.{all_of, tocks_of, effect-leads}
 use Rattle.machine_laws.proofs.ListLemmas.{Falls, Falls-without, Falls-edit_where, Falls-adjacent}
 use Rattle.machine_laws.proofs.ReachedLemmas.{Lasts, reached-lasts}
 use Rattle.machine_laws.proofs.Moves.{Moves, TockMoves}
-use Rattle.machine_laws.proofs.Kept.Combinators.{Leads, settles-leads}
 use Rattle.machine_laws.proofs.Kept.Instant.{instant-leads}
 use Rattle.machine_laws.proofs.Kept.Run.{tock-parts, before_tick-leads, opens-keeps}
 use Rattle.machine_laws.proofs.NumberLemmas.{call_number}
+use Rattle.machine_laws.proofs.Kept.Combinators.{Leads}
 
 abbrev Numbered : World → Type 0
 Numbered w = Falls call_number (suc w.drawn.calls) w.calls
@@ -92,7 +92,7 @@ tocks_stay_numbered = record {
 numbered-lasts : Lasts Numbered
 unfolding Leads
 numbered-lasts = record {
-  at_opening = λ p script. settles-leads (all_of stays_numbered).fine p (opens p) (opens-keeps (all_of stays_numbered) p) (blank_world p script) tt tt;
+  at_opening = λ p script. effect-leads (all_of stays_numbered).fine p (opens p) (opens-keeps (all_of stays_numbered) p) (blank_world p script) tt tt;
   at_instant = λ p w h. instant-leads (all_of stays_numbered) p (record { puts = λ name s pieces text v w good is e k. k }) w tt h;
   at_tock = λ p w h. subst (λ a. Numbered a.0) (sym (tock-parts p w)) (before_tick-leads (all_of stays_numbered) (tocks_of tocks_stay_numbered) p (choose w) w tt h);
 }

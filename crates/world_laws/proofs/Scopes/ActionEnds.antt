@@ -38,7 +38,7 @@ use Rattle.profile_machine.specs.Protected.{begin_call, body_opens, edit_top_pro
 use Rattle.profile_machine.specs.Sending.{send_on}
 use Rattle.profile_machine.specs.Values.{object_of}
 use Rattle.profile_machine.specs.Serving.{begins_part, behind_action, chosen_is_sent, close_action, end_entry_body, end_in_protected, end_in_protected_by, end_operation, finish_call, finish_raised, finish_well, go_on_by_mode, is_own_call, no_longer_serves, not_left, outcome_by, part_of_start, release_object, serve_calls, serve_chosen, serve_next, settle_sent, with_body_left}
-use Rattle.world_laws.proofs.Scopes.FineMoves.{Live, natures}
+use Rattle.world_laws.proofs.Scopes.FineMoves.{Live, natures, chains, says-keeps}
 use Rattle.world_laws.proofs.Scopes.ScopeKeys.{scope_keys}
 use Rattle.world_laws.proofs.Scopes.TaskMarks.{opened-owns, owns_in, shielded}
 use Rattle.world_laws.proofs.Scopes.Likeness.{Same, like_at}
@@ -48,7 +48,6 @@ use Rattle.world_laws.proofs.Scopes.GoodWorlds.{Good, GoodWorld, marks-good, nob
 use Rattle.world_laws.proofs.Scopes.ScopeSteps.{There, there-is, popped-put, put-live, top-there}
 use Rattle.world_laws.proofs.Scopes.ActingMoves.{ActingWorld, Led, acting, acting-lifts, openings}
 use Rattle.world_laws.proofs.Scopes.Lifting.{StepOf, quietly_then-from}
-use Rattle.world_laws.proofs.Scopes.Kept.Combinators.{Keeps, From, changes-keeps, changes_then-from, either-from, keeps-from, looks_at-from, nothing-keeps, says-keeps, then-keeps}
 use Rattle.world_laws.proofs.Scopes.Kept.Frames.{edit_top-alters}
 use Rattle.world_laws.proofs.Scopes.Kept.Inheritance.{lose_running-keeps}
 use Rattle.world_laws.proofs.Scopes.Kept.Priorities.{set_deferred-keeps}
@@ -59,6 +58,7 @@ use Rattle.world_laws.proofs.Scopes.Kept.Sending.{send_on-keeps}
 use Rattle.world_laws.proofs.Scopes.Kept.Serving.{begins_part-keeps, behind_action-keeps, close_action-alters, settle_sent-keeps}
 use Rattle.machine_laws.proofs.FineMoves.{AnyWorld}
 use Rattle.line_laws.proofs.Exits.TaskEdits.{one_of-is}
+use Rattle.machine_laws.proofs.Kept.Combinators.{From, Keeps, changes-keeps, changes_then-from, either-from, keeps-from, looks_at-from, nothing-keeps, then-keeps}
 
 -- ---- the mark of an action above all scopes
 
@@ -141,10 +141,10 @@ module _ (p : Image) (me : Who) where
   release_object-from m w good h =
       step_then (says Own (line.Exit me m.object)) _ w good h (says-keeps quiet Own (line.Exit me m.object)) (λ v good_v k.
       let out = pop-led me v good_v k in
-      changes_then-from (acting me) (pop me) _ v out (keeps-from (acting me) (changes (close_action me m.object) ▷ lose_running p me (inherited_by.Ceiling m.object) ▷ set_deferred p me ▷ behind_action p me m m.release m.own_call) (pop me v) (out.good, out.live)
-      (then-keeps (acting me) _ _ (changes-keeps (acting me) _ (close_action-alters (acting me) me m.object))
-      (then-keeps (acting me) _ _ (lose_running-keeps (acting me) p me (inherited_by.Ceiling m.object) tt)
-      (then-keeps (acting me) _ _ (set_deferred-keeps (acting me) p me tt) (behind_action-keeps (acting me) p me m m.release m.own_call))))))
+      changes_then-from (chains (acting me)) (pop me) _ v out (keeps-from (chains (acting me)) (changes (close_action me m.object) ▷ lose_running p me (inherited_by.Ceiling m.object) ▷ set_deferred p me ▷ behind_action p me m m.release m.own_call) (pop me v) (out.good, out.live)
+      (then-keeps (chains (acting me)) _ _ (changes-keeps (chains (acting me)) _ (close_action-alters (acting me) me m.object))
+      (then-keeps (chains (acting me)) _ _ (lose_running-keeps (acting me) p me (inherited_by.Ceiling m.object) tt)
+      (then-keeps (chains (acting me)) _ _ (set_deferred-keeps (acting me) p me tt) (behind_action-keeps (acting me) p me m m.release m.own_call))))))
 
   -- queued calls are served, and then the object is released
   module _ (m : ProtectedMark) where
@@ -154,23 +154,23 @@ module _ (p : Image) (me : Who) where
         let part = part_of_start is_sent in
         let otherwise = deliver p part c (call_ended.ToRaise exception.Storage) ▷ again in
         let by_room = λ (b : Bool). elim b as (λ _. Step) [ true ↦ body_opens p me m.object d ▷ begins_part p is_sent c | false ↦ says part (line.Finish me d.number (meeting.Raised exception.Storage)) ▷ otherwise ] in
-        looks_at-from (acting me) (λ v. begin_call p part me d ▷ by_room (has_room_for_body p v me d.entry)) w
+        looks_at-from (chains (acting me)) (λ v. begin_call p part me d ▷ by_room (has_room_for_body p v me d.entry)) w
         (step_then (begin_call p part me d) (by_room (has_room_for_body p w me d.entry)) w good h (begin_call-keeps quiet p part me d)
-        (λ v g k. either-from (acting me) (has_room_for_body p w me d.entry) (body_opens p me m.object d ▷ begins_part p is_sent c) (says part (line.Finish me d.number (meeting.Raised exception.Storage)) ▷ otherwise) v
-        (keeps-from (acting me) _ v g (then-keeps (acting me) _ _ (body_opens-keeps (acting me) (openings me) p me m.object d refl) (begins_part-keeps (acting me) p is_sent c)))
+        (λ v g k. either-from (chains (acting me)) (has_room_for_body p w me d.entry) (body_opens p me m.object d ▷ begins_part p is_sent c) (says part (line.Finish me d.number (meeting.Raised exception.Storage)) ▷ otherwise) v
+        (keeps-from (chains (acting me)) _ v g (then-keeps (chains (acting me)) _ _ (body_opens-keeps (acting me) (openings me) p me m.object d refl) (begins_part-keeps (acting me) p is_sent c)))
         (step_then (says part (line.Finish me d.number (meeting.Raised exception.Storage))) otherwise v g k (says-keeps quiet part (line.Finish me d.number (meeting.Raised exception.Storage)))
         (λ u g_u l. step_then (deliver p part c (call_ended.ToRaise exception.Storage)) again u g_u l (deliver-keeps quiet p part c (call_ended.ToRaise exception.Storage)) onward))))
 
     found-from : (is_sent : Bool) (c : CallNo) (again : Step) (found : Option Call) (w : World) → ((v : World) → ActingWorld me v → Shielded me v → From (StepOf (Led me)) v again) → ActingWorld me w → Shielded me w
         → From (StepOf (Led me)) w (for_some found (λ d. serve_call p (part_of_start is_sent) me m.object d (begins_part p is_sent c) (deliver p (part_of_start is_sent) c (call_ended.ToRaise exception.Storage) ▷ again)))
-    found-from is_sent c again None w onward good h = keeps-from (acting me) _ w good (nothing-keeps (acting me))
+    found-from is_sent c again None w onward good h = keeps-from (chains (acting me)) _ w good (nothing-keeps (chains (acting me)))
     found-from is_sent c again (Some d) w onward good h = served-from is_sent c d again w onward good h
 
     serve_chosen-from : (is_sent : Bool) (again : Step) (chosen : Option CallNo) (w : World) → ((v : World) → ActingWorld me v → Shielded me v → From (StepOf (Led me)) v again) → ActingWorld me w → Shielded me w
         → From (StepOf (Led me)) w (serve_chosen p me m is_sent again chosen)
     serve_chosen-from is_sent again None w onward good h = release_object-from m w good h
     serve_chosen-from is_sent again (Some c) w onward good h =
-        looks_at-from (acting me) (λ v. for_some (call_of v c) (λ d. serve_call p (part_of_start is_sent) me m.object d (begins_part p is_sent c) (deliver p (part_of_start is_sent) c (call_ended.ToRaise exception.Storage) ▷ again))) w
+        looks_at-from (chains (acting me)) (λ v. for_some (call_of v c) (λ d. serve_call p (part_of_start is_sent) me m.object d (begins_part p is_sent c) (deliver p (part_of_start is_sent) c (call_ended.ToRaise exception.Storage) ▷ again))) w
         (found-from is_sent c again (call_of w c) w onward good h)
 
     serve_next-from : (fuel : ℕ) (sent : Option CallNo) (w : World) → ActingWorld me w → Shielded me w → From (StepOf (Led me)) w (serve_next fuel p me m sent)
@@ -178,13 +178,13 @@ module _ (p : Image) (me : Who) where
     serve_next-from zero sent w good h = release_object-from m w good h
     serve_next-from (suc fuel) sent w good h =
         let chosen = λ (v : World). served_next p v me (object_of v m.object) in
-        looks_at-from (acting me) (λ v. settle_sent p sent (chosen_is_sent sent (chosen v)) ▷ serve_chosen p me m (chosen_is_sent sent (chosen v)) (serve_next fuel p me m None) (chosen v)) w
+        looks_at-from (chains (acting me)) (λ v. settle_sent p sent (chosen_is_sent sent (chosen v)) ▷ serve_chosen p me m (chosen_is_sent sent (chosen v)) (serve_next fuel p me m None) (chosen v)) w
         (step_then (settle_sent p sent (chosen_is_sent sent (chosen w))) _ w good h (settle_sent-keeps quiet p sent (chosen_is_sent sent (chosen w)))
         (λ v g k. serve_chosen-from (chosen_is_sent sent (chosen w)) (serve_next fuel p me m None) (chosen w) v (λ u g_u l. serve_next-from fuel None u g_u l) g k))
 
     serve_calls-from : (sent : Option CallNo) (w : World) → ActingWorld me w → Shielded me w → From (StepOf (Led me)) w (serve_calls p me m sent)
     unfolding serve_calls
-    serve_calls-from sent w good h = looks_at-from (acting me) (λ v. serve_next (suc (length v.calls)) p me m sent) w (serve_next-from (suc (length w.calls)) sent w good h)
+    serve_calls-from sent w good h = looks_at-from (chains (acting me)) (λ v. serve_next (suc (length v.calls)) p me m sent) w (serve_next-from (suc (length w.calls)) sent w good h)
 
     by_mode-from : (mode : Mode) (w : World) → ActingWorld me w → Shielded me w → From (StepOf (Led me)) w (go_on_by_mode p me m mode)
     unfolding go_on_by_mode
@@ -218,22 +218,22 @@ module _ (p : Image) (me : Who) where
     finish_call-from how.Terminate c w good h = well-from c c.sending w good h
 
     called-from : (leaving : Leaving) (found : Option Call) (w : World) → ActingWorld me w → Shielded me w → From (StepOf (Led me)) w (for_some found (finish_call p me m leaving))
-    called-from leaving None w good h = keeps-from (acting me) _ w good (nothing-keeps (acting me))
+    called-from leaving None w good h = keeps-from (chains (acting me)) _ w good (nothing-keeps (chains (acting me)))
     called-from leaving (Some c) w good h = finish_call-from leaving c w good h
 
   end_operation-from : (m : ProtectedMark) (leaving : Leaving) (w : World) → ActingWorld me w → Shielded me w → From (StepOf (Led me)) w (end_operation p me m leaving)
   unfolding end_operation
   end_operation-from m leaving w good h =
-      step_then (changes (edit_top_protected me (with_body_left leaving))) _ w good h (changes-keeps quiet _ (edit_top_protected-alters quiet me (with_body_left leaving)))
-      (λ v g k. step_then (changes (edit_top me not_left)) _ v g k (changes-keeps quiet _ (edit_top-alters quiet me not_left (λ x. refl)))
+      step_then (changes (edit_top_protected me (with_body_left leaving))) _ w good h (changes-keeps (chains quiet) _ (edit_top_protected-alters quiet me (with_body_left leaving)))
+      (λ v g k. step_then (changes (edit_top me not_left)) _ v g k (changes-keeps (chains quiet) _ (edit_top-alters quiet me not_left (λ x. refl)))
       (λ u g_u l. by_mode-from (with_body_left leaving m) m.mode u g_u l))
 
   end_entry_body-from : (m : ProtectedMark) (leaving : Leaving) (c : CallNo) (w : World) → ActingWorld me w → Shielded me w → From (StepOf (Led me)) w (end_entry_body p me m leaving c)
   unfolding end_entry_body
   end_entry_body-from m leaving c w good h =
-      step_then (changes (edit_top_protected me no_longer_serves)) _ w good h (changes-keeps quiet _ (edit_top_protected-alters quiet me no_longer_serves))
-      (λ v g k. step_then (changes (edit_top me not_left)) _ v g k (changes-keeps quiet _ (edit_top-alters quiet me not_left (λ x. refl)))
-      (λ u g_u l. looks_at-from (acting me) (λ x. for_some (call_of x c) (finish_call p me (no_longer_serves m) leaving)) u (called-from (no_longer_serves m) leaving (call_of u c) u g_u l)))
+      step_then (changes (edit_top_protected me no_longer_serves)) _ w good h (changes-keeps (chains quiet) _ (edit_top_protected-alters quiet me no_longer_serves))
+      (λ v g k. step_then (changes (edit_top me not_left)) _ v g k (changes-keeps (chains quiet) _ (edit_top-alters quiet me not_left (λ x. refl)))
+      (λ u g_u l. looks_at-from (chains (acting me)) (λ x. for_some (call_of x c) (finish_call p me (no_longer_serves m) leaving)) u (called-from (no_longer_serves m) leaving (call_of u c) u g_u l)))
 
   by_serves-from : (m : ProtectedMark) (leaving : Leaving) (c : Option CallNo) (w : World) → ActingWorld me w → Shielded me w → From (StepOf (Led me)) w (end_in_protected_by p me m leaving c)
   unfolding end_in_protected_by

@@ -39,10 +39,10 @@ use Rattle.profile_machine.specs.declared.world.lines.Said.{Said}
 use Rattle.profile_machine.specs.declared.world.lines.Line.{Line}
 use Rattle.profile_machine.specs.declared.world.lines.Line.TheVariants as said
 use Rattle.profile_machine.specs.Words.{edit_at}
-use Rattle.profile_machine.specs.Steps.{placed_by}
+use Rattle.profile_machine.specs.Steps.{placed_by, Step, says, settles}
 use Rattle.profile_machine.specs.Tasks.{task_of, edit_task, with_state, with_frames, waiting_of, is_made}
 use Rattle.profile_machine.specs.Dispatching.{word_of}
-use Rattle.profile_machine.specs.Frames.{top_of, push, pop, goes_on, is_protected}
+use Rattle.profile_machine.specs.Frames.{top_of, push, pop, is_protected}
 use Rattle.profile_machine.specs.Scopes.{id_in, edit_cells, open_scope}
 use Rattle.profile_machine.specs.Appointments.{appoint, drop_appointment}
 use Rattle.profile_machine.specs.Calls.{edit_call, forget_call, edit_object}
@@ -56,8 +56,10 @@ use Rattle.profile_machine.specs.Tasking.{add_task, end_environment, is_task_sco
 use Rattle.profile_machine.specs.Serving.{close_action, serves_nothing}
 use Rattle.profile_machine.specs.Handlers.{add_release, clear_timer, with_timer_set, edit_budget}
 use Rattle.profile_machine.specs.Instant.{with_port, with_masked, with_kept_interrupt, with_script}
-use Rattle.machine_laws.proofs.Moves.{StepRelation, MoveRelation}
+use Rattle.machine_laws.proofs.Moves.{StepRelation, MoveRelation, lines_of}
 use Rattle.machine_laws.proofs.FineMoves.{EachIs, GoodWorld, Naming, ready_line, gone_on}
+use Rattle.machine_laws.proofs.Chains.{Chains, MoveChains}
+use Rattle.machine_laws.proofs.Kept.Combinators.{Keeps, Leads, said-keeps, settles-leads}
 
 -- ---- what a mark is, whatever is edited in it: its scope, whether that is a task's own, and whether it is a protected action
 
@@ -164,3 +166,17 @@ pub record Openings (G : GoodWorld) (Acts : Naming) (R : StepRelation) : Type 0 
   pub acts_live : (name : Who) (w : World) → G w → Acts name → Live name w
   pub still_live : (name : Who) (a b : World) {xs : List Said} → R a xs b → Live name a → Live name b
   pub adds_task : (name : Who) (onward : Option StatementNo) (t : Task) (w : World) → G w → t.who ≡ who.Task (record { 0 = w.drawn.tasks }) → t.frames ≡ [] → R w [] (add_task t (gone_on name onward w))
+
+-- steps and moves are put together, a line that tells no change is said, and an effect is over
+module _ {G : GoodWorld} {May Other : Naming} {R : StepRelation} {Q : MoveRelation} (moves : FineMoves G May Other R Q) where
+  pub chains : Chains G R
+  chains = record { behind = moves.behind; stays = moves.stays; goes_on = moves.goes_on }
+
+  pub move_chains : MoveChains G Q
+  move_chains = record { moved = moves.moved; leads_on = moves.leads_on }
+
+  pub says-keeps : (part : Part) (line : Line) → Keeps G R (says part line)
+  says-keeps part line = said-keeps chains part line (λ w good. moves.says part line w good)
+
+  pub effect-leads : (p : Image) (step : Step) → Keeps G R step → Leads G Q (settles p step)
+  effect-leads p step kept = settles-leads Q p (λ a b xs k. moves.settles a b xs (lines_of p xs) k) G step kept

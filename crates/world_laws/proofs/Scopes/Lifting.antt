@@ -1,16 +1,16 @@
 -- A relation that stands between good worlds wherever they are alike keeps all changes that leave a world alike: so do the relations
 -- of what one task does.
-use Rattle.std.proofs.Common.{List, []}
+use Rattle.std.proofs.Common.{List, [], ◌++◌, ap, ◌∙◌, append_assoc}
 use Rattle.trace_text.specs.declared.events.Event.{Event}
 use Rattle.profile_machine.specs.declared.world.World.{World}
 use Rattle.profile_machine.specs.declared.world.lines.Said.{Said}
 use Rattle.profile_machine.specs.Steps.{Step, Done, done, goes_on_with, placed_by, ◌▷◌}
 use Rattle.machine_laws.proofs.Moves.{StepRelation, MoveRelation}
-use Rattle.world_laws.proofs.Scopes.FineMoves.{FineMoves}
+use Rattle.world_laws.proofs.Scopes.FineMoves.{FineMoves, chains}
 use Rattle.world_laws.proofs.Scopes.Likeness.{Same}
 use Rattle.world_laws.proofs.Scopes.QuietMoves.{SameStep, quiet, same-self}
-use Rattle.world_laws.proofs.Scopes.Kept.Combinators.{Kept, Keeps, From, then-kept}
 use Rattle.machine_laws.proofs.FineMoves.{AnyWorld, Anybody, GoodWorld, each-anybody}
+use Rattle.machine_laws.proofs.Kept.Combinators.{From, Keeps, Kept, then-kept}
 
 -- a relation of worlds, of steps and of moves, whatever they say
 abbrev pub WorldRelation : Type 1
@@ -87,38 +87,35 @@ module _ {G : GoodWorld} {M : WorldRelation} (lifts : Lifts G M) where
   }
 
   -- a step that leaves a world alike, and a step from the world to which it has led
-  quiet-same : (w v : World) (said ys : List Said) → Kept SameStep w said (done v ys) → Same w v
+  quiet-kept : (w : World) (said : List Said) (d : Done) → G w → Kept SameStep w said d → Kept (StepOf M) w said d
   unfolding Kept
-  quiet-same w v said ys k = k.1
+  quiet-kept w said (done v ys) good k = (k.0, k.1, lifts.lift w v good k.2)
 
-  quiet-kept : (w v : World) (said ys : List Said) → G w → Same w v → Kept (StepOf M) w said (done v ys)
+  kept-same : (w v : World) (said ys : List Said) → Kept SameStep w said (done v ys) → Same w v
   unfolding Kept
-  quiet-kept w v said ys good same = ([], lifts.lift w v good same)
+  kept-same w v said ys k = k.2
 
   quietly-kept : (g : Step) (w : World) (said : List Said) (d : Done) → G w → Kept SameStep w said d → ((v : World) → Same w v → G v → From (StepOf M) v g) → Kept (StepOf M) w said (goes_on_with g d)
   unfolding From
   quietly-kept g w said (done v ys) good k next =
-      let same = quiet-same w v said ys k in
-      then-kept lifted w v said ys (g v ys) (quiet-kept w v said ys good same) (next v same (lifts.behind w v (lifts.lift w v good same)) ys)
+      let same = kept-same w v said ys k in
+      then-kept (chains lifted) w v said ys (g v ys) (quiet-kept w said (done v ys) good k) (next v same (lifts.behind w v (lifts.lift w v good same)) ys)
 
   pub quietly_then-from : (f g : Step) (w : World) → G w → Keeps AnyWorld SameStep f → ((v : World) → Same w v → G v → From (StepOf M) v g) → From (StepOf M) w (f ▷ g)
   unfolding Keeps From
   quietly_then-from f g w good a next said = quietly-kept g w said (f w said) good (a w tt said) next
 
-  quiet-alone : (w : World) (said : List Said) (d : Done) → G w → Kept SameStep w said d → Kept (StepOf M) w said d
-  quiet-alone w said (done v ys) good k = quiet-kept w v said ys good (quiet-same w v said ys k)
-
   pub quietly-from : (f : Step) (w : World) → G w → Keeps AnyWorld SameStep f → From (StepOf M) w f
   unfolding Keeps From
-  quietly-from f w good a said = quiet-alone w said (f w said) good (a w tt said)
+  quietly-from f w good a said = quiet-kept w said (f w said) good (a w tt said)
 
 -- steps that are put together, each of its own relation
 module _ (M N L : WorldRelation) (joins : (a b c : World) → M a b → N b c → L a c) where
   joined-kept : (g : Step) (w : World) (said : List Said) (d : Done) → Kept (StepOf M) w said d → ((v : World) → M w v → From (StepOf N) v g) → Kept (StepOf L) w said (goes_on_with g d)
   unfolding Kept From
-  joined-kept g w said (done v ys) k next = both (g v ys) (next v k.1 ys) where
+  joined-kept g w said (done v ys) k next = both (g v ys) (next v k.2 ys) where
     both : (d : Done) → Kept (StepOf N) v ys d → Kept (StepOf L) w said d
-    both (done u zs) h = ([], joins w v u k.1 h.1)
+    both (done u zs) h = (k.0 ++ h.0, h.1 ∙ ap (λ xs. xs ++ h.0) k.1 ∙ append_assoc said k.0 h.0, joins w v u k.2 h.2)
 
   pub joined-from : (f g : Step) (w : World) → From (StepOf M) w f → ((v : World) → M w v → From (StepOf N) v g) → From (StepOf L) w (f ▷ g)
   unfolding From
@@ -127,7 +124,7 @@ module _ (M N L : WorldRelation) (joins : (a b c : World) → M a b → N b c �
 -- what one relation says, another says
 weaker-kept : (M N : WorldRelation) (w : World) (said : List Said) (d : Done) → ((v : World) → M w v → N w v) → Kept (StepOf M) w said d → Kept (StepOf N) w said d
 unfolding Kept
-weaker-kept M N w said (done v ys) k h = (h.0, k v h.1)
+weaker-kept M N w said (done v ys) k h = (h.0, h.1, k v h.2)
 
 pub weaker-from : (M N : WorldRelation) (w : World) (step : Step) → ((v : World) → M w v → N w v) → From (StepOf M) w step → From (StepOf N) w step
 unfolding From

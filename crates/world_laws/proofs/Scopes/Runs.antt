@@ -29,17 +29,18 @@ use Rattle.world_laws.proofs.Scopes.Likeness.{named}
 use Rattle.world_laws.proofs.Scopes.QuietMoves.{same-lists}
 use Rattle.world_laws.proofs.Scopes.GoodWorlds.{GoodWorld, IsNew, fresh-number, nobody_free, same-good}
 use Rattle.world_laws.proofs.Scopes.ScopeSteps.{There, opens-good}
-use Rattle.world_laws.proofs.Scopes.Lifting.{StepOf}
+use Rattle.world_laws.proofs.Scopes.Lifting.{StepOf, MoveOf}
+use Rattle.machine_laws.proofs.Moves.{lines_of}
 use Rattle.world_laws.proofs.Scopes.Effects.{ToGood, effect-from, goodly}
-use Rattle.world_laws.proofs.Scopes.Kept.Combinators.{From, changes_then-from, keeps-from, says-keeps, settles-from, then-keeps}
 use Rattle.world_laws.proofs.Scopes.Kept.Dispatching.{to_tail-keeps}
 use Rattle.world_laws.proofs.Scopes.Kept.Frames.{open_sequence-keeps}
 use Rattle.world_laws.proofs.Scopes.Kept.Instant.{behind_action-leads}
 use Rattle.world_laws.proofs.Scopes.Kept.Run.{before_tick-leads}
 use Rattle.line_laws.proofs.Exits.TaskEdits.{one_of}
 use Rattle.line_laws.proofs.Exits.OpenCounts.{bit}
-use Rattle.machine_laws.proofs.Kept.Combinators.{Leads}
 use Rattle.machine_laws.proofs.Kept.Run.{before_tick, tock-parts}
+use Rattle.world_laws.proofs.Scopes.FineMoves.{chains, says-keeps}
+use Rattle.machine_laws.proofs.Kept.Combinators.{From, Leads, changes_then-from, keeps-from, settles-from, then-keeps}
 
 -- ---- the opening
 
@@ -86,13 +87,13 @@ opens-from p script =
     let w = blank_world p script in
     let z = open_scope p environment p.environment (plainly None) opened_for.Task w in
     let out = opens-good nobody_free p environment p.environment (plainly None) opened_for.Task w (environment-there p script) (blank-good p script) (λ own. refl) (λ known. refl) in
-    changes_then-from goodly (open_scope p environment p.environment (plainly None) opened_for.Task) _ w out
-    (keeps-from goodly _ z out
-    (then-keeps goodly _ _ (says-keeps goodly Own (said_line.New (created.Task (record { 0 = 0 })) None p.main.priority))
-    (then-keeps goodly _ _ (to_tail-keeps goodly p Own environment tt) (open_sequence-keeps goodly p Own environment tt))))
+    changes_then-from (chains goodly) (open_scope p environment p.environment (plainly None) opened_for.Task) _ w out
+    (keeps-from (chains goodly) _ z out
+    (then-keeps (chains goodly) _ _ (says-keeps goodly Own (said_line.New (created.Task (record { 0 = 0 })) None p.main.priority))
+    (then-keeps (chains goodly) _ _ (to_tail-keeps goodly p Own environment tt) (open_sequence-keeps goodly p Own environment tt))))
 
 opening-good : (p : Image) (script : List (ℤ × Item)) → GoodWorld (opening p script).0
-opening-good p script = settles-from goodly p (opens p) (blank_world p script) (opens-from p script)
+opening-good p script = settles-from (MoveOf ToGood) p (λ a b xs k. goodly.settles a b xs (lines_of p xs) k) (opens p) (blank_world p script) (opens-from p script)
 
 -- ---- an instant
 
@@ -106,7 +107,7 @@ abbrev RunnerIsReady : World → Type 0
 RunnerIsReady w = (name : Who) → w.ran ≡ Some name → is_over (task_of w name).ticks_left ≡ true → is_runnable (task_of w name) ≡ true
 
 over-good : (p : Image) (name : Who) (w : World) (over : Bool) → (over ≡ true → is_runnable (task_of w name) ≡ true) → GoodWorld w → GoodWorld ((elim over as (λ _. Move) [ true ↦ settles p (effect p name) | false ↦ rests ]) w).0
-over-good p name w true ready g = settles-from goodly p (effect p name) w (effect-from p name w (g, runnable-live (task_of w name).state (ready refl)))
+over-good p name w true ready g = settles-from (MoveOf ToGood) p (λ a b xs k. goodly.settles a b xs (lines_of p xs) k) (effect p name) w (effect-from p name w (g, runnable-live (task_of w name).state (ready refl)))
 over-good p name w false ready g = g
 
 runner-good : (p : Image) (by : Option Who) (w : World) → ((name : Who) → by ≡ Some name → is_over (task_of w name).ticks_left ≡ true → is_runnable (task_of w name) ≡ true) → GoodWorld w → GoodWorld (effect_of_runner p by w).0

@@ -30,7 +30,7 @@ use Rattle.profile_machine.specs.Masters.{complete, forget_task, has_activating,
 use Rattle.profile_machine.specs.Scopes.{open_scope, plainly}
 use Rattle.profile_machine.specs.Unwinding.{strike_outermost}
 use Rattle.profile_machine.specs.Tasking.{abnormal_task, abort_all, abort_one, abort_statement, activate, activate_group, activate_one, activated_task, await_group, begin_task, being_left_mark, end_made, fail_to_begin, group_fails, is_made_in, is_to_abort, is_to_activate, leave_region, leaves_as, left_so_frame, named_tasks, no_failure, says_abort, says_done, top_region_of_scope, unit_of_task, unwind_one}
-use Rattle.world_laws.proofs.Scopes.FineMoves.{FineMoves, Live}
+use Rattle.world_laws.proofs.Scopes.FineMoves.{FineMoves, Live, chains, says-keeps}
 use Rattle.world_laws.proofs.Scopes.ScopeKeys.{scope_keys}
 use Rattle.world_laws.proofs.Scopes.TaskMarks.{marks_of}
 use Rattle.world_laws.proofs.Scopes.Likeness.{Same, same-then, edited-same}
@@ -42,7 +42,7 @@ use Rattle.world_laws.proofs.Scopes.ScopeSteps.{there-is, opens-good, opens-live
 use Rattle.world_laws.proofs.Scopes.ActingMoves.{ActingWorld, Led, NoScopes, acting, gone-good, gone-live, same-live, same-none}
 use Rattle.world_laws.proofs.Scopes.MadeTasks.{Distinct, Each, Idle, MadeIs, Present, distinct-filter, each-filter, each-on, listed-made, present-there, same-present, single-distinct}
 use Rattle.world_laws.proofs.Scopes.Lifting.{Lifts, MoveOf, StepOf, lifted, joined-from, quietly-from, quietly_then-from, weaker-from}
-use Rattle.world_laws.proofs.Scopes.Kept.Combinators.{Keeps, From, sees-keeps, changes-keeps, changes_then-from, either-from, for_each-keeps, for_some-keeps, four_then-from, keeps-from, looks-from, looks-keeps, looks_at-from, nothing-keeps, says-keeps, then-from, then-keeps}
+use Rattle.world_laws.proofs.Scopes.Kept.Combinators.{four_then-from}
 use Rattle.world_laws.proofs.Scopes.Kept.Tasks.{edit_task-alters}
 use Rattle.world_laws.proofs.Scopes.Kept.Dispatching.{keep_level-alters, to_tail-keeps}
 use Rattle.world_laws.proofs.Scopes.Kept.Frames.{edit_top-alters, given-keeps, goes-keeps, raise_if-keeps}
@@ -55,6 +55,7 @@ use Rattle.world_laws.proofs.Scopes.Kept.Act.{Groups}
 use Rattle.machine_laws.proofs.FineMoves.{Anybody}
 use Rattle.machine_laws.proofs.QueueLemmas.{by_test}
 use Rattle.line_laws.proofs.Exits.TaskEdits.{one_of-is, same_who-path}
+use Rattle.machine_laws.proofs.Kept.Combinators.{From, Keeps, changes-keeps, changes_then-from, either-from, for_each-keeps, for_some-keeps, keeps-from, looks-from, looks-keeps, looks_at-from, nothing-keeps, sees-keeps, then-from, then-keeps}
 
 -- ---- what is done with one task of some that were only made in a first world
 
@@ -133,11 +134,11 @@ unfolding terminate
 terminate-from p me actor first name w g made none apart =
     let lifts = stepped-lifts me first name in
     let moves = stepped me first name in
-    looks_at-from moves (λ v. complete p actor name ▷ changes (drop_delay name) ▷ changes (forget_task name) ▷ for_some (task_of v name).master (wake_master p actor)) w
+    looks_at-from (chains moves) (λ v. complete p actor name ▷ changes (drop_delay name) ▷ changes (forget_task name) ▷ for_some (task_of v name).master (wake_master p actor)) w
     (quietly_then-from lifts (complete p actor name) _ w g (complete-keeps quiet p actor name) (λ v same g_v.
-    quietly_then-from lifts (changes (drop_delay name)) _ v g_v (changes-keeps quiet _ (drop_delay-alters quiet name)) (λ u same_u g_u.
+    quietly_then-from lifts (changes (drop_delay name)) _ v g_v (changes-keeps (chains quiet) _ (drop_delay-alters quiet name)) (λ u same_u g_u.
     let out = forgotten me first name u g_u made (same-none v u same_u name (same-none w v same name none)) apart in
-    changes_then-from moves (forget_task name) _ u out (keeps-from moves _ (forget_task name u) (out.good, out.live) (for_some-keeps moves (task_of w name).master _ (λ r. wake_master-keeps moves p actor r))))))
+    changes_then-from (chains moves) (forget_task name) _ u out (keeps-from (chains moves) _ (forget_task name u) (out.good, out.live) (for_some-keeps (chains moves) (task_of w name).master _ (λ r. wake_master-keeps moves p actor r))))))
 
 end_made-from : (p : Image) (me actor : Who) (first : World) (t : Task) (w : World) → ActingWorld me w → IsMadeAt first t.who → Idle me t.who w → From (StepOf (Stepped me first t.who)) w (end_made p actor t)
 unfolding end_made
@@ -151,7 +152,7 @@ fail_to_begin-from p me activator first t w g made idle =
     let lifts = stepped-lifts me first t.who in
     quietly_then-from lifts (says (OfOther t.who) (line.Raise t.who exception.Storage)) _ w g (says-keeps quiet (OfOther t.who) (line.Raise t.who exception.Storage)) (λ v same g_v.
     quietly_then-from lifts (says_done (OfOther t.who) t.who) _ v g_v (says_done-keeps quiet (OfOther t.who) t.who) (λ u same_u g_u.
-    quietly_then-from lifts (changes (edit_task activator group_fails)) _ u g_u (changes-keeps quiet _ (edit_task-alters quiet activator group_fails (λ x. refl) (λ x. refl) (λ x. refl) (λ x. refl))) (λ x same_x g_x.
+    quietly_then-from lifts (changes (edit_task activator group_fails)) _ u g_u (changes-keeps (chains quiet) _ (edit_task-alters quiet activator group_fails (λ x. refl) (λ x. refl) (λ x. refl) (λ x. refl))) (λ x same_x g_x.
     terminate-from p me activator first t.who x g_x made (same-none u x same_x t.who (same-none v u same_u t.who (same-none w v same t.who idle.none))) idle.other)))
 
 -- ---- one begins
@@ -206,16 +207,16 @@ begin_task-from p me activator first level t w g idle =
     let moves = stepped me first n in
     let z = begun_world p activator level t w in
     let out = begun-stepped p me activator first level t w g idle in
-    looks_at-from moves (λ v. changes (open_scope p n (unit_of_task p t).scope (plainly t.outer) opened_for.Task) ▷ changes (edit_task n (activated_task activator v.time)) ▷ changes (inherit n inherited_by.Activation level) ▷ ready p (OfOther n) n) w
+    looks_at-from (chains moves) (λ v. changes (open_scope p n (unit_of_task p t).scope (plainly t.outer) opened_for.Task) ▷ changes (edit_task n (activated_task activator v.time)) ▷ changes (inherit n inherited_by.Activation level) ▷ ready p (OfOther n) n) w
     (four_then-from moves (open_scope p n (unit_of_task p t).scope (plainly t.outer) opened_for.Task) (edit_task n (activated_task activator w.time)) (inherit n inherited_by.Activation level) (edit_task n (with_state Runnable)) (changes (keep_level p n) ▷ to_tail p (OfOther n) n) w out
-    (keeps-from moves _ z (out.good, out.live) (then-keeps moves _ _ (changes-keeps moves _ (keep_level-alters moves p n)) (to_tail-keeps moves p (OfOther n) n tt))))
+    (keeps-from (chains moves) _ z (out.good, out.live) (then-keeps (chains moves) _ _ (changes-keeps (chains moves) _ (keep_level-alters moves p n)) (to_tail-keeps moves p (OfOther n) n tt))))
 
 activate_one-from : (p : Image) (me activator : Who) (first : World) (level : ℕ) (t : Task) (w : World) → ActingWorld me w → IsMadeAt first t.who → Idle me t.who w → From (StepOf (Stepped me first t.who)) w (activate_one p activator level t)
 unfolding activate_one
 activate_one-from p me activator first level t w g made idle =
     let moves = stepped me first t.who in
-    looks_at-from moves (λ v. elim (has_room v t.who 1 (scope_of p (unit_of_task p t).scope).size) as (λ _. Step) [ true ↦ begin_task p activator level t | false ↦ fail_to_begin p activator t ]) w
-    (either-from moves (has_room w t.who 1 (scope_of p (unit_of_task p t).scope).size) (begin_task p activator level t) (fail_to_begin p activator t) w
+    looks_at-from (chains moves) (λ v. elim (has_room v t.who 1 (scope_of p (unit_of_task p t).scope).size) as (λ _. Step) [ true ↦ begin_task p activator level t | false ↦ fail_to_begin p activator t ]) w
+    (either-from (chains moves) (has_room w t.who 1 (scope_of p (unit_of_task p t).scope).size) (begin_task p activator level t) (fail_to_begin p activator t) w
     (begin_task-from p me activator first level t w g idle) (fail_to_begin-from p me activator first t w g made idle))
 
 -- ---- one after the other
@@ -236,7 +237,7 @@ joined-turn me first but a b c p q = record { good = q.good; live = q.live; stil
 
 turns-from : (me : Who) (first : World) (P : Task → Type 0) (f : Task → Step) (ts : List Task) (w : World) → ((t : Task) (v : World) → P t → ActingWorld me v → Ready me first v t → From (StepOf (Stepped me first t.who)) v (f t))
     → ActingWorld me w → Distinct ts → Each P ts → Each (Ready me first w) ts → From (StepOf (Turned me first)) w (for_each ts f)
-turns-from me first P f [] w each g apart ps h = keeps-from (turned me first) _ w g (nothing-keeps (turned me first))
+turns-from me first P f [] w each g apart ps h = keeps-from (chains (turned me first)) _ w g (nothing-keeps (chains (turned me first)))
 turns-from me first P f (t ∷ ts) w each g apart ps h =
     joined-from (Stepped me first t.who) (Turned me first) (Turned me first) (joined-turn me first t.who) (f t) (for_each ts f) w (each t w ps.0 g h.0) (λ v s.
     turns-from me first P f ts v each (s.good, s.live) apart.1 ps.1 (each-ready me first t.who w v ts s apart.0 h.1))
@@ -285,26 +286,26 @@ module _ (p : Image) (me : Who) where
       let level = active_of p w me in
       let lifts = turned-lifts me w in
       quietly_then-from lifts (goes me (next_of p s)) _ w g (goes-keeps quiet me (next_of p s)) (λ v same g_v.
-      quietly_then-from lifts (changes (edit_task me no_failure)) _ v g_v (changes-keeps quiet _ (edit_task-alters quiet me no_failure (λ x. refl) (λ x. refl) (λ x. refl) (λ x. refl))) (λ u same_u g_u.
+      quietly_then-from lifts (changes (edit_task me no_failure)) _ v g_v (changes-keeps (chains quiet) _ (edit_task-alters quiet me no_failure (λ x. refl) (λ x. refl) (λ x. refl) (λ x. refl))) (λ u same_u g_u.
       turns-from me w (λ t. is_made t ≡ true) (activate_one p me level) (filter test w.tasks) u (λ t x made g_x need. let k = need made in activate_one-from p me me w level t x g_x k.0 k.1)
       g_u (distinct-listed me w test g) (made-listed me w test (λ t e. first_of_three (is_made t) (is_the same_region t.master (top_region_of_scope w me)) (eqb t.declarative_part part) e) g) (listed-same me w u test g (same-then w v u same same_u))))
 
   activate_group-keeps : (s : StatementNo) (part : ℕ) → Keeps (ActingWorld me) (StepOf (Led me)) (activate_group p me s part)
   unfolding activate_group
   activate_group-keeps s part =
-      then-keeps (acting me) _ (looks (λ w. await_group me (has_activating w me) (task_of w me).group_failed))
-      (looks-from (acting me) _ (λ w g. weaker-from (Turned me w) (Led me) w _ (λ v t. led-whole me w v t) (group-from s part w g)))
-      (looks-keeps (acting me) _ (λ w. await_group-keeps (acting me) me (has_activating w me) (task_of w me).group_failed tt))
+      then-keeps (chains (acting me)) _ (looks (λ w. await_group me (has_activating w me) (task_of w me).group_failed))
+      (looks-from (chains (acting me)) _ (λ w g. weaker-from (Turned me w) (Led me) w _ (λ v t. led-whole me w v t) (group-from s part w g)))
+      (looks-keeps (chains (acting me)) _ (λ w. await_group-keeps (acting me) me (has_activating w me) (task_of w me).group_failed tt))
 
   activate-keeps : (s : StatementNo) (part : ℕ) → Keeps (ActingWorld me) (StepOf (Led me)) (activate p me s part)
   unfolding activate
-  activate-keeps s part = looks-keeps (acting me) _ (λ w. raise_if-keeps (acting me) me (in_protected w me || is_deferred w me) exception.Program (activate_group p me s part) (activate_group-keeps s part))
+  activate-keeps s part = looks-keeps (chains (acting me)) _ (λ w. raise_if-keeps (acting me) me (in_protected w me || is_deferred w me) exception.Program (activate_group p me s part) (activate_group-keeps s part))
 
   -- ---- abort
 
   abort_cond-from : (first : World) (t : Task) (b : Bool) (w : World) → is_made t ≡ b → ActingWorld me w → Ready me first w t → From (StepOf (Stepped me first t.who)) w (cond b (end_made p me t) (changes (strike_outermost t.who)))
   abort_cond-from first t true w is g need = let k = need is in end_made-from p me me first t w g k.0 k.1
-  abort_cond-from first t false w is g need = quietly-from (stepped-lifts me first t.who) (changes (strike_outermost t.who)) w g (changes-keeps quiet _ (strike_outermost-alters quiet t.who))
+  abort_cond-from first t false w is g need = quietly-from (stepped-lifts me first t.who) (changes (strike_outermost t.who)) w g (changes-keeps (chains quiet) _ (strike_outermost-alters quiet t.who))
 
   abort_one-from : (first : World) (t : Task) (w : World) → ActingWorld me w → Ready me first w t → From (StepOf (Stepped me first t.who)) w (abort_one p me t)
   unfolding abort_one
@@ -317,36 +318,36 @@ module _ (p : Image) (me : Who) where
   abort_all-from test w g =
       let ts = filter test w.tasks in
       quietly_then-from (turned-lifts me w) (for_each ts (λ t. changes (edit_task t.who abnormal_task))) _ w g
-      (for_each-keeps quiet ts _ (λ t. changes-keeps quiet _ (edit_task-alters quiet t.who abnormal_task (λ x. refl) (λ x. refl) (λ x. refl) (λ x. refl)))) (λ v same g_v.
-      then-from (turned me w) (for_each ts (abort_one p me)) (for_each ts (unwind_one p me)) v
+      (for_each-keeps (chains quiet) ts _ (λ t. changes-keeps (chains quiet) _ (edit_task-alters quiet t.who abnormal_task (λ x. refl) (λ x. refl) (λ x. refl) (λ x. refl)))) (λ v same g_v.
+      then-from (chains (turned me w)) (for_each ts (abort_one p me)) (for_each ts (unwind_one p me)) v
       (turns-from me w (λ t. Unit {0}) (abort_one p me) ts v (λ t x u g_x need. abort_one-from w t x g_x need) g_v (distinct-listed me w test g) (any-listed ts) (listed-same me w v test g same))
-      (for_each-keeps (turned me w) ts _ (λ t. unwind_one-keeps (turned me w) p me t tt)))
+      (for_each-keeps (chains (turned me w)) ts _ (λ t. unwind_one-keeps (turned me w) p me t tt)))
 
   abort_named-keeps : (aborted : List TaskNo) → Keeps (ActingWorld me) (StepOf (Led me)) (looks (λ w. abort_all p me (filter (is_to_abort w aborted) w.tasks)))
-  abort_named-keeps aborted = looks-from (acting me) _ (λ w g. weaker-from (Turned me w) (Led me) w _ (λ v t. led-whole me w v t) (abort_all-from (is_to_abort w aborted) w g))
+  abort_named-keeps aborted = looks-from (chains (acting me)) _ (λ w g. weaker-from (Turned me w) (Led me) w _ (λ v t. led-whole me w v t) (abort_all-from (is_to_abort w aborted) w g))
 
   abort_statement-keeps : (s : StatementNo) (tasks : List DeclNo) → Keeps (ActingWorld me) (StepOf (Led me)) (abort_statement p me s tasks)
   unfolding abort_statement
   abort_statement-keeps s tasks =
-      sees-keeps (acting me) p me _ (λ q. raise_if-keeps (acting me) me (in_protected q.world me) exception.Program _
-      (given-keeps (acting me) Own me (named_tasks q tasks) _ (λ aborted. then-keeps (acting me) (goes me (next_of p s)) _ (goes-keeps (acting me) me (next_of p s)) (abort_named-keeps aborted))))
+      sees-keeps (chains (acting me)) p me _ (λ q. raise_if-keeps (acting me) me (in_protected q.world me) exception.Program _
+      (given-keeps (acting me) Own me (named_tasks q tasks) _ (λ aborted. then-keeps (chains (acting me)) (goes me (next_of p s)) _ (goes-keeps (acting me) me (next_of p s)) (abort_named-keeps aborted))))
 
   -- ---- a region begins to be left: tasks that were made there and not activated are gone
 
   made_in-keeps : (r : RegionNo) → Keeps (ActingWorld me) (StepOf (Led me)) (looks (λ w. for_each (filter (is_made_in r) w.tasks) (end_made p me)))
   made_in-keeps r =
-      looks-from (acting me) _ (λ w g. weaker-from (Turned me w) (Led me) w _ (λ v t. led-whole me w v t)
+      looks-from (chains (acting me)) _ (λ w g. weaker-from (Turned me w) (Led me) w _ (λ v t. led-whole me w v t)
       (turns-from me w (λ t. is_made t ≡ true) (end_made p me) (filter (is_made_in r) w.tasks) w (λ t x made g_x need. let k = need made in end_made-from p me me w t x g_x k.0 k.1)
       g (distinct-listed me w (is_made_in r) g) (made-listed me w (is_made_in r) (λ t e. (and_parts (is_made t) _ e).0) g) (ready-listed me w (is_made_in r) g)))
 
   pub leave_region-keeps : (m : ScopeMark) (leaving : Leaving) (r : RegionNo) → Keeps (ActingWorld me) (StepOf (Led me)) (leave_region p me m leaving r)
   unfolding leave_region
   leave_region-keeps m leaving r =
-      then-keeps (acting me) _ _ (changes-keeps (acting me) _ (edit_top_scope-alters (acting me) me being_left_mark (λ x. refl)))
-      (then-keeps (acting me) _ _ (changes-keeps (acting me) _ (edit_top-alters (acting me) me (left_so_frame leaving) (λ x. refl)))
-      (then-keeps (acting me) _ _ (says-keeps (acting me) Own (line.Leave me r (leaves_as leaving)))
-      (then-keeps (acting me) _ _ (made_in-keeps r)
-      (then-keeps (acting me) _ _ (complete_if_task-keeps (acting me) p me m.purpose tt) (wait_for_dependents-keeps (acting me) me r tt)))))
+      then-keeps (chains (acting me)) _ _ (changes-keeps (chains (acting me)) _ (edit_top_scope-alters (acting me) me being_left_mark (λ x. refl)))
+      (then-keeps (chains (acting me)) _ _ (changes-keeps (chains (acting me)) _ (edit_top-alters (acting me) me (left_so_frame leaving) (λ x. refl)))
+      (then-keeps (chains (acting me)) _ _ (says-keeps (acting me) Own (line.Leave me r (leaves_as leaving)))
+      (then-keeps (chains (acting me)) _ _ (made_in-keeps r)
+      (then-keeps (chains (acting me)) _ _ (complete_if_task-keeps (acting me) p me m.purpose tt) (wait_for_dependents-keeps (acting me) me r tt)))))
 
 -- the groups of who acts
 pub groups : (me : Who) → Groups (ActingWorld me) (λ name. name ≡ me) (StepOf (Led me))

@@ -42,7 +42,7 @@ use Rattle.profile_machine.specs.Act.{act_without, act_top, act}
 use Rattle.profile_machine.specs.Instant.{effect, is_over, effect_of_runner, finish_action, instant}
 use Rattle.profile_machine.specs.WellFormed.{begins_sequence}
 use Rattle.machine_laws.proofs.FineMoves.{GoodWorld, Nature, nature, natures, edit_task-drawn}
-use Rattle.world_laws.proofs.Sequences.FineMoves.{Fits, FineMoves, Nobody, Behind, Loosens, Again}
+use Rattle.world_laws.proofs.Sequences.FineMoves.{Fits, FineMoves, Nobody, Behind, BehindMove, Loosens, Again, chains}
 use Rattle.world_laws.proofs.Sequences.TaskEdits.{by_bool, who-same, edited-own}
 use Rattle.world_laws.proofs.Sequences.Points.{Marking, IsTask, Fine, begins, fine-edited, edited_found-calls}
 use Rattle.world_laws.proofs.Sequences.FineSteps.{fine_moves}
@@ -50,7 +50,7 @@ use Rattle.world_laws.proofs.Sequences.Loosened.{fine_loosens, fine_again, loose
 use Rattle.world_laws.proofs.Sequences.Turned.{fine-turned}
 use Rattle.world_laws.proofs.Sequences.Actors.{Rests, rests_points, nobody_free, nobody_stacks, Rooted, Standing, rooted_stacks, rooted-last, Apart, acting_points, Acts, HasActed, acts_points, Is, acts_free, task_stacks, fine-wide, acts-over, of_agent, Any, any_callings}
 use Rattle.world_laws.proofs.Sequences.ActingRuns.{KnowingWorld, ActingWorld, PlainWorld, ActedWorld, JustSo, acting_moves, quiet_moves, task_openings, agent_openings, departing, task_ending, last_ending, inner_ending, acting_loose, still, plain-begins, no-natures}
-use Rattle.world_laws.proofs.Sequences.Kept.Combinators.{Turns, then-turns, then_turn-from, turns-from, looks-turns, look-from, wide-from, wide-turns, nothing-turns, changes-turns, changes-keeps, branch-turns, says-turns, settles-from, then-keeps, said-keeps, looks-keeps, narrow-turns, changes_turn-from}
+use Rattle.world_laws.proofs.Sequences.Kept.Combinators.{Turns, then-turns, then_turn-from, turns-from, looks-turns, look-from, wide-from, wide-turns, nothing-turns, changes-turns, branch-turns, says-turns, narrow-turns, changes_turn-from}
 use Rattle.world_laws.proofs.Sequences.Kept.Woken.{opened-turns, opened_by-turns}
 use Rattle.world_laws.proofs.Sequences.Kept.Inheritance.{inherit_running-keeps}
 use Rattle.world_laws.proofs.Sequences.Kept.Protected.{opens_action-alters}
@@ -58,7 +58,7 @@ use Rattle.world_laws.proofs.Sequences.Kept.Serving.{end_in_protected-turns, end
 use Rattle.world_laws.proofs.Sequences.Kept.Tasking.{take_terminates-keeps, unwind_all-keeps}
 use Rattle.world_laws.proofs.Sequences.Kept.Act.{act_frame-from}
 use Rattle.world_laws.proofs.Sequences.Kept.Instant.{behind_action-leads}
-use Rattle.machine_laws.proofs.Kept.Combinators.{From, Leads}
+use Rattle.machine_laws.proofs.Kept.Combinators.{From, Leads, changes-keeps, looks-keeps, said-keeps, settles-from, then-keeps}
 
 top-natures : (fs : List Frame) (f : Frame) → first_of fs ≡ Some f → natures fs ≡ nature f.mark ∷ natures (rest_of fs)
 top-natures [] f e = cc
@@ -186,8 +186,8 @@ module _ {p : Image} (fits : Fits p) where
       let quiet = quiet_moves fits who.Agent (JustSo fits []) Any any_callings in
       let R = ActingWorld fits who.Agent Rooted in
       then-turns Alone Alone R (says Own (line.Enter who.Agent r.handler.object Write)) _ (says-turns Alone Own (line.Enter who.Agent r.handler.object Write))
-      (then-turns Alone Alone R (changes (open_action who.Agent r.handler.object Write)) _ (changes-keeps quiet _ (opens_action-alters quiet who.Agent r.handler.object Write))
-      (then-turns Alone Alone R (looks (λ w. inherit_running p who.Agent (inherited_by.Ceiling r.handler.object) (ceiling_of (object_of w r.handler.object)))) _ (looks-keeps quiet _ (λ w. inherit_running-keeps quiet who.Agent (inherited_by.Ceiling r.handler.object) (ceiling_of (object_of w r.handler.object))))
+      (then-turns Alone Alone R (changes (open_action who.Agent r.handler.object Write)) _ (changes-keeps (chains quiet) _ (opens_action-alters quiet who.Agent r.handler.object Write))
+      (then-turns Alone Alone R (looks (λ w. inherit_running p who.Agent (inherited_by.Ceiling r.handler.object) (ceiling_of (object_of w r.handler.object)))) _ (looks-keeps (chains quiet) _ (λ w. inherit_running-keeps quiet who.Agent (inherited_by.Ceiling r.handler.object) (ceiling_of (object_of w r.handler.object))))
       (changes-turns Alone R (push who.Agent (new_frame (new_protected_mark r.handler.object Write None (Some r.number)) None)) (λ w g. pushed_alone r w g))))
 
   begun_handler-turns : (r : Release) → Turns Alone (ActedWorld fits who.Agent) (begin_handler p r)
@@ -211,7 +211,7 @@ module _ {p : Image} (fits : Fits p) where
   held-turns r =
       let quiet = quiet_moves fits who.Agent (JustSo fits []) Any any_callings in
       wide-turns Alone Alone (ActedWorld fits who.Agent) _ (λ w g. acts-over (λ ns is. inl is) who.Agent w g)
-      (then-keeps quiet (says Own (line.Held who.Agent r.handler.object Write)) (to_tail p ThePlacing who.Agent) (said-keeps quiet Own (line.Held who.Agent r.handler.object Write) (λ w g. g)) (to_tail-keeps quiet ThePlacing who.Agent))
+      (then-keeps (chains quiet) (says Own (line.Held who.Agent r.handler.object Write)) (to_tail p ThePlacing who.Agent) (said-keeps (chains quiet) Own (line.Held who.Agent r.handler.object Write) (λ w g. g)) (to_tail-keeps quiet ThePlacing who.Agent))
 
   entered-turns : (r : Release) (is : Entering) → Turns Alone (ActedWorld fits who.Agent) (enter_handler p r is)
   unfolding enter_handler
@@ -333,7 +333,7 @@ module _ {p : Image} (fits : Fits p) where
       changes_turn-from Z (edit_task name (with_ticks None)) _ w
       (then_turn-from Y Z (act p name) _ v (acts-from name v (unticked name w (acting_first name w ready g)) (unticked-known name w known))
       (then-turns Y Z Z (open_if_ready p name) _ (open_if_ready-turns name)
-      (then-keeps resting_moves (take_terminates p name) (unwind_all p name) (take_terminates-keeps resting_moves resting_loose name) (unwind_all-keeps resting_moves resting_loose name))))
+      (then-keeps (chains resting_moves) (take_terminates p name) (unwind_all p name) (take_terminates-keeps resting_moves resting_loose name) (unwind_all-keeps resting_moves resting_loose name))))
 
   -- ---- an instant, of which who ran and whose action is over is ready
 
@@ -341,7 +341,7 @@ module _ {p : Image} (fits : Fits p) where
   RunnerReady w = (name : Who) → w.ran ≡ Some name → is_over (task_of w name).ticks_left ≡ true → is_runnable (task_of w name) ≡ true
 
   acted-by : (name : Who) (b : Bool) (w : World) → is_over (task_of w name).ticks_left ≡ b → (is_over (task_of w name).ticks_left ≡ true → is_runnable (task_of w name) ≡ true) → OwnKnown name w → RestingWorld w → RestingWorld ((elim b as (λ _. Move) [ true ↦ settles p (effect p name) | false ↦ rests ]) w).0
-  acted-by name true w is ready known g = settles-from resting_moves (effect p name) w (effect-from name w (ready is) known g)
+  acted-by name true w is ready known g = settles-from (BehindMove RestingWorld) p resting_moves.settles (effect p name) w (effect-from name w (ready is) known g)
   acted-by name false w is ready known g = g
 
   ran-by : (ran : Option Who) (w : World) → w.ran ≡ ran → RunnerReady w → ((name : Who) → OwnKnown name w) → RestingWorld w → RestingWorld (effect_of_runner p ran w).0

@@ -36,7 +36,7 @@ use Rattle.profile_machine.specs.declared.world.lines.Line.{Line}
 use Rattle.profile_machine.specs.declared.world.lines.Line.TheVariants as said
 use Rattle.profile_machine.specs.Words.{edit_at}
 use Rattle.world_tables.specs.Lists.{first_of}
-use Rattle.profile_machine.specs.Steps.{placed_by}
+use Rattle.profile_machine.specs.Steps.{placed_by, Step, says, settles}
 use Rattle.profile_machine.specs.Tasks.{edit_task, with_state, with_frames, waiting_of}
 use Rattle.profile_machine.specs.Dispatching.{word_of, without_kept_level}
 use Rattle.profile_machine.specs.Program.{form_of, scope_of, task_unit_of}
@@ -62,6 +62,8 @@ use Rattle.profile_machine.specs.declared.world.tasks.Waiting.TheVariants as wai
 use Rattle.profile_machine.specs.Sending.{abortable_in}
 use Rattle.profile_machine.specs.WellFormed.{begins_sequence}
 use Rattle.machine_laws.proofs.FineMoves.{GoodWorld, Naming, nature, natures, is_abortable, is_apart, EachIs, ready_line, gone_on}
+use Rattle.machine_laws.proofs.Chains.{Chains, MoveChains}
+use Rattle.machine_laws.proofs.Kept.Combinators.{Keeps, Leads, said-keeps, settles-leads}
 
 -- ---- what an image lets begin
 
@@ -247,3 +249,17 @@ pub record Departing (p : Image) (Other : Naming) (name : Who) (G Y : GoodWorld)
   pub rests : (w : World) → T w → Y w
   pub over_kept : (w : World) → Y w → Y (edit_task name without_kept_level w)
   pub over : (w : World) → G w → Y w
+
+-- steps and moves are put together, a line that tells no change is said, and an effect is over
+module _ {p : Image} {G : GoodWorld} {May Other : Naming} (moves : FineMoves p G May Other) where
+  pub chains : Chains G (Behind G)
+  chains = record { behind = λ a b h. h; stays = moves.stays; goes_on = λ a b c h k. k }
+
+  pub move_chains : MoveChains G (BehindMove G)
+  move_chains = record { moved = λ a b h. h; leads_on = λ a b c h k. k }
+
+  pub says-keeps : (part : Part) (line : Line) → is_apart line ≡ false → Keeps G (Behind G) (says part line)
+  says-keeps part line other = said-keeps chains part line (λ w good. moves.says part line w good other)
+
+  pub effect-leads : (step : Step) → Keeps G (Behind G) step → Leads G (BehindMove G) (settles p step)
+  effect-leads step kept = settles-leads (BehindMove G) p moves.settles G step kept

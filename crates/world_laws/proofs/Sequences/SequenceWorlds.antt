@@ -50,18 +50,18 @@ use Rattle.world_laws.proofs.Sequences.OwnCalls.{Knows}
 use Rattle.ceiling_laws.specs.RunLaws.{Tells, told_first, told_on}
 use Rattle.ceiling_laws.proofs.Places.StandingRuns.{runs_show_who_is_ready}
 use Rattle.world_laws.specs.SequenceWorlds.{form_fits, statement_fits, sequences_fit, ReachedSequencesAreOpen}
-use Rattle.world_laws.proofs.Sequences.FineMoves.{Fits, onward_in}
+use Rattle.world_laws.proofs.Sequences.FineMoves.{BehindMove, Fits, onward_in}
 use Rattle.world_laws.proofs.Sequences.TaskNames.{Listed}
 use Rattle.world_laws.proofs.Sequences.Points.{Fine, begins, fine-plain, fine-edited}
 use Rattle.world_laws.proofs.Sequences.FineSteps.{fine_opens, listed_is}
 use Rattle.world_laws.proofs.Sequences.Loosened.{points-loosened, free-loosened, stacks-loosened, loosened, loosening, fine_loosens}
 use Rattle.world_laws.proofs.Sequences.Actors.{Rests, rests_points, nobody_free, nobody_stacks, Standing, must, Any, any_callings}
 use Rattle.world_laws.proofs.Sequences.Effects.{RestingWorld, resting_moves, resting_loose, RunnerReady, OwnKnown, instant-rests}
-use Rattle.world_laws.proofs.Sequences.Kept.Combinators.{Turns, then-turns, changes-turns, says-turns, settles-from, turns-from}
+use Rattle.world_laws.proofs.Sequences.Kept.Combinators.{Turns, then-turns, changes-turns, says-turns, turns-from}
 use Rattle.world_laws.proofs.Sequences.Kept.Dispatching.{to_tail-keeps}
 use Rattle.world_laws.proofs.Sequences.Kept.Handlers.{charge-alters}
 use Rattle.world_laws.proofs.Sequences.Kept.Woken.{opened-turns}
-use Rattle.machine_laws.proofs.Kept.Combinators.{Alters}
+use Rattle.machine_laws.proofs.Kept.Combinators.{Alters, settles-from}
 
 -- ---- what the image lets begin
 
@@ -119,7 +119,7 @@ module _ (p : Image) (fit : sequences_fit p ≡ true) where
       (then-turns l.Loose l.Loose Z (to_tail p Own environment) (open_sequence p Own environment) (to_tail-keeps l.moves Own environment) (opened-turns (resting_moves fits) (resting_loose fits) Own environment tt)))
 
   opening_rests : (script : List (ℤ × Item)) → RestingWorld fits (opening p script).0
-  opening_rests script = settles-from (resting_moves fits) (opens p) (blank_world p script) (turns-from (RestingWorld fits) (RestingWorld fits) (opens p) (blank_world p script) (blank_rests script) opens-turns)
+  opening_rests script = settles-from (BehindMove (RestingWorld fits)) p (resting_moves fits).settles (opens p) (blank_world p script) (turns-from (RestingWorld fits) (RestingWorld fits) (opens p) (blank_world p script) (blank_rests script) opens-turns)
 
   -- ---- tocks
 

@@ -27,8 +27,7 @@ use Rattle.profile_machine.specs.Dispatching.{block}
 use Rattle.profile_machine.specs.declared.world.lines.Part.TheVariants.{TheBlock}
 use Rattle.profile_machine.specs.declared.world.tasks.Waiting.TheVariants as waits_for
 use Rattle.machine_laws.proofs.Moves.{StepRelation, MoveRelation, Puts}
-use Rattle.line_laws.proofs.Leaving.FineMoves.{FineMoves, nature}
-use Rattle.line_laws.proofs.Leaving.Kept.Combinators.{changes-keeps, looks-keeps, nothing-keeps, sees-keeps, then-keeps, unchanged-alters}
+use Rattle.line_laws.proofs.Leaving.FineMoves.{FineMoves, nature, chains}
 use Rattle.line_laws.proofs.Leaving.Kept.Dispatching.{block-keeps}
 use Rattle.line_laws.proofs.Leaving.Kept.Frames.{edit_top-alters, goes-keeps, raises-keeps, pass_on-keeps, with_room-keeps}
 use Rattle.line_laws.proofs.Leaving.Kept.Scopes.{open_scope-alters}
@@ -46,7 +45,7 @@ use Rattle.line_laws.proofs.Leaving.Kept.Handlers.{set_event-keeps, cancel_event
 use Rattle.line_laws.proofs.Leaving.Kept.CallEnds.{abortable-nature}
 use Rattle.profile_machine.specs.CallEnds.{edit_abortable}
 use Rattle.machine_laws.proofs.FineMoves.{GoodWorld, Naming}
-use Rattle.machine_laws.proofs.Kept.Combinators.{Alters, Keeps}
+use Rattle.machine_laws.proofs.Kept.Combinators.{Alters, Keeps, changes-keeps, looks-keeps, nothing-keeps, sees-keeps, then-keeps, unchanged-alters}
 
 -- a mark that keeps an exception is what it was
 keeping-nature : (e : Raised) (mark : Mark) → nature (keeping e mark) ≡ nature mark
@@ -69,12 +68,12 @@ module _ {G : GoodWorld} {May Acts Pushes : Naming} {Stops : Type 0} {R : StepRe
   pub handle_or_pass-keeps : (p : Image) (name : Who) (e : Raised) (next : Option StatementNo) → May name → Keeps G R (handle_or_pass p name e next)
   unfolding handle_or_pass
   handle_or_pass-keeps p name e None may = search (pass_on-keeps)
-  handle_or_pass-keeps p name e (Some first) may = then-keeps moves (changes (edit_top name (λ f. with_mark (keeping e f.mark) f))) (goes name (Some first)) (changes-keeps moves _ (keeping-alters name e)) (goes-keeps moves name (Some first) may)
+  handle_or_pass-keeps p name e (Some first) may = then-keeps (chains moves) (changes (edit_top name (λ f. with_mark (keeping e f.mark) f))) (goes name (Some first)) (changes-keeps (chains moves) _ (keeping-alters name e)) (goes-keeps moves name (Some first) may)
 
   pub behind_handled-keeps : (p : Image) (name : Who) (s : StatementNo) (leaving : Leaving) → May name → Keeps G R (behind_handled p name s leaving)
   unfolding behind_handled
   behind_handled-keeps p name s (how.Exception e) may = search (handle_or_pass-keeps)
-  behind_handled-keeps p name s how.End may = search (nothing-keeps)
+  behind_handled-keeps p name s how.End may = search (nothing-keeps, chains)
   behind_handled-keeps p name s how.Return may = search (pass_on-keeps)
   behind_handled-keeps p name s (how.Exit loop) may = search (pass_on-keeps)
   behind_handled-keeps p name s how.Abort may = search (pass_on-keeps)
@@ -85,15 +84,15 @@ module _ {G : GoodWorld} {May Acts Pushes : Naming} {Stops : Type 0} {R : StepRe
 
   pub wait_for_trigger-keeps : (name : Who) (c : Call) (leaving : Leaving) → May name → Keeps G R (wait_for_trigger name c leaving)
   unfolding wait_for_trigger
-  wait_for_trigger-keeps name c leaving may = then-keeps moves (changes (edit_top name (λ f. with_mark (edit_abortable waiting_mark f.mark) (record f { left_as = Some leaving })))) (block TheBlock name (waits_for.EndOfCall c.number)) (changes-keeps moves _ (waiting-alters name leaving)) (block-keeps moves name (waits_for.EndOfCall c.number) may)
+  wait_for_trigger-keeps name c leaving may = then-keeps (chains moves) (changes (edit_top name (λ f. with_mark (edit_abortable waiting_mark f.mark) (record f { left_as = Some leaving })))) (block TheBlock name (waits_for.EndOfCall c.number)) (changes-keeps (chains moves) _ (waiting-alters name leaving)) (block-keeps moves name (waits_for.EndOfCall c.number) may)
 
   pub drop_trigger-alters : (name : Who) (depth : ℕ) → Alters G R (drop_trigger name depth)
   drop_trigger-alters (who.Task t) depth = search (drop_appointment-alters)
-  drop_trigger-alters who.Agent depth = search (unchanged-alters)
+  drop_trigger-alters who.Agent depth = search (unchanged-alters, chains)
 
   pub call_main-keeps : (p : Image) (name : Who) (s : StatementNo) → May name → Keeps G R (call_main p name s)
   unfolding call_main
-  call_main-keeps p name s may = search (with_room-keeps, goes-keeps, then-keeps, looks-keeps, changes-keeps, open_scope-alters)
+  call_main-keeps p name s may = search (with_room-keeps, goes-keeps, then-keeps, looks-keeps, changes-keeps, open_scope-alters, chains)
 
   pub call-keeps : (p : Image) (name : Who) (s : StatementNo) (callee : Callee) (actuals : List Actual) (to : Destination) → May name → Keeps G R (call p name s callee actuals to)
   unfolding call
@@ -109,7 +108,7 @@ module _ {G : GoodWorld} {May Acts Pushes : Naming} {Stops : Type 0} {R : StepRe
   act_statement-keeps p puts name s (form.Activate part) may stops is = search (activate-keeps)
   act_statement-keeps p puts name s form.EndActivation may stops is = search (end_own_activation-keeps)
   act_statement-keeps p puts name s form.CallMain may stops is = search (call_main-keeps)
-  act_statement-keeps p puts name s (form.Handled handlers first) may stops is = search (nothing-keeps)
+  act_statement-keeps p puts name s (form.Handled handlers first) may stops is = search (nothing-keeps, chains)
   act_statement-keeps p puts name s form.Null may stops is = search (null-keeps)
   act_statement-keeps p puts name s (form.Assign target e) may stops is = search (assign-keeps)
   act_statement-keeps p puts name s (form.AssignArray target source) may stops is = search (assign_array-keeps)
@@ -127,8 +126,8 @@ module _ {G : GoodWorld} {May Acts Pushes : Naming} {Stops : Type 0} {R : StepRe
   act_statement-keeps p puts name s (form.ReturnValue function e) may stops is = search (return_value-keeps)
   act_statement-keeps p puts name s (form.Raise e) may stops is = search (raises-keeps)
   act_statement-keeps p puts name s (form.RaiseAgain scope) may stops is = search (raise_again-keeps)
-  act_statement-keeps p puts name s (form.Delay e) may stops is = search (sees-keeps, delay_until-keeps)
-  act_statement-keeps p puts name s (form.DelayUntil e) may stops is = search (sees-keeps, delay_until-keeps)
+  act_statement-keeps p puts name s (form.Delay e) may stops is = search (sees-keeps, delay_until-keeps, chains)
+  act_statement-keeps p puts name s (form.DelayUntil e) may stops is = search (sees-keeps, delay_until-keeps, chains)
   act_statement-keeps p puts name s (form.Call callee actuals to) may stops is = search (call-keeps)
   act_statement-keeps p puts name s (form.PutLine pieces) may stops is = put_line-keeps moves p puts name s pieces is may
   act_statement-keeps p puts name s (form.EntryCall entry owner actuals) may stops is = search (entry_call-keeps)

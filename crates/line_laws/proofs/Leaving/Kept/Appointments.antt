@@ -7,14 +7,13 @@ use Rattle.profile_machine.specs.declared.world.appointments.Due.{Due}
 use Rattle.profile_machine.specs.Steps.{changes}
 use Rattle.profile_machine.specs.Appointments.{appoint, drop_appointment, drop_delay}
 use Rattle.machine_laws.proofs.Moves.{StepRelation, MoveRelation}
-use Rattle.line_laws.proofs.Leaving.FineMoves.{FineMoves}
-use Rattle.line_laws.proofs.Leaving.Kept.Combinators.{changes-from, unchanged-alters}
+use Rattle.line_laws.proofs.Leaving.FineMoves.{FineMoves, chains}
 use Rattle.machine_laws.proofs.FineMoves.{GoodWorld, Naming}
-use Rattle.machine_laws.proofs.Kept.Combinators.{Alters, From}
+use Rattle.machine_laws.proofs.Kept.Combinators.{Alters, From, changes-from, unchanged-alters}
 
 module _ {G : GoodWorld} {May Acts Pushes : Naming} {Stops : Type 0} {R : StepRelation} {Q : MoveRelation} (moves : FineMoves G May Acts Pushes Stops R Q) where
   pub appoint-from : (due : Due) (moment : ℤ) (w : World) → G w → From R w (changes (appoint due moment))
-  appoint-from due moment w good = changes-from moves (appoint due moment) w (moves.appoints due moment w good)
+  appoint-from due moment w good = changes-from (chains moves) (appoint due moment) w (moves.appoints due moment w good)
 
   pub drop_appointment-alters : (test : Due → Bool) → Alters G R (drop_appointment test)
   unfolding Alters
@@ -22,4 +21,4 @@ module _ {G : GoodWorld} {May Acts Pushes : Naming} {Stops : Type 0} {R : StepRe
 
   pub drop_delay-alters : (name : Who) → Alters G R (drop_delay name)
   drop_delay-alters (who.Task t) = search (drop_appointment-alters)
-  drop_delay-alters who.Agent = search (unchanged-alters)
+  drop_delay-alters who.Agent = search (unchanged-alters, chains)

@@ -14,11 +14,10 @@ use Rattle.profile_machine.specs.Appointments.{is_timeout_of}
 use Rattle.profile_machine.specs.Calls.{edit_call, forget_call, with_call, says_call, edit_object, edit_queue, place_of_entry, put_call, take_call, enqueued, enqueue, unqueued, is_cancellable, attempt_on, attempt_with, attempt}
 use Rattle.std.proofs.Common.{◌≡◌, refl}
 use Rattle.machine_laws.proofs.Moves.{StepRelation, MoveRelation}
-use Rattle.line_laws.proofs.Leaving.FineMoves.{FineMoves}
-use Rattle.line_laws.proofs.Leaving.Kept.Combinators.{branch-keeps, changes-keeps, for_some-keeps, looks-keeps, says-keeps, then-keeps}
+use Rattle.line_laws.proofs.Leaving.FineMoves.{FineMoves, chains, says-keeps}
 use Rattle.line_laws.proofs.Leaving.Kept.Tasks.{edit_task-alters}
 use Rattle.machine_laws.proofs.FineMoves.{GoodWorld, Naming}
-use Rattle.machine_laws.proofs.Kept.Combinators.{Alters, Keeps}
+use Rattle.machine_laws.proofs.Kept.Combinators.{Alters, Keeps, branch-keeps, changes-keeps, for_some-keeps, looks-keeps, then-keeps}
 
 module _ {G : GoodWorld} {May Acts Pushes : Naming} {Stops : Type 0} {R : StepRelation} {Q : MoveRelation} (moves : FineMoves G May Acts Pushes Stops R Q) where
   pub edit_call-alters : (c : CallNo) (f : Call → Call) → ((d : Call) → (f d).number ≡ d.number) → ((d : Call) → (f d).caller ≡ d.caller) → Alters G R (edit_call c f)
@@ -30,7 +29,7 @@ module _ {G : GoodWorld} {May Acts Pushes : Naming} {Stops : Type 0} {R : StepRe
   forget_call-alters c w good = moves.forgets_call c w good
 
   pub with_call-keeps : (c : CallNo) (f : Call → Step) → ((x : Call) → Keeps G R (f x)) → Keeps G R (with_call c f)
-  with_call-keeps c f kept = search (looks-keeps, for_some-keeps)
+  with_call-keeps c f kept = search (looks-keeps, for_some-keeps, chains)
 
   pub says_call-keeps : (part : Part) (c : Call) → Keeps G R (says_call part c)
   unfolding says_call
@@ -53,7 +52,7 @@ module _ {G : GoodWorld} {May Acts Pushes : Naming} {Stops : Type 0} {R : StepRe
 
   pub enqueue-keeps : (p : Image) (c : CallNo) → Keeps G R (enqueue p c)
   unfolding enqueue
-  enqueue-keeps p c = search (with_call-keeps, changes-keeps, enqueued-alters)
+  enqueue-keeps p c = search (with_call-keeps, changes-keeps, enqueued-alters, chains)
 
   pub unqueued-alters : (p : Image) (c : Call) → Alters G R (unqueued p c)
   unfolding Alters
@@ -64,10 +63,10 @@ module _ {G : GoodWorld} {May Acts Pushes : Naming} {Stops : Type 0} {R : StepRe
 
   pub attempt_on-keeps : (p : Image) (part : Part) (c : Call) → Keeps G R (attempt_on p part c)
   unfolding attempt_on
-  attempt_on-keeps p part c = branch-keeps moves (is_cancellable c) (changes (unqueued p c) ▷ says part (line.Cancel c.caller c.number)) (changes (edit_call c.number (λ d. record d { attempted = true }))) (search (changes-keeps, unqueued-alters, then-keeps, says-keeps)) (search (changes-keeps, edit_call-alters))
+  attempt_on-keeps p part c = branch-keeps (chains moves) (is_cancellable c) (changes (unqueued p c) ▷ says part (line.Cancel c.caller c.number)) (changes (edit_call c.number (λ d. record d { attempted = true }))) (search (changes-keeps, unqueued-alters, then-keeps, says-keeps, chains)) (search (changes-keeps, edit_call-alters, chains))
 
   pub attempt_with-keeps : (p : Image) (part : Part) (c : Call) (cancels stays : Step) → Keeps G R cancels → Keeps G R stays → Keeps G R (attempt_with p part c cancels stays)
-  attempt_with-keeps p part c cancels stays kept also_kept = then-keeps moves (attempt_on p part c) _ (search (attempt_on-keeps)) (branch-keeps moves (is_cancellable c) cancels stays (search) (search))
+  attempt_with-keeps p part c cancels stays kept also_kept = then-keeps (chains moves) (attempt_on p part c) _ (search (attempt_on-keeps)) (branch-keeps (chains moves) (is_cancellable c) cancels stays (search) (search))
 
   pub attempt-keeps : (p : Image) (part : Part) (c : CallNo) (cancels stays : Step) → Keeps G R cancels → Keeps G R stays → Keeps G R (attempt p part c cancels stays)
   attempt-keeps p part c cancels stays kept also_kept = search (with_call-keeps, attempt_with-keeps)

@@ -1,224 +1,20 @@
--- Steps and moves that are put together of those that keep a relation keep it.
-use Rattle.std.proofs.Common.{◌≡◌, Bool, true, false, cond, List, [], ◌∷◌, ◌++◌, Option, Some, None, refl, sym, subst, ap, ◌∙◌, append_assoc, append-nil}
-use Rattle.std.specs.Prelude.{Ok, Err, filter}
-use Rattle.ann_base.specs.Results.{◌>>=◌}
+-- More steps that are put together of those that keep a relation.
+use Rattle.std.proofs.Common.{Bool, true, false, List}
+use Rattle.std.specs.Prelude.{filter}
 use Rattle.trace_text.specs.declared.events.Who.{Who}
-use Rattle.profile_machine.specs.declared.image.Image.{Image}
 use Rattle.profile_machine.specs.declared.world.World.{World}
 use Rattle.profile_machine.specs.declared.world.tasks.Task.{Task}
-use Rattle.profile_machine.specs.declared.world.lines.Line.{Line}
-use Rattle.profile_machine.specs.declared.world.lines.Part.{Part}
 use Rattle.profile_machine.specs.declared.world.lines.Said.{Said}
-use Rattle.profile_machine.specs.Steps.{Step, Move, Done, done, goes_on_with, nothing, changes, says, looks, when, for_some, for_each, placed_by, settled, settles, rests, watches, ◌▷◌, ◌▶◌}
-use Rattle.profile_machine.specs.Operators.{Valued}
-use Rattle.profile_machine.specs.Values.{Seen, seen_by}
-use Rattle.profile_machine.specs.Statements.{sees}
-use Rattle.machine_laws.proofs.Moves.{StepRelation, MoveRelation, lines_of}
-use Rattle.line_laws.proofs.Leaving.FineMoves.{FineMoves, is_apart, Free}
+use Rattle.profile_machine.specs.Steps.{Step, Done, done, goes_on_with, nothing, looks, when, for_each, ◌▷◌}
+use Rattle.machine_laws.proofs.Moves.{StepRelation, MoveRelation}
+use Rattle.line_laws.proofs.Leaving.FineMoves.{FineMoves, Free, chains}
 use Rattle.machine_laws.proofs.FineMoves.{GoodWorld, Naming}
-use Rattle.machine_laws.proofs.Kept.Combinators.{Alters, From, Gives, Keeps, Kept, Leads}
-
--- ---- what it is to keep a relation
+use Rattle.machine_laws.proofs.Kept.Combinators.{From, Keeps, Kept, after-from, for_each-keeps, keeps-from, looks-keeps, nothing-keeps}
 
 module _ {G : GoodWorld} {May Acts Pushes : Naming} {Stops : Type 0} {R : StepRelation} {Q : MoveRelation} (moves : FineMoves G May Acts Pushes Stops R Q) where
-  -- ---- what steps lead to
-
-  -- a step that says nothing
-  pub silent-kept : (w v : World) (said : List Said) → R w [] v → Kept R w said (done v said)
-  unfolding Kept
-  silent-kept w v said a = ([], sym (append-nil said), a)
-
-  -- one step behind another
-  pub then-kept : (w v : World) (said ys : List Said) (d : Done) → Kept R w said (done v ys) → Kept R v ys d → Kept R w said d
-  unfolding Kept
-  then-kept w v said ys (done u zs) a b =
-      (a.0 ++ b.0, b.1 ∙ ap (λ xs. xs ++ b.0) a.1 ∙ append_assoc said a.0 b.0, moves.goes_on w v u a.2 b.2)
-
-  -- the world to which a step has led is good
-  kept-good : (w v : World) (said ys : List Said) → Kept R w said (done v ys) → G v
-  unfolding Kept
-  kept-good w v said ys a = moves.behind w v a.2
-
-  goes_on_with-kept : (g : Step) (w : World) (said : List Said) (d : Done) → Kept R w said d → Keeps G R g → Kept R w said (goes_on_with g d)
-  unfolding Keeps
-  goes_on_with-kept g w said (done v ys) a b = then-kept w v said ys (g v ys) a (b v (kept-good w v said ys a) ys)
-
-  -- ---- steps
-
-  pub then-keeps : (f g : Step) → Keeps G R f → Keeps G R g → Keeps G R (f ▷ g)
-  unfolding Keeps
-  then-keeps f g a b w good said = goes_on_with-kept g w said (f w said) (a w good said) b
-
-  pub nothing-keeps : Keeps G R nothing
-  unfolding Keeps
-  nothing-keeps w good said = silent-kept w w said (moves.stays w good)
-
-  pub changes-keeps : (f : World → World) → Alters G R f → Keeps G R (changes f)
-  unfolding Keeps Alters
-  changes-keeps f a w good said = silent-kept w (f w) said (a w good)
-
-  pub unchanged-alters : Alters G R (λ w. w)
-  unfolding Alters
-  unchanged-alters w good = moves.stays w good
-
-  pub said-keeps : (part : Part) (line : Line) → ((w : World) → G w → R w (record { part = part; line = line } ∷ []) w) → Keeps G R (says part line)
-  unfolding Keeps Kept
-  said-keeps part line a w good said = (record { part = part; line = line } ∷ [], refl, a w good)
-
-  pub says-keeps : (part : Part) (line : Line) → is_apart line ≡ false → Keeps G R (says part line)
-  says-keeps part line other = said-keeps part line (λ w good. moves.says part line w good other)
-
-  pub looks-keeps : (f : World → Step) → ((v : World) → Keeps G R (f v)) → Keeps G R (looks f)
-  unfolding Keeps
-  looks-keeps f a w good said = a w w good said
-
-  pub sees-keeps : (p : Image) (name : Who) (f : Seen → Step) → ((q : Seen) → Keeps G R (f q)) → Keeps G R (sees p name f)
-  unfolding Keeps
-  sees-keeps p name f a w good said = a (seen_by p w name) w good said
-
-  pub branch-keeps : (b : Bool) (f g : Step) → Keeps G R f → Keeps G R g → Keeps G R (elim b as (λ _. Step) [ true ↦ f | false ↦ g ])
-  branch-keeps true f g a b = a
-  branch-keeps false f g a b = b
-
-  pub cond-keeps : (b : Bool) (f g : Step) → Keeps G R f → Keeps G R g → Keeps G R (cond b f g)
-  cond-keeps true f g a b = a
-  cond-keeps false f g a b = b
-
-  pub when-keeps : (b : Bool) (step : Step) → Keeps G R step → Keeps G R (when b step)
-  when-keeps true step a = a
-  when-keeps false step a = nothing-keeps
-
-  pub for_some-keeps : {X : Type 0} (x : Option X) (f : X → Step) → ((y : X) → Keeps G R (f y)) → Keeps G R (for_some x f)
-  for_some-keeps None f a = nothing-keeps
-  for_some-keeps (Some x) f a = a x
-
-  pub for_each-keeps : {X : Type 0} (xs : List X) (f : X → Step) → ((y : X) → Keeps G R (f y)) → Keeps G R (for_each xs f)
-  for_each-keeps [] f a = nothing-keeps
-  for_each-keeps (x ∷ xs) f a = then-keeps (f x) (for_each xs f) (a x) (for_each-keeps xs f a)
-
-  -- ---- from one world
-
-  pub looks-from : (f : World → Step) → ((w : World) → G w → From R w (f w)) → Keeps G R (looks f)
-  unfolding Keeps From
-  looks-from f a w good said = a w good said
-
-  pub keeps-from : (f : Step) (w : World) → G w → Keeps G R f → From R w f
-  unfolding Keeps From
-  keeps-from f w good a said = a w good said
-
-  -- what is kept from each good world
-  pub from-keeps : (f : Step) → ((w : World) → G w → From R w f) → Keeps G R f
-  unfolding Keeps From
-  from-keeps f a w good said = a w good said
-
-  pub looks_at-from : (f : World → Step) (w : World) → From R w (f w) → From R w (looks f)
-  unfolding From
-  looks_at-from f w a said = a said
-
-  pub then-from : (f g : Step) (w : World) → From R w f → Keeps G R g → From R w (f ▷ g)
-  unfolding From
-  then-from f g w a b said = goes_on_with-kept g w said (f w said) (a said) b
-
-  pub changes-from : (f : World → World) (w : World) → R w [] (f w) → From R w (changes f)
-  unfolding From
-  changes-from f w a said = silent-kept w (f w) said a
-
-  -- a line is said, alone and before a step
-  pub said-from : (part : Part) (line : Line) (w : World) → R w (record { part = part; line = line } ∷ []) w → From R w (says part line)
-  unfolding From Kept
-  said-from part line w a said = (record { part = part; line = line } ∷ [], refl, a)
-
-  pub said_then-from : (part : Part) (line : Line) (g : Step) (w : World) → R w (record { part = part; line = line } ∷ []) w → From R w g → From R w (says part line ▷ g)
-  unfolding From
-  said_then-from part line g w a b said =
-      let more = said ++ record { part = part; line = line } ∷ [] in
-      then-kept w w said more (g w more) (said-from part line w a said) (b more)
-
-  -- a line that tells one change, or two, and a step behind
-  pub told_change-from : (part : Part) (line : Line) (f : World → World) (g : Step) (w : World) → R w (record { part = part; line = line } ∷ []) (f w) → Keeps G R g → From R w (says part line ▷ changes f ▷ g)
-  unfolding From Kept Keeps
-  told_change-from part line f g w a b said =
-      let more = said ++ record { part = part; line = line } ∷ [] in
-      then-kept w (f w) said more (g (f w) more) (record { part = part; line = line } ∷ [], refl, a) (b (f w) (moves.behind w (f w) a) more)
-
   pub when-from : (b : Bool) (f : Step) (w : World) → G w → From R w f → From R w (when b f)
   when-from true f w good a = a
-  when-from false f w good a = keeps-from nothing w good nothing-keeps
-
-  pub either-from : (b : Bool) (f g : Step) (w : World) → From R w f → From R w g → From R w (elim b as (λ _. Step) [ true ↦ f | false ↦ g ])
-  either-from true f g w a b = a
-  either-from false f g w a b = b
-
-  -- a change, and a step from the world that it makes
-  pub changes_then-from : (f : World → World) (g : Step) (w : World) → R w [] (f w) → From R (f w) g → From R w (changes f ▷ g)
-  unfolding From
-  changes_then-from f g w a b said = then-kept w (f w) said said (g (f w) said) (silent-kept w (f w) said a) (b said)
-
-  -- ---- worlds that may be exceptions
-
-  pub ok-gives : (w next : World) → R w [] next → Gives R w (Ok next)
-  unfolding Gives
-  ok-gives w next a = a
-
-  pub bind-gives : {X : Type 0} (x : Valued X) (f : X → Valued World) (w : World) → ((y : X) → Gives R w (f y)) → Gives R w (x >>= f)
-  unfolding Gives
-  bind-gives (Ok x) f w a = a x
-  bind-gives (Err e) f w a = tt
-
-  gives-on : (x : Valued World) (a b : World) → R a [] b → Gives R b x → Gives R a x
-  unfolding Gives
-  gives-on (Ok c) a b h k = moves.goes_on a b c h k
-  gives-on (Err e) a b h k = tt
-
-  gives-then : (x : Valued World) (f : World → Valued World) (w : World) → Gives R w x → ((v : World) → G v → Gives R v (f v)) → Gives R w (x >>= f)
-  unfolding Gives
-  gives-then (Ok v) f w a b = gives-on (f v) w v a (b v (moves.behind w v a))
-  gives-then (Err e) f w a b = tt
-
-  pub next-gives : (x : Valued World) (f : World → Valued World) (w : World) → Gives R w x → ((v : World) → G v → Gives R v (f v)) → Gives R w (x >>= f)
-  next-gives x f w a b = gives-then x f w a b
-
-  -- ---- moves
-
-  pub then-leads : (f g : Move) → Leads G Q f → Leads G Q g → Leads G Q (f ▶ g)
-  unfolding Leads
-  then-leads f g a b w good =
-      let first = a w good in
-      moves.leads_on w (f w).0 (g (f w).0).0 first (b (f w).0 (moves.moved w (f w).0 first))
-
-  pub rests-leads : Leads G Q rests
-  unfolding Leads
-  rests-leads w good = moves.rests w good
-
-  pub watches-leads : (f : World → Move) → ((v : World) → Leads G Q (f v)) → Leads G Q (watches f)
-  unfolding Leads
-  watches-leads f a w good = a w w good
-
-  -- an effect is over
-  settled-kept : (p : Image) (w : World) (d : Done) → Kept R w [] d → Q w (settled p d).1 (settled p d).0
-  unfolding Kept
-  settled-kept p w (done v ys) a = subst (λ xs. Q w (lines_of p xs) (placed_by (lines_of p xs) v)) (sym a.1) (moves.settles p w v a.0 a.2)
-
-  pub settles-from : (p : Image) (step : Step) (w : World) → From R w step → Q w (settles p step w).1 (settles p step w).0
-  unfolding From
-  settles-from p step w a = settled-kept p w (step w []) (a [])
-
-  pub settles-leads : (p : Image) (step : Step) → Keeps G R step → Leads G Q (settles p step)
-  unfolding Keeps Leads
-  settles-leads p step a w good = settled-kept p w (step w []) (a w good [])
-
-  -- of the tasks for which a test holds
-  pub listed-keeps : (test : World → Task → Bool) (f : World → Task → Step) → ((w : World) (t : Task) → Keeps G R (f w t)) → Keeps G R (looks (λ w. for_each (filter (test w) w.tasks) (f w)))
-  listed-keeps test f a = looks-keeps _ (λ w. for_each-keeps (filter (test w) w.tasks) (f w) (a w))
-
-  -- a step behind a world that is known to stand so to the one before
-  after-kept : (g : Step) (w : World) (said : List Said) (d : Done) → Kept R w said d → ((v : World) (xs : List Said) → R w xs v → From R v g) → Kept R w said (goes_on_with g d)
-  unfolding From Kept
-  after-kept g w said (done v ys) a k = then-kept w v said ys (g v ys) a (k v a.0 a.2 ys)
-
-  pub after-from : (f g : Step) (w : World) → From R w f → ((v : World) (xs : List Said) → R w xs v → From R v g) → From R w (f ▷ g)
-  unfolding From
-  after-from f g w a k said = after-kept g w said (f w said) (a said) k
+  when-from false f w good a = keeps-from (chains moves) nothing w good (nothing-keeps (chains moves))
 
   -- steps in another grouping
   regrouped-kept : (g h : Step) (w : World) (said : List Said) (d : Done) → Kept R w said (goes_on_with (g ▷ h) d) → Kept R w said (goes_on_with h (goes_on_with g d))
@@ -230,4 +26,8 @@ module _ {G : GoodWorld} {May Acts Pushes : Naming} {Stops : Type 0} {R : StepRe
 
   -- who is free before a step is free behind it
   pub free_then-from : (name : Who) (f g : Step) (w : World) → Free name w → From R w f → ((v : World) → G v → Free name v → From R v g) → From R w (f ▷ g)
-  free_then-from name f g w free a k = after-from f g w a (λ v xs h. k v (moves.behind w v h) (moves.still_free name w v h free))
+  free_then-from name f g w free a k = after-from (chains moves) f g w a (λ v xs h. k v (moves.behind w v h) (moves.still_free name w v h free))
+
+  -- of the tasks for which a test holds
+  pub listed-keeps : (test : World → Task → Bool) (f : World → Task → Step) → ((w : World) (t : Task) → Keeps G R (f w t)) → Keeps G R (looks (λ w. for_each (filter (test w) w.tasks) (f w)))
+  listed-keeps test f a = looks-keeps (chains moves) _ (λ w. for_each-keeps (chains moves) (filter (test w) w.tasks) (f w) (a w))

@@ -23,8 +23,7 @@ use Rattle.profile_machine.specs.Scopes.{write_cell, put_cells}
 use Rattle.profile_machine.specs.Statements.{cells_from}
 use Rattle.profile_machine.specs.Controlled.{first_place, open_operation, operation_beginning, top_region, registered_as, register, initialize_by, initialize, edit_top_scope, finalize_has_raised, open_finalize, has_room_to_finalize, finalize_by, no_longer_registered, is_being_assigned, finalize_now, finalize, behind_finalize, begin_assignment, assign_registered, assign_located, assign_controlled, edit_top_assign, leave_without_room, finalize_target_by, has_room_to_adjust, adjust_by, copy_components_of, copy_object, do_step, edit_scope_mark, edit_assign, registered_at, is_located, same_located, new_assign_mark, next_to_finalize, type_of}
 use Rattle.machine_laws.proofs.Moves.{StepRelation, MoveRelation, own}
-use Rattle.line_laws.proofs.Leaving.FineMoves.{FineMoves, nature}
-use Rattle.line_laws.proofs.Leaving.Kept.Combinators.{from-keeps, told_change-from, said_then-from, branch-keeps, changes-from, changes-keeps, cond-keeps, looks-from, looks-keeps, nothing-keeps, sees-keeps, then-keeps, changes_then-from, keeps-from, looks_at-from}
+use Rattle.line_laws.proofs.Leaving.FineMoves.{FineMoves, nature, chains}
 use Rattle.line_laws.proofs.Leaving.Kept.Frames.{edit_top-alters, goes-keeps, push-alters, leaves-keeps, raises-keeps, given-keeps, with_room-keeps, with_room-from, goes_then-from}
 use Rattle.line_laws.proofs.Leaving.Kept.Scopes.{write_cell-alters, open_scope-alters}
 use Rattle.std.proofs.Common.{◌≡◌, refl, ap, ◌∙◌, [], ◌∷◌, not}
@@ -34,7 +33,6 @@ use Rattle.profile_machine.specs.declared.world.marks.Purpose.TheVariants as ope
 use Rattle.profile_machine.specs.declared.world.marks.ResultTo.TheVariants as bound_for
 use Rattle.profile_machine.specs.Scopes.{open_scope}
 use Rattle.line_laws.proofs.Leaving.FineMoves.{Free}
-use Rattle.trace_text.specs.declared.events.Who.TheVariants as who
 use Rattle.profile_machine.specs.Program.{next_of, subprogram_of}
 use Rattle.profile_machine.specs.Tasks.{with_frames}
 use Rattle.ann_base.specs.declared.identities.RegionNo.{RegionNo}
@@ -44,8 +42,8 @@ use Rattle.profile_machine.specs.declared.world.marks.Mark.{Mark}
 use Rattle.profile_machine.specs.declared.world.marks.Mark.TheVariants.{Scope, Handled, InProtected, InAccept, Abortable, InInitialize, InFinalize, InAssign}
 use Rattle.profile_machine.specs.Frames.{top_of, with_mark, pass_on, goes, goes_on, edit_first, edit_top, push, new_frame}
 use Rattle.machine_laws.proofs.FineMoves.{GoodWorld, Naming}
-use Rattle.machine_laws.proofs.Kept.Combinators.{Alters, From, Keeps, Kept}
 use Rattle.machine_laws.proofs.Kept.Controlled.{edit_task-registered}
+use Rattle.machine_laws.proofs.Kept.Combinators.{Alters, From, Keeps, Kept, branch-keeps, changes-from, changes-keeps, changes_then-from, cond-keeps, from-keeps, keeps-from, looks-from, looks-keeps, looks_at-from, nothing-keeps, said_then-from, sees-keeps, then-keeps, told_change-from}
 
 -- the region of a scope's mark is not edited, nor what another mark is
 scope-nature : (f : ScopeMark → ScopeMark) → ((m : ScopeMark) → nature (Scope (f m)) ≡ nature (Scope m)) → (mark : Mark) → nature (edit_scope_mark f mark) ≡ nature mark
@@ -82,7 +80,7 @@ module _ {G : GoodWorld} {May Acts Pushes : Naming} {Stops : Type 0} {R : StepRe
 
   pub register-keeps : (p : Image) (name : Who) (l : Located) → May name → Keeps G R (register p name l)
   unfolding register
-  register-keeps p name l may = looks-from moves _ (λ w good. told_register-from p name l w good (moves.may_free name w good may))
+  register-keeps p name l may = looks-from (chains moves) _ (λ w good. told_register-from p name l w good (moves.may_free name w good may))
 
   pub edit_top_scope-alters : (name : Who) (f : ScopeMark → ScopeMark) → ((m : ScopeMark) → nature (Scope (f m)) ≡ nature (Scope m)) → Alters G R (edit_top_scope name f)
   edit_top_scope-alters name f same = edit_top-alters moves name (λ x. with_mark (edit_scope_mark f x.mark) x) (λ x. scope-nature f same x.mark) (λ x. refl)
@@ -90,12 +88,12 @@ module _ {G : GoodWorld} {May Acts Pushes : Naming} {Stops : Type 0} {R : StepRe
   pub behind_finalize-keeps : (p : Image) (name : Who) (leaving : Leaving) (test : Bool) → Keeps G R (behind_finalize p name leaving test)
   unfolding behind_finalize pass_on
   behind_finalize-keeps p name (how.Exception e) true = search (leaves-keeps)
-  behind_finalize-keeps p name (how.Exception e) false = search (changes-keeps, edit_top_scope-alters)
-  behind_finalize-keeps p name how.End of_assignment = search (nothing-keeps)
-  behind_finalize-keeps p name how.Return of_assignment = search (nothing-keeps)
-  behind_finalize-keeps p name (how.Exit loop) of_assignment = search (nothing-keeps)
-  behind_finalize-keeps p name how.Abort of_assignment = search (nothing-keeps)
-  behind_finalize-keeps p name how.Terminate of_assignment = search (nothing-keeps)
+  behind_finalize-keeps p name (how.Exception e) false = search (changes-keeps, edit_top_scope-alters, chains)
+  behind_finalize-keeps p name how.End of_assignment = search (nothing-keeps, chains)
+  behind_finalize-keeps p name how.Return of_assignment = search (nothing-keeps, chains)
+  behind_finalize-keeps p name (how.Exit loop) of_assignment = search (nothing-keeps, chains)
+  behind_finalize-keeps p name how.Abort of_assignment = search (nothing-keeps, chains)
+  behind_finalize-keeps p name how.Terminate of_assignment = search (nothing-keeps, chains)
 
   pub edit_top_assign-alters : (name : Who) (f : AssignMark → AssignMark) → Alters G R (edit_top_assign name f)
   edit_top_assign-alters name f = edit_top-alters moves name (λ x. with_mark (edit_assign f x.mark) x) (λ x. assign-nature f x.mark) (λ x. refl)
@@ -114,53 +112,53 @@ module _ {G : GoodWorld} {May Acts Pushes : Naming} {Stops : Type 0} {R : StepRe
 module _ {G : GoodWorld} {May Acts Pushes : Naming} {Stops : Type 0} {R : StepRelation} {Q : MoveRelation} (moves : FineMoves G May Acts Pushes Stops R Q) where
   pub open_operation-keeps : (p : Image) (name : Who) (f : SubprogramNo) (l : Located) → May name → Keeps G R (open_operation p name f l)
   unfolding open_operation
-  open_operation-keeps p name f l may = search (looks-keeps, changes-keeps, open_scope-alters)
+  open_operation-keeps p name f l may = search (looks-keeps, changes-keeps, open_scope-alters, chains)
 
   pub initialize_by-keeps : (p : Image) (name : Who) (s : StatementNo) (l : Located) (f : Option SubprogramNo) → May name → Keeps G R (initialize_by p name s l f)
   unfolding initialize_by
-  initialize_by-keeps p name s l None may = search (goes-keeps, then-keeps, register-keeps)
-  initialize_by-keeps p name s l (Some f) may = search (with_room-keeps, goes-keeps, then-keeps, changes-keeps, push-alters, open_operation-keeps)
+  initialize_by-keeps p name s l None may = search (goes-keeps, then-keeps, register-keeps, chains)
+  initialize_by-keeps p name s l (Some f) may = search (with_room-keeps, goes-keeps, then-keeps, changes-keeps, push-alters, open_operation-keeps, chains)
 
   pub initialize-keeps : (p : Image) (name : Who) (s : StatementNo) (d : DeclNo) → May name → Keeps G R (initialize p name s d)
   unfolding initialize
-  initialize-keeps p name s d may = search (sees-keeps, given-keeps, initialize_by-keeps) depth 6
+  initialize-keeps p name s d may = search (sees-keeps, given-keeps, initialize_by-keeps, chains) depth 7
 
   -- above any mark
   open_operation-from : (p : Image) (name : Who) (f : SubprogramNo) (l : Located) (w : World) → G w → Pushes name → Free name w → From R w (open_operation p name f l)
   unfolding open_operation
   open_operation-from p name f l w good pushes free =
-      looks_at-from moves (λ v. changes (open_scope p name (subprogram_of p f).scope (operation_beginning p v name f l) (opened_for.Subprogram [] bound_for.Nowhere))) w
-      (changes-from moves (open_scope p name (subprogram_of p f).scope (operation_beginning p w name f l) (opened_for.Subprogram [] bound_for.Nowhere)) w
+      looks_at-from (chains moves) (λ v. changes (open_scope p name (subprogram_of p f).scope (operation_beginning p v name f l) (opened_for.Subprogram [] bound_for.Nowhere))) w
+      (changes-from (chains moves) (open_scope p name (subprogram_of p f).scope (operation_beginning p w name f l) (opened_for.Subprogram [] bound_for.Nowhere)) w
       (moves.opens_scope p name (subprogram_of p f).scope (operation_beginning p w name f l) (opened_for.Subprogram [] bound_for.Nowhere) w good pushes free))
 
   pub open_finalize-keeps : (p : Image) (name : Who) (n : ℕ) (l : Located) (f : SubprogramNo) → Pushes name → Keeps G R (open_finalize p name n l f)
   unfolding open_finalize
   open_finalize-keeps p name n l f pushes =
-      from-keeps moves _ (λ w good.
+      from-keeps (chains moves) _ (λ w good.
       let x = new_frame (InFinalize n) None in
       let opened = moves.pushes_special name x w good pushes refl refl refl refl in
-      changes_then-from moves (push name x) (open_operation p name f l) w opened (open_operation-from p name f l (push name x w) (moves.behind w (push name x w) opened) pushes (pushed-free name x w refl)))
+      changes_then-from (chains moves) (push name x) (open_operation p name f l) w opened (open_operation-from p name f l (push name x w) (moves.behind w (push name x w) opened) pushes (pushed-free name x w refl)))
 
   pub finalize_by-keeps : (p : Image) (name : Who) (r : Registered) (f : Option SubprogramNo) → Pushes name → Keeps G R (finalize_by p name r f)
   unfolding finalize_by
-  finalize_by-keeps p name r None pushes = search (nothing-keeps)
-  finalize_by-keeps p name r (Some f) pushes = looks-keeps moves _ (λ w. branch-keeps moves (has_room_to_finalize p w name f) (open_finalize p name r.object r.located f) (changes (edit_top_scope name finalize_has_raised)) (search (open_finalize-keeps)) (search (changes-keeps, edit_top_scope-alters)))
+  finalize_by-keeps p name r None pushes = search (nothing-keeps, chains)
+  finalize_by-keeps p name r (Some f) pushes = looks-keeps (chains moves) _ (λ w. branch-keeps (chains moves) (has_room_to_finalize p w name f) (open_finalize p name r.object r.located f) (changes (edit_top_scope name finalize_has_raised)) (search (open_finalize-keeps)) (search (changes-keeps, edit_top_scope-alters, chains)))
 
   -- the newest object of a region that is being left
   finalize_now-from : (p : Image) (name : Who) (f : Frame) (m : ScopeMark) (r : RegionNo) (x : Registered) (w : World) → G w → Pushes name → top_of w name ≡ Some f → f.mark ≡ Scope m → m.region ≡ Some r → m.being_left ≡ true → next_to_finalize w r ≡ Some x
       → From R w (finalize_now p name x)
   unfolding finalize_now
   finalize_now-from p name f m r x w good pushes top is region left next =
-      told_change-from moves Own (line.Final name x.object) (no_longer_registered x.object) (finalize_by p name x (type_of p x.located).finalize) w
+      told_change-from (chains moves) Own (line.Final name x.object) (no_longer_registered x.object) (finalize_by p name x (type_of p x.located).finalize) w
       (moves.finalizes name f m r x w good top is region left next) (finalize_by-keeps p name x (type_of p x.located).finalize pushes)
 
   pub finalize-from : (p : Image) (name : Who) (f : Frame) (m : ScopeMark) (r : RegionNo) (x : Registered) (w : World) → G w → Pushes name → top_of w name ≡ Some f → f.mark ≡ Scope m → m.region ≡ Some r → m.being_left ≡ true → next_to_finalize w r ≡ Some x
       → From R w (finalize p name x)
   unfolding finalize
-  finalize-from p name f m r x w good pushes top is region left next = looks_at-from moves (λ v. when (not (is_being_assigned v x.object)) (finalize_now p name x)) w (free-from (not (is_being_assigned w x.object))) where
+  finalize-from p name f m r x w good pushes top is region left next = looks_at-from (chains moves) (λ v. when (not (is_being_assigned v x.object)) (finalize_now p name x)) w (free-from (not (is_being_assigned w x.object))) where
     free-from : (free : Bool) → From R w (when free (finalize_now p name x))
     free-from true = finalize_now-from p name f m r x w good pushes top is region left next
-    free-from false = keeps-from moves nothing w good (nothing-keeps moves)
+    free-from false = keeps-from (chains moves) nothing w good (nothing-keeps (chains moves))
 
   -- an object that is registered is assigned to
   begin_assignment-from : (p : Image) (name : Who) (s : StatementNo) (l : Located) (x : Registered) (source : ℕ) (w : World) → G w → May name → registered_at w l ≡ Some x → From R w (begin_assignment p name s x.object source)
@@ -170,38 +168,38 @@ module _ {G : GoodWorld} {May Acts Pushes : Naming} {Stops : Type 0} {R : StepRe
       (goes_then-from moves name (next_of p s) _ w good may (λ good_onward.
       let gone = edit_top name (goes_on (next_of p s)) w in
       let still : registered_at gone l ≡ Some x = ap (find (is_located l)) (edit_task-registered name (λ t. with_frames (edit_first (goes_on (next_of p s)) t.frames) t) w) ∙ found in
-      said_then-from moves Own (line.Replace name x.object) (changes (push name (new_frame (new_assign_mark x.object source) None))) gone (moves.replaces name l x gone good_onward still)
-      (keeps-from moves (changes (push name (new_frame (new_assign_mark x.object source) None))) gone good_onward (search (changes-keeps, push-alters)))))
+      said_then-from (chains moves) Own (line.Replace name x.object) (changes (push name (new_frame (new_assign_mark x.object source) None))) gone (moves.replaces name l x gone good_onward still)
+      (keeps-from (chains moves) (changes (push name (new_frame (new_assign_mark x.object source) None))) gone good_onward (search (changes-keeps, push-alters, chains)))))
 
   assign_registered-from : (p : Image) (name : Who) (s : StatementNo) (l : Located) (target source : Option Registered) (w : World) → G w → May name → registered_at w l ≡ target → From R w (assign_registered p name s target source)
   unfolding assign_registered
   assign_registered-from p name s l (Some target) (Some source) w good may found = begin_assignment-from p name s l target source.object w good may found
-  assign_registered-from p name s l (Some target) None w good may found = keeps-from moves _ w good (raises-keeps moves Own name exception.Program)
-  assign_registered-from p name s l None source w good may found = keeps-from moves _ w good (raises-keeps moves Own name exception.Program)
+  assign_registered-from p name s l (Some target) None w good may found = keeps-from (chains moves) _ w good (raises-keeps moves Own name exception.Program)
+  assign_registered-from p name s l None source w good may found = keeps-from (chains moves) _ w good (raises-keeps moves Own name exception.Program)
 
   pub assign_located-keeps : (p : Image) (name : Who) (s : StatementNo) (target source : Located) → May name → Keeps G R (assign_located p name s target source)
   unfolding assign_located
   assign_located-keeps p name s target source may =
-      cond-keeps moves (same_located target source) (goes name (next_of p s)) _ (goes-keeps moves name (next_of p s) may)
-      (looks-from moves _ (λ w good. assign_registered-from p name s target (registered_at w target) (registered_at w source) w good may refl))
+      cond-keeps (chains moves) (same_located target source) (goes name (next_of p s)) _ (goes-keeps moves name (next_of p s) may)
+      (looks-from (chains moves) _ (λ w good. assign_registered-from p name s target (registered_at w target) (registered_at w source) w good may refl))
 
   pub assign_controlled-keeps : (p : Image) (name : Who) (s : StatementNo) (target source : DeclNo) → May name → Keeps G R (assign_controlled p name s target source)
   unfolding assign_controlled
-  assign_controlled-keeps p name s target source may = search (sees-keeps, given-keeps, assign_located-keeps) depth 6
+  assign_controlled-keeps p name s target source may = search (sees-keeps, given-keeps, assign_located-keeps, chains) depth 7
 
   pub finalize_target_by-keeps : (p : Image) (name : Who) (r : Registered) (f : Option SubprogramNo) → May name → Keeps G R (finalize_target_by p name r f)
   unfolding finalize_target_by
-  finalize_target_by-keeps p name r None may = search (nothing-keeps)
-  finalize_target_by-keeps p name r (Some f) may = looks-keeps moves _ (λ w. branch-keeps moves (has_room_to_finalize p w name f) (open_finalize p name r.object r.located f) (leave_without_room name) (search (open_finalize-keeps, moves.may_pushes)) (search (leave_without_room-keeps)))
+  finalize_target_by-keeps p name r None may = search (nothing-keeps, chains)
+  finalize_target_by-keeps p name r (Some f) may = looks-keeps (chains moves) _ (λ w. branch-keeps (chains moves) (has_room_to_finalize p w name f) (open_finalize p name r.object r.located f) (leave_without_room name) (search (open_finalize-keeps, moves.may_pushes)) (search (leave_without_room-keeps)))
 
   pub adjust_by-keeps : (p : Image) (name : Who) (r : Registered) (f : Option SubprogramNo) → May name → Keeps G R (adjust_by p name r f)
   unfolding adjust_by
-  adjust_by-keeps p name r None may = search (nothing-keeps)
-  adjust_by-keeps p name r (Some f) may = looks-keeps moves _ (λ w. branch-keeps moves (has_room_to_adjust p w name f) (open_operation p name f r.located) (leave_without_room name) (search (open_operation-keeps)) (search (leave_without_room-keeps)))
+  adjust_by-keeps p name r None may = search (nothing-keeps, chains)
+  adjust_by-keeps p name r (Some f) may = looks-keeps (chains moves) _ (λ w. branch-keeps (chains moves) (has_room_to_adjust p w name f) (open_operation p name f r.located) (leave_without_room name) (search (open_operation-keeps)) (search (leave_without_room-keeps)))
 
   -- every step of an assignment but its end
   pub do_step-keeps : (p : Image) (name : Who) (step : AssignStep) (target source : Registered) → May name → ((step ≡ assigning.Assigned) → ⊥) → Keeps G R (do_step p name step target source)
-  do_step-keeps p name assigning.FinalizeTarget target source may other = search (changes-keeps, edit_top_assign-alters, then-keeps, finalize_target_by-keeps)
-  do_step-keeps p name assigning.CopyComponents target source may other = search (changes-keeps, edit_top_assign-alters, then-keeps, copy_object-alters)
-  do_step-keeps p name assigning.AdjustTarget target source may other = search (changes-keeps, edit_top_assign-alters, then-keeps, adjust_by-keeps)
+  do_step-keeps p name assigning.FinalizeTarget target source may other = search (changes-keeps, edit_top_assign-alters, then-keeps, finalize_target_by-keeps, chains)
+  do_step-keeps p name assigning.CopyComponents target source may other = search (changes-keeps, edit_top_assign-alters, then-keeps, copy_object-alters, chains)
+  do_step-keeps p name assigning.AdjustTarget target source may other = search (changes-keeps, edit_top_assign-alters, then-keeps, adjust_by-keeps, chains)
   do_step-keeps p name assigning.Assigned target source may other = absurd (other refl)

@@ -18,12 +18,11 @@ use Rattle.profile_machine.specs.Dispatching.{active, level_kept_by, keep_level,
 use Rattle.std.proofs.Common.{◌≡◌, List, [], ◌∷◌, ◌++◌, Some, refl}
 use Rattle.std.specs.Prelude.{false}
 use Rattle.machine_laws.proofs.Moves.{StepRelation, MoveRelation}
-use Rattle.line_laws.proofs.Leaving.FineMoves.{FineMoves, Awake, waits, ready_world, block_line, blocked_world}
+use Rattle.line_laws.proofs.Leaving.FineMoves.{FineMoves, Awake, waits, ready_world, block_line, blocked_world, chains}
 use Rattle.line_laws.proofs.Leaving.TaskLemmas.{awake-edited, awake-own}
-use Rattle.line_laws.proofs.Leaving.Kept.Combinators.{changes_then-from, then-kept, changes-keeps, from-keeps, said-from, then-keeps, looks_at-from}
 use Rattle.machine_laws.proofs.FineMoves.{GoodWorld, Naming, ready_line}
-use Rattle.machine_laws.proofs.Kept.Combinators.{Alters, From, Keeps, Kept}
 use Rattle.machine_laws.proofs.Kept.Dispatching.{full_quantum-frames, full_quantum-state, full_quantum-who}
+use Rattle.machine_laws.proofs.Kept.Combinators.{Alters, From, Keeps, Kept, changes-keeps, changes_then-from, from-keeps, looks_at-from, said-from, then-keeps, then-kept}
 
 pub granted-who : (p : Image) (quanta : List ℕ) (t : Task) → (granted p quanta t).who ≡ t.who
 granted-who p quanta t = full_quantum-who (eqb (active p t) t.base && is_robin_level p t.base) (slice_index_or quanta t.base 0) t
@@ -52,12 +51,12 @@ module _ {G : GoodWorld} {May Acts Pushes : Naming} {Stops : Type 0} {R : StepRe
   says_acting-keeps : (p : Image) (name : Who) (end : QueueEnd) → Acts name → Keeps G R (says_ready p ThePlacing name end)
   unfolding says_ready
   says_acting-keeps p name end acts =
-      from-keeps moves _ (λ w good. looks_at-from moves (λ v. says ThePlacing (line.Ready name (active p (task_of v name)) end (deadline_shown p (task_of v name)))) w (said-from moves ThePlacing (line.Ready name (active p (task_of w name)) end (deadline_shown p (task_of w name))) w (moves.places_acting p name end w good acts)))
+      from-keeps (chains moves) _ (λ w good. looks_at-from (chains moves) (λ v. says ThePlacing (line.Ready name (active p (task_of v name)) end (deadline_shown p (task_of v name)))) w (said-from (chains moves) ThePlacing (line.Ready name (active p (task_of w name)) end (deadline_shown p (task_of w name))) w (moves.places_acting p name end w good acts)))
 
   -- who acts goes to the tail, or to the head
   pub to_tail-keeps : (p : Image) (name : Who) → Acts name → Keeps G R (to_tail p ThePlacing name)
   unfolding to_tail
-  to_tail-keeps p name acts = search (changes-keeps, grant_quantum-alters, then-keeps, says_acting-keeps)
+  to_tail-keeps p name acts = search (changes-keeps, grant_quantum-alters, then-keeps, says_acting-keeps, chains)
 
   pub to_head-keeps : (p : Image) (name : Who) → Acts name → Keeps G R (to_head p ThePlacing name)
   unfolding to_head
@@ -70,22 +69,22 @@ module _ {G : GoodWorld} {May Acts Pushes : Naming} {Stops : Type 0} {R : StepRe
       let granted_world = grant_quantum p name w in
       let first = grant_quantum-alters p name w good in
       let still : Awake name granted_world = awake-edited name name (granted p w.quanta) w (granted-who p w.quanta) (granted-state p w.quanta) awake in
-      changes_then-from moves (grant_quantum p name) _ w first
-      (looks_at-from moves (λ v. says part (line.Ready name (active p (task_of v name)) Tail (deadline_shown p (task_of v name)))) granted_world
-      (said-from moves part (line.Ready name (active p (task_of granted_world name)) Tail (deadline_shown p (task_of granted_world name))) granted_world (moves.places_awake p part name Tail granted_world (moves.behind w granted_world first) still)))
+      changes_then-from (chains moves) (grant_quantum p name) _ w first
+      (looks_at-from (chains moves) (λ v. says part (line.Ready name (active p (task_of v name)) Tail (deadline_shown p (task_of v name)))) granted_world
+      (said-from (chains moves) part (line.Ready name (active p (task_of granted_world name)) Tail (deadline_shown p (task_of granted_world name))) granted_world (moves.places_awake p part name Tail granted_world (moves.behind w granted_world first) still)))
 
   -- ---- somebody becomes ready, or blocks
 
   pub runnable-keeps : (name : Who) → Keeps G R (changes (edit_task name (with_state Runnable)))
   unfolding Alters
-  runnable-keeps name = changes-keeps moves (edit_task name (with_state Runnable)) (λ w good. moves.wakes name w good)
+  runnable-keeps name = changes-keeps (chains moves) (edit_task name (with_state Runnable)) (λ w good. moves.wakes name w good)
 
   ready-from : (p : Image) (part : Part) (name : Who) (w : World) → G w → From R w (ready p part name)
   unfolding ready to_tail says_ready From Kept
   ready-from p part name w good said = (ready_line p part name Tail (ready_world p name w) ∷ [], refl, moves.becomes_ready p part name w good)
 
   pub ready-keeps : (p : Image) (part : Part) (name : Who) → Keeps G R (ready p part name)
-  ready-keeps p part name = from-keeps moves (ready p part name) (λ w good. ready-from p part name w good)
+  ready-keeps p part name = from-keeps (chains moves) (ready p part name) (λ w good. ready-from p part name w good)
 
   -- a step behind, from the world in which it is ready
   pub ready_then-from : (p : Image) (part : Part) (name : Who) (g : Step) (w : World) → G w → (G (ready_world p name w) → Awake name (ready_world p name w) → From R (ready_world p name w) g) → From R w (ready p part name ▷ g)
@@ -94,7 +93,7 @@ module _ {G : GoodWorld} {May Acts Pushes : Naming} {Stops : Type 0} {R : StepRe
       let v = ready_world p name w in
       let told = ready_line p part name Tail v ∷ [] in
       let first = moves.becomes_ready p part name w good in
-      then-kept moves w v said (said ++ told) (g v (said ++ told)) (told, refl, first) (k (moves.behind w v first) (ready-awake p name w) (said ++ told))
+      then-kept (chains moves) w v said (said ++ told) (g v (said ++ told)) (told, refl, first) (k (moves.behind w v first) (ready-awake p name w) (said ++ told))
 
   block-told : (name : Who) (waiting : Waiting) → ((w : World) → G w → R w (block_line name waiting ∷ []) (blocked_world name waiting w)) → Keeps G R (block TheBlock name waiting)
   unfolding block says_block Keeps Kept

@@ -45,11 +45,11 @@ use Rattle.ann_base.specs.declared.identities.CallNo.{CallNo}
 use Rattle.profile_machine.specs.Calls.{is_call}
 use Rattle.std.specs.Prelude.{find}
 use Rattle.std.proofs.Common.{eq-eqb, cond, sym, subst, ◌∙◌, arith}
-use Rattle.line_laws.proofs.Leaving.FineMoves.{Caller}
+use Rattle.line_laws.proofs.Leaving.FineMoves.{Caller, chains}
 use Rattle.machine_laws.proofs.Moves.{StepRelation, MoveRelation, LetsIn, own}
 use Rattle.line_laws.proofs.Leaving.FineMoves.{FineMoves, Free}
 use Rattle.machine_laws.proofs.Kept.Entering.{LetsIn-same, edit_task-objects}
-use Rattle.line_laws.proofs.Leaving.Kept.Combinators.{free_then-from, either-from, said_then-from, then-from, changes-keeps, keeps-from, looks-from, looks-keeps, looks_at-from, nothing-keeps, sees-keeps, then-keeps, unchanged-alters, changes_then-from}
+use Rattle.line_laws.proofs.Leaving.Kept.Combinators.{free_then-from}
 use Rattle.line_laws.proofs.Leaving.Kept.Dispatching.{block-keeps}
 use Rattle.line_laws.proofs.Leaving.Kept.Frames.{goes-keeps, leaves-keeps, raises-keeps, given-from, given-keeps, raise_if-from, raise_if-keeps, with_room-from, with_room-keeps, goes_then-from}
 use Rattle.line_laws.proofs.Leaving.Kept.Appointments.{appoint-from}
@@ -61,7 +61,7 @@ use Rattle.line_laws.proofs.Leaving.Kept.Rendezvous.{meet-from, accept-waits}
 use Rattle.profile_machine.specs.Rendezvous.{delay_moment}
 use Rattle.profile_machine.specs.Values.{seen_by}
 use Rattle.machine_laws.proofs.FineMoves.{GoodWorld, Naming}
-use Rattle.machine_laws.proofs.Kept.Combinators.{Alters, From, Keeps, Kept}
+use Rattle.machine_laws.proofs.Kept.Combinators.{Alters, From, Keeps, Kept, changes-keeps, changes_then-from, either-from, keeps-from, looks-from, looks-keeps, looks_at-from, nothing-keeps, said_then-from, sees-keeps, then-from, then-keeps, unchanged-alters}
 
 some_call : (c d : Call) → Some c ≡ Some d → c ≡ d
 some_call c d e = cc
@@ -82,28 +82,28 @@ module _ {G : GoodWorld} {May Acts Pushes : Naming} {Stops : Type 0} {R : StepRe
   add_call-alters c w good = moves.adds_call c w good
 
   pub make_call-keeps : (p : Image) (c : Call) (step : Call → Step) → ((n : ℕ) → Keeps G R (step (numbered n c))) → May (who.Task c.caller) → Keeps G R (make_call p c step)
-  make_call-keeps p c step kept may = search (goes-keeps, then-keeps, looks-keeps, changes-keeps, add_call-alters, says_call-keeps) depth 7
+  make_call-keeps p c step kept may = search (goes-keeps, then-keeps, looks-keeps, changes-keeps, add_call-alters, says_call-keeps, chains) depth 8
 
   pub end_at_once-keeps : (part : Part) (c : Call) (e : Raised) → Keeps G R (end_at_once part c e)
   unfolding end_at_once
-  end_at_once-keeps part c e = search (changes-keeps, forget_call-alters, then-keeps, raises-keeps)
+  end_at_once-keeps part c e = search (changes-keeps, forget_call-alters, then-keeps, raises-keeps, chains)
 
   pub call_gone-keeps : (p : Image) (c : Call) → Keeps G R (call_gone p c)
   unfolding call_gone
-  call_gone-keeps p c = search (gone-keeps, then-keeps, end_at_once-keeps)
+  call_gone-keeps p c = search (gone-keeps, then-keeps, end_at_once-keeps, chains)
 
   -- a call is made while somebody stays free
   make_call_free-from : (p : Image) (c : Call) (step : Call → Step) (name : Who) (w : World) → G w → May (who.Task c.caller) → Free name w → ((n : ℕ) (v : World) → G v → Free name v → From R v (step (numbered n c))) → From R w (make_call p c step)
   unfolding says_call
   make_call_free-from p c step name w good may free kept =
-      free_then-from moves name (goes (who.Task c.caller) (next_of p c.statement)) _ w free (keeps-from moves _ w good (goes-keeps moves (who.Task c.caller) (next_of p c.statement) may)) (λ v good_v free_v.
+      free_then-from moves name (goes (who.Task c.caller) (next_of p c.statement)) _ w free (keeps-from (chains moves) _ w good (goes-keeps moves (who.Task c.caller) (next_of p c.statement) may)) (λ v good_v free_v.
       let d = numbered (suc v.drawn.calls) c in
       let made = add_call c v in
       let added = moves.adds_call c v good_v in
       let good_made = moves.behind v made added in
-      looks_at-from moves (λ u. changes (add_call c) ▷ says_call TheCall (numbered (suc u.drawn.calls) c) ▷ step (numbered (suc u.drawn.calls) c)) v
-      (changes_then-from moves (add_call c) _ v added
-      (said_then-from moves TheCall (line.Call d.caller d.number d.owner d.entry d.priority) (step d) made (moves.says TheCall (line.Call d.caller d.number d.owner d.entry d.priority) made good_made refl)
+      looks_at-from (chains moves) (λ u. changes (add_call c) ▷ says_call TheCall (numbered (suc u.drawn.calls) c) ▷ step (numbered (suc u.drawn.calls) c)) v
+      (changes_then-from (chains moves) (add_call c) _ v added
+      (said_then-from (chains moves) TheCall (line.Call d.caller d.number d.owner d.entry d.priority) (step d) made (moves.says TheCall (line.Call d.caller d.number d.owner d.entry d.priority) made good_made refl)
       (kept (suc v.drawn.calls) made good_made (moves.still_free name v made added free_v)))))
 
   call_meets-from : (p : Image) (t : TaskNo) (s : StatementNo) (c : Call) (w : World) → G w → May (who.Task c.caller) → Pushes (who.Task t) → Free (who.Task t) w → From R w (call_meets p t s c)
@@ -113,7 +113,7 @@ module _ {G : GoodWorld} {May Acts Pushes : Naming} {Stops : Type 0} {R : StepRe
 
   pub call_queues-keeps : (p : Image) (c : Call) → May (who.Task c.caller) → Keeps G R (call_queues p c)
   unfolding call_queues
-  call_queues-keeps p c may = search (enqueue-keeps, then-keeps, not_accepted-keeps)
+  call_queues-keeps p c may = search (enqueue-keeps, then-keeps, not_accepted-keeps, chains)
 
   pub call_not_met-keeps : (p : Image) (c : Call) (test : Bool) → May (who.Task c.caller) → Keeps G R (call_not_met p c test)
   unfolding call_not_met
@@ -126,16 +126,16 @@ module _ {G : GoodWorld} {May Acts Pushes : Naming} {Stops : Type 0} {R : StepRe
       let waiting = accept-waits moves p c.entry (waiting_of w (who.Task t)) s is in
       let pushes = moves.waiting_pushes (who.Task t) w good waiting in
       make_call_free-from p c (call_meets p t s) (who.Task t) w good may (moves.waiting_free (who.Task t) w good waiting) (λ n v good_v free_v. call_meets-from p t s (numbered n c) v good_v may pushes free_v)
-  call_accepted_by-from p t c None w good may is = keeps-from moves _ w good (search (looks-keeps, call_not_met-keeps))
+  call_accepted_by-from p t c None w good may is = keeps-from (chains moves) _ w good (search (looks-keeps, call_not_met-keeps, chains))
 
   pub call_callable-keeps : (p : Image) (t : TaskNo) (c : Call) (test : Bool) → May (who.Task c.caller) → Keeps G R (call_callable p t c test)
   unfolding call_callable
   call_callable-keeps p t c false may = search (make_call-keeps, call_gone-keeps)
-  call_callable-keeps p t c true may = looks-from moves _ (λ w good. call_accepted_by-from p t c (accept_for p c.entry (waiting_of w (who.Task t))) w good may refl)
+  call_callable-keeps p t c true may = looks-from (chains moves) _ (λ w good. call_accepted_by-from p t c (accept_for p c.entry (waiting_of w (who.Task t))) w good may refl)
 
   pub call_task-keeps : (p : Image) (t : TaskNo) (c : Call) → May (who.Task c.caller) → Keeps G R (call_task p t c)
   unfolding call_task
-  call_task-keeps p t c may = search (looks-keeps, call_callable-keeps)
+  call_task-keeps p t c may = search (looks-keeps, call_callable-keeps, chains)
 
   -- ---- a call of a protected entry, whose caller is let in
 
@@ -151,9 +151,9 @@ module _ {G : GoodWorld} {May Acts Pushes : Naming} {Stops : Type 0} {R : StepRe
       goes_then-from moves name (next_of p c.statement) _ w good may (λ good_onward.
       let added = moves.adds_call c onward good_onward in
       let good_made = moves.behind onward made added in
-      looks_at-from moves (λ v. changes (add_call c) ▷ says_call TheCall (numbered (suc v.drawn.calls) c) ▷ step (numbered (suc v.drawn.calls) c)) onward
-      (changes_then-from moves (add_call c) _ onward added
-      (said_then-from moves TheCall (line.Call d.caller d.number d.owner d.entry d.priority) (step d) made (moves.says TheCall (line.Call d.caller d.number d.owner d.entry d.priority) made good_made refl) (kept (suc onward.drawn.calls) made good_made still (new-caller c onward)))))
+      looks_at-from (chains moves) (λ v. changes (add_call c) ▷ says_call TheCall (numbered (suc v.drawn.calls) c) ▷ step (numbered (suc v.drawn.calls) c)) onward
+      (changes_then-from (chains moves) (add_call c) _ onward added
+      (said_then-from (chains moves) TheCall (line.Call d.caller d.number d.owner d.entry d.priority) (step d) made (moves.says TheCall (line.Call d.caller d.number d.owner d.entry d.priority) made good_made refl) (kept (suc onward.drawn.calls) made good_made still (new-caller c onward)))))
 
   -- the action ends at once, without room
   told_without_room-from : (o : ObjectNo) (c : Call) (w : World) → G w → LetsIn (who.Task c.caller) o Write w
@@ -172,7 +172,7 @@ module _ {G : GoodWorld} {May Acts Pushes : Naming} {Stops : Type 0} {R : StepRe
 
   call_without_room-from : (o : ObjectNo) (c : Call) (w : World) → G w → LetsIn (who.Task c.caller) o Write w → From R w (call_without_room o c)
   unfolding call_without_room
-  call_without_room-from o c w good h = then-from moves (says Own (line.Enter (who.Task c.caller) o Write) ▷ says Own (line.Start (who.Task c.caller) c.number) ▷ says Own (line.Finish (who.Task c.caller) c.number (meeting.Raised exception.Storage)) ▷ says Own (line.Exit (who.Task c.caller) o)) (end_at_once Own c exception.Storage) w (told_without_room-from o c w good h) (end_at_once-keeps Own c exception.Storage)
+  call_without_room-from o c w good h = then-from (chains moves) (says Own (line.Enter (who.Task c.caller) o Write) ▷ says Own (line.Start (who.Task c.caller) c.number) ▷ says Own (line.Finish (who.Task c.caller) c.number (meeting.Raised exception.Storage)) ▷ says Own (line.Exit (who.Task c.caller) o)) (end_at_once Own c exception.Storage) w (told_without_room-from o c w good h) (end_at_once-keeps Own c exception.Storage)
 
   told_refused-from : (o : ObjectNo) (c : Call) (w : World) → G w → LetsIn (who.Task c.caller) o Write w → From R w (says Own (line.Enter (who.Task c.caller) o Write) ▷ says Own (line.Exit (who.Task c.caller) o))
   unfolding From Kept
@@ -191,9 +191,9 @@ module _ {G : GoodWorld} {May Acts Pushes : Naming} {Stops : Type 0} {R : StepRe
       → Kept R w said (goes_on_with (says Own (line.Exit (who.Task c.caller) o) ▷ not_accepted p Own c c.kind) (for_some found (λ d. changes (enqueued p d)) w (said ++ own (line.Enter (who.Task c.caller) o Write) ∷ [])))
   unfolding From
   passes_found-kept p o c w None said good may h =
-      then-from moves (says Own (line.Enter (who.Task c.caller) o Write) ▷ says Own (line.Exit (who.Task c.caller) o)) (not_accepted p Own c c.kind) w (told_refused-from o c w good h) (not_accepted-keeps moves p Own c c.kind may) said
+      then-from (chains moves) (says Own (line.Enter (who.Task c.caller) o Write) ▷ says Own (line.Exit (who.Task c.caller) o)) (not_accepted p Own c c.kind) w (told_refused-from o c w good h) (not_accepted-keeps moves p Own c c.kind may) said
   passes_found-kept p o c w (Some d) said good may h =
-      then-from moves (says Own (line.Enter (who.Task c.caller) o Write) ▷ changes (enqueued p d) ▷ says Own (line.Exit (who.Task c.caller) o)) (not_accepted p Own c c.kind) w (told_queued-from p o c d w good h) (not_accepted-keeps moves p Own c c.kind may) said
+      then-from (chains moves) (says Own (line.Enter (who.Task c.caller) o Write) ▷ changes (enqueued p d) ▷ says Own (line.Exit (who.Task c.caller) o)) (not_accepted p Own c c.kind) w (told_queued-from p o c d w good h) (not_accepted-keeps moves p Own c c.kind may) said
 
   call_passes-from : (p : Image) (o : ObjectNo) (c : Call) (w : World) → G w → May (who.Task c.caller) → LetsIn (who.Task c.caller) o Write w → From R w (call_passes p o c)
   unfolding call_passes From enqueue
@@ -201,48 +201,48 @@ module _ {G : GoodWorld} {May Acts Pushes : Naming} {Stops : Type 0} {R : StepRe
 
   call_refused-from : (o : ObjectNo) (c : Call) (w : World) → G w → LetsIn (who.Task c.caller) o Write w → From R w (call_refused o c)
   unfolding call_refused
-  call_refused-from o c w good h = then-from moves (says Own (line.Enter (who.Task c.caller) o Write) ▷ says Own (line.Exit (who.Task c.caller) o)) (end_at_once Own c exception.Program) w (told_refused-from o c w good h) (end_at_once-keeps Own c exception.Program)
+  call_refused-from o c w good h = then-from (chains moves) (says Own (line.Enter (who.Task c.caller) o Write) ▷ says Own (line.Exit (who.Task c.caller) o)) (end_at_once Own c exception.Program) w (told_refused-from o c w good h) (end_at_once-keeps Own c exception.Program)
 
   appoint_trigger-from : (name : Who) (depth : ℕ) (m : ℤ) (w : World) → G w → From R w (changes (appoint_trigger name depth m))
   appoint_trigger-from (who.Task t) depth m w good = appoint-from moves (due_for.Trigger t depth) m w good
-  appoint_trigger-from who.Agent depth m w good = keeps-from moves (changes (λ v. v)) w good (changes-keeps moves (λ v. v) (unchanged-alters moves))
+  appoint_trigger-from who.Agent depth m w good = keeps-from (chains moves) (changes (λ v. v)) w good (changes-keeps (chains moves) (λ v. v) (unchanged-alters (chains moves)))
 
   -- the abortable part opens, and the moment is set
   opens_until : (p : Image) (name : Who) (s : StatementNo) (m : ℤ) (w : World) → G w → May name → From R w (looks (λ v. changes (open_abortable p name s None) ▷ changes (appoint_trigger name (length (frames_of v name)) m)))
   unfolding Alters
   opens_until p name s m w good may =
       let opened = open_abortable-alters moves p name s None may w good in
-      looks_at-from moves (λ v. changes (open_abortable p name s None) ▷ changes (appoint_trigger name (length (frames_of v name)) m)) w
-      (changes_then-from moves (open_abortable p name s None) _ w opened
+      looks_at-from (chains moves) (λ v. changes (open_abortable p name s None) ▷ changes (appoint_trigger name (length (frames_of v name)) m)) w
+      (changes_then-from (chains moves) (open_abortable p name s None) _ w opened
       (appoint_trigger-from name (length (frames_of w name)) m _ (moves.behind w (open_abortable p name s None w) opened)))
 
   trigger_delay-from : (p : Image) (name : Who) (s trigger : StatementNo) (m : ℤ) (test : Bool) (w : World) → G w → May name → From R w (trigger_delay p name s trigger m test)
   unfolding trigger_delay
-  trigger_delay-from p name s trigger m false w good may = keeps-from moves _ w good (search (goes-keeps))
+  trigger_delay-from p name s trigger m false w good may = keeps-from (chains moves) _ w good (search (goes-keeps))
   trigger_delay-from p name s trigger m true w good may =
       with_room-from moves name 1 0 _ w good
       (goes_then-from moves name (next_of p s) _ w good may (λ good_onward.
       opens_until p name s m _ good_onward may))
 
   pub mark_sending-alters : (c : Option CallNo) (o : Owner) (e : EntryNo) (with_abort : Bool) → Alters G R (mark_sending c o e with_abort)
-  mark_sending-alters None o e with_abort = search (unchanged-alters)
+  mark_sending-alters None o e with_abort = search (unchanged-alters, chains)
   mark_sending-alters (Some c) o e with_abort = search (edit_call-alters)
 
   pub requeue-keeps : (p : Image) (name : Who) (e : EntryNo) (o : EntryOwner) (with_abort : Bool) → Keeps G R (requeue p name e o with_abort)
   unfolding requeue
-  requeue-keeps p name e o with_abort = search (sees-keeps, given-keeps, changes-keeps, mark_sending-alters, then-keeps, leaves-keeps) depth 8
+  requeue-keeps p name e o with_abort = search (sees-keeps, given-keeps, changes-keeps, mark_sending-alters, then-keeps, leaves-keeps, chains) depth 9
 
 module _ {G : GoodWorld} {May Acts Pushes : Naming} {Stops : Type 0} {R : StepRelation} {Q : MoveRelation} (moves : FineMoves G May Acts Pushes Stops R Q) where
   call_runs-from : (p : Image) (o : ObjectNo) (c : Call) (w : World) → G w → May (who.Task c.caller) → LetsIn (who.Task c.caller) o Write w → Caller c.number (who.Task c.caller) w → From R w (call_runs p o c)
   unfolding call_runs
   call_runs-from p o c w good may h own =
-      then-from moves (begin_action_on p (who.Task c.caller) o Write (Some c.number) None) _ w (begin_action_on-from moves p (who.Task c.caller) o Write (Some c.number) None w good (moves.may_acts (who.Task c.caller) may) (λ v xs k. moves.pushes (who.Task c.caller) (new_frame (new_protected_mark o Write (Some c.number) None) None) v (moves.behind w v k) (moves.may_pushes (who.Task c.caller) may) (moves.may_free (who.Task c.caller) v (moves.behind w v k) may) refl refl (λ n e. moves.still_called n (who.Task c.caller) w v k (own_number c.number n (who.Task c.caller) w own e))) h)
-      (serve_call-keeps moves p Own (who.Task c.caller) o c nothing nothing may (nothing-keeps moves) (nothing-keeps moves))
+      then-from (chains moves) (begin_action_on p (who.Task c.caller) o Write (Some c.number) None) _ w (begin_action_on-from moves p (who.Task c.caller) o Write (Some c.number) None w good (moves.may_acts (who.Task c.caller) may) (λ v xs k. moves.pushes (who.Task c.caller) (new_frame (new_protected_mark o Write (Some c.number) None) None) v (moves.behind w v k) (moves.may_pushes (who.Task c.caller) may) (moves.may_free (who.Task c.caller) v (moves.behind w v k) may) refl refl (λ n e. moves.still_called n (who.Task c.caller) w v k (own_number c.number n (who.Task c.caller) w own e))) h)
+      (serve_call-keeps moves p Own (who.Task c.caller) o c nothing nothing may (nothing-keeps (chains moves)) (nothing-keeps (chains moves)))
 
   call_runs_if_room-from : (p : Image) (o : ObjectNo) (c : Call) (w : World) → G w → May (who.Task c.caller) → LetsIn (who.Task c.caller) o Write w → Caller c.number (who.Task c.caller) w → From R w (call_runs_if_room p o c)
   unfolding call_runs_if_room
   call_runs_if_room-from p o c w good may h own =
-      looks_at-from moves (λ v. elim (has_room_for_action p v c) as (λ _. Step) [ true ↦ call_runs p o c | false ↦ call_without_room o c ]) w (either-from moves (has_room_for_action p w c) (call_runs p o c) (call_without_room o c) w (call_runs-from p o c w good may h own) (call_without_room-from moves o c w good h))
+      looks_at-from (chains moves) (λ v. elim (has_room_for_action p v c) as (λ _. Step) [ true ↦ call_runs p o c | false ↦ call_without_room o c ]) w (either-from (chains moves) (has_room_for_action p w c) (call_runs p o c) (call_without_room o c) w (call_runs-from p o c w good may h own) (call_without_room-from moves o c w good h))
 
   call_closed-from : (p : Image) (o : ObjectNo) (c : Call) (test : Bool) (w : World) → G w → May (who.Task c.caller) → LetsIn (who.Task c.caller) o Write w → From R w (call_closed p o c test)
   unfolding call_closed
@@ -254,12 +254,12 @@ module _ {G : GoodWorld} {May Acts Pushes : Naming} {Stops : Type 0} {R : StepRe
   unfolding call_by_barrier
   call_by_barrier-from p o c true w good may h =
       with_room-from moves (who.Task c.caller) 1 0 (make_call p c (call_runs_if_room p o)) w good (make_call-from moves p o c (call_runs_if_room p o) w good may h (λ n v g k own. call_runs_if_room-from p o (numbered n c) v g may k own))
-  call_by_barrier-from p o c false w good may h = looks_at-from moves (λ v. call_closed p o c (is_full p v c.owner c.entry)) w (call_closed-from p o c (is_full p w c.owner c.entry) w good may h)
+  call_by_barrier-from p o c false w good may h = looks_at-from (chains moves) (λ v. call_closed p o c (is_full p v c.owner c.entry)) w (call_closed-from p o c (is_full p w c.owner c.entry) w good may h)
 
   pub call_object-keeps : (p : Image) (o : ObjectNo) (c : Call) → May (who.Task c.caller) → Keeps G R (call_object p o c)
   unfolding call_object
   call_object-keeps p o c may =
-      where_let_inside-keeps moves p (who.Task c.caller) o Write _ (moves.may_acts (who.Task c.caller) may) (λ w good h. looks_at-from moves (λ v. call_by_barrier p o c (is_barrier_open p v (who.Task c.caller) o c.entry)) w (call_by_barrier-from p o c (is_barrier_open p w (who.Task c.caller) o c.entry) w good may h))
+      where_let_inside-keeps moves p (who.Task c.caller) o Write _ (moves.may_acts (who.Task c.caller) may) (λ w good h. looks_at-from (chains moves) (λ v. call_by_barrier p o c (is_barrier_open p v (who.Task c.caller) o c.entry)) w (call_by_barrier-from p o c (is_barrier_open p w (who.Task c.caller) o c.entry) w good may h))
 
   pub call_owner-keeps : (p : Image) (c : Call) (owner : Owner) → May (who.Task c.caller) → Keeps G R (call_owner p c owner)
   unfolding call_owner
@@ -268,17 +268,17 @@ module _ {G : GoodWorld} {May Acts Pushes : Naming} {Stops : Type 0} {R : StepRe
 
   pub call_named-keeps : (p : Image) (t : TaskNo) (kind : CallKind) (s : StatementNo) (n : EntryCallNamed) → May (who.Task t) → Keeps G R (call_named p t kind s n)
   unfolding call_named
-  call_named-keeps p t kind s n may = search (sees-keeps, given-keeps, call_owner-keeps) depth 6
+  call_named-keeps p t kind s n may = search (sees-keeps, given-keeps, call_owner-keeps, chains) depth 7
 
   pub entry_call-keeps : (p : Image) (name : Who) (kind : CallKind) (s : StatementNo) → May name → Keeps G R (entry_call p name kind s)
   unfolding entry_call
-  entry_call-keeps p (who.Task t) kind s may = search (looks-keeps, raise_if-keeps, call_named-keeps)
+  entry_call-keeps p (who.Task t) kind s may = search (looks-keeps, raise_if-keeps, call_named-keeps, chains)
   entry_call-keeps p who.Agent kind s may = search (raises-keeps)
 
   pub async_delay-keeps : (p : Image) (name : Who) (s trigger : StatementNo) → May name → Keeps G R (async_delay p name s trigger)
   unfolding async_delay
   async_delay-keeps p name s trigger may =
-      looks-from moves (λ v. raise_if name (is_forbidden v name call_kind.Triggering) exception.Program (given Own name (delay_moment (seen_by p v name) trigger) (λ m. trigger_delay p name s trigger m (int_lt (pos v.time) m))))
+      looks-from (chains moves) (λ v. raise_if name (is_forbidden v name call_kind.Triggering) exception.Program (given Own name (delay_moment (seen_by p v name) trigger) (λ m. trigger_delay p name s trigger m (int_lt (pos v.time) m))))
       (λ w good. raise_if-from moves name (is_forbidden w name call_kind.Triggering) exception.Program _ w good (λ allowed.
       given-from moves Own name (delay_moment (seen_by p w name) trigger) _ w good (λ m.
       trigger_delay-from moves p name s trigger m (int_lt (pos w.time) m) w good may)))

@@ -19,15 +19,15 @@ use Rattle.profile_machine.specs.Steps.{Step, changes, nothing, ◌▷◌}
 use Rattle.profile_machine.specs.Frames.{top_of, new_frame, edit_first, edit_top, goes, push, leaves, raises, has_room, open_handled, open_at, open_sequence, open_if_ready, stands_in, exit_loop, pass_on, given, raise_if, with_room, goes_on}
 use Rattle.profile_machine.specs.Operators.{Valued}
 use Rattle.machine_laws.proofs.Moves.{StepRelation, MoveRelation}
-use Rattle.line_laws.proofs.Leaving.FineMoves.{FineMoves, nature, Alike, Free, own_call_of}
+use Rattle.line_laws.proofs.Leaving.FineMoves.{FineMoves, nature, Alike, Free, own_call_of, chains, says-keeps}
 use Rattle.ann_base.specs.declared.identities.CallNo.{CallNo}
-use Rattle.line_laws.proofs.Leaving.Kept.Combinators.{free_then-from, branch-keeps, changes-keeps, either-from, keeps-from, looks-from, looks-keeps, looks_at-from, nothing-keeps, says-keeps, then-keeps, when-keeps, changes-from, changes_then-from}
+use Rattle.line_laws.proofs.Leaving.Kept.Combinators.{free_then-from}
 use Rattle.line_laws.proofs.Leaving.Kept.Tasks.{edit_frames-alters}
 use Rattle.std.proofs.Common.{◌≡◌, List, [], ◌∷◌, option_and_then, is_some, refl, sym, ap, ◌∙◌}
 use Rattle.profile_machine.specs.Masters.{region_of_mark}
 use Rattle.machine_laws.proofs.FineMoves.{GoodWorld, Naming}
 use Rattle.machine_laws.proofs.FinestMoves.{being_left_in}
-use Rattle.machine_laws.proofs.Kept.Combinators.{Alters, From, Gives, Keeps}
+use Rattle.machine_laws.proofs.Kept.Combinators.{Alters, From, Gives, Keeps, branch-keeps, changes-from, changes-keeps, changes_then-from, either-from, keeps-from, looks-from, looks-keeps, looks_at-from, nothing-keeps, then-keeps, when-keeps}
 
 -- an edit of a mark on top
 pub alike : (fs : List Frame) → Alike fs fs
@@ -51,38 +51,38 @@ module _ {G : GoodWorld} {May Acts Pushes : Naming} {Stops : Type 0} {R : StepRe
 
   pub goes-keeps : (name : Who) (onward : Option StatementNo) → May name → Keeps G R (goes name onward)
   unfolding goes Alters
-  goes-keeps name onward may = changes-keeps moves (edit_top name (goes_on onward)) (λ w good. moves.goes name onward w good (moves.may_free name w good may))
+  goes-keeps name onward may = changes-keeps (chains moves) (edit_top name (goes_on onward)) (λ w good. moves.goes name onward w good (moves.may_free name w good may))
 
   -- who is free goes on
   pub goes-from : (name : Who) (onward : Option StatementNo) (w : World) → G w → Free name w → From R w (goes name onward)
   unfolding goes
-  goes-from name onward w good free = changes-from moves (edit_top name (goes_on onward)) w (moves.goes name onward w good free)
+  goes-from name onward w good free = changes-from (chains moves) (edit_top name (goes_on onward)) w (moves.goes name onward w good free)
 
   pub leaves-keeps : (name : Who) (leaving : Leaving) → Keeps G R (leaves name leaving)
   unfolding leaves
-  leaves-keeps name leaving = search (changes-keeps, edit_top_off-alters)
+  leaves-keeps name leaving = search (changes-keeps, edit_top_off-alters, chains)
 
   pub raises-keeps : (part : Part) (name : Who) (e : Raised) → Keeps G R (raises part name e)
   unfolding raises
-  raises-keeps part name e = search (says-keeps, then-keeps, leaves-keeps)
+  raises-keeps part name e = search (says-keeps, then-keeps, leaves-keeps, chains)
 
   -- who is free goes on, and opens a mark
   goes_push-from : (name : Who) (onward : Option StatementNo) (f : Frame) (w : World) → G w → Pushes name → Free name w → region_of_mark f.mark ≡ None → being_left_in f.mark ≡ false → own_call_of f.mark ≡ None → From R w (goes name onward ▷ changes (push name f))
   goes_push-from name onward f w good pushes free none not_left none_called =
-      free_then-from moves name (goes name onward) (changes (push name f)) w free (goes-from name onward w good free) (λ v good_v free_v. changes-from moves (push name f) v (moves.pushes name f v good_v pushes free_v none not_left (λ c e. no_call c (own_call_of f.mark) none_called e)))
+      free_then-from moves name (goes name onward) (changes (push name f)) w free (goes-from name onward w good free) (λ v good_v free_v. changes-from (chains moves) (push name f) v (moves.pushes name f v good_v pushes free_v none not_left (λ c e. no_call c (own_call_of f.mark) none_called e)))
 
   open_handled-from : (p : Image) (part : Part) (name : Who) (s : StatementNo) (form : StatementForm) (w : World) → G w → Pushes name → Free name w → From R w (open_handled p part name s form)
   unfolding open_handled
   open_handled-from p part name s (form.Handled handlers first) w good pushes free =
-      looks_at-from moves (λ v. elim (has_room v name 1 0) as (λ _. Step) [ true ↦ goes name (next_of p s) ▷ changes (push name (new_frame (Handled s) (Some first))) | false ↦ raises part name exception.Storage ]) w
-      (either-from moves (has_room w name 1 0) (goes name (next_of p s) ▷ changes (push name (new_frame (Handled s) (Some first)))) (raises part name exception.Storage) w
+      looks_at-from (chains moves) (λ v. elim (has_room v name 1 0) as (λ _. Step) [ true ↦ goes name (next_of p s) ▷ changes (push name (new_frame (Handled s) (Some first))) | false ↦ raises part name exception.Storage ]) w
+      (either-from (chains moves) (has_room w name 1 0) (goes name (next_of p s) ▷ changes (push name (new_frame (Handled s) (Some first)))) (raises part name exception.Storage) w
       (goes_push-from name (next_of p s) (new_frame (Handled s) (Some first)) w good pushes free refl refl refl)
-      (keeps-from moves (raises part name exception.Storage) w good (raises-keeps part name exception.Storage)))
-  open_handled-from p part name s _ w good pushes free = keeps-from moves _ w good (nothing-keeps moves)
+      (keeps-from (chains moves) (raises part name exception.Storage) w good (raises-keeps part name exception.Storage)))
+  open_handled-from p part name s _ w good pushes free = keeps-from (chains moves) _ w good (nothing-keeps (chains moves))
 
   nothing_opens : (p : Image) (part : Part) (name : Who) (w : World) → G w → From R w (open_at p part name None)
   unfolding open_at
-  nothing_opens p part name w good = keeps-from moves _ w good (nothing-keeps moves)
+  nothing_opens p part name w good = keeps-from (chains moves) _ w good (nothing-keeps (chains moves))
 
   open_at-from : (p : Image) (part : Part) (name : Who) (next : Option StatementNo) (g : Frame) (w : World) → G w → Pushes name → top_of w name ≡ Some g → g.onward ≡ next → From R w (open_at p part name next)
   unfolding open_at
@@ -95,19 +95,19 @@ module _ {G : GoodWorld} {May Acts Pushes : Naming} {Stops : Type 0} {R : StepRe
 
   pub open_sequence-keeps : (p : Image) (part : Part) (name : Who) → Pushes name → Keeps G R (open_sequence p part name)
   unfolding open_sequence
-  open_sequence-keeps p part name pushes = looks-from moves _ (λ w good. open_found-from p part name w (top_of w name) good pushes refl)
+  open_sequence-keeps p part name pushes = looks-from (chains moves) _ (λ w good. open_found-from p part name w (top_of w name) good pushes refl)
 
   pub open_if_ready-keeps : (p : Image) (name : Who) → Pushes name → Keeps G R (open_if_ready p name)
   unfolding open_if_ready
-  open_if_ready-keeps p name pushes = search (looks-keeps, when-keeps, open_sequence-keeps)
+  open_if_ready-keeps p name pushes = search (looks-keeps, when-keeps, open_sequence-keeps, chains)
 
   pub exit_loop-keeps : (p : Image) (name : Who) (loop : StatementNo) → May name → Keeps G R (exit_loop p name loop)
   unfolding exit_loop
-  exit_loop-keeps p name loop may = looks-keeps moves _ (λ w. branch-keeps moves (stands_in p loop (top_of w name)) (goes name (next_of p loop)) (leaves name (how.Exit loop)) (search (goes-keeps)) (search (leaves-keeps)))
+  exit_loop-keeps p name loop may = looks-keeps (chains moves) _ (λ w. branch-keeps (chains moves) (stands_in p loop (top_of w name)) (goes name (next_of p loop)) (leaves name (how.Exit loop)) (search (goes-keeps)) (search (leaves-keeps)))
 
   pub pass_on-keeps : (p : Image) (name : Who) (leaving : Leaving) → May name → Keeps G R (pass_on p name leaving)
   unfolding pass_on
-  pass_on-keeps p name how.End may = search (nothing-keeps)
+  pass_on-keeps p name how.End may = search (nothing-keeps, chains)
   pass_on-keeps p name how.Return may = search (leaves-keeps)
   pass_on-keeps p name (how.Exit loop) may = search (exit_loop-keeps)
   pass_on-keeps p name (how.Exception e) may = search (leaves-keeps)
@@ -117,18 +117,18 @@ module _ {G : GoodWorld} {May Acts Pushes : Naming} {Stops : Type 0} {R : StepRe
   exit_loop-from : (p : Image) (name : Who) (loop : StatementNo) (w : World) → G w → Free name w → From R w (exit_loop p name loop)
   unfolding exit_loop
   exit_loop-from p name loop w good free =
-      looks_at-from moves (λ v. elim (stands_in p loop (top_of v name)) as (λ _. Step) [ true ↦ goes name (next_of p loop) | false ↦ leaves name (how.Exit loop) ]) w
-      (either-from moves (stands_in p loop (top_of w name)) (goes name (next_of p loop)) (leaves name (how.Exit loop)) w (goes-from name (next_of p loop) w good free) (keeps-from moves (leaves name (how.Exit loop)) w good (leaves-keeps name (how.Exit loop))))
+      looks_at-from (chains moves) (λ v. elim (stands_in p loop (top_of v name)) as (λ _. Step) [ true ↦ goes name (next_of p loop) | false ↦ leaves name (how.Exit loop) ]) w
+      (either-from (chains moves) (stands_in p loop (top_of w name)) (goes name (next_of p loop)) (leaves name (how.Exit loop)) w (goes-from name (next_of p loop) w good free) (keeps-from (chains moves) (leaves name (how.Exit loop)) w good (leaves-keeps name (how.Exit loop))))
 
   -- of who is free
   pub pass_on-from : (p : Image) (name : Who) (leaving : Leaving) (w : World) → G w → Free name w → From R w (pass_on p name leaving)
   unfolding pass_on
-  pass_on-from p name how.End w good free = keeps-from moves nothing w good (nothing-keeps moves)
-  pass_on-from p name how.Return w good free = keeps-from moves _ w good (leaves-keeps name how.Return)
+  pass_on-from p name how.End w good free = keeps-from (chains moves) nothing w good (nothing-keeps (chains moves))
+  pass_on-from p name how.Return w good free = keeps-from (chains moves) _ w good (leaves-keeps name how.Return)
   pass_on-from p name (how.Exit loop) w good free = exit_loop-from p name loop w good free
-  pass_on-from p name (how.Exception e) w good free = keeps-from moves _ w good (leaves-keeps name (how.Exception e))
-  pass_on-from p name how.Abort w good free = keeps-from moves _ w good (leaves-keeps name how.Abort)
-  pass_on-from p name how.Terminate w good free = keeps-from moves _ w good (leaves-keeps name how.Terminate)
+  pass_on-from p name (how.Exception e) w good free = keeps-from (chains moves) _ w good (leaves-keeps name (how.Exception e))
+  pass_on-from p name how.Abort w good free = keeps-from (chains moves) _ w good (leaves-keeps name how.Abort)
+  pass_on-from p name how.Terminate w good free = keeps-from (chains moves) _ w good (leaves-keeps name how.Terminate)
 
   pub given-keeps : {X : Type 0} (part : Part) (name : Who) (result : Result X Raised) (f : X → Step) → ((x : X) → Keeps G R (f x)) → Keeps G R (given part name result f)
   given-keeps part name (Ok x) f k = k x
@@ -138,14 +138,14 @@ module _ {G : GoodWorld} {May Acts Pushes : Naming} {Stops : Type 0} {R : StepRe
 
   pub given-from : {X : Type 0} (part : Part) (name : Who) (result : Result X Raised) (f : X → Step) (w : World) → G w → ((x : X) → From R w (f x)) → From R w (given part name result f)
   given-from part name (Ok x) f w good k = k x
-  given-from part name (Err e) f w good k = keeps-from moves (raises part name e) w good (raises-keeps part name e)
+  given-from part name (Err e) f w good k = keeps-from (chains moves) (raises part name e) w good (raises-keeps part name e)
 
   pub given_as-from : {X : Type 0} (part : Part) (name : Who) (result : Result X Raised) (f : X → Step) (w : World) → G w → ((x : X) → result ≡ Ok x → From R w (f x)) → From R w (given part name result f)
   given_as-from part name (Ok x) f w good k = k x refl
-  given_as-from part name (Err e) f w good k = keeps-from moves (raises part name e) w good (raises-keeps part name e)
+  given_as-from part name (Err e) f w good k = keeps-from (chains moves) (raises part name e) w good (raises-keeps part name e)
 
   pub raise_if-from : (name : Who) (test : Bool) (e : Raised) (step : Step) (w : World) → G w → (test ≡ false → From R w step) → From R w (raise_if name test e step)
-  raise_if-from name true e step w good k = keeps-from moves (raises Own name e) w good (raises-keeps Own name e)
+  raise_if-from name true e step w good k = keeps-from (chains moves) (raises Own name e) w good (raises-keeps Own name e)
   raise_if-from name false e step w good k = k refl
 
   -- a step behind the going on
@@ -153,32 +153,32 @@ module _ {G : GoodWorld} {May Acts Pushes : Naming} {Stops : Type 0} {R : StepRe
   unfolding goes
   goes_then-from name onward g w good may k =
       let gone = moves.goes name onward w good (moves.may_free name w good may) in
-      changes_then-from moves (edit_top name (goes_on onward)) g w gone (k (moves.behind w (edit_top name (goes_on onward) w) gone))
+      changes_then-from (chains moves) (edit_top name (goes_on onward)) g w gone (k (moves.behind w (edit_top name (goes_on onward) w) gone))
 
   -- the world that a value gives becomes the world
   pub given_world-from : (part : Part) (name : Who) (result : Valued World) (f : World → Step) (w : World) → G w → Gives R w result → ((next : World) → Keeps G R (f next)) → From R w (given part name result (λ next. changes (λ _. next) ▷ f next))
   unfolding Gives
-  given_world-from part name (Ok next) f w good a k = changes_then-from moves (λ _. next) (f next) w a (keeps-from moves (f next) next (moves.behind w next a) (k next))
-  given_world-from part name (Err e) f w good a k = keeps-from moves (raises part name e) w good (raises-keeps part name e)
+  given_world-from part name (Ok next) f w good a k = changes_then-from (chains moves) (λ _. next) (f next) w a (keeps-from (chains moves) (f next) next (moves.behind w next a) (k next))
+  given_world-from part name (Err e) f w good a k = keeps-from (chains moves) (raises part name e) w good (raises-keeps part name e)
 
   pub becomes-from : (part : Part) (name : Who) (result : Valued World) (w : World) → G w → Gives R w result → From R w (given part name result (λ next. changes (λ _. next)))
   unfolding Gives
-  becomes-from part name (Ok next) w good a = changes-from moves (λ _. next) w a
-  becomes-from part name (Err e) w good a = keeps-from moves (raises part name e) w good (raises-keeps part name e)
+  becomes-from part name (Ok next) w good a = changes-from (chains moves) (λ _. next) w a
+  becomes-from part name (Err e) w good a = keeps-from (chains moves) (raises part name e) w good (raises-keeps part name e)
 
   branch-from : (name : Who) (test : Bool) (e : Raised) (step : Step) (w : World) → G w → From R w step → From R w (elim test as (λ _. Step) [ true ↦ step | false ↦ raises Own name e ])
   branch-from name true e step w good k = k
-  branch-from name false e step w good k = keeps-from moves (raises Own name e) w good (raises-keeps Own name e)
+  branch-from name false e step w good k = keeps-from (chains moves) (raises Own name e) w good (raises-keeps Own name e)
 
   pub with_room-from : (name : Who) (marks cells : ℕ) (step : Step) (w : World) → G w → From R w step → From R w (with_room name marks cells step)
-  with_room-from name marks cells step w good k = looks_at-from moves (λ v. elim (has_room v name marks cells) as (λ _. Step) [ true ↦ step | false ↦ raises Own name exception.Storage ]) w (branch-from name (has_room w name marks cells) exception.Storage step w good k)
+  with_room-from name marks cells step w good k = looks_at-from (chains moves) (λ v. elim (has_room v name marks cells) as (λ _. Step) [ true ↦ step | false ↦ raises Own name exception.Storage ]) w (branch-from name (has_room w name marks cells) exception.Storage step w good k)
 
   pub raise_if-keeps : (name : Who) (test : Bool) (e : Raised) (step : Step) → Keeps G R step → Keeps G R (raise_if name test e step)
   raise_if-keeps name true e step kept = search (raises-keeps)
   raise_if-keeps name false e step kept = search
 
   pub with_room-keeps : (name : Who) (marks cells : ℕ) (step : Step) → Keeps G R step → Keeps G R (with_room name marks cells step)
-  with_room-keeps name marks cells step kept = looks-keeps moves _ (λ w. branch-keeps moves (has_room w name marks cells) step (raises Own name exception.Storage) (search) (search (raises-keeps)))
+  with_room-keeps name marks cells step kept = looks-keeps (chains moves) _ (λ w. branch-keeps (chains moves) (has_room w name marks cells) step (raises Own name exception.Storage) (search) (search (raises-keeps)))
 
   -- ---- who may go on opens a mark
 

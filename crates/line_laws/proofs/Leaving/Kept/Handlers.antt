@@ -51,8 +51,8 @@ use Rattle.trace_text.specs.declared.events.Mode.{Mode}
 use Rattle.profile_machine.specs.declared.world.marks.Purpose.TheVariants as opened_for
 use Rattle.profile_machine.specs.declared.world.marks.ResultTo.TheVariants as bound_for
 use Rattle.machine_laws.proofs.Moves.{StepRelation, MoveRelation, LetsIn}
-use Rattle.line_laws.proofs.Leaving.FineMoves.{FineMoves}
-use Rattle.line_laws.proofs.Leaving.Kept.Combinators.{after-from, regrouped-from, changes-from, from-keeps, changes_then-from, either-from, looks_at-from, then-from, changes-keeps, for_some-keeps, keeps-from, looks-from, looks-keeps, nothing-keeps, says-keeps, sees-keeps, then-keeps, unchanged-alters}
+use Rattle.line_laws.proofs.Leaving.FineMoves.{FineMoves, chains, says-keeps}
+use Rattle.line_laws.proofs.Leaving.Kept.Combinators.{regrouped-from}
 use Rattle.line_laws.proofs.Leaving.Kept.Frames.{becomes-from, goes-keeps, given-keeps, raise_if-keeps}
 use Rattle.line_laws.proofs.Leaving.Kept.Tasks.{edit_task-alters}
 use Rattle.line_laws.proofs.Leaving.Kept.Dispatching.{ready-keeps}
@@ -62,8 +62,8 @@ use Rattle.line_laws.proofs.Leaving.Kept.Protected.{find_held-from, told_enter-f
 use Rattle.machine_laws.proofs.Kept.Entering.{entering-inside, entering-held}
 use Rattle.line_laws.proofs.Leaving.Kept.Serving.{end_release-keeps}
 use Rattle.machine_laws.proofs.FineMoves.{GoodWorld, Naming}
-use Rattle.machine_laws.proofs.Kept.Combinators.{Alters, From, Keeps, Kept}
 use Rattle.machine_laws.proofs.Kept.Handlers.{spent-frames, spent-state, spent-who}
+use Rattle.machine_laws.proofs.Kept.Combinators.{Alters, From, Keeps, Kept, after-from, changes-from, changes-keeps, changes_then-from, either-from, for_some-keeps, from-keeps, keeps-from, looks-from, looks-keeps, looks_at-from, nothing-keeps, sees-keeps, then-from, then-keeps, unchanged-alters}
 
 -- ---- releases, settings, and the charge of a tick
 
@@ -76,31 +76,31 @@ module _ {G : GoodWorld} {May Acts Pushes : Naming} {Stops : Type 0} {R : StepRe
   wake_agent-keeps : (p : Image) (part : Part) (state : State) → Keeps G R (wake_agent p part state)
   unfolding wake_agent
   wake_agent-keeps p part (Blocked waiting) = ready-keeps moves p part who.Agent
-  wake_agent-keeps p part Runnable = nothing-keeps moves
-  wake_agent-keeps p part Made = nothing-keeps moves
+  wake_agent-keeps p part Runnable = nothing-keeps (chains moves)
+  wake_agent-keeps p part Made = nothing-keeps (chains moves)
 
   pub release-keeps : (p : Image) (h : HandlerOf) (argument : Option ℕ) → Keeps G R (release p Own h argument)
   unfolding release
   release-keeps p h argument =
-      then-keeps moves (changes (add_release h argument) ▷ says_release Own h) (looks (λ w. wake_agent p Own w.agent.state)) (told_release-keeps h argument)
-      (looks-keeps moves _ (λ w. wake_agent-keeps p Own w.agent.state))
+      then-keeps (chains moves) (changes (add_release h argument) ▷ says_release Own h) (looks (λ w. wake_agent p Own w.agent.state)) (told_release-keeps h argument)
+      (looks-keeps (chains moves) _ (λ w. wake_agent-keeps p Own w.agent.state))
 
   pub with_room_for_release-keeps : (name : Who) (needed : Bool) (step : Step) → Keeps G R step → Keeps G R (with_room_for_release name needed step)
-  with_room_for_release-keeps name needed step kept = search (looks-keeps, raise_if-keeps)
+  with_room_for_release-keeps name needed step kept = search (looks-keeps, raise_if-keeps, chains)
 
   pub setting_of-keeps : (p : Image) (name : Who) (q : Seen) (base : ℤ) (set : Setting) (named : Option HandlerName) (step : Option HandlerOf → ℤ → Step) → ((x : Option HandlerOf) (y : ℤ) → Keeps G R (step x y)) → Keeps G R (setting_of p name q base set named step)
   setting_of-keeps p name q base set named step kept = search (given-keeps, with_room_for_release-keeps, raise_if-keeps)
 
   pub answer-keeps : (p : Image) (name : Who) (v : Variable) (b : Bool) → Keeps G R (answer p name v b)
   unfolding answer
-  answer-keeps p name v b = looks-from moves _ (λ w good. becomes-from moves Own name (store p v (Truth b) w) w good (store-gives moves p v (Truth b) w good))
+  answer-keeps p name v b = looks-from (chains moves) _ (λ w good. becomes-from moves Own name (store p v (Truth b) w) w good (store-gives moves p v (Truth b) w good))
 
   pub cancel_event_setting-alters : (e : ℕ) → Alters G R (cancel_event_setting e)
   cancel_event_setting-alters e = search (drop_appointment-alters)
 
   pub cancel_event-keeps : (p : Image) (name : Who) (s : StatementNo) (d : DeclNo) (target : VariableName) → May name → Keeps G R (cancel_event p name s d target)
   unfolding cancel_event
-  cancel_event-keeps p name s d target may = search (sees-keeps, given-keeps, goes-keeps, then-keeps, changes-keeps, cancel_event_setting-alters, answer-keeps) depth 9
+  cancel_event-keeps p name s d target may = search (sees-keeps, given-keeps, goes-keeps, then-keeps, changes-keeps, cancel_event_setting-alters, answer-keeps, chains) depth 10
 
   pub clear_timer-alters : (k : ℕ) → Alters G R (clear_timer k)
   unfolding Alters
@@ -112,7 +112,7 @@ module _ {G : GoodWorld} {May Acts Pushes : Naming} {Stops : Type 0} {R : StepRe
 
   pub cancel_timer-keeps : (p : Image) (name : Who) (s : StatementNo) (d : DeclNo) (target : VariableName) → May name → Keeps G R (cancel_timer p name s d target)
   unfolding cancel_timer
-  cancel_timer-keeps p name s d target may = search (sees-keeps, given-keeps, goes-keeps, then-keeps, changes-keeps, clear_timer-alters, answer-keeps) depth 9
+  cancel_timer-keeps p name s d target may = search (sees-keeps, given-keeps, goes-keeps, then-keeps, changes-keeps, clear_timer-alters, answer-keeps, chains) depth 10
 
   edit_budget-alters : (b : ℕ) (f : Budget → Budget) → Alters G R (edit_budget b f)
   unfolding Alters
@@ -120,19 +120,19 @@ module _ {G : GoodWorld} {May Acts Pushes : Naming} {Stops : Type 0} {R : StepRe
 
   pub change_member-keeps : (p : Image) (name : Who) (s : StatementNo) (t : world.Task) (is_right : Bool) (b : Option ℕ) → May name → Keeps G R (change_member p name s t is_right b)
   unfolding change_member
-  change_member-keeps p name s t is_right b may = search (raise_if-keeps, goes-keeps, then-keeps, changes-keeps, edit_task-alters)
+  change_member-keeps p name s t is_right b may = search (raise_if-keeps, goes-keeps, then-keeps, changes-keeps, edit_task-alters, chains)
 
   pub add_member-keeps : (p : Image) (name : Who) (s : StatementNo) (d : DeclNo) (e : ExprNo) → May name → Keeps G R (add_member p name s d e)
   unfolding add_member
-  add_member-keeps p name s d e may = search (sees-keeps, given-keeps, change_member-keeps) depth 6
+  add_member-keeps p name s d e may = search (sees-keeps, given-keeps, change_member-keeps, chains) depth 7
 
   pub remove_member-keeps : (p : Image) (name : Who) (s : StatementNo) (d : DeclNo) (e : ExprNo) → May name → Keeps G R (remove_member p name s d e)
   unfolding remove_member
-  remove_member-keeps p name s d e may = search (sees-keeps, given-keeps, change_member-keeps) depth 6
+  remove_member-keeps p name s d e may = search (sees-keeps, given-keeps, change_member-keeps, chains) depth 7
 
   pub fill_budget-keeps : (p : Image) (name : Who) (s : StatementNo) (d : DeclNo) (e : ExprNo) (f : ℤ → Budget → Budget) → May name → Keeps G R (fill_budget p name s d e f)
   unfolding fill_budget
-  fill_budget-keeps p name s d e f may = search (sees-keeps, given-keeps, with_room_for_release-keeps, raise_if-keeps, goes-keeps, then-keeps, changes-keeps, edit_budget-alters) depth 8
+  fill_budget-keeps p name s d e f may = search (sees-keeps, given-keeps, with_room_for_release-keeps, raise_if-keeps, goes-keeps, then-keeps, changes-keeps, edit_budget-alters, chains) depth 9
 
   pub replenish-keeps : (p : Image) (name : Who) (s : StatementNo) (d : DeclNo) (e : ExprNo) → May name → Keeps G R (replenish p name s d e)
   unfolding replenish
@@ -144,14 +144,14 @@ module _ {G : GoodWorld} {May Acts Pushes : Naming} {Stops : Type 0} {R : StepRe
 
   pub set_budget-keeps : (p : Image) (name : Who) (s : StatementNo) (d : DeclNo) (named : Option HandlerName) → May name → Keeps G R (set_budget p name s d named)
   unfolding set_budget
-  set_budget-keeps p name s d named may = search (sees-keeps, given-keeps, with_room_for_release-keeps, raise_if-keeps, goes-keeps, then-keeps, changes-keeps, edit_budget-alters) depth 8
+  set_budget-keeps p name s d named may = search (sees-keeps, given-keeps, with_room_for_release-keeps, raise_if-keeps, goes-keeps, then-keeps, changes-keeps, edit_budget-alters, chains) depth 9
 
   pub cancel_budget-keeps : (p : Image) (name : Who) (s : StatementNo) (d : DeclNo) (target : VariableName) → May name → Keeps G R (cancel_budget p name s d target)
   unfolding cancel_budget
-  cancel_budget-keeps p name s d target may = search (sees-keeps, given-keeps, goes-keeps, then-keeps, changes-keeps, edit_budget-alters, answer-keeps) depth 9
+  cancel_budget-keeps p name s d target may = search (sees-keeps, given-keeps, goes-keeps, then-keeps, changes-keeps, edit_budget-alters, answer-keeps, chains) depth 10
 
   pub charge_budget-alters : (n : Option ℕ) → Alters G R (charge_budget n)
-  charge_budget-alters None = search (unchanged-alters)
+  charge_budget-alters None = search (unchanged-alters, chains)
   charge_budget-alters (Some b) = search (edit_budget-alters)
 
   -- ---- a tick is charged
@@ -192,36 +192,36 @@ module _ {G : GoodWorld} {May Acts Pushes : Naming} {Stops : Type 0} {R : StepRe
   pub interrupt-keeps : (p : Image) (n : ℕ) → Keeps G R (interrupt p n)
   unfolding interrupt
   interrupt-keeps p n =
-      then-keeps moves (says Own (line.Interrupt n)) _ (says-keeps moves Own (line.Interrupt n) refl)
-      (looks-keeps moves _ (λ w. for_some-keeps moves (handler_attached p n w.objects) _ (λ h. release-keeps p h None)))
+      then-keeps (chains moves) (says Own (line.Interrupt n)) _ (says-keeps moves Own (line.Interrupt n) refl)
+      (looks-keeps (chains moves) _ (λ w. for_some-keeps (chains moves) (handler_attached p n w.objects) _ (λ h. release-keeps p h None)))
 
   appoint_event-from : (p : Image) (e : ℕ) (h : HandlerOf) (m : ℤ) (test : Bool) (w : World) → G w → int_lt (pos w.time) m ≡ test → From R w (appoint_event p e h m test)
   unfolding appoint_event
   appoint_event-from p e h m true w good is = appoint-from moves (due_for.Event e h) m w good
-  appoint_event-from p e h m false w good is = keeps-from moves (release p Own h (Some e)) w good (release-keeps p h (Some e))
+  appoint_event-from p e h m false w good is = keeps-from (chains moves) (release p Own h (Some e)) w good (release-keeps p h (Some e))
 
   pub event_set_to-keeps : (p : Image) (e : ℕ) (h : Option HandlerOf) (m : ℤ) → Keeps G R (event_set_to p e h m)
   unfolding event_set_to
-  event_set_to-keeps p e None m = search (nothing-keeps)
-  event_set_to-keeps p e (Some h) m = looks-from moves _ (λ w good. appoint_event-from p e h m (int_lt (pos w.time) m) w good refl)
+  event_set_to-keeps p e None m = search (nothing-keeps, chains)
+  event_set_to-keeps p e (Some h) m = looks-from (chains moves) _ (λ w good. appoint_event-from p e h m (int_lt (pos w.time) m) w good refl)
 
   pub set_event-keeps : (p : Image) (name : Who) (s : StatementNo) (d : DeclNo) (set : Setting) (named : Option HandlerName) → May name → Keeps G R (set_event p name s d set named)
   unfolding set_event
-  set_event-keeps p name s d set named may = search (sees-keeps, given-keeps, setting_of-keeps, goes-keeps, then-keeps, changes-keeps, cancel_event_setting-alters, event_set_to-keeps) depth 9
+  set_event-keeps p name s d set named may = search (sees-keeps, given-keeps, setting_of-keeps, goes-keeps, then-keeps, changes-keeps, cancel_event_setting-alters, event_set_to-keeps, chains) depth 10
 
   pub timer_set_beyond-keeps : (p : Image) (k : ℕ) (h : HandlerOf) (v : ℤ) (test : Bool) → Keeps G R (timer_set_beyond p k h v test)
   unfolding timer_set_beyond
-  timer_set_beyond-keeps p k h v true = search (changes-keeps, with_timer_set-alters)
+  timer_set_beyond-keeps p k h v true = search (changes-keeps, with_timer_set-alters, chains)
   timer_set_beyond-keeps p k h v false = release-keeps p h (Some k)
 
   pub timer_set_to-keeps : (p : Image) (k clock : ℕ) (h : Option HandlerOf) (v : ℤ) → Keeps G R (timer_set_to p k clock h v)
   unfolding timer_set_to
-  timer_set_to-keeps p k clock None v = search (nothing-keeps)
+  timer_set_to-keeps p k clock None v = search (nothing-keeps, chains)
   timer_set_to-keeps p k clock (Some h) v = search (timer_set_beyond-keeps)
 
   pub set_timer-keeps : (p : Image) (name : Who) (s : StatementNo) (d : DeclNo) (set : Setting) (named : Option HandlerName) → May name → Keeps G R (set_timer p name s d set named)
   unfolding set_timer
-  set_timer-keeps p name s d set named may = search (sees-keeps, given-keeps, setting_of-keeps, goes-keeps, then-keeps, changes-keeps, clear_timer-alters, timer_set_to-keeps) depth 9
+  set_timer-keeps p name s d set named may = search (sees-keeps, given-keeps, setting_of-keeps, goes-keeps, then-keeps, changes-keeps, clear_timer-alters, timer_set_to-keeps, chains) depth 10
 
   -- ---- the agent calls a handler: nothing below its action goes on when it has ended
 
@@ -241,29 +241,29 @@ module _ {G : GoodWorld} {May Acts Pushes : Naming} {Stops : Type 0} {R : StepRe
       let opens = looks (λ v. changes (open_scope p who.Agent (subprogram_of p r.handler.procedure).scope (body_of_object p v (subprogram_of p r.handler.procedure).scope o None (argument_values r.argument)) (opened_for.Subprogram [] bound_for.Nowhere))) in
       let inherits = looks (λ v. inherit_running p who.Agent (inherited_by.Ceiling o) (ceiling_of (object_of v o))) in
       regrouped_last-from p o Write None (Some r.number) opens w
-      (after-from moves (says Own (line.Enter who.Agent o Write) ▷ changes (open_action who.Agent o Write)) (inherits ▷ (changes (push who.Agent x) ▷ opens)) w (told_enter-from moves who.Agent o Write w good h) (λ v xs k.
-      then-from moves inherits (changes (push who.Agent x) ▷ opens) v
-      (keeps-from moves inherits v (moves.behind w v k) (looks-keeps moves _ (λ u. inherit_running-keeps moves p who.Agent (inherited_by.Ceiling o) (ceiling_of (object_of u o)) moves.agent_acts)))
-      (from-keeps moves (changes (push who.Agent x) ▷ opens) (λ u good_u.
+      (after-from (chains moves) (says Own (line.Enter who.Agent o Write) ▷ changes (open_action who.Agent o Write)) (inherits ▷ (changes (push who.Agent x) ▷ opens)) w (told_enter-from moves who.Agent o Write w good h) (λ v xs k.
+      then-from (chains moves) inherits (changes (push who.Agent x) ▷ opens) v
+      (keeps-from (chains moves) inherits v (moves.behind w v k) (looks-keeps (chains moves) _ (λ u. inherit_running-keeps moves p who.Agent (inherited_by.Ceiling o) (ceiling_of (object_of u o)) moves.agent_acts)))
+      (from-keeps (chains moves) (changes (push who.Agent x) ▷ opens) (λ u good_u.
       let pushed = moves.pushes_special who.Agent x u good_u (moves.stops_pushes stops who.Agent) refl refl refl refl in
       let good_pushed = moves.behind u (push who.Agent x u) pushed in
-      changes_then-from moves (push who.Agent x) opens u pushed
-      (looks_at-from moves (λ v. changes (open_scope p who.Agent (subprogram_of p r.handler.procedure).scope (body_of_object p v (subprogram_of p r.handler.procedure).scope o None (argument_values r.argument)) (opened_for.Subprogram [] bound_for.Nowhere))) (push who.Agent x u)
-      (changes-from moves (open_scope p who.Agent (subprogram_of p r.handler.procedure).scope (body_of_object p (push who.Agent x u) (subprogram_of p r.handler.procedure).scope o None (argument_values r.argument)) (opened_for.Subprogram [] bound_for.Nowhere)) (push who.Agent x u) (moves.opens_scope p who.Agent (subprogram_of p r.handler.procedure).scope (body_of_object p (push who.Agent x u) (subprogram_of p r.handler.procedure).scope o None (argument_values r.argument)) (opened_for.Subprogram [] bound_for.Nowhere) (push who.Agent x u) good_pushed (moves.stops_pushes stops who.Agent) (pushed-free who.Agent x u refl))))))))
+      changes_then-from (chains moves) (push who.Agent x) opens u pushed
+      (looks_at-from (chains moves) (λ v. changes (open_scope p who.Agent (subprogram_of p r.handler.procedure).scope (body_of_object p v (subprogram_of p r.handler.procedure).scope o None (argument_values r.argument)) (opened_for.Subprogram [] bound_for.Nowhere))) (push who.Agent x u)
+      (changes-from (chains moves) (open_scope p who.Agent (subprogram_of p r.handler.procedure).scope (body_of_object p (push who.Agent x u) (subprogram_of p r.handler.procedure).scope o None (argument_values r.argument)) (opened_for.Subprogram [] bound_for.Nowhere)) (push who.Agent x u) (moves.opens_scope p who.Agent (subprogram_of p r.handler.procedure).scope (body_of_object p (push who.Agent x u) (subprogram_of p r.handler.procedure).scope o None (argument_values r.argument)) (opened_for.Subprogram [] bound_for.Nowhere) (push who.Agent x u) good_pushed (moves.stops_pushes stops who.Agent) (pushed-free who.Agent x u refl))))))))
 
   begin_handler_if_room-from : (p : Image) (r : Release) (w : World) → G w → Stops → LetsIn who.Agent r.handler.object Write w → From R w (begin_handler_if_room p r)
   unfolding begin_handler_if_room
   begin_handler_if_room-from p r w good stops h =
-      looks_at-from moves (λ v. elim (has_room v who.Agent (1 + marks_of p (subprogram_of p r.handler.procedure).scope) (size_of_body p r.handler.procedure)) as (λ _. Step) [ true ↦ begin_handler p r | false ↦ end_release r.number ]) w (either-from moves (has_room w who.Agent (1 + marks_of p (subprogram_of p r.handler.procedure).scope) (size_of_body p r.handler.procedure)) (begin_handler p r) (end_release r.number) w
-      (begin_handler-from p r w good stops h) (keeps-from moves (end_release r.number) w good (end_release-keeps moves r.number stops)))
+      looks_at-from (chains moves) (λ v. elim (has_room v who.Agent (1 + marks_of p (subprogram_of p r.handler.procedure).scope) (size_of_body p r.handler.procedure)) as (λ _. Step) [ true ↦ begin_handler p r | false ↦ end_release r.number ]) w (either-from (chains moves) (has_room w who.Agent (1 + marks_of p (subprogram_of p r.handler.procedure).scope) (size_of_body p r.handler.procedure)) (begin_handler p r) (end_release r.number) w
+      (begin_handler-from p r w good stops h) (keeps-from (chains moves) (end_release r.number) w good (end_release-keeps moves r.number stops)))
 
   enter_handler-from : (p : Image) (r : Release) (w : World) (is : Entering) → G w → Stops → entering p w who.Agent r.handler.object Write ≡ is → From R w (enter_handler p r is)
   unfolding enter_handler
-  enter_handler-from p r w entering_is.SameObject good stops e = keeps-from moves (end_release r.number) w good (end_release-keeps moves r.number stops)
-  enter_handler-from p r w entering_is.AboveCeiling good stops e = keeps-from moves (end_release r.number) w good (end_release-keeps moves r.number stops)
+  enter_handler-from p r w entering_is.SameObject good stops e = keeps-from (chains moves) (end_release r.number) w good (end_release-keeps moves r.number stops)
+  enter_handler-from p r w entering_is.AboveCeiling good stops e = keeps-from (chains moves) (end_release r.number) w good (end_release-keeps moves r.number stops)
   enter_handler-from p r w entering_is.Held good stops e = find_held-from moves p who.Agent r.handler.object Write w good moves.agent_acts (entering-held p w who.Agent r.handler.object Write e)
   enter_handler-from p r w entering_is.Inside good stops e = begin_handler_if_room-from p r w good stops (entering-inside p w who.Agent r.handler.object Write e)
 
   pub call_handler-keeps : (p : Image) (r : Release) → Stops → Keeps G R (call_handler p r)
   unfolding call_handler
-  call_handler-keeps p r stops = looks-from moves _ (λ w good. enter_handler-from p r w (entering p w who.Agent r.handler.object Write) good stops refl)
+  call_handler-keeps p r stops = looks-from (chains moves) _ (λ w good. enter_handler-from p r w (entering p w who.Agent r.handler.object Write) good stops refl)

@@ -5,12 +5,11 @@ use Rattle.profile_machine.specs.declared.image.Image.{Image}
 use Rattle.profile_machine.specs.declared.world.tasks.Cause.{Cause}
 use Rattle.profile_machine.specs.Inheritance.{inherit, lose, inherit_running, lose_running}
 use Rattle.machine_laws.proofs.Moves.{StepRelation, MoveRelation}
-use Rattle.line_laws.proofs.Leaving.FineMoves.{FineMoves}
-use Rattle.line_laws.proofs.Leaving.Kept.Combinators.{changes-keeps, looks-keeps, then-keeps, when-keeps}
+use Rattle.line_laws.proofs.Leaving.FineMoves.{FineMoves, chains}
 use Rattle.line_laws.proofs.Leaving.Kept.Tasks.{edit_task-alters}
 use Rattle.line_laws.proofs.Leaving.Kept.Dispatching.{to_head-keeps}
 use Rattle.machine_laws.proofs.FineMoves.{GoodWorld, Naming}
-use Rattle.machine_laws.proofs.Kept.Combinators.{Alters, Keeps}
+use Rattle.machine_laws.proofs.Kept.Combinators.{Alters, Keeps, changes-keeps, looks-keeps, then-keeps, when-keeps}
 
 module _ {G : GoodWorld} {May Acts Pushes : Naming} {Stops : Type 0} {R : StepRelation} {Q : MoveRelation} (moves : FineMoves G May Acts Pushes Stops R Q) where
   pub inherit-alters : (name : Who) (cause : Cause) (level : ℕ) → Alters G R (inherit name cause level)
@@ -21,8 +20,8 @@ module _ {G : GoodWorld} {May Acts Pushes : Naming} {Stops : Type 0} {R : StepRe
 
   pub inherit_running-keeps : (p : Image) (name : Who) (cause : Cause) (level : ℕ) → Acts name → Keeps G R (inherit_running p name cause level)
   unfolding inherit_running
-  inherit_running-keeps p name cause level acts = search (looks-keeps, changes-keeps, inherit-alters, then-keeps, when-keeps, to_head-keeps) depth 6
+  inherit_running-keeps p name cause level acts = search (looks-keeps, changes-keeps, inherit-alters, then-keeps, when-keeps, to_head-keeps, chains) depth 7
 
   pub lose_running-keeps : (p : Image) (name : Who) (cause : Cause) → Acts name → Keeps G R (lose_running p name cause)
   unfolding lose_running
-  lose_running-keeps p name cause acts = search (looks-keeps, changes-keeps, lose-alters, then-keeps, when-keeps, to_head-keeps) depth 6
+  lose_running-keeps p name cause acts = search (looks-keeps, changes-keeps, lose-alters, then-keeps, when-keeps, to_head-keeps, chains) depth 7

@@ -32,8 +32,7 @@ use Rattle.ann_base.specs.declared.identities.TaskNo.{TaskNo}
 use Rattle.std.specs.Prelude.{eqb, not, ◌&&◌}
 use Rattle.profile_machine.specs.declared.world.lines.Line.TheVariants as line
 use Rattle.machine_laws.proofs.Moves.{StepRelation, MoveRelation}
-use Rattle.line_laws.proofs.Leaving.FineMoves.{FineMoves, Free, waits}
-use Rattle.line_laws.proofs.Leaving.Kept.Combinators.{said_then-from, changes-from, changes-keeps, for_each-keeps, for_some-keeps, keeps-from, looks-from, looks-keeps, nothing-keeps, says-keeps, settles-leads, then-from, then-keeps, then-leads}
+use Rattle.line_laws.proofs.Leaving.FineMoves.{FineMoves, Free, waits, chains, effect-leads, move_chains, says-keeps}
 use Rattle.line_laws.proofs.Leaving.Kept.Dispatching.{to_tail-from, ready-keeps}
 use Rattle.line_laws.proofs.Leaving.Kept.Frames.{goes-from, open_sequence-keeps}
 use Rattle.line_laws.proofs.Leaving.Kept.Appointments.{drop_appointment-alters}
@@ -44,7 +43,7 @@ use Rattle.line_laws.proofs.Leaving.Kept.Handlers.{interrupt-keeps, clear_timer-
 use Rattle.profile_machine.specs.Values.{budget_of}
 use Rattle.profile_machine.specs.Handlers.{clear_timer}
 use Rattle.machine_laws.proofs.FineMoves.{GoodWorld, Naming}
-use Rattle.machine_laws.proofs.Kept.Combinators.{Alters, From, Keeps, Leads}
+use Rattle.machine_laws.proofs.Kept.Combinators.{Alters, From, Keeps, Leads, changes-from, changes-keeps, for_each-keeps, for_some-keeps, keeps-from, looks-from, looks-keeps, nothing-keeps, said_then-from, then-from, then-keeps, then-leads}
 
 module _ {G : GoodWorld} {May Acts Pushes : Naming} {Stops : Type 0} {R : StepRelation} {Q : MoveRelation} (moves : FineMoves G May Acts Pushes Stops R Q) where
   with_port-alters : (n : ℕ) (value : ℤ) → Alters G R (with_port n value)
@@ -61,77 +60,77 @@ module _ {G : GoodWorld} {May Acts Pushes : Naming} {Stops : Type 0} {R : StepRe
 
   pub interrupt_comes-keeps : (p : Image) (n : ℕ) (test : Bool) → Keeps G R (interrupt_comes p n test)
   unfolding interrupt_comes
-  interrupt_comes-keeps p n true = search (says-keeps, then-keeps, changes-keeps, with_kept_interrupt-alters)
+  interrupt_comes-keeps p n true = search (says-keeps, then-keeps, changes-keeps, with_kept_interrupt-alters, chains)
   interrupt_comes-keeps p n false = search (interrupt-keeps)
 
   pub deliver_kept_interrupt-keeps : (p : Image) (n : ℕ) (test : Bool) → Keeps G R (deliver_kept_interrupt p n test)
   unfolding deliver_kept_interrupt
-  deliver_kept_interrupt-keeps p n true = search (changes-keeps, with_kept_interrupt-alters, then-keeps, interrupt-keeps)
-  deliver_kept_interrupt-keeps p n false = search (nothing-keeps)
+  deliver_kept_interrupt-keeps p n true = search (changes-keeps, with_kept_interrupt-alters, then-keeps, interrupt-keeps, chains)
+  deliver_kept_interrupt-keeps p n false = search (nothing-keeps, chains)
 
   pub script_item-keeps : (p : Image) (it : Item) → Keeps G R (script_item p it)
   unfolding script_item
-  script_item-keeps p (item.Interrupt n) = search (looks-keeps, interrupt_comes-keeps)
-  script_item-keeps p (item.Port n value) = search (changes-keeps, with_port-alters, then-keeps, says-keeps)
-  script_item-keeps p (item.Mask n) = search (changes-keeps, with_masked-alters, then-keeps, says-keeps)
-  script_item-keeps p (item.Unmask n) = search (changes-keeps, with_masked-alters, then-keeps, says-keeps, looks-keeps, deliver_kept_interrupt-keeps) depth 7
+  script_item-keeps p (item.Interrupt n) = search (looks-keeps, interrupt_comes-keeps, chains)
+  script_item-keeps p (item.Port n value) = search (changes-keeps, with_port-alters, then-keeps, says-keeps, chains)
+  script_item-keeps p (item.Mask n) = search (changes-keeps, with_masked-alters, then-keeps, says-keeps, chains)
+  script_item-keeps p (item.Unmask n) = search (changes-keeps, with_masked-alters, then-keeps, says-keeps, looks-keeps, deliver_kept_interrupt-keeps, chains) depth 8
 
   take_item_if-from : (p : Image) (again : Step) (x : ℤ × Item) (xs : List (ℤ × Item)) (w : World) (test : Bool) → G w → w.script ≡ x ∷ xs → int_le x.0 (pos w.time) ≡ test → Keeps G R again → From R w (elim test as (λ _. Step) [ true ↦ changes (with_script xs) ▷ script_item p x.1 ▷ again | false ↦ nothing ])
   take_item_if-from p again x xs w true good is due kept =
-      then-from moves (changes (with_script xs)) (script_item p x.1 ▷ again) w (changes-from moves (with_script xs) w (moves.cuts_script x xs w good is due))
-      (then-keeps moves (script_item p x.1) again (script_item-keeps p x.1) kept)
-  take_item_if-from p again x xs w false good is due kept = keeps-from moves nothing w good (nothing-keeps moves)
+      then-from (chains moves) (changes (with_script xs)) (script_item p x.1 ▷ again) w (changes-from (chains moves) (with_script xs) w (moves.cuts_script x xs w good is due))
+      (then-keeps (chains moves) (script_item p x.1) again (script_item-keeps p x.1) kept)
+  take_item_if-from p again x xs w false good is due kept = keeps-from (chains moves) nothing w good (nothing-keeps (chains moves))
 
   take_item-from : (p : Image) (again : Step) (w : World) (script : List (ℤ × Item)) → G w → w.script ≡ script → Keeps G R again → From R w (take_item p w.time again script)
-  take_item-from p again w [] good is kept = keeps-from moves nothing w good (nothing-keeps moves)
+  take_item-from p again w [] good is kept = keeps-from (chains moves) nothing w good (nothing-keeps (chains moves))
   take_item-from p again w (x ∷ xs) good is kept = take_item_if-from p again x xs w (int_le x.0 (pos w.time)) good is refl kept
 
   items_due-keeps : (fuel : ℕ) (p : Image) → Keeps G R (items_due fuel p)
   unfolding items_due
-  items_due-keeps zero p = search (nothing-keeps)
+  items_due-keeps zero p = search (nothing-keeps, chains)
   items_due-keeps (suc fuel) p =
-      looks-from moves _ (λ w good. take_item-from p (items_due fuel p) w w.script good refl (items_due-keeps fuel p))
+      looks-from (chains moves) _ (λ w good. take_item-from p (items_due fuel p) w w.script good refl (items_due-keeps fuel p))
 
   pub script_items-leads : (p : Image) → Leads G Q (script_items p)
-  script_items-leads p = search (settles-leads, looks-keeps, items_due-keeps)
+  script_items-leads p = search (effect-leads, looks-keeps, items_due-keeps, chains)
 
   take_delay-from : (p : Image) (name : Who) (waiting : Option Waiting) (w : World) → G w → (waits waiting ≡ true → Free name w) → From R w (take_delay p name waiting)
   unfolding take_delay
   take_delay-from p name (Some (waits_for.Select accepts (Some delay) terminate)) w good k = goes-from moves name (next_of p delay) w good (k refl)
-  take_delay-from p name _ w good k = keeps-from moves nothing w good (nothing-keeps moves)
+  take_delay-from p name _ w good k = keeps-from (chains moves) nothing w good (nothing-keeps (chains moves))
 
   delay_taken-keeps : (p : Image) (t : TaskNo) → Keeps G R (looks (λ w. take_delay p (who.Task t) (waiting_of w (who.Task t))))
-  delay_taken-keeps p t = looks-from moves _ (λ w good. take_delay-from p (who.Task t) (waiting_of w (who.Task t)) w good (λ e. moves.waiting_free (who.Task t) w good e))
+  delay_taken-keeps p t = looks-from (chains moves) _ (λ w good. take_delay-from p (who.Task t) (waiting_of w (who.Task t)) w good (λ e. moves.waiting_free (who.Task t) w good e))
 
   pub end_delay-keeps : (p : Image) (t : TaskNo) → Stops → Keeps G R (end_delay p (who.Task t))
   unfolding end_delay
   end_delay-keeps p t stops =
-      then-keeps moves (looks (λ w. take_delay p (who.Task t) (waiting_of w (who.Task t)))) _ (delay_taken-keeps p t)
-      (then-keeps moves (ready p Own (who.Task t)) _ (ready-keeps moves p Own (who.Task t)) (open_sequence-keeps moves p Own (who.Task t) (moves.stops_pushes stops (who.Task t))))
+      then-keeps (chains moves) (looks (λ w. take_delay p (who.Task t) (waiting_of w (who.Task t)))) _ (delay_taken-keeps p t)
+      (then-keeps (chains moves) (ready p Own (who.Task t)) _ (ready-keeps moves p Own (who.Task t)) (open_sequence-keeps moves p Own (who.Task t) (moves.stops_pushes stops (who.Task t))))
 
   pub time_out-keeps : (p : Image) (c : CallNo) → Keeps G R (time_out p c)
   unfolding time_out
-  time_out-keeps p c = search (with_call-keeps, changes-keeps, unqueued-alters, then-keeps, says-keeps, deliver-keeps) depth 6
+  time_out-keeps p c = search (with_call-keeps, changes-keeps, unqueued-alters, then-keeps, says-keeps, deliver-keeps, chains) depth 7
 
   pub come_due-keeps : (p : Image) (due : Due) → Stops → Keeps G R (come_due p due)
   unfolding come_due
   come_due-keeps p (due_for.Event n h) stops = release-keeps moves p h (Some n)
   come_due-keeps p (due_for.Delay t) stops = search (end_delay-keeps)
   come_due-keeps p (due_for.Timeout c) stops = search (time_out-keeps)
-  come_due-keeps p (due_for.Trigger t depth) stops = search (trigger_at-keeps, then-keeps, unwind-keeps)
+  come_due-keeps p (due_for.Trigger t depth) stops = search (trigger_at-keeps, then-keeps, unwind-keeps, chains)
 
   pub take_due-keeps : (p : Image) (again : Step) (a : Option Appointment) → Stops → Keeps G R again → Keeps G R (take_due p again a)
-  take_due-keeps p again None stops kept = search (nothing-keeps)
-  take_due-keeps p again (Some a) stops kept = search (changes-keeps, drop_appointment-alters, then-keeps, come_due-keeps)
+  take_due-keeps p again None stops kept = search (nothing-keeps, chains)
+  take_due-keeps p again (Some a) stops kept = search (changes-keeps, drop_appointment-alters, then-keeps, come_due-keeps, chains)
 
   all_due-keeps : (fuel : ℕ) (p : Image) (events : Bool) → Stops → Keeps G R (all_due fuel p events)
   unfolding all_due
-  all_due-keeps zero p events stops = search (nothing-keeps)
+  all_due-keeps zero p events stops = search (nothing-keeps, chains)
   all_due-keeps (suc fuel) p events stops =
-      looks-keeps moves _ (λ w. take_due-keeps p (all_due fuel p events) (first_due events w.time w.appointments) stops (all_due-keeps fuel p events stops))
+      looks-keeps (chains moves) _ (λ w. take_due-keeps p (all_due fuel p events) (first_due events w.time w.appointments) stops (all_due-keeps fuel p events stops))
 
   pub appointments_due-leads : (p : Image) (events : Bool) → Stops → Leads G Q (appointments_due p events)
-  appointments_due-leads p events stops = search (settles-leads, looks-keeps, all_due-keeps)
+  appointments_due-leads p events stops = search (effect-leads, looks-keeps, all_due-keeps, chains)
 
   pub events_due-leads : (p : Image) → Stops → Leads G Q (events_due p)
   events_due-leads p stops = search (appointments_due-leads)
@@ -141,30 +140,30 @@ module _ {G : GoodWorld} {May Acts Pushes : Naming} {Stops : Type 0} {R : StepRe
 
   pub expire-keeps : (p : Image) (k : ℕ) (setting : Option TimerSetting) → Keeps G R (expire p k setting)
   unfolding expire
-  expire-keeps p k None = search (nothing-keeps)
-  expire-keeps p k (Some s) = then-keeps moves (changes (clear_timer k)) _ (search (changes-keeps, clear_timer-alters)) (release-keeps moves p s.handler (Some k))
+  expire-keeps p k None = search (nothing-keeps, chains)
+  expire-keeps p k (Some s) = then-keeps (chains moves) (changes (clear_timer k)) _ (search (changes-keeps, clear_timer-alters, chains)) (release-keeps moves p s.handler (Some k))
 
   pub expire_timer-keeps : (p : Image) (k : ℕ) → Keeps G R (expire_timer p k)
   unfolding expire_timer
-  expire_timer-keeps p k = search (looks-keeps, expire-keeps)
+  expire_timer-keeps p k = search (looks-keeps, expire-keeps, chains)
 
   no_timers_due-alters : Alters G R no_timers_due
   unfolding Alters
   no_timers_due-alters w good = moves.sets_timers_due [] w good
 
   pub timers_due-leads : (p : Image) → Leads G Q (timers_due p)
-  timers_due-leads p = search (settles-leads, looks-keeps, for_each-keeps, expire_timer-keeps, then-keeps, changes-keeps, no_timers_due-alters) depth 7
+  timers_due-leads p = search (effect-leads, looks-keeps, for_each-keeps, expire_timer-keeps, then-keeps, changes-keeps, no_timers_due-alters, chains) depth 8
 
   pub run_out-keeps : (p : Image) (b : ℕ) → Keeps G R (run_out p b)
   unfolding run_out
-  run_out-keeps p b = looks-keeps moves _ (λ w. for_some-keeps moves (budget_of w b).handler _ (λ h. release-keeps moves p h (Some b)))
+  run_out-keeps p b = looks-keeps (chains moves) _ (λ w. for_some-keeps (chains moves) (budget_of w b).handler _ (λ h. release-keeps moves p h (Some b)))
 
   no_budget_due-alters : Alters G R no_budget_due
   unfolding Alters
   no_budget_due-alters w good = moves.sets_budget_due None w good
 
   pub budgets_due-leads : (p : Image) → Leads G Q (budgets_due p)
-  budgets_due-leads p = search (settles-leads, looks-keeps, for_some-keeps, run_out-keeps, then-keeps, changes-keeps, no_budget_due-alters) depth 7
+  budgets_due-leads p = search (effect-leads, looks-keeps, for_some-keeps, run_out-keeps, then-keeps, changes-keeps, no_budget_due-alters, chains) depth 8
 
   is-runnable : (state : State) → is_runnable_state state ≡ true → waits (waiting_in state) ≡ false
   is-runnable Runnable e = refl
@@ -176,21 +175,21 @@ module _ {G : GoodWorld} {May Acts Pushes : Naming} {Stops : Type 0} {R : StepRe
   first-of false b c d e f h = absurd cc
 
   spent-from : (p : Image) (t : TaskNo) (w : World) (test : Bool) → G w → has_spent_quantum p (task_of w (who.Task t)) ≡ test → From R w (when test (says Own (line.Quantum t) ▷ to_tail p Own (who.Task t)))
-  spent-from p t w false good is = keeps-from moves nothing w good (nothing-keeps moves)
+  spent-from p t w false good is = keeps-from (chains moves) nothing w good (nothing-keeps (chains moves))
   spent-from p t w true good is =
       let u = task_of w (who.Task t) in
-      said_then-from moves Own (line.Quantum t) (to_tail p Own (who.Task t)) w (moves.says Own (line.Quantum t) w good refl)
+      said_then-from (chains moves) Own (line.Quantum t) (to_tail p Own (who.Task t)) w (moves.says Own (line.Quantum t) w good refl)
       (to_tail-from moves p Own (who.Task t) w good (is-runnable u.state (first-of (is_runnable u) (eqb u.quantum 0) (is_robin_level p u.base) (eqb (active p u) u.base) (is_empty u.inherited) (not (any_protected u.frames)) is)))
 
   pub spend_quantum-keeps : (p : Image) (by : Option Who) → Keeps G R (spend_quantum p by)
   unfolding spend_quantum
-  spend_quantum-keeps p None = search (nothing-keeps)
-  spend_quantum-keeps p (Some who.Agent) = search (nothing-keeps)
-  spend_quantum-keeps p (Some (who.Task t)) = looks-from moves _ (λ w good. spent-from p t w (has_spent_quantum p (task_of w (who.Task t))) good refl)
+  spend_quantum-keeps p None = search (nothing-keeps, chains)
+  spend_quantum-keeps p (Some who.Agent) = search (nothing-keeps, chains)
+  spend_quantum-keeps p (Some (who.Task t)) = looks-from (chains moves) _ (λ w good. spent-from p t w (has_spent_quantum p (task_of w (who.Task t))) good refl)
 
   pub quantum_spent-leads : (p : Image) → Leads G Q (quantum_spent p)
-  quantum_spent-leads p = search (settles-leads, looks-keeps, spend_quantum-keeps)
+  quantum_spent-leads p = search (effect-leads, looks-keeps, spend_quantum-keeps, chains)
 
   -- all of an instant but the effect of the action that ended
   pub behind_action-leads : (p : Image) → Stops → Leads G Q (script_items p ▶ events_due p ▶ moments_due p ▶ timers_due p ▶ budgets_due p ▶ quantum_spent p)
-  behind_action-leads p stops = search (then-leads, script_items-leads, events_due-leads, moments_due-leads, timers_due-leads, budgets_due-leads, quantum_spent-leads) depth 8
+  behind_action-leads p stops = search (then-leads, script_items-leads, events_due-leads, moments_due-leads, timers_due-leads, budgets_due-leads, quantum_spent-leads, move_chains) depth 9

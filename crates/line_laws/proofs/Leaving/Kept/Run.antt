@@ -18,12 +18,11 @@ use Rattle.profile_machine.specs.Handlers.{charge}
 use Rattle.profile_machine.specs.Run.{say, silently, says_run, with_serving, serve_if_free, serve, begin_action, one_tick_less, spend_tick, says_idle}
 use Rattle.machine_laws.proofs.Moves.{StepRelation, MoveRelation}
 use Rattle.machine_laws.specs.LineKinds.{is_of_tock}
-use Rattle.line_laws.proofs.Leaving.Kept.Combinators.{then-leads, rests-leads, watches-leads}
 use Rattle.line_laws.proofs.Leaving.Kept.Handlers.{charge-alters}
-use Rattle.line_laws.proofs.Leaving.FineMoves.{FineMoves}
-use Rattle.machine_laws.proofs.Kept.Combinators.{Alters, Leads}
+use Rattle.line_laws.proofs.Leaving.FineMoves.{FineMoves, move_chains}
 use Rattle.machine_laws.proofs.FineMoves.{GoodWorld, Naming}
 use Rattle.machine_laws.proofs.Kept.Run.{before_tick}
+use Rattle.machine_laws.proofs.Kept.Combinators.{Alters, Leads, then-leads, watches-leads}
 
 -- ---- a tock up to its tick
 
@@ -51,15 +50,17 @@ module _ {G : GoodWorld} {May Acts Pushes : Naming} {Stops : Type 0} {R : StepRe
     say-leads event a w good = tocks.tells event w good a
 
     says_run-test : (same : Bool) (name : Who) → Leads G Q (cond same rests (say (line.Run name)))
-    says_run-test true name = rests-leads moves
-    says_run-test false name = say-leads (line.Run name) refl
+    unfolding Leads
+    says_run-test true name w good = moves.rests w good
+    says_run-test false name w good = say-leads (line.Run name) refl w good
 
     says_run-leads : (name : Who) (ran : Option Who) → Leads G Q (says_run name ran)
     says_run-leads name ran = says_run-test (same_option same_who ran (Some name)) name
 
     says_idle-leads : (ran : Option Who) → Leads G Q (says_idle ran)
-    says_idle-leads None = rests-leads moves
-    says_idle-leads (Some name) = say-leads line.Idle refl
+    unfolding Leads
+    says_idle-leads None w good = moves.rests w good
+    says_idle-leads (Some name) w good = say-leads line.Idle refl w good
 
     serve_if_free-leads : (serving : Option Release) (frames : List Frame) (releases : List Release) (w : World) → G w → w.releases ≡ releases → let done = serve_if_free serving frames releases w in Q w done.1 done.0
     serve_if_free-leads None [] [] w good a = moves.rests w good
@@ -76,9 +77,9 @@ module _ {G : GoodWorld} {May Acts Pushes : Naming} {Stops : Type 0} {R : StepRe
     serve-leads who.Agent w good = serve_if_free-leads w.serving w.agent.frames w.releases w good refl
 
     pub before_tick-leads : (p : Image) (chosen : Option Who) → Leads G Q (before_tick p chosen)
-    before_tick-leads p None = watches-leads moves _ (λ w. says_idle-leads w.ran)
+    before_tick-leads p None = watches-leads (move_chains moves) _ (λ w. says_idle-leads w.ran)
     before_tick-leads p (Some name) =
-        then-leads moves _ _ (watches-leads moves _ (λ w. says_run-leads name w.ran))
-        (then-leads moves _ _ (serve-leads name)
-        (then-leads moves _ _ (silently-leads (begin_action p name) (begin_action-alters p name))
-        (then-leads moves _ _ (silently-leads (charge p name) (charge-alters moves p name)) (silently-leads (spend_tick name) (spend_tick-alters name)))))
+        then-leads (move_chains moves) _ _ (watches-leads (move_chains moves) _ (λ w. says_run-leads name w.ran))
+        (then-leads (move_chains moves) _ _ (serve-leads name)
+        (then-leads (move_chains moves) _ _ (silently-leads (begin_action p name) (begin_action-alters p name))
+        (then-leads (move_chains moves) _ _ (silently-leads (charge p name) (charge-alters moves p name)) (silently-leads (spend_tick name) (spend_tick-alters name)))))

@@ -28,13 +28,11 @@ use Rattle.profile_machine.specs.Frames.{frames_of, leaving_of}
 use Rattle.profile_machine.specs.Steps.{changes, looks, ◌▷◌}
 use Rattle.machine_laws.proofs.Moves.{StepRelation, MoveRelation}
 use Rattle.machine_laws.proofs.FineMoves.{GoodWorld, Naming}
-use Rattle.machine_laws.proofs.Kept.Combinators.{Keeps, Alters}
 use Rattle.world_laws.proofs.Appointments.Delays.{nature}
-use Rattle.world_laws.proofs.Appointments.FineMoves.{FineMoves}
+use Rattle.world_laws.proofs.Appointments.FineMoves.{FineMoves, chains}
 use Rattle.world_laws.proofs.Appointments.Kept.Appointments.{drop_appointment-alters}
 use Rattle.world_laws.proofs.Appointments.Kept.CallEnds.{end_found_abortable-keeps, abortable-nature}
 use Rattle.world_laws.proofs.Appointments.Kept.Calls.{with_call-keeps, attempt_with-keeps}
-use Rattle.world_laws.proofs.Appointments.Kept.Combinators.{changes-keeps, cond-keeps, looks-keeps, nothing-keeps, option-keeps, then-keeps, unchanged-alters}
 use Rattle.world_laws.proofs.Appointments.Kept.Controlled.{end_in_initialize-keeps, end_in_finalize-keeps, end_in_assign-keeps, initialize-keeps, assign_controlled-keeps}
 use Rattle.world_laws.proofs.Appointments.Kept.Declarations.{declare-keeps}
 use Rattle.world_laws.proofs.Appointments.Kept.Dispatching.{block-keeps}
@@ -49,6 +47,7 @@ use Rattle.world_laws.proofs.Appointments.Kept.Serving.{OwnCalled, end_in_protec
 use Rattle.world_laws.proofs.Appointments.Kept.Statements.{null-keeps, assign-keeps, assign_array-keeps, if_statement-keeps, case_statement-keeps, while_turn-keeps, for_bounds-keeps, first_turn-keeps, later_turn-keeps, exit_statement-keeps, block_statement-keeps, raise_again-keeps, put_line-keeps}
 use Rattle.world_laws.proofs.Appointments.Kept.Subprograms.{call_subprogram-keeps, return_value-keeps, return-keeps}
 use Rattle.world_laws.proofs.Appointments.Kept.Tasking.{end_scope_mark-keeps, create-keeps, activate-keeps, end_own_activation-keeps, abort_statement-keeps}
+use Rattle.machine_laws.proofs.Kept.Combinators.{Alters, Keeps, changes-keeps, cond-keeps, looks-keeps, nothing-keeps, option-keeps, then-keeps, unchanged-alters}
 
 -- a mark that keeps an exception is what it was
 keeping-nature : (e : Raised) (mark : Mark) → nature (keeping e mark) ≡ nature mark
@@ -76,12 +75,12 @@ module _ {G : GoodWorld} {May : Naming} {R : StepRelation} {Q : MoveRelation} (m
   pub handle_or_pass-keeps : (p : Image) (name : Who) (e : Raised) (next : Option StatementNo) → Keeps G R (handle_or_pass p name e next)
   unfolding handle_or_pass
   handle_or_pass-keeps p name e None = search (pass_on-keeps)
-  handle_or_pass-keeps p name e (Some first) = search (changes-keeps, edit_top-alters, keeping-nature, then-keeps, goes-keeps)
+  handle_or_pass-keeps p name e (Some first) = search (changes-keeps, edit_top-alters, keeping-nature, then-keeps, goes-keeps, chains)
 
   pub behind_handled-keeps : (p : Image) (name : Who) (s : StatementNo) (leaving : Leaving) → Keeps G R (behind_handled p name s leaving)
   unfolding behind_handled
   behind_handled-keeps p name s (how.Exception e) = search (handle_or_pass-keeps)
-  behind_handled-keeps p name s how.End = search (nothing-keeps)
+  behind_handled-keeps p name s how.End = search (nothing-keeps, chains)
   behind_handled-keeps p name s how.Return = search (pass_on-keeps)
   behind_handled-keeps p name s (how.Exit loop) = search (pass_on-keeps)
   behind_handled-keeps p name s how.Abort = search (pass_on-keeps)
@@ -89,7 +88,7 @@ module _ {G : GoodWorld} {May : Naming} {R : StepRelation} {Q : MoveRelation} (m
 
   pub end_handled-keeps : (p : Image) (name : Who) (s : StatementNo) (leaving : Leaving) → Keeps G R (end_handled p name s leaving)
   unfolding end_handled
-  end_handled-keeps p name s leaving = then-keeps moves _ _ (changes-keeps moves _ (pop-alters moves name)) (behind_handled-keeps p name s leaving)
+  end_handled-keeps p name s leaving = then-keeps (chains moves) _ _ (changes-keeps (chains moves) _ (pop-alters moves name)) (behind_handled-keeps p name s leaving)
 
   pub end_top-keeps : (p : Image) (name : Who) → Keeps G R (end_top p name)
   unfolding end_top
@@ -97,23 +96,23 @@ module _ {G : GoodWorld} {May : Naming} {R : StepRelation} {Q : MoveRelation} (m
 
   pub wait_for_trigger-keeps : (name : Who) (c : Call) (leaving : Leaving) → May name → Keeps G R (wait_for_trigger name c leaving)
   unfolding wait_for_trigger
-  wait_for_trigger-keeps name c leaving other = search (changes-keeps, edit_top-alters, waiting-nature, then-keeps, block-keeps)
+  wait_for_trigger-keeps name c leaving other = search (changes-keeps, edit_top-alters, waiting-nature, then-keeps, block-keeps, chains)
 
   pub drop_trigger-alters : (name : Who) (depth : ℕ) → Alters G R (drop_trigger name depth)
   drop_trigger-alters (who.Task t) depth = search (drop_appointment-alters)
-  drop_trigger-alters who.Agent depth = search (unchanged-alters)
+  drop_trigger-alters who.Agent depth = search (unchanged-alters, chains)
 
   pub end_abortable_by-keeps : (p : Image) (name : Who) (m : AbortableMark) (leaving : Leaving) → May name → Keeps G R (end_abortable_by p name m leaving)
   unfolding end_abortable_by
-  end_abortable_by-keeps p name m leaving other = option-keeps moves m.call (looks (λ w. changes (drop_trigger name (below (frames_of w name)))) ▷ end_top p name) (λ c. with_call c (λ d. attempt_with p Own d (end_top p name) (wait_for_trigger name d leaving))) (search (looks-keeps, changes-keeps, drop_trigger-alters, then-keeps, end_top-keeps)) (λ c. search (with_call-keeps, attempt_with-keeps, end_top-keeps, wait_for_trigger-keeps))
+  end_abortable_by-keeps p name m leaving other = option-keeps (chains moves) m.call (looks (λ w. changes (drop_trigger name (below (frames_of w name)))) ▷ end_top p name) (λ c. with_call c (λ d. attempt_with p Own d (end_top p name) (wait_for_trigger name d leaving))) (search (looks-keeps, changes-keeps, drop_trigger-alters, then-keeps, end_top-keeps, chains)) (λ c. search (with_call-keeps, attempt_with-keeps, end_top-keeps, wait_for_trigger-keeps))
 
   pub end_in_abortable-keeps : (p : Image) (name : Who) (m : AbortableMark) (leaving : Leaving) → May name → Keeps G R (end_in_abortable p name m leaving)
   unfolding end_in_abortable
-  end_in_abortable-keeps p name m leaving other = search (cond-keeps, end_top-keeps, end_abortable_by-keeps)
+  end_in_abortable-keeps p name m leaving other = search (cond-keeps, end_top-keeps, end_abortable_by-keeps, chains)
 
   pub call_main-keeps : (p : Image) (name : Who) (s : StatementNo) → Keeps G R (call_main p name s)
   unfolding call_main
-  call_main-keeps p name s = search (with_room-keeps, goes-keeps, then-keeps, looks-keeps, changes-keeps, open_scope-alters)
+  call_main-keeps p name s = search (with_room-keeps, goes-keeps, then-keeps, looks-keeps, changes-keeps, open_scope-alters, chains)
 
   pub call-keeps : (p : Image) (name : Who) (s : StatementNo) (callee : Callee) (actuals : List Actual) (to : Destination) → May name → Keeps G R (call p name s callee actuals to)
   unfolding call
@@ -123,9 +122,9 @@ module _ {G : GoodWorld} {May : Naming} {R : StepRelation} {Q : MoveRelation} (m
 
   pub act_without-keeps : (p : Image) (name : Who) (release : Option Release) → May name → Keeps G R (act_without p name release)
   unfolding act_without
-  act_without-keeps p name None may = nothing-keeps moves
+  act_without-keeps p name None may = nothing-keeps (chains moves)
   act_without-keeps p who.Agent (Some r) may = call_handler-keeps moves p r may
-  act_without-keeps p (who.Task t) (Some r) may = nothing-keeps moves
+  act_without-keeps p (who.Task t) (Some r) may = nothing-keeps (chains moves)
 
   -- the end of the mark on top
   pub end_mark-keeps : (p : Image) (name : Who) (f : Frame) (mark : Mark) → May name → OwnCalled G name (nature mark) → Keeps G R (end_mark p name f mark)
@@ -148,7 +147,7 @@ module _ {G : GoodWorld} {May : Naming} {R : StepRelation} {Q : MoveRelation} (m
   act_plain-keeps p name s (form.Activate part) may plain = search (activate-keeps)
   act_plain-keeps p name s form.EndActivation may plain = search (end_own_activation-keeps)
   act_plain-keeps p name s form.CallMain may plain = search (call_main-keeps)
-  act_plain-keeps p name s (form.Handled handlers first) may plain = search (nothing-keeps)
+  act_plain-keeps p name s (form.Handled handlers first) may plain = search (nothing-keeps, chains)
   act_plain-keeps p name s form.Null may plain = search (null-keeps)
   act_plain-keeps p name s (form.Assign target e) may plain = search (assign-keeps)
   act_plain-keeps p name s (form.AssignArray target source) may plain = search (assign_array-keeps)

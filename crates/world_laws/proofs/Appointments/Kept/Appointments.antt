@@ -10,10 +10,9 @@ use Rattle.profile_machine.specs.Steps.{◌▷◌, Step, changes}
 use Rattle.machine_laws.proofs.Moves.{StepRelation, MoveRelation}
 use Rattle.world_laws.proofs.Appointments.DelayEdits.{dropped-idle}
 use Rattle.world_laws.proofs.Appointments.Delays.{Idle}
-use Rattle.world_laws.proofs.Appointments.FineMoves.{FineMoves}
-use Rattle.world_laws.proofs.Appointments.Kept.Combinators.{changes_then-from}
-use Rattle.machine_laws.proofs.Kept.Combinators.{From, Alters}
+use Rattle.world_laws.proofs.Appointments.FineMoves.{FineMoves, chains}
 use Rattle.machine_laws.proofs.FineMoves.{GoodWorld, Naming}
+use Rattle.machine_laws.proofs.Kept.Combinators.{Alters, From, changes_then-from}
 
 module _ {G : GoodWorld} {May : Naming} {R : StepRelation} {Q : MoveRelation} (moves : FineMoves G May R Q) where
   -- of what is no end of a delay
@@ -29,5 +28,5 @@ module _ {G : GoodWorld} {May : Naming} {R : StepRelation} {Q : MoveRelation} (m
   pub drops_then-from : (name : Who) (g : Step) (w : World) → G w → ((v : World) → G v → Idle name v → From R v g) → From R w (changes (drop_delay name) ▷ g)
   drops_then-from (who.Task t) g w good k =
       let dropped = moves.drops_appointment (is_delay_of t) w good in
-      changes_then-from moves (drop_appointment (is_delay_of t)) g w dropped (k (drop_appointment (is_delay_of t) w) (moves.behind w (drop_appointment (is_delay_of t) w) dropped) (dropped-idle t w))
-  drops_then-from who.Agent g w good k = changes_then-from moves (λ v. v) g w (moves.stays w good) (k w good tt)
+      changes_then-from (chains moves) (drop_appointment (is_delay_of t)) g w dropped (k (drop_appointment (is_delay_of t) w) (moves.behind w (drop_appointment (is_delay_of t) w) dropped) (dropped-idle t w))
+  drops_then-from who.Agent g w good k = changes_then-from (chains moves) (λ v. v) g w (moves.stays w good) (k w good tt)

@@ -31,15 +31,14 @@ use Rattle.profile_machine.specs.Tasks.{waiting_of}
 use Rattle.profile_machine.specs.WellFormed.{waits_for_delay}
 use Rattle.machine_laws.proofs.Moves.{StepRelation, MoveRelation}
 use Rattle.world_laws.proofs.Appointments.Delays.{Idle, nature, natures}
-use Rattle.world_laws.proofs.Appointments.FineMoves.{FineMoves}
+use Rattle.world_laws.proofs.Appointments.FineMoves.{FineMoves, chains, says-keeps}
 use Rattle.world_laws.proofs.Appointments.Kept.Calls.{edit_call-alters, forget_call-alters, with_call-keeps, unqueued-alters}
-use Rattle.world_laws.proofs.Appointments.Kept.Combinators.{then-from, bind-gives, branch-keeps, changes-keeps, looks-keeps, nothing-keeps, ok-gives, says-keeps, then-keeps, unchanged-alters, when-keeps, changes_then-from, keeps-from, looks-from}
 use Rattle.world_laws.proofs.Appointments.Kept.Dispatching.{ready-from}
 use Rattle.world_laws.proofs.Appointments.Kept.Frames.{pop-alters, goes-keeps, leaves-keeps, raises-keeps, pass_on-keeps, open_sequence-keeps}
 use Rattle.world_laws.proofs.Appointments.Kept.Tasks.{edit_frames-alters}
 use Rattle.world_laws.proofs.Appointments.Kept.Unwinding.{unwind-keeps}
-use Rattle.machine_laws.proofs.Kept.Combinators.{From, Gives, Keeps, Alters}
 use Rattle.machine_laws.proofs.FineMoves.{GoodWorld, Naming}
+use Rattle.machine_laws.proofs.Kept.Combinators.{Alters, From, Gives, Keeps, bind-gives, branch-keeps, changes-keeps, changes_then-from, keeps-from, looks-from, looks-keeps, nothing-keeps, ok-gives, then-from, then-keeps, unchanged-alters, when-keeps}
 
 -- an edit of a mark somewhere, and of an abortable part
 at_depth-natures : (test : Bool) (f : Frame → Frame) (x : Frame) (xs ys : List Frame) → nature (f x).mark ≡ nature x.mark → natures ys ≡ natures xs → natures (cond test (f x ∷ xs) (x ∷ ys)) ≡ natures (x ∷ xs)
@@ -93,10 +92,10 @@ module _ {G : GoodWorld} {May : Naming} {R : StepRelation} {Q : MoveRelation} (m
 
   pub resume-keeps : (p : Image) (part : Part) (c : Call) (outcome : Outcome) → Keeps G R (resume p part c outcome)
   unfolding resume
-  resume-keeps p part c outcome = search (changes-keeps, forget_call-alters, then-keeps, go_by_outcome-keeps)
+  resume-keeps p part c outcome = search (changes-keeps, forget_call-alters, then-keeps, go_by_outcome-keeps, chains)
 
   pub store-gives : (p : Image) (v : Variable) (value : Value) (w : World) → G w → Gives R w (store p v value w)
-  store-gives p v value w good = bind-gives moves (checked (declaration_of p v.declared).constraint value) (λ x. Ok (write_cell v.within v.place x w)) w (λ x. ok-gives moves w (write_cell v.within v.place x w) (moves.edits_cells v.within (λ cells. slice_set cells v.place x) w good))
+  store-gives p v value w good = bind-gives (chains moves) (checked (declaration_of p v.declared).constraint value) (λ x. Ok (write_cell v.within v.place x w)) w (λ x. ok-gives (chains moves) w (write_cell v.within v.place x w) (moves.edits_cells v.within (λ cells. slice_set cells v.place x) w good))
 
   -- the world behind the results that are copied back
   or_stored-world : (result : Valued World) (again : World → World × Bool) (w : World) → G w → Gives R w result → ((v : World) → G v → R v [] (again v).0) → R w [] (or_stored w result again).0
@@ -125,41 +124,41 @@ module _ {G : GoodWorld} {May : Naming} {R : StepRelation} {Q : MoveRelation} (m
 
   pub trigger_at-keeps : (part : Part) (t : TaskNo) (depth : ℕ) → Keeps G R (trigger_at part t depth)
   unfolding trigger_at
-  trigger_at-keeps part t depth = search (changes-keeps, edit_abortable_at-alters, then-keeps, says-keeps, edit_frame-alters) depth 7
+  trigger_at-keeps part t depth = search (changes-keeps, edit_abortable_at-alters, then-keeps, says-keeps, edit_frame-alters, chains) depth 8
 
   pub forget_trigger-alters : (c : Option CallNo) → Alters G R (forget_trigger c)
-  forget_trigger-alters None = search (unchanged-alters)
+  forget_trigger-alters None = search (unchanged-alters, chains)
   forget_trigger-alters (Some c) = search (forget_call-alters)
 
   pub run_triggered-keeps : (p : Image) (part : Part) (name : Who) (select : StatementNo) (outcome : Outcome) → Keeps G R (run_triggered p part name select outcome)
   unfolding run_triggered
   run_triggered-keeps p part name select call_ended.Finished = search (goes-keeps)
-  run_triggered-keeps p part name select call_ended.Cancelled = search (nothing-keeps)
+  run_triggered-keeps p part name select call_ended.Cancelled = search (nothing-keeps, chains)
   run_triggered-keeps p part name select (call_ended.ToRaise e) = search (raises-keeps)
   run_triggered-keeps p part name select (call_ended.WasRaised e) = search (leaves-keeps)
 
   pub behind_abortable-keeps : (p : Image) (part : Part) (name : Who) (m : AbortableMark) (outcome : Outcome) → Keeps G R (behind_abortable p part name m outcome)
   unfolding behind_abortable
-  behind_abortable-keeps p part name m outcome = search (when-keeps, run_triggered-keeps)
+  behind_abortable-keeps p part name m outcome = search (when-keeps, run_triggered-keeps, chains)
 
   pub end_abortable-keeps : (p : Image) (part : Part) (name : Who) (m : AbortableMark) (f : Frame) (below : List Frame) → Keeps G R (end_abortable p part name m f below)
   unfolding end_abortable
   end_abortable-keeps p part name m f below =
-      looks-keeps moves _ (λ w. then-keeps moves _ _ (changes-keeps moves _ (pop-alters moves name)) (then-keeps moves _ _ (changes-keeps moves _ (forget_trigger-alters m.call))
-      (branch-keeps moves (ended_by_itself f below) (behind_abortable p part name m (trigger_outcome w m.call)) (pass_on p name (leaving_of f)) (behind_abortable-keeps p part name m (trigger_outcome w m.call)) (pass_on-keeps moves p name (leaving_of f)))))
+      looks-keeps (chains moves) _ (λ w. then-keeps (chains moves) _ _ (changes-keeps (chains moves) _ (pop-alters moves name)) (then-keeps (chains moves) _ _ (changes-keeps (chains moves) _ (forget_trigger-alters m.call))
+      (branch-keeps (chains moves) (ended_by_itself f below) (behind_abortable p part name m (trigger_outcome w m.call)) (pass_on p name (leaving_of f)) (behind_abortable-keeps p part name m (trigger_outcome w m.call)) (pass_on-keeps moves p name (leaving_of f)))))
 
   end_abortable_in-keeps : (p : Image) (part : Part) (name : Who) (f : Frame) (below : List Frame) (mark : Mark) → Keeps G R (end_abortable_in p part name f below mark)
   unfolding end_abortable_in
   end_abortable_in-keeps p part name f below (Abortable m) = end_abortable-keeps p part name m f below
-  end_abortable_in-keeps p part name f below _ = nothing-keeps moves
+  end_abortable_in-keeps p part name f below _ = nothing-keeps (chains moves)
 
   end_top_abortable-keeps : (p : Image) (part : Part) (name : Who) (frames : List Frame) → Keeps G R (end_top_abortable p part name frames)
   unfolding end_top_abortable
-  end_top_abortable-keeps p part name [] = nothing-keeps moves
+  end_top_abortable-keeps p part name [] = nothing-keeps (chains moves)
   end_top_abortable-keeps p part name (f ∷ below) = end_abortable_in-keeps p part name f below f.mark
 
   pub end_found_abortable-keeps : (p : Image) (part : Part) (name : Who) → Keeps G R (looks (λ w. end_top_abortable p part name (frames_of w name)))
-  end_found_abortable-keeps p part name = looks-keeps moves _ (λ w. end_top_abortable-keeps p part name (frames_of w name))
+  end_found_abortable-keeps p part name = looks-keeps (chains moves) _ (λ w. end_top_abortable-keeps p part name (frames_of w name))
 
   -- ---- the caller becomes ready where it waits for the call
 
@@ -167,30 +166,30 @@ module _ {G : GoodWorld} {May : Naming} {R : StepRelation} {Q : MoveRelation} (m
   unfolding end_wait
   end_wait-from p part c depth outcome w good idle =
       let name = who.Task c.caller in
-      then-from moves (ready p part name) _ w (ready-from moves p part name w good idle)
-      (then-keeps moves (changes (edit_abortable_at name depth (waited_mark (not (is_cancelled outcome))))) _ (changes-keeps moves _ (edit_abortable_at-alters name depth (waited_mark (not (is_cancelled outcome)))))
-      (then-keeps moves (looks (λ w. end_top_abortable p part name (frames_of w name))) _ (end_found_abortable-keeps p part name) (open_sequence-keeps moves p part name)))
+      then-from (chains moves) (ready p part name) _ w (ready-from moves p part name w good idle)
+      (then-keeps (chains moves) (changes (edit_abortable_at name depth (waited_mark (not (is_cancelled outcome))))) _ (changes-keeps (chains moves) _ (edit_abortable_at-alters name depth (waited_mark (not (is_cancelled outcome)))))
+      (then-keeps (chains moves) (looks (λ w. end_top_abortable p part name (frames_of w name))) _ (end_found_abortable-keeps p part name) (open_sequence-keeps moves p part name)))
 
   end_waiting-from : (p : Image) (part : Part) (c : Call) (depth : ℕ) (outcome : Outcome) (w : World) (test : Bool) → G w → waits_for_end c.number (waiting_of w (who.Task c.caller)) ≡ test
       → From R w (elim test as (λ _. Step) [ true ↦ end_wait p part c depth outcome | false ↦ trigger_at part c.caller depth ])
   end_waiting-from p part c depth outcome w true good is = end_wait-from p part c depth outcome w good (moves.asleep (who.Task c.caller) w good (waits-end c.number (waiting_of w (who.Task c.caller)) is))
-  end_waiting-from p part c depth outcome w false good is = keeps-from moves (trigger_at part c.caller depth) w good (trigger_at-keeps part c.caller depth)
+  end_waiting-from p part c depth outcome w false good is = keeps-from (chains moves) (trigger_at part c.caller depth) w good (trigger_at-keeps part c.caller depth)
 
   pub end_for_abortable-keeps : (p : Image) (part : Part) (c : Call) (depth : ℕ) (outcome : Outcome) → Keeps G R (end_for_abortable p part c depth outcome)
   unfolding end_for_abortable
-  end_for_abortable-keeps p part c depth outcome = looks-from moves _ (λ w good. end_waiting-from p part c depth outcome w (waits_for_end c.number (waiting_of w (who.Task c.caller))) good refl)
+  end_for_abortable-keeps p part c depth outcome = looks-from (chains moves) _ (λ w good. end_waiting-from p part c depth outcome w (waits_for_end c.number (waiting_of w (who.Task c.caller))) good refl)
 
   resumes-from : (p : Image) (part : Part) (c : Call) (outcome : Outcome) (w : World) (test : Bool) → G w → waits_for_call c.number (waiting_of w (who.Task c.caller)) ≡ test
       → From R w (when test (ready p part (who.Task c.caller) ▷ resume p part c outcome ▷ open_sequence p part (who.Task c.caller)))
   resumes-from p part c outcome w true good is =
       let name = who.Task c.caller in
-      then-from moves (ready p part name) _ w (ready-from moves p part name w good (moves.asleep name w good (waits-call c.number (waiting_of w name) is)))
-      (then-keeps moves _ _ (resume-keeps p part c outcome) (open_sequence-keeps moves p part name))
-  resumes-from p part c outcome w false good is = keeps-from moves nothing w good (nothing-keeps moves)
+      then-from (chains moves) (ready p part name) _ w (ready-from moves p part name w good (moves.asleep name w good (waits-call c.number (waiting_of w name) is)))
+      (then-keeps (chains moves) _ _ (resume-keeps p part c outcome) (open_sequence-keeps moves p part name))
+  resumes-from p part c outcome w false good is = keeps-from (chains moves) nothing w good (nothing-keeps (chains moves))
 
   pub end_for_caller-keeps : (p : Image) (part : Part) (c : Call) (outcome : Outcome) → Keeps G R (end_for_caller p part c outcome)
   unfolding end_for_caller
-  end_for_caller-keeps p part c outcome = looks-from moves _ (λ w good. resumes-from p part c outcome w (waits_for_call c.number (waiting_of w (who.Task c.caller))) good refl)
+  end_for_caller-keeps p part c outcome = looks-from (chains moves) _ (λ w good. resumes-from p part c outcome w (waits_for_call c.number (waiting_of w (who.Task c.caller))) good refl)
 
   pub end_for-keeps : (p : Image) (part : Part) (c : Call) (outcome : Outcome) (n : Option ℕ) → Keeps G R (end_for p part c outcome n)
   unfolding end_for
@@ -199,19 +198,19 @@ module _ {G : GoodWorld} {May : Naming} {R : StepRelation} {Q : MoveRelation} (m
 
   pub end_with-keeps : (p : Image) (part : Part) (c : Call) (outcome : Outcome) → Keeps G R (end_with p part c outcome)
   unfolding end_with
-  end_with-keeps p part c outcome = search (changes-keeps, edit_call-alters, then-keeps, looks-keeps, end_for-keeps)
+  end_with-keeps p part c outcome = search (changes-keeps, edit_call-alters, then-keeps, looks-keeps, end_for-keeps, chains)
 
   pub end_call-keeps : (p : Image) (part : Part) (c : Call) (outcome : Outcome) → Keeps G R (end_call p part c outcome)
   unfolding end_call
   end_call-keeps p part c outcome =
-      looks-from moves _ (λ w good. let r = with_results p c outcome w in
+      looks-from (chains moves) _ (λ w good. let r = with_results p c outcome w in
       let first = with_results-world p c outcome w good in
-      changes_then-from moves (λ _. r.0) (end_with p part c r.1) w first (keeps-from moves (end_with p part c r.1) r.0 (moves.behind w r.0 first) (end_with-keeps p part c r.1)))
+      changes_then-from (chains moves) (λ _. r.0) (end_with p part c r.1) w first (keeps-from (chains moves) (end_with p part c r.1) r.0 (moves.behind w r.0 first) (end_with-keeps p part c r.1)))
 
   pub deliver-keeps : (p : Image) (part : Part) (c : CallNo) (outcome : Outcome) → Keeps G R (deliver p part c outcome)
   unfolding deliver
-  deliver-keeps p part c outcome = search (with_call-keeps, end_call-keeps, then-keeps, unwind-keeps)
+  deliver-keeps p part c outcome = search (with_call-keeps, end_call-keeps, then-keeps, unwind-keeps, chains)
 
   pub gone-keeps : (p : Image) (part : Part) (c : Call) → Keeps G R (gone p part c)
   unfolding gone
-  gone-keeps p part c = search (changes-keeps, unqueued-alters, then-keeps, says-keeps)
+  gone-keeps p part c = search (changes-keeps, unqueued-alters, then-keeps, says-keeps, chains)

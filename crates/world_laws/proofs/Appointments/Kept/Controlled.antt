@@ -28,12 +28,11 @@ use Rattle.profile_machine.specs.Statements.{cells_from}
 use Rattle.profile_machine.specs.Steps.{says, changes, ◌▷◌}
 use Rattle.machine_laws.proofs.Moves.{StepRelation, MoveRelation}
 use Rattle.machine_laws.proofs.FineMoves.{GoodWorld, Naming}
-use Rattle.machine_laws.proofs.Kept.Combinators.{Keeps, Alters}
 use Rattle.world_laws.proofs.Appointments.Delays.{nature}
-use Rattle.world_laws.proofs.Appointments.FineMoves.{FineMoves}
-use Rattle.world_laws.proofs.Appointments.Kept.Combinators.{branch-keeps, changes-from, changes-keeps, cond-keeps, looks-from, looks-keeps, nothing-keeps, says-keeps, sees-keeps, then-from, then-keeps, when-keeps}
+use Rattle.world_laws.proofs.Appointments.FineMoves.{FineMoves, chains, says-keeps}
 use Rattle.world_laws.proofs.Appointments.Kept.Frames.{pop-alters, edit_top-alters, goes-keeps, push-alters, leaves-keeps, raises-keeps, pass_on-keeps, given-keeps, with_room-keeps}
 use Rattle.world_laws.proofs.Appointments.Kept.Scopes.{write_cell-alters, open_scope-alters}
+use Rattle.machine_laws.proofs.Kept.Combinators.{Alters, Keeps, branch-keeps, changes-from, changes-keeps, cond-keeps, looks-from, looks-keeps, nothing-keeps, sees-keeps, then-from, then-keeps, when-keeps}
 
 -- no edit of a scope's mark, or of an assignment's, changes the call of another
 scope-nature : (f : ScopeMark → ScopeMark) (mark : Mark) → nature (edit_scope_mark f mark) ≡ nature mark
@@ -60,10 +59,10 @@ module _ {G : GoodWorld} {May : Naming} {R : StepRelation} {Q : MoveRelation} (m
   pub register-keeps : (p : Image) (name : Who) (l : Located) → Keeps G R (register p name l)
   unfolding register
   register-keeps p name l =
-      looks-from moves _ (λ w good. let n = suc w.drawn.controlled in
-      then-from moves (changes (registered_as n (top_region w name) l)) (changes (write_cell l.within (first_place p l) (Thing n)) ▷ says Own (line.Init name n (top_region w name) l.declared)) w
-      (changes-from moves (registered_as n (top_region w name) l) w (moves.registers (top_region w name) l w good))
-      (search (then-keeps, changes-keeps, write_cell-alters, says-keeps)))
+      looks-from (chains moves) _ (λ w good. let n = suc w.drawn.controlled in
+      then-from (chains moves) (changes (registered_as n (top_region w name) l)) (changes (write_cell l.within (first_place p l) (Thing n)) ▷ says Own (line.Init name n (top_region w name) l.declared)) w
+      (changes-from (chains moves) (registered_as n (top_region w name) l) w (moves.registers (top_region w name) l w good))
+      (search (then-keeps, changes-keeps, write_cell-alters, says-keeps, chains)))
 
   pub edit_top_scope-alters : (name : Who) (f : ScopeMark → ScopeMark) → Alters G R (edit_top_scope name f)
   edit_top_scope-alters name f = edit_top-alters moves name (λ x. with_mark (edit_scope_mark f x.mark) x) (λ x. scope-nature f x.mark)
@@ -75,22 +74,22 @@ module _ {G : GoodWorld} {May : Naming} {R : StepRelation} {Q : MoveRelation} (m
   pub behind_finalize-keeps : (p : Image) (name : Who) (leaving : Leaving) (test : Bool) → Keeps G R (behind_finalize p name leaving test)
   unfolding behind_finalize
   behind_finalize-keeps p name (how.Exception e) true = search (pass_on-keeps)
-  behind_finalize-keeps p name (how.Exception e) false = search (changes-keeps, edit_top_scope-alters)
-  behind_finalize-keeps p name how.End of_assignment = search (nothing-keeps)
-  behind_finalize-keeps p name how.Return of_assignment = search (nothing-keeps)
-  behind_finalize-keeps p name (how.Exit loop) of_assignment = search (nothing-keeps)
-  behind_finalize-keeps p name how.Abort of_assignment = search (nothing-keeps)
-  behind_finalize-keeps p name how.Terminate of_assignment = search (nothing-keeps)
+  behind_finalize-keeps p name (how.Exception e) false = search (changes-keeps, edit_top_scope-alters, chains)
+  behind_finalize-keeps p name how.End of_assignment = search (nothing-keeps, chains)
+  behind_finalize-keeps p name how.Return of_assignment = search (nothing-keeps, chains)
+  behind_finalize-keeps p name (how.Exit loop) of_assignment = search (nothing-keeps, chains)
+  behind_finalize-keeps p name how.Abort of_assignment = search (nothing-keeps, chains)
+  behind_finalize-keeps p name how.Terminate of_assignment = search (nothing-keeps, chains)
 
   pub end_in_initialize-keeps : (p : Image) (name : Who) (l : Located) (leaving : Leaving) → Keeps G R (end_in_initialize p name l leaving)
   unfolding end_in_initialize
   end_in_initialize-keeps p name l leaving =
-      then-keeps moves _ _ (changes-keeps moves _ (pop-alters moves name)) (cond-keeps moves (registers leaving) (register p name l) (pass_on p name leaving) (register-keeps p name l) (pass_on-keeps moves p name leaving))
+      then-keeps (chains moves) _ _ (changes-keeps (chains moves) _ (pop-alters moves name)) (cond-keeps (chains moves) (registers leaving) (register p name l) (pass_on p name leaving) (register-keeps p name l) (pass_on-keeps moves p name leaving))
 
   pub end_in_finalize-keeps : (p : Image) (name : Who) (leaving : Leaving) → Keeps G R (end_in_finalize p name leaving)
   unfolding end_in_finalize
   end_in_finalize-keeps p name leaving =
-      then-keeps moves _ _ (changes-keeps moves _ (pop-alters moves name)) (looks-keeps moves _ (λ w. behind_finalize-keeps p name leaving (is_assignment (top_of w name))))
+      then-keeps (chains moves) _ _ (changes-keeps (chains moves) _ (pop-alters moves name)) (looks-keeps (chains moves) _ (λ w. behind_finalize-keeps p name leaving (is_assignment (top_of w name))))
 
   pub edit_top_assign-alters : (name : Who) (f : AssignMark → AssignMark) → Alters G R (edit_top_assign name f)
   edit_top_assign-alters name f = edit_top-alters moves name (λ x. with_mark (edit_assign f x.mark) x) (λ x. assign-nature f x.mark)
@@ -109,37 +108,37 @@ module _ {G : GoodWorld} {May : Naming} {R : StepRelation} {Q : MoveRelation} (m
 module _ {G : GoodWorld} {May : Naming} {R : StepRelation} {Q : MoveRelation} (moves : FineMoves G May R Q) where
   pub open_operation-keeps : (p : Image) (name : Who) (f : SubprogramNo) (l : Located) → Keeps G R (open_operation p name f l)
   unfolding open_operation
-  open_operation-keeps p name f l = search (looks-keeps, changes-keeps, open_scope-alters)
+  open_operation-keeps p name f l = search (looks-keeps, changes-keeps, open_scope-alters, chains)
 
   pub initialize_by-keeps : (p : Image) (name : Who) (s : StatementNo) (l : Located) (f : Option SubprogramNo) → Keeps G R (initialize_by p name s l f)
   unfolding initialize_by
-  initialize_by-keeps p name s l None = search (goes-keeps, then-keeps, register-keeps)
-  initialize_by-keeps p name s l (Some f) = search (with_room-keeps, goes-keeps, then-keeps, changes-keeps, push-alters, open_operation-keeps)
+  initialize_by-keeps p name s l None = search (goes-keeps, then-keeps, register-keeps, chains)
+  initialize_by-keeps p name s l (Some f) = search (with_room-keeps, goes-keeps, then-keeps, changes-keeps, push-alters, open_operation-keeps, chains)
 
   pub initialize-keeps : (p : Image) (name : Who) (s : StatementNo) (d : DeclNo) → Keeps G R (initialize p name s d)
   unfolding initialize
-  initialize-keeps p name s d = search (sees-keeps, given-keeps, initialize_by-keeps) depth 6
+  initialize-keeps p name s d = search (sees-keeps, given-keeps, initialize_by-keeps, chains) depth 7
 
   pub open_finalize-keeps : (p : Image) (name : Who) (n : ℕ) (l : Located) (f : SubprogramNo) → Keeps G R (open_finalize p name n l f)
   unfolding open_finalize
-  open_finalize-keeps p name n l f = search (changes-keeps, push-alters, then-keeps, open_operation-keeps)
+  open_finalize-keeps p name n l f = search (changes-keeps, push-alters, then-keeps, open_operation-keeps, chains)
 
   pub finalize_by-keeps : (p : Image) (name : Who) (r : Registered) (f : Option SubprogramNo) → Keeps G R (finalize_by p name r f)
   unfolding finalize_by
-  finalize_by-keeps p name r None = search (nothing-keeps)
-  finalize_by-keeps p name r (Some f) = looks-keeps moves _ (λ w. branch-keeps moves (has_room_to_finalize p w name f) (open_finalize p name r.object r.located f) (changes (edit_top_scope name finalize_has_raised)) (search (open_finalize-keeps)) (search (changes-keeps, edit_top_scope-alters)))
+  finalize_by-keeps p name r None = search (nothing-keeps, chains)
+  finalize_by-keeps p name r (Some f) = looks-keeps (chains moves) _ (λ w. branch-keeps (chains moves) (has_room_to_finalize p w name f) (open_finalize p name r.object r.located f) (changes (edit_top_scope name finalize_has_raised)) (search (open_finalize-keeps)) (search (changes-keeps, edit_top_scope-alters, chains)))
 
   finalize_now-keeps : (p : Image) (name : Who) (r : Registered) → Keeps G R (finalize_now p name r)
   unfolding finalize_now
-  finalize_now-keeps p name r = search (says-keeps, then-keeps, changes-keeps, no_longer_registered-alters, finalize_by-keeps) depth 6
+  finalize_now-keeps p name r = search (says-keeps, then-keeps, changes-keeps, no_longer_registered-alters, finalize_by-keeps, chains) depth 7
 
   pub finalize-keeps : (p : Image) (name : Who) (r : Registered) → Keeps G R (finalize p name r)
   unfolding finalize
-  finalize-keeps p name r = search (looks-keeps, when-keeps, finalize_now-keeps)
+  finalize-keeps p name r = search (looks-keeps, when-keeps, finalize_now-keeps, chains)
 
   pub begin_assignment-keeps : (p : Image) (name : Who) (s : StatementNo) (target source : ℕ) → Keeps G R (begin_assignment p name s target source)
   unfolding begin_assignment
-  begin_assignment-keeps p name s target source = search (with_room-keeps, goes-keeps, then-keeps, says-keeps, changes-keeps, push-alters) depth 6
+  begin_assignment-keeps p name s target source = search (with_room-keeps, goes-keeps, then-keeps, says-keeps, changes-keeps, push-alters, chains) depth 7
 
   pub assign_registered-keeps : (p : Image) (name : Who) (s : StatementNo) (target source : Option Registered) → Keeps G R (assign_registered p name s target source)
   unfolding assign_registered
@@ -149,34 +148,34 @@ module _ {G : GoodWorld} {May : Naming} {R : StepRelation} {Q : MoveRelation} (m
 
   pub assign_located-keeps : (p : Image) (name : Who) (s : StatementNo) (target source : Located) → Keeps G R (assign_located p name s target source)
   unfolding assign_located
-  assign_located-keeps p name s target source = search (cond-keeps, goes-keeps, looks-keeps, assign_registered-keeps)
+  assign_located-keeps p name s target source = search (cond-keeps, goes-keeps, looks-keeps, assign_registered-keeps, chains)
 
   pub assign_controlled-keeps : (p : Image) (name : Who) (s : StatementNo) (target source : DeclNo) → Keeps G R (assign_controlled p name s target source)
   unfolding assign_controlled
-  assign_controlled-keeps p name s target source = search (sees-keeps, given-keeps, assign_located-keeps) depth 6
+  assign_controlled-keeps p name s target source = search (sees-keeps, given-keeps, assign_located-keeps, chains) depth 7
 
   pub finalize_target_by-keeps : (p : Image) (name : Who) (r : Registered) (f : Option SubprogramNo) → Keeps G R (finalize_target_by p name r f)
   unfolding finalize_target_by
-  finalize_target_by-keeps p name r None = search (nothing-keeps)
-  finalize_target_by-keeps p name r (Some f) = looks-keeps moves _ (λ w. branch-keeps moves (has_room_to_finalize p w name f) (open_finalize p name r.object r.located f) (leave_without_room name) (search (open_finalize-keeps)) (search (leave_without_room-keeps)))
+  finalize_target_by-keeps p name r None = search (nothing-keeps, chains)
+  finalize_target_by-keeps p name r (Some f) = looks-keeps (chains moves) _ (λ w. branch-keeps (chains moves) (has_room_to_finalize p w name f) (open_finalize p name r.object r.located f) (leave_without_room name) (search (open_finalize-keeps)) (search (leave_without_room-keeps)))
 
   pub adjust_by-keeps : (p : Image) (name : Who) (r : Registered) (f : Option SubprogramNo) → Keeps G R (adjust_by p name r f)
   unfolding adjust_by
-  adjust_by-keeps p name r None = search (nothing-keeps)
-  adjust_by-keeps p name r (Some f) = looks-keeps moves _ (λ w. branch-keeps moves (has_room_to_adjust p w name f) (open_operation p name f r.located) (leave_without_room name) (search (open_operation-keeps)) (search (leave_without_room-keeps)))
+  adjust_by-keeps p name r None = search (nothing-keeps, chains)
+  adjust_by-keeps p name r (Some f) = looks-keeps (chains moves) _ (λ w. branch-keeps (chains moves) (has_room_to_adjust p w name f) (open_operation p name f r.located) (leave_without_room name) (search (open_operation-keeps)) (search (leave_without_room-keeps)))
 
   do_step-keeps : (p : Image) (name : Who) (step : AssignStep) (target source : Registered) → Keeps G R (do_step p name step target source)
-  do_step-keeps p name assigning.FinalizeTarget target source = search (changes-keeps, edit_top_assign-alters, then-keeps, finalize_target_by-keeps)
-  do_step-keeps p name assigning.CopyComponents target source = search (changes-keeps, edit_top_assign-alters, then-keeps, copy_object-alters)
-  do_step-keeps p name assigning.AdjustTarget target source = search (changes-keeps, edit_top_assign-alters, then-keeps, adjust_by-keeps)
-  do_step-keeps p name assigning.Assigned target source = changes-keeps moves _ (pop-alters moves name)
+  do_step-keeps p name assigning.FinalizeTarget target source = search (changes-keeps, edit_top_assign-alters, then-keeps, finalize_target_by-keeps, chains)
+  do_step-keeps p name assigning.CopyComponents target source = search (changes-keeps, edit_top_assign-alters, then-keeps, copy_object-alters, chains)
+  do_step-keeps p name assigning.AdjustTarget target source = search (changes-keeps, edit_top_assign-alters, then-keeps, adjust_by-keeps, chains)
+  do_step-keeps p name assigning.Assigned target source = changes-keeps (chains moves) _ (pop-alters moves name)
 
   step_with-keeps : (p : Image) (name : Who) (step : AssignStep) (target source : Option Registered) → Keeps G R (step_with p name step target source)
   step_with-keeps p name step (Some target) (Some source) = do_step-keeps p name step target source
-  step_with-keeps p name step (Some target) None = changes-keeps moves _ (pop-alters moves name)
-  step_with-keeps p name step None source = changes-keeps moves _ (pop-alters moves name)
+  step_with-keeps p name step (Some target) None = changes-keeps (chains moves) _ (pop-alters moves name)
+  step_with-keeps p name step None source = changes-keeps (chains moves) _ (pop-alters moves name)
 
   pub end_in_assign-keeps : (p : Image) (name : Who) (m : AssignMark) (leaving : Option Leaving) → Keeps G R (end_in_assign p name m leaving)
   unfolding end_in_assign
-  end_in_assign-keeps p name m (Some (how.Exception e)) = then-keeps moves _ _ (changes-keeps moves _ (pop-alters moves name)) (raises-keeps moves Own name exception.Program)
-  end_in_assign-keeps p name m _ = looks-keeps moves _ (λ w. step_with-keeps p name m.step (registered_object w m.target) (registered_object w m.source))
+  end_in_assign-keeps p name m (Some (how.Exception e)) = then-keeps (chains moves) _ _ (changes-keeps (chains moves) _ (pop-alters moves name)) (raises-keeps moves Own name exception.Program)
+  end_in_assign-keeps p name m _ = looks-keeps (chains moves) _ (λ w. step_with-keeps p name m.step (registered_object w m.target) (registered_object w m.source))

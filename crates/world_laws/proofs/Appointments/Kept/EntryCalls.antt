@@ -39,18 +39,17 @@ use Rattle.profile_machine.specs.Steps.{Step, nothing}
 use Rattle.profile_machine.specs.Tasks.{waiting_of}
 use Rattle.machine_laws.proofs.Moves.{StepRelation, MoveRelation}
 use Rattle.ceiling_laws.proofs.Fine.Cores.{Caller}
-use Rattle.world_laws.proofs.Appointments.FineMoves.{FineMoves}
+use Rattle.world_laws.proofs.Appointments.FineMoves.{FineMoves, chains, says-keeps}
 use Rattle.world_laws.proofs.Appointments.Kept.Appointments.{appoint-alters}
 use Rattle.world_laws.proofs.Appointments.Kept.CallEnds.{gone-keeps}
 use Rattle.world_laws.proofs.Appointments.Kept.Calls.{edit_call-alters, forget_call-alters, says_call-keeps, enqueue-keeps}
-use Rattle.world_laws.proofs.Appointments.Kept.Combinators.{then_at-from, says-keeps, either-from, then-from, changes-keeps, keeps-from, looks-from, looks-keeps, looks_at-from, nothing-keeps, sees-keeps, then-keeps, unchanged-alters, changes_then-from}
 use Rattle.world_laws.proofs.Appointments.Kept.Dispatching.{block-keeps}
 use Rattle.world_laws.proofs.Appointments.Kept.Frames.{goes-keeps, leaves-keeps, raises-keeps, given-keeps, raise_if-keeps, with_room-keeps}
 use Rattle.world_laws.proofs.Appointments.Kept.Protected.{where_let_inside-keeps, begin_action_on-from, serve_call-keeps}
 use Rattle.world_laws.proofs.Appointments.Kept.Rendezvous.{meet-keeps}
 use Rattle.world_laws.proofs.Appointments.Kept.Sending.{open_abortable-alters, not_accepted-keeps}
-use Rattle.machine_laws.proofs.Kept.Combinators.{From, Keeps, Alters}
 use Rattle.machine_laws.proofs.FineMoves.{GoodWorld, Naming}
+use Rattle.machine_laws.proofs.Kept.Combinators.{Alters, From, Keeps, after-from, changes-keeps, changes_then-from, either-from, keeps-from, looks-from, looks-keeps, looks_at-from, nothing-keeps, sees-keeps, then-from, then-keeps, unchanged-alters}
 
 module _ {G : GoodWorld} {May : Naming} {R : StepRelation} {Q : MoveRelation} (moves : FineMoves G May R Q) where
   add_call-alters : (c : Call) → Alters G R (add_call c)
@@ -59,16 +58,16 @@ module _ {G : GoodWorld} {May : Naming} {R : StepRelation} {Q : MoveRelation} (m
 
   pub make_call-keeps : (p : Image) (c : Call) (step : Call → Step) → ((n : ℕ) → Keeps G R (step (numbered n c))) → Keeps G R (make_call p c step)
   make_call-keeps p c step kept =
-      then-keeps moves _ _ (goes-keeps moves (who.Task c.caller) (next_of p c.statement))
-      (looks-keeps moves _ (λ w. then-keeps moves _ _ (changes-keeps moves _ (add_call-alters c)) (then-keeps moves _ _ (says_call-keeps moves TheCall (numbered (suc w.drawn.calls) c)) (kept (suc w.drawn.calls)))))
+      then-keeps (chains moves) _ _ (goes-keeps moves (who.Task c.caller) (next_of p c.statement))
+      (looks-keeps (chains moves) _ (λ w. then-keeps (chains moves) _ _ (changes-keeps (chains moves) _ (add_call-alters c)) (then-keeps (chains moves) _ _ (says_call-keeps moves TheCall (numbered (suc w.drawn.calls) c)) (kept (suc w.drawn.calls)))))
 
   pub end_at_once-keeps : (part : Part) (c : Call) (e : Raised) → Keeps G R (end_at_once part c e)
   unfolding end_at_once
-  end_at_once-keeps part c e = search (changes-keeps, forget_call-alters, then-keeps, raises-keeps)
+  end_at_once-keeps part c e = search (changes-keeps, forget_call-alters, then-keeps, raises-keeps, chains)
 
   pub call_gone-keeps : (p : Image) (c : Call) → Keeps G R (call_gone p c)
   unfolding call_gone
-  call_gone-keeps p c = search (gone-keeps, then-keeps, end_at_once-keeps)
+  call_gone-keeps p c = search (gone-keeps, then-keeps, end_at_once-keeps, chains)
 
   pub call_meets-keeps : (p : Image) (t : TaskNo) (s : StatementNo) (c : Call) → May (who.Task c.caller) → Keeps G R (call_meets p t s c)
   unfolding call_meets
@@ -78,7 +77,7 @@ module _ {G : GoodWorld} {May : Naming} {R : StepRelation} {Q : MoveRelation} (m
 
   pub call_queues-keeps : (p : Image) (c : Call) → May (who.Task c.caller) → Keeps G R (call_queues p c)
   unfolding call_queues
-  call_queues-keeps p c may = then-keeps moves _ _ (enqueue-keeps moves p c.number) (not_accepted-keeps moves p Own c c.kind may)
+  call_queues-keeps p c may = then-keeps (chains moves) _ _ (enqueue-keeps moves p c.number) (not_accepted-keeps moves p Own c c.kind may)
 
   pub call_not_met-keeps : (p : Image) (c : Call) (test : Bool) → May (who.Task c.caller) → Keeps G R (call_not_met p c test)
   unfolding call_not_met
@@ -88,47 +87,47 @@ module _ {G : GoodWorld} {May : Naming} {R : StepRelation} {Q : MoveRelation} (m
   pub call_accepted_by-keeps : (p : Image) (t : TaskNo) (c : Call) (next : Option StatementNo) → May (who.Task c.caller) → Keeps G R (call_accepted_by p t c next)
   unfolding call_accepted_by
   call_accepted_by-keeps p t c (Some s) may = make_call-keeps p c (call_meets p t s) (λ n. call_meets-keeps p t s (numbered n c) may)
-  call_accepted_by-keeps p t c None may = looks-keeps moves _ (λ w. call_not_met-keeps p c (is_full p w c.owner c.entry) may)
+  call_accepted_by-keeps p t c None may = looks-keeps (chains moves) _ (λ w. call_not_met-keeps p c (is_full p w c.owner c.entry) may)
 
   pub call_callable-keeps : (p : Image) (t : TaskNo) (c : Call) (test : Bool) → May (who.Task c.caller) → Keeps G R (call_callable p t c test)
   unfolding call_callable
   call_callable-keeps p t c false may = make_call-keeps p c (call_gone p) (λ n. call_gone-keeps p (numbered n c))
-  call_callable-keeps p t c true may = looks-keeps moves _ (λ w. call_accepted_by-keeps p t c (accept_for p c.entry (waiting_of w (who.Task t))) may)
+  call_callable-keeps p t c true may = looks-keeps (chains moves) _ (λ w. call_accepted_by-keeps p t c (accept_for p c.entry (waiting_of w (who.Task t))) may)
 
   pub call_task-keeps : (p : Image) (t : TaskNo) (c : Call) → May (who.Task c.caller) → Keeps G R (call_task p t c)
   unfolding call_task
-  call_task-keeps p t c may = looks-keeps moves _ (λ w. call_callable-keeps p t c (is_callable w t) may)
+  call_task-keeps p t c may = looks-keeps (chains moves) _ (λ w. call_callable-keeps p t c (is_callable w t) may)
 
   -- ---- a call of a protected entry
 
   call_runs-from : (p : Image) (o : ObjectNo) (c : Call) (w : World) → G w → May (who.Task c.caller) → Caller c.number (who.Task c.caller) w → From R w (call_runs p o c)
   unfolding call_runs
   call_runs-from p o c w good may called =
-      then-from moves (begin_action_on p (who.Task c.caller) o Write (Some c.number) None) _ w (begin_action_on-from moves p (who.Task c.caller) o Write (Some c.number) None w good may (λ n e. let same : c.number ≡ n = cc in subst (λ k. Caller k (who.Task c.caller) w) same called))
-      (serve_call-keeps moves p Own (who.Task c.caller) o c nothing nothing (nothing-keeps moves) (nothing-keeps moves))
+      then-from (chains moves) (begin_action_on p (who.Task c.caller) o Write (Some c.number) None) _ w (begin_action_on-from moves p (who.Task c.caller) o Write (Some c.number) None w good may (λ n e. let same : c.number ≡ n = cc in subst (λ k. Caller k (who.Task c.caller) w) same called))
+      (serve_call-keeps moves p Own (who.Task c.caller) o c nothing nothing (nothing-keeps (chains moves)) (nothing-keeps (chains moves)))
 
   call_without_room-keeps : (o : ObjectNo) (c : Call) → Keeps G R (call_without_room o c)
   unfolding call_without_room
   call_without_room-keeps o c =
-      then-keeps moves _ _ (says-keeps moves Own (line.Enter (who.Task c.caller) o Write) refl) (then-keeps moves _ _ (says-keeps moves Own (line.Start (who.Task c.caller) c.number) refl)
-      (then-keeps moves _ _ (says-keeps moves Own (line.Finish (who.Task c.caller) c.number (meeting.Raised exception.Storage)) refl) (then-keeps moves _ _ (says-keeps moves Own (line.Exit (who.Task c.caller) o) refl) (end_at_once-keeps Own c exception.Storage))))
+      then-keeps (chains moves) _ _ (says-keeps moves Own (line.Enter (who.Task c.caller) o Write) refl) (then-keeps (chains moves) _ _ (says-keeps moves Own (line.Start (who.Task c.caller) c.number) refl)
+      (then-keeps (chains moves) _ _ (says-keeps moves Own (line.Finish (who.Task c.caller) c.number (meeting.Raised exception.Storage)) refl) (then-keeps (chains moves) _ _ (says-keeps moves Own (line.Exit (who.Task c.caller) o) refl) (end_at_once-keeps Own c exception.Storage))))
 
   call_runs_if_room-from : (p : Image) (o : ObjectNo) (c : Call) (w : World) → G w → May (who.Task c.caller) → Caller c.number (who.Task c.caller) w → From R w (call_runs_if_room p o c)
   unfolding call_runs_if_room
   call_runs_if_room-from p o c w good may called =
-      looks_at-from moves (λ v. elim (has_room_for_action p v c) as (λ _. Step) [ true ↦ call_runs p o c | false ↦ call_without_room o c ]) w
-      (either-from moves (has_room_for_action p w c) (call_runs p o c) (call_without_room o c) w (call_runs-from p o c w good may called) (keeps-from moves _ w good (call_without_room-keeps o c)))
+      looks_at-from (chains moves) (λ v. elim (has_room_for_action p v c) as (λ _. Step) [ true ↦ call_runs p o c | false ↦ call_without_room o c ]) w
+      (either-from (chains moves) (has_room_for_action p w c) (call_runs p o c) (call_without_room o c) w (call_runs-from p o c w good may called) (keeps-from (chains moves) _ w good (call_without_room-keeps o c)))
 
   call_passes-keeps : (p : Image) (o : ObjectNo) (c : Call) → May (who.Task c.caller) → Keeps G R (call_passes p o c)
   unfolding call_passes
   call_passes-keeps p o c may =
-      then-keeps moves _ _ (says-keeps moves Own (line.Enter (who.Task c.caller) o Write) refl) (then-keeps moves _ _ (enqueue-keeps moves p c.number)
-      (then-keeps moves _ _ (says-keeps moves Own (line.Exit (who.Task c.caller) o) refl) (not_accepted-keeps moves p Own c c.kind may)))
+      then-keeps (chains moves) _ _ (says-keeps moves Own (line.Enter (who.Task c.caller) o Write) refl) (then-keeps (chains moves) _ _ (enqueue-keeps moves p c.number)
+      (then-keeps (chains moves) _ _ (says-keeps moves Own (line.Exit (who.Task c.caller) o) refl) (not_accepted-keeps moves p Own c c.kind may)))
 
   call_refused-keeps : (o : ObjectNo) (c : Call) → Keeps G R (call_refused o c)
   unfolding call_refused
   call_refused-keeps o c =
-      then-keeps moves _ _ (says-keeps moves Own (line.Enter (who.Task c.caller) o Write) refl) (then-keeps moves _ _ (says-keeps moves Own (line.Exit (who.Task c.caller) o) refl) (end_at_once-keeps Own c exception.Program))
+      then-keeps (chains moves) _ _ (says-keeps moves Own (line.Enter (who.Task c.caller) o Write) refl) (then-keeps (chains moves) _ _ (says-keeps moves Own (line.Exit (who.Task c.caller) o) refl) (end_at_once-keeps Own c exception.Program))
 
   -- the caller of a call that has just been made
   made-caller : (c : Call) (w : World) → Caller (numbered (suc w.drawn.calls) c).number (who.Task c.caller) (add_call c w)
@@ -138,12 +137,12 @@ module _ {G : GoodWorld} {May : Naming} {R : StepRelation} {Q : MoveRelation} (m
 
   make_run-keeps : (p : Image) (o : ObjectNo) (c : Call) → May (who.Task c.caller) → Keeps G R (make_call p c (call_runs_if_room p o))
   make_run-keeps p o c may =
-      then-keeps moves _ _ (goes-keeps moves (who.Task c.caller) (next_of p c.statement))
-      (looks-from moves _ (λ w good. let made = add_call c w in
+      then-keeps (chains moves) _ _ (goes-keeps moves (who.Task c.caller) (next_of p c.statement))
+      (looks-from (chains moves) _ (λ w good. let made = add_call c w in
       let d = numbered (suc w.drawn.calls) c in
       let added = moves.adds_call c w good in
-      changes_then-from moves (add_call c) _ w added
-      (then_at-from moves (says_call TheCall d) (call_runs_if_room p o d) made (keeps-from moves _ made (moves.behind w made added) (says_call-keeps moves TheCall d))
+      changes_then-from (chains moves) (add_call c) _ w added
+      (after-from (chains moves) (says_call TheCall d) (call_runs_if_room p o d) made (keeps-from (chains moves) _ made (moves.behind w made added) (says_call-keeps moves TheCall d))
       (λ v xs k. call_runs_if_room-from p o d v (moves.behind made v k) may (moves.called_on d.number (who.Task d.caller) made v k (made-caller c w))))))
 
   call_closed-keeps : (p : Image) (o : ObjectNo) (c : Call) (test : Bool) → May (who.Task c.caller) → Keeps G R (call_closed p o c test)
@@ -154,11 +153,11 @@ module _ {G : GoodWorld} {May : Naming} {R : StepRelation} {Q : MoveRelation} (m
   call_by_barrier-keeps : (p : Image) (o : ObjectNo) (c : Call) (test : Bool) → May (who.Task c.caller) → Keeps G R (call_by_barrier p o c test)
   unfolding call_by_barrier
   call_by_barrier-keeps p o c true may = with_room-keeps moves (who.Task c.caller) 1 0 _ (make_run-keeps p o c may)
-  call_by_barrier-keeps p o c false may = looks-keeps moves _ (λ w. call_closed-keeps p o c (is_full p w c.owner c.entry) may)
+  call_by_barrier-keeps p o c false may = looks-keeps (chains moves) _ (λ w. call_closed-keeps p o c (is_full p w c.owner c.entry) may)
 
   pub call_object-keeps : (p : Image) (o : ObjectNo) (c : Call) → May (who.Task c.caller) → Keeps G R (call_object p o c)
   unfolding call_object
-  call_object-keeps p o c may = where_let_inside-keeps moves p (who.Task c.caller) o Write _ may (looks-keeps moves _ (λ w. call_by_barrier-keeps p o c (is_barrier_open p w (who.Task c.caller) o c.entry) may))
+  call_object-keeps p o c may = where_let_inside-keeps moves p (who.Task c.caller) o Write _ may (looks-keeps (chains moves) _ (λ w. call_by_barrier-keeps p o c (is_barrier_open p w (who.Task c.caller) o c.entry) may))
 
   pub call_owner-keeps : (p : Image) (c : Call) (owner : Owner) → May (who.Task c.caller) → Keeps G R (call_owner p c owner)
   unfolding call_owner
@@ -168,30 +167,30 @@ module _ {G : GoodWorld} {May : Naming} {R : StepRelation} {Q : MoveRelation} (m
   pub call_named-keeps : (p : Image) (t : TaskNo) (kind : CallKind) (s : StatementNo) (n : EntryCallNamed) → May (who.Task t) → Keeps G R (call_named p t kind s n)
   unfolding call_named
   call_named-keeps p t kind s n may =
-      sees-keeps moves p (who.Task t) _ (λ q. given-keeps moves Own (who.Task t) (owner_of_entry q n.entry n.owner) _ (λ o. given-keeps moves Own (who.Task t) (entry_parameters q (entry_of p n.entry).formals n.actuals) _ (λ parameters.
+      sees-keeps (chains moves) p (who.Task t) _ (λ q. given-keeps moves Own (who.Task t) (owner_of_entry q n.entry n.owner) _ (λ o. given-keeps moves Own (who.Task t) (entry_parameters q (entry_of p n.entry).formals n.actuals) _ (λ parameters.
       given-keeps moves Own (who.Task t) (timed_moment q (form_of p s)) _ (λ m. call_owner-keeps p (new_call t kind s n o (active_of p q.world (who.Task t)) parameters m) o may))))
 
   pub entry_call-keeps : (p : Image) (name : Who) (kind : CallKind) (s : StatementNo) → May name → Keeps G R (entry_call p name kind s)
   unfolding entry_call
-  entry_call-keeps p (who.Task t) kind s may = looks-keeps moves _ (λ w. raise_if-keeps moves (who.Task t) (is_forbidden w (who.Task t) kind) exception.Program _ (call_named-keeps p t kind s (named_call p s) may))
+  entry_call-keeps p (who.Task t) kind s may = looks-keeps (chains moves) _ (λ w. raise_if-keeps moves (who.Task t) (is_forbidden w (who.Task t) kind) exception.Program _ (call_named-keeps p t kind s (named_call p s) may))
   entry_call-keeps p who.Agent kind s may = raises-keeps moves Own who.Agent exception.Program
 
   -- ---- triggers that are delays
 
   appoint_trigger-alters : (name : Who) (depth : ℕ) (m : ℤ) → Alters G R (appoint_trigger name depth m)
   appoint_trigger-alters (who.Task t) depth m = appoint-alters moves (due_for.Trigger t depth) m (λ u. refl)
-  appoint_trigger-alters who.Agent depth m = unchanged-alters moves
+  appoint_trigger-alters who.Agent depth m = unchanged-alters (chains moves)
 
   trigger_delay-keeps : (p : Image) (name : Who) (s trigger : StatementNo) (m : ℤ) (test : Bool) → Keeps G R (trigger_delay p name s trigger m test)
   unfolding trigger_delay
   trigger_delay-keeps p name s trigger m false = goes-keeps moves name (next_of p trigger)
   trigger_delay-keeps p name s trigger m true =
-      with_room-keeps moves name 1 0 _ (then-keeps moves _ _ (goes-keeps moves name (next_of p s)) (looks-keeps moves _ (λ w. then-keeps moves _ _ (changes-keeps moves _ (open_abortable-alters moves p name s None)) (changes-keeps moves _ (appoint_trigger-alters name (length (frames_of w name)) m)))))
+      with_room-keeps moves name 1 0 _ (then-keeps (chains moves) _ _ (goes-keeps moves name (next_of p s)) (looks-keeps (chains moves) _ (λ w. then-keeps (chains moves) _ _ (changes-keeps (chains moves) _ (open_abortable-alters moves p name s None)) (changes-keeps (chains moves) _ (appoint_trigger-alters name (length (frames_of w name)) m)))))
 
   async_delay-keeps : (p : Image) (name : Who) (s trigger : StatementNo) → Keeps G R (async_delay p name s trigger)
   unfolding async_delay
   async_delay-keeps p name s trigger =
-      sees-keeps moves p name _ (λ q. raise_if-keeps moves name (is_forbidden q.world name call_kind.Triggering) exception.Program _ (given-keeps moves Own name (delay_moment q trigger) _ (λ m. trigger_delay-keeps p name s trigger m (int_lt (pos q.world.time) m))))
+      sees-keeps (chains moves) p name _ (λ q. raise_if-keeps moves name (is_forbidden q.world name call_kind.Triggering) exception.Program _ (given-keeps moves Own name (delay_moment q trigger) _ (λ m. trigger_delay-keeps p name s trigger m (int_lt (pos q.world.time) m))))
 
   async_by_trigger-keeps : (p : Image) (name : Who) (s trigger : StatementNo) (form : StatementForm) → May name → Keeps G R (async_by_trigger p name s trigger form)
   unfolding async_by_trigger
@@ -203,9 +202,9 @@ module _ {G : GoodWorld} {May : Naming} {R : StepRelation} {Q : MoveRelation} (m
   asynchronous_select-keeps p name s trigger may = async_by_trigger-keeps p name s trigger (form_of p trigger) may
 
   pub mark_sending-alters : (c : Option CallNo) (o : Owner) (e : EntryNo) (with_abort : Bool) → Alters G R (mark_sending c o e with_abort)
-  mark_sending-alters None o e with_abort = search (unchanged-alters)
+  mark_sending-alters None o e with_abort = search (unchanged-alters, chains)
   mark_sending-alters (Some c) o e with_abort = search (edit_call-alters)
 
   pub requeue-keeps : (p : Image) (name : Who) (e : EntryNo) (o : EntryOwner) (with_abort : Bool) → Keeps G R (requeue p name e o with_abort)
   unfolding requeue
-  requeue-keeps p name e o with_abort = search (sees-keeps, given-keeps, changes-keeps, mark_sending-alters, then-keeps, leaves-keeps) depth 8
+  requeue-keeps p name e o with_abort = search (sees-keeps, given-keeps, changes-keeps, mark_sending-alters, then-keeps, leaves-keeps, chains) depth 9

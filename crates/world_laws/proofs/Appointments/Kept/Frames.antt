@@ -21,11 +21,10 @@ use Rattle.profile_machine.specs.Program.{form_of, next_of}
 use Rattle.profile_machine.specs.Steps.{Step, changes, ◌▷◌}
 use Rattle.machine_laws.proofs.Moves.{StepRelation, MoveRelation}
 use Rattle.world_laws.proofs.Appointments.Delays.{nature, natures}
-use Rattle.world_laws.proofs.Appointments.FineMoves.{FineMoves}
-use Rattle.world_laws.proofs.Appointments.Kept.Combinators.{branch-keeps, changes-keeps, keeps-from, looks-keeps, nothing-keeps, says-keeps, then-keeps, when-keeps, changes-from, changes_then-from}
+use Rattle.world_laws.proofs.Appointments.FineMoves.{FineMoves, chains, says-keeps}
 use Rattle.world_laws.proofs.Appointments.Kept.Tasks.{edit_frames-alters}
-use Rattle.machine_laws.proofs.Kept.Combinators.{From, Gives, Keeps, Alters}
 use Rattle.machine_laws.proofs.FineMoves.{GoodWorld, Naming}
+use Rattle.machine_laws.proofs.Kept.Combinators.{Alters, From, Gives, Keeps, branch-keeps, changes-from, changes-keeps, changes_then-from, keeps-from, looks-keeps, nothing-keeps, then-keeps, when-keeps}
 
 -- an edit of a mark on top
 first-natures : (f : Frame → Frame) (fs : List Frame) → ((x : Frame) → nature (f x).mark ≡ nature x.mark) → natures (edit_first f fs) ≡ natures fs
@@ -38,7 +37,7 @@ module _ {G : GoodWorld} {May : Naming} {R : StepRelation} {Q : MoveRelation} (m
 
   pub goes-keeps : (name : Who) (onward : Option StatementNo) → Keeps G R (goes name onward)
   unfolding goes
-  goes-keeps name onward = search (changes-keeps, edit_top-alters)
+  goes-keeps name onward = search (changes-keeps, edit_top-alters, chains)
 
   -- a mark ends, and one without a call of its own is opened
   pub pop-alters : (name : Who) → Alters G R (pop name)
@@ -51,39 +50,39 @@ module _ {G : GoodWorld} {May : Naming} {R : StepRelation} {Q : MoveRelation} (m
 
   pub leaves-keeps : (name : Who) (leaving : Leaving) → Keeps G R (leaves name leaving)
   unfolding leaves
-  leaves-keeps name leaving = search (changes-keeps, edit_top-alters)
+  leaves-keeps name leaving = search (changes-keeps, edit_top-alters, chains)
 
   pub raises-keeps : (part : Part) (name : Who) (e : Raised) → Keeps G R (raises part name e)
   unfolding raises
-  raises-keeps part name e = search (says-keeps, then-keeps, leaves-keeps)
+  raises-keeps part name e = search (says-keeps, then-keeps, leaves-keeps, chains)
 
   pub open_handled-keeps : (p : Image) (part : Part) (name : Who) (s : StatementNo) (form : StatementForm) → Keeps G R (open_handled p part name s form)
   unfolding open_handled
   open_handled-keeps p part name s (form.Handled handlers first) =
-      looks-keeps moves _ (λ w. branch-keeps moves (has_room w name 1 0) (goes name (next_of p s) ▷ changes (push name (new_frame (Handled s) (Some first)))) (raises part name exception.Storage)
-      (then-keeps moves _ _ (goes-keeps name (next_of p s)) (changes-keeps moves _ (push-alters name (new_frame (Handled s) (Some first)) refl))) (raises-keeps part name exception.Storage))
-  open_handled-keeps p part name s _ = nothing-keeps moves
+      looks-keeps (chains moves) _ (λ w. branch-keeps (chains moves) (has_room w name 1 0) (goes name (next_of p s) ▷ changes (push name (new_frame (Handled s) (Some first)))) (raises part name exception.Storage)
+      (then-keeps (chains moves) _ _ (goes-keeps name (next_of p s)) (changes-keeps (chains moves) _ (push-alters name (new_frame (Handled s) (Some first)) refl))) (raises-keeps part name exception.Storage))
+  open_handled-keeps p part name s _ = nothing-keeps (chains moves)
 
   pub open_at-keeps : (p : Image) (part : Part) (name : Who) (next : Option StatementNo) → Keeps G R (open_at p part name next)
   unfolding open_at
-  open_at-keeps p part name None = nothing-keeps moves
+  open_at-keeps p part name None = nothing-keeps (chains moves)
   open_at-keeps p part name (Some s) = open_handled-keeps p part name s (form_of p s)
 
   pub open_sequence-keeps : (p : Image) (part : Part) (name : Who) → Keeps G R (open_sequence p part name)
   unfolding open_sequence
-  open_sequence-keeps p part name = looks-keeps moves _ (λ w. open_at-keeps p part name (onward_of w name))
+  open_sequence-keeps p part name = looks-keeps (chains moves) _ (λ w. open_at-keeps p part name (onward_of w name))
 
   pub open_if_ready-keeps : (p : Image) (name : Who) → Keeps G R (open_if_ready p name)
   unfolding open_if_ready
-  open_if_ready-keeps p name = search (looks-keeps, when-keeps, open_sequence-keeps)
+  open_if_ready-keeps p name = search (looks-keeps, when-keeps, open_sequence-keeps, chains)
 
   pub exit_loop-keeps : (p : Image) (name : Who) (loop : StatementNo) → Keeps G R (exit_loop p name loop)
   unfolding exit_loop
-  exit_loop-keeps p name loop = looks-keeps moves _ (λ w. branch-keeps moves (stands_in p loop (top_of w name)) (goes name (next_of p loop)) (leaves name (how.Exit loop)) (search (goes-keeps)) (search (leaves-keeps)))
+  exit_loop-keeps p name loop = looks-keeps (chains moves) _ (λ w. branch-keeps (chains moves) (stands_in p loop (top_of w name)) (goes name (next_of p loop)) (leaves name (how.Exit loop)) (search (goes-keeps)) (search (leaves-keeps)))
 
   pub pass_on-keeps : (p : Image) (name : Who) (leaving : Leaving) → Keeps G R (pass_on p name leaving)
   unfolding pass_on
-  pass_on-keeps p name how.End = search (nothing-keeps)
+  pass_on-keeps p name how.End = search (nothing-keeps, chains)
   pass_on-keeps p name how.Return = search (leaves-keeps)
   pass_on-keeps p name (how.Exit loop) = search (exit_loop-keeps)
   pass_on-keeps p name (how.Exception e) = search (leaves-keeps)
@@ -98,10 +97,10 @@ module _ {G : GoodWorld} {May : Naming} {R : StepRelation} {Q : MoveRelation} (m
 
   pub given-from : {X : Type 0} (part : Part) (name : Who) (result : Result X Raised) (f : X → Step) (w : World) → G w → ((x : X) → From R w (f x)) → From R w (given part name result f)
   given-from part name (Ok x) f w good k = k x
-  given-from part name (Err e) f w good k = keeps-from moves (raises part name e) w good (raises-keeps part name e)
+  given-from part name (Err e) f w good k = keeps-from (chains moves) (raises part name e) w good (raises-keeps part name e)
 
   pub raise_if-from : (name : Who) (test : Bool) (e : Raised) (step : Step) (w : World) → G w → (test ≡ false → From R w step) → From R w (raise_if name test e step)
-  raise_if-from name true e step w good k = keeps-from moves (raises Own name e) w good (raises-keeps Own name e)
+  raise_if-from name true e step w good k = keeps-from (chains moves) (raises Own name e) w good (raises-keeps Own name e)
   raise_if-from name false e step w good k = k refl
 
   -- a step behind the going on
@@ -109,22 +108,22 @@ module _ {G : GoodWorld} {May : Naming} {R : StepRelation} {Q : MoveRelation} (m
   unfolding goes Alters
   goes_then-from name onward g w good k =
       let gone = edit_top-alters name (goes_on onward) (λ x. refl) w good in
-      changes_then-from moves (edit_top name (goes_on onward)) g w gone (k (moves.behind w (edit_top name (goes_on onward) w) gone))
+      changes_then-from (chains moves) (edit_top name (goes_on onward)) g w gone (k (moves.behind w (edit_top name (goes_on onward) w) gone))
 
   -- the world that a value gives becomes the world
   pub given_world-from : (part : Part) (name : Who) (result : Valued World) (f : World → Step) (w : World) → G w → Gives R w result → ((next : World) → Keeps G R (f next)) → From R w (given part name result (λ next. changes (λ _. next) ▷ f next))
   unfolding Gives
-  given_world-from part name (Ok next) f w good a k = changes_then-from moves (λ _. next) (f next) w a (keeps-from moves (f next) next (moves.behind w next a) (k next))
-  given_world-from part name (Err e) f w good a k = keeps-from moves (raises part name e) w good (raises-keeps part name e)
+  given_world-from part name (Ok next) f w good a k = changes_then-from (chains moves) (λ _. next) (f next) w a (keeps-from (chains moves) (f next) next (moves.behind w next a) (k next))
+  given_world-from part name (Err e) f w good a k = keeps-from (chains moves) (raises part name e) w good (raises-keeps part name e)
 
   pub becomes-from : (part : Part) (name : Who) (result : Valued World) (w : World) → G w → Gives R w result → From R w (given part name result (λ next. changes (λ _. next)))
   unfolding Gives
-  becomes-from part name (Ok next) w good a = changes-from moves (λ _. next) w a
-  becomes-from part name (Err e) w good a = keeps-from moves (raises part name e) w good (raises-keeps part name e)
+  becomes-from part name (Ok next) w good a = changes-from (chains moves) (λ _. next) w a
+  becomes-from part name (Err e) w good a = keeps-from (chains moves) (raises part name e) w good (raises-keeps part name e)
 
   pub raise_if-keeps : (name : Who) (test : Bool) (e : Raised) (step : Step) → Keeps G R step → Keeps G R (raise_if name test e step)
   raise_if-keeps name true e step kept = search (raises-keeps)
   raise_if-keeps name false e step kept = search
 
   pub with_room-keeps : (name : Who) (marks cells : ℕ) (step : Step) → Keeps G R step → Keeps G R (with_room name marks cells step)
-  with_room-keeps name marks cells step kept = looks-keeps moves _ (λ w. branch-keeps moves (has_room w name marks cells) step (raises Own name exception.Storage) (search) (search (raises-keeps)))
+  with_room-keeps name marks cells step kept = looks-keeps (chains moves) _ (λ w. branch-keeps (chains moves) (has_room w name marks cells) step (raises Own name exception.Storage) (search) (search (raises-keeps)))

@@ -38,10 +38,9 @@ use Rattle.profile_machine.specs.Steps.{Step, says}
 use Rattle.profile_machine.specs.Tasks.{task_of, edit_task}
 use Rattle.profile_machine.specs.Values.{Seen}
 use Rattle.machine_laws.proofs.Moves.{StepRelation, MoveRelation}
-use Rattle.world_laws.proofs.Appointments.FineMoves.{FineMoves}
+use Rattle.world_laws.proofs.Appointments.FineMoves.{FineMoves, chains, says-keeps}
 use Rattle.world_laws.proofs.Appointments.Kept.Appointments.{appoint-alters, drop_appointment-alters}
 use Rattle.world_laws.proofs.Appointments.Kept.CallEnds.{store-gives}
-use Rattle.world_laws.proofs.Appointments.Kept.Combinators.{from-keeps, branch-keeps, changes-keeps, for_some-keeps, looks-from, looks-keeps, nothing-keeps, says-keeps, sees-keeps, then-keeps, unchanged-alters}
 use Rattle.world_laws.proofs.Appointments.Kept.Dispatching.{ready-from}
 use Rattle.world_laws.proofs.Appointments.Kept.Frames.{becomes-from, goes-keeps, given-keeps, raise_if-keeps}
 use Rattle.world_laws.proofs.Appointments.Kept.Protected.{find_held-keeps, begin_action_on-keeps}
@@ -50,7 +49,7 @@ use Rattle.world_laws.proofs.Appointments.Kept.Serving.{end_release-keeps}
 use Rattle.world_laws.proofs.Appointments.Kept.Tasks.{edit_task-alters}
 use Rattle.machine_laws.proofs.Kept.Handlers.{spent-frames, spent-state, spent-who}
 use Rattle.machine_laws.proofs.FineMoves.{GoodWorld, Naming}
-use Rattle.machine_laws.proofs.Kept.Combinators.{Keeps, Alters}
+use Rattle.machine_laws.proofs.Kept.Combinators.{Alters, Keeps, branch-keeps, changes-keeps, for_some-keeps, from-keeps, looks-from, looks-keeps, nothing-keeps, sees-keeps, then-keeps, unchanged-alters}
 
 module _ {G : GoodWorld} {May : Naming} {R : StepRelation} {Q : MoveRelation} (moves : FineMoves G May R Q) where
   -- ---- a release comes, and the agent becomes ready where it was blocked
@@ -61,26 +60,26 @@ module _ {G : GoodWorld} {May : Naming} {R : StepRelation} {Q : MoveRelation} (m
 
   wake_agent-keeps : (p : Image) (part : Part) (state : State) → Keeps G R (wake_agent p part state)
   unfolding wake_agent
-  wake_agent-keeps p part (Blocked waiting) = from-keeps moves _ (λ w good. ready-from moves p part who.Agent w good tt)
-  wake_agent-keeps p part Runnable = nothing-keeps moves
-  wake_agent-keeps p part Made = nothing-keeps moves
+  wake_agent-keeps p part (Blocked waiting) = from-keeps (chains moves) _ (λ w good. ready-from moves p part who.Agent w good tt)
+  wake_agent-keeps p part Runnable = nothing-keeps (chains moves)
+  wake_agent-keeps p part Made = nothing-keeps (chains moves)
 
   pub release-keeps : (p : Image) (h : HandlerOf) (argument : Option ℕ) → Keeps G R (release p Own h argument)
   unfolding release says_release
   release-keeps p h argument =
-      then-keeps moves _ _ (changes-keeps moves _ (add_release-alters h argument))
-      (then-keeps moves _ _ (looks-keeps moves _ (λ w. says-keeps moves Own (line.Release w.drawn.releases h) refl)) (looks-keeps moves _ (λ w. wake_agent-keeps p Own w.agent.state)))
+      then-keeps (chains moves) _ _ (changes-keeps (chains moves) _ (add_release-alters h argument))
+      (then-keeps (chains moves) _ _ (looks-keeps (chains moves) _ (λ w. says-keeps moves Own (line.Release w.drawn.releases h) refl)) (looks-keeps (chains moves) _ (λ w. wake_agent-keeps p Own w.agent.state)))
 
   begin_handler-keeps : (p : Image) (r : Release) → May who.Agent → Keeps G R (begin_handler p r)
   unfolding begin_handler
   begin_handler-keeps p r may =
-      then-keeps moves _ _ (begin_action_on-keeps moves p who.Agent r.handler.object Write (Some r.number) may)
-      (looks-keeps moves _ (λ w. changes-keeps moves _ (open_scope-alters moves p who.Agent (subprogram_of p r.handler.procedure).scope (body_of_object p w (subprogram_of p r.handler.procedure).scope r.handler.object None (argument_values r.argument)) (opened_for.Subprogram [] bound_for.Nowhere))))
+      then-keeps (chains moves) _ _ (begin_action_on-keeps moves p who.Agent r.handler.object Write (Some r.number) may)
+      (looks-keeps (chains moves) _ (λ w. changes-keeps (chains moves) _ (open_scope-alters moves p who.Agent (subprogram_of p r.handler.procedure).scope (body_of_object p w (subprogram_of p r.handler.procedure).scope r.handler.object None (argument_values r.argument)) (opened_for.Subprogram [] bound_for.Nowhere))))
 
   begin_handler_if_room-keeps : (p : Image) (r : Release) → May who.Agent → Keeps G R (begin_handler_if_room p r)
   unfolding begin_handler_if_room
   begin_handler_if_room-keeps p r may =
-      looks-keeps moves _ (λ w. branch-keeps moves (has_room w who.Agent (1 + marks_of p (subprogram_of p r.handler.procedure).scope) (size_of_body p r.handler.procedure)) (begin_handler p r) (end_release r.number) (begin_handler-keeps p r may) (end_release-keeps moves r.number))
+      looks-keeps (chains moves) _ (λ w. branch-keeps (chains moves) (has_room w who.Agent (1 + marks_of p (subprogram_of p r.handler.procedure).scope) (size_of_body p r.handler.procedure)) (begin_handler p r) (end_release r.number) (begin_handler-keeps p r may) (end_release-keeps moves r.number))
 
   enter_handler-keeps : (p : Image) (r : Release) (is : Entering) → May who.Agent → Keeps G R (enter_handler p r is)
   unfolding enter_handler
@@ -91,26 +90,26 @@ module _ {G : GoodWorld} {May : Naming} {R : StepRelation} {Q : MoveRelation} (m
 
   pub call_handler-keeps : (p : Image) (r : Release) → May who.Agent → Keeps G R (call_handler p r)
   unfolding call_handler
-  call_handler-keeps p r may = looks-keeps moves _ (λ w. enter_handler-keeps p r (entering p w who.Agent r.handler.object Write) may)
+  call_handler-keeps p r may = looks-keeps (chains moves) _ (λ w. enter_handler-keeps p r (entering p w who.Agent r.handler.object Write) may)
 
   -- ---- settings, and the charge of a tick
 
   pub with_room_for_release-keeps : (name : Who) (needed : Bool) (step : Step) → Keeps G R step → Keeps G R (with_room_for_release name needed step)
-  with_room_for_release-keeps name needed step kept = search (looks-keeps, raise_if-keeps)
+  with_room_for_release-keeps name needed step kept = search (looks-keeps, raise_if-keeps, chains)
 
   pub setting_of-keeps : (p : Image) (name : Who) (q : Seen) (base : ℤ) (set : Setting) (named : Option HandlerName) (step : Option HandlerOf → ℤ → Step) → ((x : Option HandlerOf) (y : ℤ) → Keeps G R (step x y)) → Keeps G R (setting_of p name q base set named step)
   setting_of-keeps p name q base set named step kept = search (given-keeps, with_room_for_release-keeps, raise_if-keeps)
 
   pub answer-keeps : (p : Image) (name : Who) (v : Variable) (b : Bool) → Keeps G R (answer p name v b)
   unfolding answer
-  answer-keeps p name v b = looks-from moves _ (λ w good. becomes-from moves Own name (store p v (Truth b) w) w good (store-gives moves p v (Truth b) w good))
+  answer-keeps p name v b = looks-from (chains moves) _ (λ w good. becomes-from moves Own name (store p v (Truth b) w) w good (store-gives moves p v (Truth b) w good))
 
   pub cancel_event_setting-alters : (e : ℕ) → Alters G R (cancel_event_setting e)
   cancel_event_setting-alters e = search (drop_appointment-alters)
 
   pub cancel_event-keeps : (p : Image) (name : Who) (s : StatementNo) (d : DeclNo) (target : VariableName) → Keeps G R (cancel_event p name s d target)
   unfolding cancel_event
-  cancel_event-keeps p name s d target = search (sees-keeps, given-keeps, goes-keeps, then-keeps, changes-keeps, cancel_event_setting-alters, answer-keeps) depth 9
+  cancel_event-keeps p name s d target = search (sees-keeps, given-keeps, goes-keeps, then-keeps, changes-keeps, cancel_event_setting-alters, answer-keeps, chains) depth 10
 
   pub clear_timer-alters : (k : ℕ) → Alters G R (clear_timer k)
   unfolding Alters
@@ -122,7 +121,7 @@ module _ {G : GoodWorld} {May : Naming} {R : StepRelation} {Q : MoveRelation} (m
 
   pub cancel_timer-keeps : (p : Image) (name : Who) (s : StatementNo) (d : DeclNo) (target : VariableName) → Keeps G R (cancel_timer p name s d target)
   unfolding cancel_timer
-  cancel_timer-keeps p name s d target = search (sees-keeps, given-keeps, goes-keeps, then-keeps, changes-keeps, clear_timer-alters, answer-keeps) depth 9
+  cancel_timer-keeps p name s d target = search (sees-keeps, given-keeps, goes-keeps, then-keeps, changes-keeps, clear_timer-alters, answer-keeps, chains) depth 10
 
   edit_budget-alters : (b : ℕ) (f : Budget → Budget) → Alters G R (edit_budget b f)
   unfolding Alters
@@ -130,19 +129,19 @@ module _ {G : GoodWorld} {May : Naming} {R : StepRelation} {Q : MoveRelation} (m
 
   pub change_member-keeps : (p : Image) (name : Who) (s : StatementNo) (t : world.Task) (is_right : Bool) (b : Option ℕ) → Keeps G R (change_member p name s t is_right b)
   unfolding change_member
-  change_member-keeps p name s t is_right b = search (raise_if-keeps, goes-keeps, then-keeps, changes-keeps, edit_task-alters)
+  change_member-keeps p name s t is_right b = search (raise_if-keeps, goes-keeps, then-keeps, changes-keeps, edit_task-alters, chains)
 
   pub add_member-keeps : (p : Image) (name : Who) (s : StatementNo) (d : DeclNo) (e : ExprNo) → Keeps G R (add_member p name s d e)
   unfolding add_member
-  add_member-keeps p name s d e = search (sees-keeps, given-keeps, change_member-keeps) depth 6
+  add_member-keeps p name s d e = search (sees-keeps, given-keeps, change_member-keeps, chains) depth 7
 
   pub remove_member-keeps : (p : Image) (name : Who) (s : StatementNo) (d : DeclNo) (e : ExprNo) → Keeps G R (remove_member p name s d e)
   unfolding remove_member
-  remove_member-keeps p name s d e = search (sees-keeps, given-keeps, change_member-keeps) depth 6
+  remove_member-keeps p name s d e = search (sees-keeps, given-keeps, change_member-keeps, chains) depth 7
 
   pub fill_budget-keeps : (p : Image) (name : Who) (s : StatementNo) (d : DeclNo) (e : ExprNo) (f : ℤ → Budget → Budget) → Keeps G R (fill_budget p name s d e f)
   unfolding fill_budget
-  fill_budget-keeps p name s d e f = search (sees-keeps, given-keeps, with_room_for_release-keeps, raise_if-keeps, goes-keeps, then-keeps, changes-keeps, edit_budget-alters) depth 8
+  fill_budget-keeps p name s d e f = search (sees-keeps, given-keeps, with_room_for_release-keeps, raise_if-keeps, goes-keeps, then-keeps, changes-keeps, edit_budget-alters, chains) depth 9
 
   pub replenish-keeps : (p : Image) (name : Who) (s : StatementNo) (d : DeclNo) (e : ExprNo) → Keeps G R (replenish p name s d e)
   unfolding replenish
@@ -154,14 +153,14 @@ module _ {G : GoodWorld} {May : Naming} {R : StepRelation} {Q : MoveRelation} (m
 
   pub set_budget-keeps : (p : Image) (name : Who) (s : StatementNo) (d : DeclNo) (named : Option HandlerName) → Keeps G R (set_budget p name s d named)
   unfolding set_budget
-  set_budget-keeps p name s d named = search (sees-keeps, given-keeps, with_room_for_release-keeps, raise_if-keeps, goes-keeps, then-keeps, changes-keeps, edit_budget-alters) depth 8
+  set_budget-keeps p name s d named = search (sees-keeps, given-keeps, with_room_for_release-keeps, raise_if-keeps, goes-keeps, then-keeps, changes-keeps, edit_budget-alters, chains) depth 9
 
   pub cancel_budget-keeps : (p : Image) (name : Who) (s : StatementNo) (d : DeclNo) (target : VariableName) → Keeps G R (cancel_budget p name s d target)
   unfolding cancel_budget
-  cancel_budget-keeps p name s d target = search (sees-keeps, given-keeps, goes-keeps, then-keeps, changes-keeps, edit_budget-alters, answer-keeps) depth 9
+  cancel_budget-keeps p name s d target = search (sees-keeps, given-keeps, goes-keeps, then-keeps, changes-keeps, edit_budget-alters, answer-keeps, chains) depth 10
 
   pub charge_budget-alters : (n : Option ℕ) → Alters G R (charge_budget n)
-  charge_budget-alters None = search (unchanged-alters)
+  charge_budget-alters None = search (unchanged-alters, chains)
   charge_budget-alters (Some b) = search (edit_budget-alters)
 
   -- ---- a tick is charged
@@ -203,33 +202,33 @@ module _ {G : GoodWorld} {May : Naming} {R : StepRelation} {Q : MoveRelation} (m
   pub interrupt-keeps : (p : Image) (n : ℕ) → Keeps G R (interrupt p n)
   unfolding interrupt
   interrupt-keeps p n =
-      then-keeps moves (says Own (line.Interrupt n)) _ (says-keeps moves Own (line.Interrupt n) refl)
-      (looks-keeps moves _ (λ w. for_some-keeps moves (handler_attached p n w.objects) _ (λ h. release-keeps moves p h None)))
+      then-keeps (chains moves) (says Own (line.Interrupt n)) _ (says-keeps moves Own (line.Interrupt n) refl)
+      (looks-keeps (chains moves) _ (λ w. for_some-keeps (chains moves) (handler_attached p n w.objects) _ (λ h. release-keeps moves p h None)))
 
   appoint_event-keeps : (p : Image) (e : ℕ) (h : HandlerOf) (m : ℤ) (test : Bool) → Keeps G R (appoint_event p e h m test)
   unfolding appoint_event
-  appoint_event-keeps p e h m true = changes-keeps moves _ (appoint-alters moves (due_for.Event e h) m (λ t. refl))
+  appoint_event-keeps p e h m true = changes-keeps (chains moves) _ (appoint-alters moves (due_for.Event e h) m (λ t. refl))
   appoint_event-keeps p e h m false = release-keeps moves p h (Some e)
 
   pub event_set_to-keeps : (p : Image) (e : ℕ) (h : Option HandlerOf) (m : ℤ) → Keeps G R (event_set_to p e h m)
   unfolding event_set_to
-  event_set_to-keeps p e None m = nothing-keeps moves
-  event_set_to-keeps p e (Some h) m = looks-keeps moves _ (λ w. appoint_event-keeps p e h m (int_lt (pos w.time) m))
+  event_set_to-keeps p e None m = nothing-keeps (chains moves)
+  event_set_to-keeps p e (Some h) m = looks-keeps (chains moves) _ (λ w. appoint_event-keeps p e h m (int_lt (pos w.time) m))
 
   pub set_event-keeps : (p : Image) (name : Who) (s : StatementNo) (d : DeclNo) (set : Setting) (named : Option HandlerName) → Keeps G R (set_event p name s d set named)
   unfolding set_event
-  set_event-keeps p name s d set named = search (sees-keeps, given-keeps, setting_of-keeps, goes-keeps, then-keeps, changes-keeps, cancel_event_setting-alters, event_set_to-keeps) depth 9
+  set_event-keeps p name s d set named = search (sees-keeps, given-keeps, setting_of-keeps, goes-keeps, then-keeps, changes-keeps, cancel_event_setting-alters, event_set_to-keeps, chains) depth 10
 
   pub timer_set_beyond-keeps : (p : Image) (k : ℕ) (h : HandlerOf) (v : ℤ) (test : Bool) → Keeps G R (timer_set_beyond p k h v test)
   unfolding timer_set_beyond
-  timer_set_beyond-keeps p k h v true = search (changes-keeps, with_timer_set-alters)
+  timer_set_beyond-keeps p k h v true = search (changes-keeps, with_timer_set-alters, chains)
   timer_set_beyond-keeps p k h v false = release-keeps moves p h (Some k)
 
   pub timer_set_to-keeps : (p : Image) (k clock : ℕ) (h : Option HandlerOf) (v : ℤ) → Keeps G R (timer_set_to p k clock h v)
   unfolding timer_set_to
-  timer_set_to-keeps p k clock None v = search (nothing-keeps)
+  timer_set_to-keeps p k clock None v = search (nothing-keeps, chains)
   timer_set_to-keeps p k clock (Some h) v = search (timer_set_beyond-keeps)
 
   pub set_timer-keeps : (p : Image) (name : Who) (s : StatementNo) (d : DeclNo) (set : Setting) (named : Option HandlerName) → Keeps G R (set_timer p name s d set named)
   unfolding set_timer
-  set_timer-keeps p name s d set named = search (sees-keeps, given-keeps, setting_of-keeps, goes-keeps, then-keeps, changes-keeps, clear_timer-alters, timer_set_to-keeps) depth 9
+  set_timer-keeps p name s d set named = search (sees-keeps, given-keeps, setting_of-keeps, goes-keeps, then-keeps, changes-keeps, clear_timer-alters, timer_set_to-keeps, chains) depth 10

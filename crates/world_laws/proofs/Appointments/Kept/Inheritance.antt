@@ -6,11 +6,10 @@ use Rattle.profile_machine.specs.declared.world.tasks.Cause.{Cause}
 use Rattle.profile_machine.specs.Inheritance.{inherit, lose, inherit_running, lose_running}
 use Rattle.machine_laws.proofs.Moves.{StepRelation, MoveRelation}
 use Rattle.machine_laws.proofs.FineMoves.{GoodWorld, Naming}
-use Rattle.machine_laws.proofs.Kept.Combinators.{Keeps, Alters}
-use Rattle.world_laws.proofs.Appointments.FineMoves.{FineMoves}
-use Rattle.world_laws.proofs.Appointments.Kept.Combinators.{changes-keeps, looks-keeps, then-keeps, when-keeps}
+use Rattle.world_laws.proofs.Appointments.FineMoves.{FineMoves, chains}
 use Rattle.world_laws.proofs.Appointments.Kept.Dispatching.{to_head-keeps}
 use Rattle.world_laws.proofs.Appointments.Kept.Tasks.{edit_task-alters}
+use Rattle.machine_laws.proofs.Kept.Combinators.{Alters, Keeps, changes-keeps, looks-keeps, then-keeps, when-keeps}
 
 module _ {G : GoodWorld} {May : Naming} {R : StepRelation} {Q : MoveRelation} (moves : FineMoves G May R Q) where
   pub inherit-alters : (name : Who) (cause : Cause) (level : ℕ) → Alters G R (inherit name cause level)
@@ -21,8 +20,8 @@ module _ {G : GoodWorld} {May : Naming} {R : StepRelation} {Q : MoveRelation} (m
 
   pub inherit_running-keeps : (p : Image) (name : Who) (cause : Cause) (level : ℕ) → May name → Keeps G R (inherit_running p name cause level)
   unfolding inherit_running
-  inherit_running-keeps p name cause level may = search (looks-keeps, changes-keeps, inherit-alters, then-keeps, when-keeps, to_head-keeps) depth 6
+  inherit_running-keeps p name cause level may = search (looks-keeps, changes-keeps, inherit-alters, then-keeps, when-keeps, to_head-keeps, chains) depth 7
 
   pub lose_running-keeps : (p : Image) (name : Who) (cause : Cause) → May name → Keeps G R (lose_running p name cause)
   unfolding lose_running
-  lose_running-keeps p name cause may = search (looks-keeps, changes-keeps, lose-alters, then-keeps, when-keeps, to_head-keeps) depth 6
+  lose_running-keeps p name cause may = search (looks-keeps, changes-keeps, lose-alters, then-keeps, when-keeps, to_head-keeps, chains) depth 7

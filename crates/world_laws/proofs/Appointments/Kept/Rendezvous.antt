@@ -36,21 +36,20 @@ use Rattle.profile_machine.specs.Steps.{Step, changes}
 use Rattle.profile_machine.specs.Tasks.{with_state, edit_task}
 use Rattle.machine_laws.proofs.Moves.{StepRelation, MoveRelation}
 use Rattle.world_laws.proofs.Appointments.Delays.{Idle}
-use Rattle.world_laws.proofs.Appointments.FineMoves.{FineMoves}
+use Rattle.world_laws.proofs.Appointments.FineMoves.{FineMoves, chains, says-keeps}
 use Rattle.world_laws.proofs.Appointments.Kept.Appointments.{drops_then-from}
 use Rattle.world_laws.proofs.Appointments.Kept.CallEnds.{deliver-keeps, gone-keeps}
 use Rattle.world_laws.proofs.Appointments.Kept.Calls.{edit_call-alters, with_call-keeps, enqueue-keeps}
-use Rattle.world_laws.proofs.Appointments.Kept.Combinators.{from-keeps, either-from, changes-from, changes-keeps, for_some-keeps, looks-keeps, nothing-keeps, says-keeps, then-from, then-keeps, looks_at-from}
 use Rattle.world_laws.proofs.Appointments.Kept.Dispatching.{ready-from, idle_then-from, block-keeps}
 use Rattle.world_laws.proofs.Appointments.Kept.Frames.{push-alters, pop-alters, goes-keeps, raises-keeps, open_sequence-keeps, pass_on-keeps, raise_if-keeps}
 use Rattle.world_laws.proofs.Appointments.Kept.Inheritance.{inherit-alters, inherit_running-keeps, lose_running-keeps}
 use Rattle.world_laws.proofs.Appointments.Kept.Protected.{begin_call-keeps}
 use Rattle.world_laws.proofs.Appointments.Kept.Scopes.{end_scope-alters}
 use Rattle.world_laws.proofs.Appointments.Kept.Sending.{send_on-keeps, begin_abortable-keeps, sent_not_begun-keeps}
-use Rattle.machine_laws.proofs.Kept.Combinators.{From, Keeps, Alters}
 use Rattle.machine_laws.proofs.FineMoves.{GoodWorld, Naming}
 use Rattle.line_laws.proofs.Leaving.Kept.Rendezvous.{finished_call-number}
 use Rattle.line_laws.proofs.Leaving.Kept.Serving.{keeps_sending-caller}
+use Rattle.machine_laws.proofs.Kept.Combinators.{Alters, From, Keeps, changes-from, changes-keeps, either-from, for_some-keeps, from-keeps, looks-keeps, looks_at-from, nothing-keeps, then-from, then-keeps}
 
 pub finished_call-caller : (p : Image) (cells : List Value) (leaving : Leaving) (c : Call) → (finished_call p cells leaving c).caller ≡ c.caller
 finished_call-caller p cells leaving c = keeps_sending-caller leaving (with_values cells (formals_count p c) c)
@@ -68,7 +67,7 @@ module _ {G : GoodWorld} {May : Naming} {R : StepRelation} {Q : MoveRelation} (m
 
   begin_accept-keeps : (p : Image) (part : Part) (name : Who) (s : StatementNo) (c : Call) → Keeps G R (begin_accept p part name s c)
   unfolding begin_accept
-  begin_accept-keeps p part name s c = search (begin_call-keeps, then-keeps, goes-keeps)
+  begin_accept-keeps p part name s c = search (begin_call-keeps, then-keeps, goes-keeps, chains)
 
   finish_without_room-keeps : (part : Part) (name : Who) (c : Call) → Keeps G R (finish_without_room part name c)
   unfolding finish_without_room
@@ -76,77 +75,77 @@ module _ {G : GoodWorld} {May : Naming} {R : StepRelation} {Q : MoveRelation} (m
 
   accept_with_room-keeps : (p : Image) (name : Who) (s : StatementNo) (c : Call) (has_room : Bool) → May name → Keeps G R (accept_with_room p name s c has_room)
   unfolding accept_with_room
-  accept_with_room-keeps p name s c true other = search (changes-keeps, open_accept-alters, then-keeps, inherit_running-keeps)
-  accept_with_room-keeps p name s c false other = search (finish_without_room-keeps, then-keeps, deliver-keeps, raises-keeps)
+  accept_with_room-keeps p name s c true other = search (changes-keeps, open_accept-alters, then-keeps, inherit_running-keeps, chains)
+  accept_with_room-keeps p name s c false other = search (finish_without_room-keeps, then-keeps, deliver-keeps, raises-keeps, chains)
 
   pub accept_call-keeps : (p : Image) (name : Who) (s : StatementNo) (c : CallNo) → May name → Keeps G R (accept_call p name s c)
   unfolding accept_call
-  accept_call-keeps p name s c other = search (with_call-keeps, begin_accept-keeps, then-keeps, looks-keeps, accept_with_room-keeps) depth 6
+  accept_call-keeps p name s c other = search (with_call-keeps, begin_accept-keeps, then-keeps, looks-keeps, accept_with_room-keeps, chains) depth 7
 
   meet_with_room-from : (p : Image) (part : Part) (name : Who) (s : StatementNo) (c : Call) (then_ : Step) (w : World) → G w → Idle name w → Keeps G R then_ → From R w (meet_with_room p part name s c then_)
   meet_with_room-from p part name s c then_ w good idle kept =
       idle_then-from moves name (begin_accept p part name s c) _ w good idle (begin_accept-keeps p part name s c) (λ a good_a idle_a.
-      idle_then-from moves name (changes (open_accept p name s c)) _ a good_a idle_a (changes-keeps moves _ (open_accept-alters p name s c)) (λ b good_b idle_b.
-      idle_then-from moves name (changes (inherit name (inherited_by.Rendezvous c.number) c.priority)) _ b good_b idle_b (changes-keeps moves _ (inherit-alters moves name (inherited_by.Rendezvous c.number) c.priority)) (λ d good_d idle_d.
-      then-from moves (ready p part name) _ d (ready-from moves p part name d good_d idle_d) (then-keeps moves _ _ (open_sequence-keeps moves p part name) kept))))
+      idle_then-from moves name (changes (open_accept p name s c)) _ a good_a idle_a (changes-keeps (chains moves) _ (open_accept-alters p name s c)) (λ b good_b idle_b.
+      idle_then-from moves name (changes (inherit name (inherited_by.Rendezvous c.number) c.priority)) _ b good_b idle_b (changes-keeps (chains moves) _ (inherit-alters moves name (inherited_by.Rendezvous c.number) c.priority)) (λ d good_d idle_d.
+      then-from (chains moves) (ready p part name) _ d (ready-from moves p part name d good_d idle_d) (then-keeps (chains moves) _ _ (open_sequence-keeps moves p part name) kept))))
 
   meet_without_room-from : (p : Image) (part : Part) (name : Who) (s : StatementNo) (c : Call) (otherwise : Step) (w : World) → G w → Idle name w → Keeps G R otherwise → From R w (meet_without_room p part name s c otherwise)
   meet_without_room-from p part name s c otherwise w good idle kept =
       idle_then-from moves name (begin_accept p TheFinish name s c) _ w good idle (begin_accept-keeps p TheFinish name s c) (λ a good_a idle_a.
       idle_then-from moves name (finish_without_room TheFinish name c) _ a good_a idle_a (finish_without_room-keeps TheFinish name c) (λ b good_b idle_b.
       idle_then-from moves name otherwise _ b good_b idle_b kept (λ d good_d idle_d.
-      then-from moves (ready p part name) _ d (ready-from moves p part name d good_d idle_d) (raises-keeps moves part name exception.Storage))))
+      then-from (chains moves) (ready p part name) _ d (ready-from moves p part name d good_d idle_d) (raises-keeps moves part name exception.Storage))))
 
   pub meet-keeps : (p : Image) (part : Part) (name : Who) (s : StatementNo) (c : Call) (then_ otherwise : Step) → Keeps G R then_ → Keeps G R otherwise → Keeps G R (meet p part name s c then_ otherwise)
   meet-keeps p part name s c then_ otherwise kept also_kept =
-      from-keeps moves _ (λ w good. drops_then-from moves name _ w good (λ v good_v idle.
-      looks_at-from moves (λ u. elim (has_room_for_accept p u name s) as (λ _. Step) [ true ↦ meet_with_room p part name s c then_ | false ↦ meet_without_room p part name s c otherwise ]) v
-      (either-from moves (has_room_for_accept p v name s) (meet_with_room p part name s c then_) (meet_without_room p part name s c otherwise) v
+      from-keeps (chains moves) _ (λ w good. drops_then-from moves name _ w good (λ v good_v idle.
+      looks_at-from (chains moves) (λ u. elim (has_room_for_accept p u name s) as (λ _. Step) [ true ↦ meet_with_room p part name s c then_ | false ↦ meet_without_room p part name s c otherwise ]) v
+      (either-from (chains moves) (has_room_for_accept p v name s) (meet_with_room p part name s c then_) (meet_without_room p part name s c otherwise) v
       (meet_with_room-from p part name s c then_ v good_v idle kept) (meet_without_room-from p part name s c otherwise v good_v idle also_kept))))
 
   pub accept_or_wait-keeps : (p : Image) (name : Who) (s : StatementNo) (c : Option CallNo) → May name → Keeps G R (accept_or_wait p name s c)
   unfolding accept_or_wait
   accept_or_wait-keeps p name s (Some c) other = search (accept_call-keeps)
-  accept_or_wait-keeps p name s None other = search (goes-keeps, then-keeps, block-keeps)
+  accept_or_wait-keeps p name s None other = search (goes-keeps, then-keeps, block-keeps, chains)
 
   pub accept_chosen-keeps : (p : Image) (name : Who) (accepts : List StatementNo) (c : CallNo) → May name → Keeps G R (accept_chosen p name accepts c)
   unfolding accept_chosen
-  accept_chosen-keeps p name accepts c other = search (with_call-keeps, for_some-keeps, accept_call-keeps)
+  accept_chosen-keeps p name accepts c other = search (with_call-keeps, for_some-keeps, accept_call-keeps, chains)
 
   -- no delay is appointed for who waits
   pub wait_at_select-keeps : (name : Who) (accepts : List StatementNo) (delay : Option StatementNo) (terminate : Bool) → May name → Keeps G R (wait_at_select name accepts delay terminate)
   unfolding wait_at_select
-  wait_at_select-keeps name accepts delay true may = from-keeps moves _ (λ w good. changes-from moves (edit_task name (with_state (Blocked (waits_for.Select accepts delay true)))) w (moves.blocks name (waits_for.Select accepts delay true) w good (moves.idle name w good may)))
+  wait_at_select-keeps name accepts delay true may = from-keeps (chains moves) _ (λ w good. changes-from (chains moves) (edit_task name (with_state (Blocked (waits_for.Select accepts delay true)))) w (moves.blocks name (waits_for.Select accepts delay true) w good (moves.idle name w good may)))
   wait_at_select-keeps name accepts delay false may = block-keeps moves TheBlock name (waits_for.Select accepts delay false) may
 
   pub gone_sent-keeps : (p : Image) (c : Call) → Keeps G R (gone_sent p c)
   unfolding gone_sent
-  gone_sent-keeps p c = search (gone-keeps, then-keeps, deliver-keeps)
+  gone_sent-keeps p c = search (gone-keeps, then-keeps, deliver-keeps, chains)
 
   pub meet_sent-keeps : (p : Image) (t : TaskNo) (c : Call) (next : Option StatementNo) → Keeps G R (meet_sent p t c next)
   unfolding meet_sent
   meet_sent-keeps p t c (Some s) = search (meet-keeps, begin_abortable-keeps, deliver-keeps)
-  meet_sent-keeps p t c None = search (enqueue-keeps, then-keeps, sent_not_begun-keeps)
+  meet_sent-keeps p t c None = search (enqueue-keeps, then-keeps, sent_not_begun-keeps, chains)
 
   pub arrive_at-keeps : (p : Image) (t : TaskNo) (c : Call) (test : Bool) → Keeps G R (arrive_at p t c test)
   unfolding arrive_at
   arrive_at-keeps p t c false = search (gone_sent-keeps)
-  arrive_at-keeps p t c true = search (looks-keeps, meet_sent-keeps)
+  arrive_at-keeps p t c true = search (looks-keeps, meet_sent-keeps, chains)
 
   pub arrive-keeps : (p : Image) (c : Call) (owner : Owner) → Keeps G R (arrive p c owner)
   unfolding arrive
-  arrive-keeps p c (owned_by.Task t) = search (looks-keeps, arrive_at-keeps)
+  arrive-keeps p c (owned_by.Task t) = search (looks-keeps, arrive_at-keeps, chains)
   arrive-keeps p c (owned_by.Object o) = search (gone_sent-keeps)
 
   pub finish_accept-keeps : (p : Image) (name : Who) (c : Call) (sending : Option Sending) → Keeps G R (finish_accept p name c sending)
   unfolding finish_accept
-  finish_accept-keeps p name c None = search (says-keeps, then-keeps, deliver-keeps)
-  finish_accept-keeps p name c (Some s) = search (says-keeps, then-keeps, send_on-keeps, with_call-keeps, arrive-keeps)
+  finish_accept-keeps p name c None = search (says-keeps, then-keeps, deliver-keeps, chains)
+  finish_accept-keeps p name c (Some s) = search (says-keeps, then-keeps, send_on-keeps, with_call-keeps, arrive-keeps, chains)
 
   pub finish_rendezvous-keeps : (p : Image) (name : Who) (c : Call) (leaving : Leaving) → Keeps G R (finish_rendezvous p name c leaving)
   unfolding finish_rendezvous
-  finish_rendezvous-keeps p name c (how.Exception e) = search (says-keeps, then-keeps, deliver-keeps)
-  finish_rendezvous-keeps p name c how.Abort = search (says-keeps, then-keeps, deliver-keeps)
+  finish_rendezvous-keeps p name c (how.Exception e) = search (says-keeps, then-keeps, deliver-keeps, chains)
+  finish_rendezvous-keeps p name c how.Abort = search (says-keeps, then-keeps, deliver-keeps, chains)
   finish_rendezvous-keeps p name c how.End = search (finish_accept-keeps)
   finish_rendezvous-keeps p name c how.Return = search (finish_accept-keeps)
   finish_rendezvous-keeps p name c (how.Exit loop) = search (finish_accept-keeps)
@@ -154,8 +153,8 @@ module _ {G : GoodWorld} {May : Naming} {R : StepRelation} {Q : MoveRelation} (m
 
   pub behind_accept-keeps : (p : Image) (name : Who) (leaving : Leaving) → Keeps G R (behind_accept p name leaving)
   unfolding behind_accept
-  behind_accept-keeps p name how.End = search (nothing-keeps)
-  behind_accept-keeps p name how.Return = search (nothing-keeps)
+  behind_accept-keeps p name how.End = search (nothing-keeps, chains)
+  behind_accept-keeps p name how.Return = search (nothing-keeps, chains)
   behind_accept-keeps p name (how.Exit loop) = search (pass_on-keeps)
   behind_accept-keeps p name (how.Exception e) = search (pass_on-keeps)
   behind_accept-keeps p name how.Abort = search (pass_on-keeps)
@@ -165,13 +164,13 @@ module _ {G : GoodWorld} {May : Naming} {R : StepRelation} {Q : MoveRelation} (m
   pub end_in_accept-keeps : (p : Image) (name : Who) (m : AcceptMark) (leaving : Leaving) → May name → Keeps G R (end_in_accept p name m leaving)
   unfolding end_in_accept
   end_in_accept-keeps p name m leaving may =
-      then-keeps moves _ _ (looks-keeps moves _ (λ w.
-      then-keeps moves _ _ (changes-keeps moves _ (pop-alters moves name)) (then-keeps moves _ _ (changes-keeps moves _ (end_scope-alters moves m.within))
-      (then-keeps moves _ _ (changes-keeps moves _ (edit_call-alters moves m.call (finished_call p (cells_of (scope_in_use w m.within)) leaving) (finished_call-number p (cells_of (scope_in_use w m.within)) leaving) (finished_call-caller p (cells_of (scope_in_use w m.within)) leaving)))
+      then-keeps (chains moves) _ _ (looks-keeps (chains moves) _ (λ w.
+      then-keeps (chains moves) _ _ (changes-keeps (chains moves) _ (pop-alters moves name)) (then-keeps (chains moves) _ _ (changes-keeps (chains moves) _ (end_scope-alters moves m.within))
+      (then-keeps (chains moves) _ _ (changes-keeps (chains moves) _ (edit_call-alters moves m.call (finished_call p (cells_of (scope_in_use w m.within)) leaving) (finished_call-number p (cells_of (scope_in_use w m.within)) leaving) (finished_call-caller p (cells_of (scope_in_use w m.within)) leaving)))
       (with_call-keeps moves m.call _ (λ c. finish_rendezvous-keeps p name c leaving))))))
-      (then-keeps moves _ _ (lose_running-keeps moves p name (inherited_by.Rendezvous m.call) may) (behind_accept-keeps p name leaving))
+      (then-keeps (chains moves) _ _ (lose_running-keeps moves p name (inherited_by.Rendezvous m.call) may) (behind_accept-keeps p name leaving))
 
   pub accept-keeps : (p : Image) (name : Who) (s : StatementNo) (e : EntryNo) → May name → Keeps G R (accept p name s e)
   unfolding accept
   accept-keeps p name s e may =
-      looks-keeps moves _ (λ w. raise_if-keeps moves name (in_protected w name) exception.Program _ (accept_or_wait-keeps p name s (next_call p w (own_queue w name (place_of_entry p e) ∷ [])) may))
+      looks-keeps (chains moves) _ (λ w. raise_if-keeps moves name (in_protected w name) exception.Program _ (accept_or_wait-keeps p name s (next_call p w (own_queue w name (place_of_entry p e) ∷ [])) may))

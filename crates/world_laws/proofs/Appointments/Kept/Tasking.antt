@@ -46,8 +46,7 @@ use Rattle.profile_machine.specs.WellFormed.{waits_for_delay}
 use Rattle.profile_machine.specs.Words.{same_region, is_the}
 use Rattle.machine_laws.proofs.Moves.{StepRelation, MoveRelation}
 use Rattle.world_laws.proofs.Appointments.Delays.{Idle, EachTask}
-use Rattle.world_laws.proofs.Appointments.FineMoves.{FineMoves}
-use Rattle.world_laws.proofs.Appointments.Kept.Combinators.{then_at-from, then-from, either-from, changes-from, branch-keeps, changes-keeps, cond-keeps, for_each-keeps, for_some-keeps, looks-from, looks-keeps, nothing-keeps, says-keeps, sees-keeps, then-keeps, when-keeps, keeps-from, looks_at-from}
+use Rattle.world_laws.proofs.Appointments.FineMoves.{FineMoves, chains, says-keeps}
 use Rattle.world_laws.proofs.Appointments.Kept.Controlled.{edit_top_scope-alters, finalize-keeps}
 use Rattle.world_laws.proofs.Appointments.Kept.Declarations.{set_thing-alters}
 use Rattle.world_laws.proofs.Appointments.Kept.Dispatching.{ready-from, idle_then-from, to_head-keeps, block-keeps}
@@ -59,9 +58,9 @@ use Rattle.world_laws.proofs.Appointments.Kept.Serving.{end_body_of_entry-keeps}
 use Rattle.world_laws.proofs.Appointments.Kept.Subprograms.{end_subprogram-keeps}
 use Rattle.world_laws.proofs.Appointments.Kept.Tasks.{edit_task-alters}
 use Rattle.world_laws.proofs.Appointments.Kept.Unwinding.{strike_outermost-alters, unwind-keeps}
-use Rattle.machine_laws.proofs.Kept.Combinators.{From, Keeps, Alters}
 use Rattle.machine_laws.proofs.FineMoves.{GoodWorld, Naming}
 use Rattle.line_laws.proofs.Leaving.Kept.Tasking.{edit_task-drawn}
+use Rattle.machine_laws.proofs.Kept.Combinators.{Alters, From, Keeps, after-from, branch-keeps, changes-from, changes-keeps, cond-keeps, either-from, for_each-keeps, for_some-keeps, keeps-from, looks-from, looks-keeps, looks_at-from, nothing-keeps, sees-keeps, then-from, then-keeps, when-keeps}
 
 made-waits : (state : State) → is_made_state state ≡ true → waits_for_delay (waiting_in state) ≡ false
 made-waits Made e = refl
@@ -77,7 +76,7 @@ first_of_three false b c e = absurd cc
 module _ {G : GoodWorld} {May : Naming} {R : StepRelation} {Q : MoveRelation} (moves : FineMoves G May R Q) where
   says_created-keeps : (d : DeclNo) (t : world.Task) → Keeps G R (says_created d t)
   unfolding says_created
-  says_created-keeps d t = looks-keeps moves _ (λ w. says-keeps moves Own (line.New (created.Task (record { 0 = w.drawn.tasks - 1 })) (Some d) t.base) refl)
+  says_created-keeps d t = looks-keeps (chains moves) _ (λ w. says-keeps moves Own (line.New (created.Task (record { 0 = w.drawn.tasks - 1 })) (Some d) t.base) refl)
 
   -- the object's cell gets the task's number
   abbrev name_task : Image → DeclNo → ScopeId → Step
@@ -88,39 +87,39 @@ module _ {G : GoodWorld} {May : Naming} {R : StepRelation} {Q : MoveRelation} (m
   create_task-from p name s d id t w good same none =
       goes_then-from moves name (next_of p s) _ w good (λ good_onward.
       let onward = edit_top name (goes_on (next_of p s)) w in
-      then-from moves (changes (add_task t)) (for_some id (name_task p d) ▷ says_created d t) onward (changes-from moves (add_task t) onward (moves.adds_task t onward good_onward (same ∙ ap (λ (k : Drawn). who.Task (record { 0 = k.tasks })) (sym (edit_task-drawn name (λ u. with_frames (edit_first (goes_on (next_of p s)) u.frames) u) w))) none))
-      (search (then-keeps, for_some-keeps, looks-keeps, changes-keeps, set_thing-alters, says_created-keeps) depth 8))
+      then-from (chains moves) (changes (add_task t)) (for_some id (name_task p d) ▷ says_created d t) onward (changes-from (chains moves) (add_task t) onward (moves.adds_task t onward good_onward (same ∙ ap (λ (k : Drawn). who.Task (record { 0 = k.tasks })) (sym (edit_task-drawn name (λ u. with_frames (edit_first (goes_on (next_of p s)) u.frames) u) w))) none))
+      (search (then-keeps, for_some-keeps, looks-keeps, changes-keeps, set_thing-alters, says_created-keeps, chains) depth 9))
 
   pub fall_from-keeps : (p : Image) (name : Who) (before : World) → May name → Keeps G R (fall_from p name before)
   unfolding fall_from
-  fall_from-keeps p name before may = search (looks-keeps, when-keeps, to_head-keeps)
+  fall_from-keeps p name before may = search (looks-keeps, when-keeps, to_head-keeps, chains)
 
   pub says_done-keeps : (part : Part) (name : Who) → Keeps G R (says_done part name)
   unfolding says_done
   says_done-keeps part (who.Task t) = search (says-keeps)
-  says_done-keeps part who.Agent = search (nothing-keeps)
+  says_done-keeps part who.Agent = search (nothing-keeps, chains)
 
   pub fail_to_begin-keeps : (p : Image) (activator : Who) (t : world.Task) → Keeps G R (fail_to_begin p activator t)
   unfolding fail_to_begin
-  fail_to_begin-keeps p activator t = search (says-keeps, then-keeps, says_done-keeps, changes-keeps, edit_task-alters, terminate-keeps) depth 7
+  fail_to_begin-keeps p activator t = search (says-keeps, then-keeps, says_done-keeps, changes-keeps, edit_task-alters, terminate-keeps, chains) depth 8
 
   pub await_group-keeps : (name : Who) (begins failed : Bool) → May name → Keeps G R (await_group name begins failed)
   unfolding await_group
   await_group-keeps name true failed other = search (block-keeps)
   await_group-keeps name false true other = search (raises-keeps)
-  await_group-keeps name false false other = search (nothing-keeps)
+  await_group-keeps name false false other = search (nothing-keeps, chains)
 
   pub end_own_activation-keeps : (p : Image) (name : Who) (s : StatementNo) → May name → Keeps G R (end_own_activation p name s)
   unfolding end_own_activation
-  end_own_activation-keeps p name s may = search (looks-keeps, goes-keeps, then-keeps, end_activation-keeps, fall_from-keeps)
+  end_own_activation-keeps p name s may = search (looks-keeps, goes-keeps, then-keeps, end_activation-keeps, fall_from-keeps, chains)
 
   pub end_made-keeps : (p : Image) (actor : Who) (t : world.Task) → Keeps G R (end_made p actor t)
   unfolding end_made
-  end_made-keeps p actor t = search (says_done-keeps, then-keeps, terminate-keeps)
+  end_made-keeps p actor t = search (says_done-keeps, then-keeps, terminate-keeps, chains)
 
   pub complete_if_task-keeps : (p : Image) (name : Who) (purpose : Purpose) → May name → Keeps G R (complete_if_task p name purpose)
   unfolding complete_if_task
-  complete_if_task-keeps p name purpose may = search (looks-keeps, when-keeps, complete-keeps, then-keeps, fall_from-keeps)
+  complete_if_task-keeps p name purpose may = search (looks-keeps, when-keeps, complete-keeps, then-keeps, fall_from-keeps, chains)
 
   end_environment-alters : (leaving : Leaving) → Alters G R (end_environment leaving)
   unfolding Alters
@@ -128,10 +127,10 @@ module _ {G : GoodWorld} {May : Naming} {R : StepRelation} {Q : MoveRelation} (m
 
   pub end_task-keeps : (p : Image) (name : Who) (leaving : Leaving) → Keeps G R (end_task p name leaving)
   unfolding end_task
-  end_task-keeps p name leaving = search (says_done-keeps, then-keeps, looks-keeps, end_activation-keeps, terminate-keeps, when-keeps, changes-keeps, end_environment-alters) depth 8
+  end_task-keeps p name leaving = search (says_done-keeps, then-keeps, looks-keeps, end_activation-keeps, terminate-keeps, when-keeps, changes-keeps, end_environment-alters, chains) depth 9
 
   pub end_body-keeps : (p : Image) (name : Who) (leaving : Leaving) (normally : Step) → Keeps G R normally → Keeps G R (end_body p name leaving normally)
-  end_body-keeps p name leaving normally kept = branch-keeps moves (is_normal leaving) normally (pass_on p name leaving) (search) (search (pass_on-keeps))
+  end_body-keeps p name leaving normally kept = branch-keeps (chains moves) (is_normal leaving) normally (pass_on p name leaving) (search) (search (pass_on-keeps))
 
   pub behind_scope-keeps : (p : Image) (name : Who) (purpose : Purpose) (cells : List Value) (leaving : Leaving) → Keeps G R (behind_scope p name purpose cells leaving)
   unfolding behind_scope
@@ -142,28 +141,28 @@ module _ {G : GoodWorld} {May : Naming} {R : StepRelation} {Q : MoveRelation} (m
 
   pub says_left-keeps : (name : Who) (m : ScopeMark) (leaving : Leaving) → Keeps G R (says_left name m leaving)
   unfolding says_left
-  says_left-keeps name m leaving = search (for_some-keeps, says-keeps, then-keeps, when-keeps) depth 7
+  says_left-keeps name m leaving = search (for_some-keeps, says-keeps, then-keeps, when-keeps, chains) depth 8
 
   pub end_of_scope-keeps : (p : Image) (name : Who) (m : ScopeMark) (leaving : Leaving) → Keeps G R (end_of_scope p name m leaving)
   unfolding end_of_scope
   end_of_scope-keeps p name m leaving =
-      looks-keeps moves _ (λ w. then-keeps moves _ _ (changes-keeps moves _ (pop-alters moves name)) (then-keeps moves _ _ (changes-keeps moves _ (end_scope-alters moves m.within))
-      (then-keeps moves _ _ (says_left-keeps name m leaving) (behind_scope-keeps p name m.purpose (cells_of (scope_in_use w m.within)) (left_by m leaving)))))
+      looks-keeps (chains moves) _ (λ w. then-keeps (chains moves) _ _ (changes-keeps (chains moves) _ (pop-alters moves name)) (then-keeps (chains moves) _ _ (changes-keeps (chains moves) _ (end_scope-alters moves m.within))
+      (then-keeps (chains moves) _ _ (says_left-keeps name m leaving) (behind_scope-keeps p name m.purpose (cells_of (scope_in_use w m.within)) (left_by m leaving)))))
 
   pub says_abort-keeps : (actor name : Who) → Keeps G R (says_abort actor name)
   unfolding says_abort
   says_abort-keeps (who.Task actor) (who.Task t) = search (says-keeps)
-  says_abort-keeps (who.Task actor) who.Agent = search (nothing-keeps)
-  says_abort-keeps who.Agent t = search (nothing-keeps)
+  says_abort-keeps (who.Task actor) who.Agent = search (nothing-keeps, chains)
+  says_abort-keeps who.Agent t = search (nothing-keeps, chains)
 
   pub abort_one-keeps : (p : Image) (actor : Who) (t : world.Task) → Keeps G R (abort_one p actor t)
   unfolding abort_one
-  abort_one-keeps p actor t = search (says_abort-keeps, then-keeps, cond-keeps, end_made-keeps, changes-keeps, strike_outermost-alters)
+  abort_one-keeps p actor t = search (says_abort-keeps, then-keeps, cond-keeps, end_made-keeps, changes-keeps, strike_outermost-alters, chains)
 
   unwind_by-keeps : (p : Image) (name : Who) (acts : Bool) → Keeps G R (unwind_by p name acts)
   unfolding unwind_by
   unwind_by-keeps p name false = search (unwind-keeps)
-  unwind_by-keeps p name true = search (looks-keeps, when-keeps, unwind-keeps)
+  unwind_by-keeps p name true = search (looks-keeps, when-keeps, unwind-keeps, chains)
 
   pub unwind_one-keeps : (p : Image) (actor : Who) (t : world.Task) → Keeps G R (unwind_one p actor t)
   unfolding unwind_one
@@ -172,29 +171,29 @@ module _ {G : GoodWorld} {May : Naming} {R : StepRelation} {Q : MoveRelation} (m
   pub abort_all-keeps : (p : Image) (actor : Who) (tasks : List world.Task) → Keeps G R (abort_all p actor tasks)
   unfolding abort_all
   abort_all-keeps p actor tasks =
-      then-keeps moves _ _ (for_each-keeps moves tasks _ (λ t. changes-keeps moves _ (edit_task-alters moves t.who abnormal_task (λ u. refl) (λ u. refl) (λ u. refl))))
-      (then-keeps moves _ _ (for_each-keeps moves tasks _ (λ t. abort_one-keeps p actor t)) (for_each-keeps moves tasks _ (λ t. unwind_one-keeps p actor t)))
+      then-keeps (chains moves) _ _ (for_each-keeps (chains moves) tasks _ (λ t. changes-keeps (chains moves) _ (edit_task-alters moves t.who abnormal_task (λ u. refl) (λ u. refl) (λ u. refl))))
+      (then-keeps (chains moves) _ _ (for_each-keeps (chains moves) tasks _ (λ t. abort_one-keeps p actor t)) (for_each-keeps (chains moves) tasks _ (λ t. unwind_one-keeps p actor t)))
 
   abort_named-keeps : (p : Image) (name : Who) (aborted : List TaskNo) → Keeps G R (looks (λ w. abort_all p name (filter (is_to_abort w aborted) w.tasks)))
-  abort_named-keeps p name aborted = looks-keeps moves _ (λ w. abort_all-keeps p name (filter (is_to_abort w aborted) w.tasks))
+  abort_named-keeps p name aborted = looks-keeps (chains moves) _ (λ w. abort_all-keeps p name (filter (is_to_abort w aborted) w.tasks))
 
   pub abort_statement-keeps : (p : Image) (name : Who) (s : StatementNo) (tasks : List DeclNo) → Keeps G R (abort_statement p name s tasks)
   unfolding abort_statement
   abort_statement-keeps p name s tasks =
-      sees-keeps moves p name _ (λ q. raise_if-keeps moves name (in_protected q.world name) exception.Program _ (given-keeps moves Own name (named_tasks q tasks) _ (λ aborted.
-      then-keeps moves (goes name (next_of p s)) _ (goes-keeps moves name (next_of p s)) (abort_named-keeps p name aborted))))
+      sees-keeps (chains moves) p name _ (λ q. raise_if-keeps moves name (in_protected q.world name) exception.Program _ (given-keeps moves Own name (named_tasks q tasks) _ (λ aborted.
+      then-keeps (chains moves) (goes name (next_of p s)) _ (goes-keeps moves name (next_of p s)) (abort_named-keeps p name aborted))))
 
   pub all_terminate-keeps : (p : Image) (actor : Who) → Keeps G R (looks (λ w. for_each (filter (may_terminate w) w.tasks) (leave_by_terminate p actor)))
-  all_terminate-keeps p actor = looks-keeps moves _ (λ w. for_each-keeps moves (filter (may_terminate w) w.tasks) _ (λ t. leave_by_terminate-keeps moves p actor t))
+  all_terminate-keeps p actor = looks-keeps (chains moves) _ (λ w. for_each-keeps (chains moves) (filter (may_terminate w) w.tasks) _ (λ t. leave_by_terminate-keeps moves p actor t))
 
   pub unwind_all-keeps : (p : Image) (actor : Who) → Keeps G R (unwind_all p actor)
   unfolding unwind_all
-  unwind_all-keeps p actor = looks-keeps moves _ (λ w. for_each-keeps moves (filter (λ t. any_struck t.frames) w.tasks) _ (λ t. unwind_one-keeps p actor t))
+  unwind_all-keeps p actor = looks-keeps (chains moves) _ (λ w. for_each-keeps (chains moves) (filter (λ t. any_struck t.frames) w.tasks) _ (λ t. unwind_one-keeps p actor t))
 
   pub create-keeps : (p : Image) (name : Who) (s : StatementNo) (d : DeclNo) (part : ℕ) → Keeps G R (create p name s d part)
   unfolding create
   create-keeps p name s d part =
-      looks-from moves _ (λ w good. let q = seen_by p w name in
+      looks-from (chains moves) _ (λ w good. let q = seen_by p w name in
       raise_if-from moves name (in_protected w name || is_deferred w name) exception.Program _ w good (λ allowed.
       raise_if-from moves name (leb 256 (length w.tasks)) exception.Storage _ w good (λ few.
       given-from moves Own name (optional_span q (task_unit_of p (unit_of_declaration p d)).relative_deadline) _ w good (λ span.
@@ -205,23 +204,23 @@ module _ {G : GoodWorld} {May : Naming} {R : StepRelation} {Q : MoveRelation} (m
   begin_task-from : (p : Image) (activator : Who) (level : ℕ) (t : world.Task) (w : World) → G w → Idle t.who w → From R w (begin_task p activator level t)
   unfolding begin_task
   begin_task-from p activator level t w good idle =
-      looks_at-from moves (λ v. changes (open_scope p t.who (unit_of_task p t).scope (plainly t.outer) opened_for.Task) ▷ changes (edit_task t.who (activated_task activator v.time)) ▷ changes (inherit t.who inherited_by.Activation level) ▷ ready p (OfOther t.who) t.who) w
-      (idle_then-from moves t.who (changes (open_scope p t.who (unit_of_task p t).scope (plainly t.outer) opened_for.Task)) _ w good idle (changes-keeps moves _ (open_scope-alters moves p t.who (unit_of_task p t).scope (plainly t.outer) opened_for.Task)) (λ a good_a idle_a.
-      idle_then-from moves t.who (changes (edit_task t.who (activated_task activator w.time))) _ a good_a idle_a (changes-keeps moves _ (edit_task-alters moves t.who (activated_task activator w.time) (λ u. refl) (λ u. refl) (λ u. refl))) (λ b good_b idle_b.
-      idle_then-from moves t.who (changes (inherit t.who inherited_by.Activation level)) _ b good_b idle_b (changes-keeps moves _ (inherit-alters moves t.who inherited_by.Activation level)) (λ d good_d idle_d.
+      looks_at-from (chains moves) (λ v. changes (open_scope p t.who (unit_of_task p t).scope (plainly t.outer) opened_for.Task) ▷ changes (edit_task t.who (activated_task activator v.time)) ▷ changes (inherit t.who inherited_by.Activation level) ▷ ready p (OfOther t.who) t.who) w
+      (idle_then-from moves t.who (changes (open_scope p t.who (unit_of_task p t).scope (plainly t.outer) opened_for.Task)) _ w good idle (changes-keeps (chains moves) _ (open_scope-alters moves p t.who (unit_of_task p t).scope (plainly t.outer) opened_for.Task)) (λ a good_a idle_a.
+      idle_then-from moves t.who (changes (edit_task t.who (activated_task activator w.time))) _ a good_a idle_a (changes-keeps (chains moves) _ (edit_task-alters moves t.who (activated_task activator w.time) (λ u. refl) (λ u. refl) (λ u. refl))) (λ b good_b idle_b.
+      idle_then-from moves t.who (changes (inherit t.who inherited_by.Activation level)) _ b good_b idle_b (changes-keeps (chains moves) _ (inherit-alters moves t.who inherited_by.Activation level)) (λ d good_d idle_d.
       ready-from moves p (OfOther t.who) t.who d good_d idle_d))))
 
   activate_one-from : (p : Image) (activator : Who) (level : ℕ) (t : world.Task) (w : World) → G w → Idle t.who w → From R w (activate_one p activator level t)
   unfolding activate_one
   activate_one-from p activator level t w good idle =
-      looks_at-from moves (λ v. elim (has_room v t.who 1 (scope_of p (unit_of_task p t).scope).size) as (λ _. Step) [ true ↦ begin_task p activator level t | false ↦ fail_to_begin p activator t ]) w
-      (either-from moves (has_room w t.who 1 (scope_of p (unit_of_task p t).scope).size) (begin_task p activator level t) (fail_to_begin p activator t) w (begin_task-from p activator level t w good idle) (keeps-from moves _ w good (fail_to_begin-keeps p activator t)))
+      looks_at-from (chains moves) (λ v. elim (has_room v t.who 1 (scope_of p (unit_of_task p t).scope).size) as (λ _. Step) [ true ↦ begin_task p activator level t | false ↦ fail_to_begin p activator t ]) w
+      (either-from (chains moves) (has_room w t.who 1 (scope_of p (unit_of_task p t).scope).size) (begin_task p activator level t) (fail_to_begin p activator t) w (begin_task-from p activator level t w good idle) (keeps-from (chains moves) _ w good (fail_to_begin-keeps p activator t)))
 
   -- of each of these no delay is appointed since a world
   activate_each-from : (p : Image) (activator : Who) (level : ℕ) (w : World) (ts : List world.Task) → EachTask (λ t. Idle t.who w) ts → (v : World) (xs : List Said) → R w xs v → From R v (for_each ts (activate_one p activator level))
-  activate_each-from p activator level w [] each v xs k = keeps-from moves nothing v (moves.behind w v k) (nothing-keeps moves)
+  activate_each-from p activator level w [] each v xs k = keeps-from (chains moves) nothing v (moves.behind w v k) (nothing-keeps (chains moves))
   activate_each-from p activator level w (t ∷ ts) each v xs k =
-      then_at-from moves (activate_one p activator level t) (for_each ts (activate_one p activator level)) v (activate_one-from p activator level t v (moves.behind w v k) (moves.idle_on t.who w v k each.0))
+      after-from (chains moves) (activate_one p activator level t) (for_each ts (activate_one p activator level)) v (activate_one-from p activator level t v (moves.behind w v k) (moves.idle_on t.who w v k each.0))
       (λ u ys m. activate_each-from p activator level w ts each.1 u (xs ++ ys) (moves.goes_on w v u k m))
 
   made-step : (w : World) (t : world.Task) (rest : List world.Task) (b : Bool) → (b ≡ true → Idle t.who w) → EachTask (λ u. Idle u.who w) rest → EachTask (λ u. Idle u.who w) (cond b (t ∷ rest) rest)
@@ -234,29 +233,29 @@ module _ {G : GoodWorld} {May : Naming} {R : StepRelation} {Q : MoveRelation} (m
 
   begin_group-keeps : (p : Image) (name : Who) (s : StatementNo) (part : ℕ) → Keeps G R (looks (λ w. goes name (next_of p s) ▷ changes (edit_task name no_failure) ▷ for_each (filter (is_to_activate (top_region_of_scope w name) part) w.tasks) (activate_one p name (active_of p w name))))
   begin_group-keeps p name s part =
-      looks-from moves _ (λ w good. let test = is_to_activate (top_region_of_scope w name) part in
+      looks-from (chains moves) _ (λ w good. let test = is_to_activate (top_region_of_scope w name) part in
       let each = made-idle w test (λ t e. first_of_three (is_made t) (is_the same_region t.master (top_region_of_scope w name)) (eqb t.declarative_part part) e) w.tasks (moves.listed w good) in
-      then_at-from moves (goes name (next_of p s)) _ w (keeps-from moves _ w good (goes-keeps moves name (next_of p s))) (λ a xs k.
-      then_at-from moves (changes (edit_task name no_failure)) _ a (keeps-from moves _ a (moves.behind w a k) (changes-keeps moves _ (edit_task-alters moves name no_failure (λ u. refl) (λ u. refl) (λ u. refl)))) (λ b ys m.
+      after-from (chains moves) (goes name (next_of p s)) _ w (keeps-from (chains moves) _ w good (goes-keeps moves name (next_of p s))) (λ a xs k.
+      after-from (chains moves) (changes (edit_task name no_failure)) _ a (keeps-from (chains moves) _ a (moves.behind w a k) (changes-keeps (chains moves) _ (edit_task-alters moves name no_failure (λ u. refl) (λ u. refl) (λ u. refl)))) (λ b ys m.
       activate_each-from p name (active_of p w name) w (filter test w.tasks) each b (xs ++ ys) (moves.goes_on w a b k m))))
 
   activate_group-keeps : (p : Image) (name : Who) (s : StatementNo) (part : ℕ) → May name → Keeps G R (activate_group p name s part)
   unfolding activate_group
   activate_group-keeps p name s part may =
-      then-keeps moves _ (looks (λ w. await_group name (has_activating w name) (task_of w name).group_failed)) (begin_group-keeps p name s part) (search (looks-keeps, await_group-keeps))
+      then-keeps (chains moves) _ (looks (λ w. await_group name (has_activating w name) (task_of w name).group_failed)) (begin_group-keeps p name s part) (search (looks-keeps, await_group-keeps, chains))
 
   pub activate-keeps : (p : Image) (name : Who) (s : StatementNo) (part : ℕ) → May name → Keeps G R (activate p name s part)
   unfolding activate
   activate-keeps p name s part may =
-      looks-keeps moves _ (λ w. raise_if-keeps moves name (in_protected w name || is_deferred w name) exception.Program _ (activate_group-keeps p name s part may))
+      looks-keeps (chains moves) _ (λ w. raise_if-keeps moves name (in_protected w name || is_deferred w name) exception.Program _ (activate_group-keeps p name s part may))
 
   wait_for_dependents-keeps : (name : Who) (r : RegionNo) → May name → Keeps G R (wait_for_dependents name r)
   unfolding wait_for_dependents
-  wait_for_dependents-keeps name r may = looks-keeps moves _ (λ w. when-keeps moves (has_dependents w r) _ (block-keeps moves TheBlock name (waits_for.Dependents r) may))
+  wait_for_dependents-keeps name r may = looks-keeps (chains moves) _ (λ w. when-keeps (chains moves) (has_dependents w r) _ (block-keeps moves TheBlock name (waits_for.Dependents r) may))
 
   leave_region-keeps : (p : Image) (name : Who) (m : ScopeMark) (leaving : Leaving) (r : RegionNo) → May name → Keeps G R (leave_region p name m leaving r)
   unfolding leave_region
-  leave_region-keeps p name m leaving r may = search (changes-keeps, edit_top_scope-alters, then-keeps, edit_top-alters, says-keeps, looks-keeps, for_each-keeps, end_made-keeps, complete_if_task-keeps, wait_for_dependents-keeps) depth 12
+  leave_region-keeps p name m leaving r may = search (changes-keeps, edit_top_scope-alters, then-keeps, edit_top-alters, says-keeps, looks-keeps, for_each-keeps, end_made-keeps, complete_if_task-keeps, wait_for_dependents-keeps, chains) depth 13
 
   next_finalized-keeps : (p : Image) (name : Who) (m : ScopeMark) (leaving : Leaving) (found : Option Registered) → Keeps G R (elim found as (λ _. Step) [ None ↦ end_of_scope p name m leaving | Some x ↦ finalize p name x ])
   next_finalized-keeps p name m leaving None = end_of_scope-keeps p name m leaving
@@ -265,7 +264,7 @@ module _ {G : GoodWorld} {May : Naming} {R : StepRelation} {Q : MoveRelation} (m
   go_on_leaving-keeps : (p : Image) (name : Who) (m : ScopeMark) (leaving : Leaving) (r : RegionNo) (test : Bool) → May name → Keeps G R (go_on_leaving p name m leaving r test)
   unfolding go_on_leaving
   go_on_leaving-keeps p name m leaving r false may = leave_region-keeps p name m leaving r may
-  go_on_leaving-keeps p name m leaving r true may = looks-keeps moves _ (λ w. next_finalized-keeps p name m leaving (next_to_finalize w r))
+  go_on_leaving-keeps p name m leaving r true may = looks-keeps (chains moves) _ (λ w. next_finalized-keeps p name m leaving (next_to_finalize w r))
 
   end_scope_mark_of-keeps : (p : Image) (name : Who) (m : ScopeMark) (leaving : Leaving) (r : Option RegionNo) → May name → Keeps G R (end_scope_mark_of p name m leaving r)
   unfolding end_scope_mark_of

@@ -12,15 +12,14 @@ use Rattle.profile_machine.specs.Dispatching.{ready}
 use Rattle.profile_machine.specs.Unwinding.{struck_frame, edit_last, strike_outermost, leave_by_abort, stop_waiting, wake_and_leave, unwind_blocked, unwind_in, unwind}
 use Rattle.machine_laws.proofs.Moves.{StepRelation, MoveRelation}
 use Rattle.machine_laws.proofs.FineMoves.{GoodWorld, Naming}
-use Rattle.machine_laws.proofs.Kept.Combinators.{Keeps, Alters}
 use Rattle.world_laws.proofs.Appointments.Delays.{nature, natures}
-use Rattle.world_laws.proofs.Appointments.FineMoves.{FineMoves}
+use Rattle.world_laws.proofs.Appointments.FineMoves.{FineMoves, chains}
 use Rattle.world_laws.proofs.Appointments.Kept.Appointments.{drops_then-from}
 use Rattle.world_laws.proofs.Appointments.Kept.Calls.{forget_call-alters, attempt-keeps}
-use Rattle.world_laws.proofs.Appointments.Kept.Combinators.{from-keeps, changes-keeps, looks-keeps, nothing-keeps, then-keeps, when-keeps}
 use Rattle.world_laws.proofs.Appointments.Kept.Dispatching.{ready-from}
 use Rattle.world_laws.proofs.Appointments.Kept.Frames.{leaves-keeps}
 use Rattle.world_laws.proofs.Appointments.Kept.Tasks.{edit_task-alters, edit_frames-alters}
+use Rattle.machine_laws.proofs.Kept.Combinators.{Alters, Keeps, changes-keeps, from-keeps, looks-keeps, nothing-keeps, then-keeps, when-keeps}
 
 -- who is struck has the marks that it had
 last-natures : (fs : List Frame) → natures (edit_last struck_frame fs) ≡ natures fs
@@ -34,33 +33,33 @@ module _ {G : GoodWorld} {May : Naming} {R : StepRelation} {Q : MoveRelation} (m
 
   pub leave_by_abort-keeps : (name : Who) → Keeps G R (leave_by_abort name)
   unfolding leave_by_abort
-  leave_by_abort-keeps name = search (changes-keeps, edit_task-alters, then-keeps, leaves-keeps)
+  leave_by_abort-keeps name = search (changes-keeps, edit_task-alters, then-keeps, leaves-keeps, chains)
 
   pub stop_waiting-keeps : (p : Image) (part : Part) (name : Who) → Keeps G R (stop_waiting p part name)
   unfolding stop_waiting
-  stop_waiting-keeps p part name = from-keeps moves _ (λ w good. drops_then-from moves name (ready p part name) w good (λ v good_v idle. ready-from moves p part name v good_v idle))
+  stop_waiting-keeps p part name = from-keeps (chains moves) _ (λ w good. drops_then-from moves name (ready p part name) w good (λ v good_v idle. ready-from moves p part name v good_v idle))
 
   pub wake_and_leave-keeps : (p : Image) (part : Part) (name : Who) → Keeps G R (wake_and_leave p part name)
   unfolding wake_and_leave
-  wake_and_leave-keeps p part name = search (stop_waiting-keeps, then-keeps, leave_by_abort-keeps)
+  wake_and_leave-keeps p part name = search (stop_waiting-keeps, then-keeps, leave_by_abort-keeps, chains)
 
   pub unwind_blocked-keeps : (p : Image) (part : Part) (name : Who) (waiting : Waiting) → Keeps G R (unwind_blocked p part name waiting)
   unfolding unwind_blocked
-  unwind_blocked-keeps p part name (waits_for.Call c) = search (attempt-keeps, changes-keeps, forget_call-alters, then-keeps, wake_and_leave-keeps, nothing-keeps)
-  unwind_blocked-keeps p part name (waits_for.EndOfCall c) = search (nothing-keeps)
+  unwind_blocked-keeps p part name (waits_for.Call c) = search (attempt-keeps, changes-keeps, forget_call-alters, then-keeps, wake_and_leave-keeps, nothing-keeps, chains)
+  unwind_blocked-keeps p part name (waits_for.EndOfCall c) = search (nothing-keeps, chains)
   unwind_blocked-keeps p part name waits_for.Activation = search (wake_and_leave-keeps)
   unwind_blocked-keeps p part name waits_for.Moment = search (wake_and_leave-keeps)
   unwind_blocked-keeps p part name (waits_for.Accept s) = search (wake_and_leave-keeps)
   unwind_blocked-keeps p part name (waits_for.Select accepts delay terminate) = search (wake_and_leave-keeps)
   unwind_blocked-keeps p part name (waits_for.Dependents r) = search (wake_and_leave-keeps)
-  unwind_blocked-keeps p part name waits_for.Release = search (nothing-keeps)
+  unwind_blocked-keeps p part name waits_for.Release = search (nothing-keeps, chains)
 
   pub unwind_in-keeps : (p : Image) (part : Part) (name : Who) (state : State) → Keeps G R (unwind_in p part name state)
   unfolding unwind_in
-  unwind_in-keeps p part name Made = search (nothing-keeps)
+  unwind_in-keeps p part name Made = search (nothing-keeps, chains)
   unwind_in-keeps p part name Runnable = search (leave_by_abort-keeps)
   unwind_in-keeps p part name (Blocked waiting) = search (unwind_blocked-keeps)
 
   pub unwind-keeps : (p : Image) (part : Part) (name : Who) → Keeps G R (unwind p part name)
   unfolding unwind
-  unwind-keeps p part name = search (looks-keeps, when-keeps, unwind_in-keeps)
+  unwind-keeps p part name = search (looks-keeps, when-keeps, unwind_in-keeps, chains)

@@ -9,14 +9,13 @@ use Rattle.profile_machine.specs.Appointments.{appoint, drop_appointment, drop_d
 use Rattle.machine_laws.proofs.Moves.{StepRelation, MoveRelation}
 use Rattle.std.proofs.Common.{◌≡◌, false}
 use Rattle.world_laws.proofs.Marks.MarkFacts.{is_a_trigger}
-use Rattle.world_laws.proofs.Marks.FineMoves.{FineMoves}
-use Rattle.world_laws.proofs.Marks.Kept.Combinators.{changes-from, unchanged-alters}
+use Rattle.world_laws.proofs.Marks.FineMoves.{FineMoves, chains}
 use Rattle.machine_laws.proofs.FineMoves.{GoodWorld, Naming}
-use Rattle.machine_laws.proofs.Kept.Combinators.{Alters, From}
+use Rattle.machine_laws.proofs.Kept.Combinators.{Alters, From, changes-from, unchanged-alters}
 
 module _ {G : GoodWorld} {May Other : Naming} {R : StepRelation} {Q : MoveRelation} (moves : FineMoves G May Other R Q) where
   pub appoint-from : (due : Due) (moment : ℤ) (w : World) → G w → is_a_trigger due ≡ false → From R w (changes (appoint due moment))
-  appoint-from due moment w good other = changes-from moves (appoint due moment) w (moves.appoints due moment w good other)
+  appoint-from due moment w good other = changes-from (chains moves) (appoint due moment) w (moves.appoints due moment w good other)
 
   pub drop_appointment-alters : (test : Due → Bool) → Alters G R (drop_appointment test)
   unfolding Alters
@@ -24,4 +23,4 @@ module _ {G : GoodWorld} {May Other : Naming} {R : StepRelation} {Q : MoveRelati
 
   pub drop_delay-alters : (name : Who) → Alters G R (drop_delay name)
   drop_delay-alters (who.Task t) = search (drop_appointment-alters)
-  drop_delay-alters who.Agent = search (unchanged-alters)
+  drop_delay-alters who.Agent = search (unchanged-alters, chains)

@@ -29,13 +29,12 @@ use Rattle.machine_laws.proofs.Moves.{StepRelation, MoveRelation}
 use Rattle.world_laws.proofs.Marks.MarkFacts.{Calm, Begun, StandsAt}
 use Rattle.world_laws.proofs.Marks.TopLemmas.{frames_pushed, top_edited, calm_edited, begun_edited}
 use Rattle.world_laws.proofs.Marks.StandingLemmas.{stands-top}
-use Rattle.world_laws.proofs.Marks.FineMoves.{FineMoves, Openings, Arming}
-use Rattle.world_laws.proofs.Marks.Kept.Combinators.{keeps-from}
+use Rattle.world_laws.proofs.Marks.FineMoves.{FineMoves, Openings, Arming, chains}
 use Rattle.world_laws.proofs.Marks.Kept.Frames.{goes-keeps, raises-keeps}
 use Rattle.world_laws.proofs.Marks.Kept.Tasks.{edit_top-alters}
 use Rattle.world_laws.proofs.Marks.Kept.EntryCalls.{entry_call-keeps}
 use Rattle.machine_laws.proofs.FineMoves.{GoodWorld, Naming}
-use Rattle.machine_laws.proofs.Kept.Combinators.{Alters, From, Keeps, Kept}
+use Rattle.machine_laws.proofs.Kept.Combinators.{Alters, From, Keeps, Kept, keeps-from}
 
 -- a good world is behind, whatever was done
 abbrev pub Led : GoodWorld → StepRelation
@@ -85,16 +84,16 @@ module _ {G : GoodWorld} {May Other : Naming} {R : StepRelation} {Q : MoveRelati
   led_looks-from f w a said = a said
 
   led_raise_if-from : (name : Who) (test : Bool) (e : Raised) (step : Step) (w : World) → G w → (test ≡ false → From (Led G) w step) → From (Led G) w (raise_if name test e step)
-  led_raise_if-from name true e step w good k = led-from (raises Own name e) w (keeps-from moves (raises Own name e) w good (raises-keeps moves Own name e))
+  led_raise_if-from name true e step w good k = led-from (raises Own name e) w (keeps-from (chains moves) (raises Own name e) w good (raises-keeps moves Own name e))
   led_raise_if-from name false e step w good k = k refl
 
   led_given-from : {X : Type 0} (part : Part) (name : Who) (result : Result X Raised) (f : X → Step) (w : World) → G w → ((x : X) → From (Led G) w (f x)) → From (Led G) w (given part name result f)
   led_given-from part name (Ok x) f w good k = k x
-  led_given-from part name (Err e) f w good k = led-from (raises part name e) w (keeps-from moves (raises part name e) w good (raises-keeps moves part name e))
+  led_given-from part name (Err e) f w good k = led-from (raises part name e) w (keeps-from (chains moves) (raises part name e) w good (raises-keeps moves part name e))
 
   led_branch-from : (name : Who) (test : Bool) (e : Raised) (step : Step) (w : World) → G w → From (Led G) w step → From (Led G) w (elim test as (λ _. Step) [ true ↦ step | false ↦ raises Own name e ])
   led_branch-from name true e step w good k = k
-  led_branch-from name false e step w good k = led-from (raises Own name e) w (keeps-from moves (raises Own name e) w good (raises-keeps moves Own name e))
+  led_branch-from name false e step w good k = led-from (raises Own name e) w (keeps-from (chains moves) (raises Own name e) w good (raises-keeps moves Own name e))
 
   led_with_room-from : (name : Who) (marks cells : ℕ) (step : Step) (w : World) → G w → From (Led G) w step → From (Led G) w (with_room name marks cells step)
   led_with_room-from name marks cells step w good k =
@@ -137,7 +136,7 @@ module _ {G : GoodWorld} {May Other : Naming} {R : StepRelation} {Q : MoveRelati
 
     trigger_delay-from : (p : Image) (name : Who) (s trigger : StatementNo) (m : ℤ) (test : Bool) (g : Frame) (w : World) → G w → Calm name w → Begun name w → top_of w name ≡ Some g → From (Led G) w (trigger_delay p name s trigger m test)
     unfolding trigger_delay
-    trigger_delay-from p name s trigger m false g w good calm begun top = led-from _ w (keeps-from moves _ w good (goes-keeps moves name (next_of p trigger)))
+    trigger_delay-from p name s trigger m false g w good calm begun top = led-from _ w (keeps-from (chains moves) _ w good (goes-keeps moves name (next_of p trigger)))
     trigger_delay-from p name s trigger m true g w good calm begun top =
         let onward = λ (t : Task). with_frames (edit_first (goes_on (next_of p s)) t.frames) t in
         led_with_room-from name 1 0 _ w good
@@ -156,7 +155,7 @@ module _ {G : GoodWorld} {May Other : Naming} {R : StepRelation} {Q : MoveRelati
     module _ {Owns : Who → RegionNo → Type 0} (openings : Openings G May Other Owns R) where
       async_by_trigger-from : (p : Image) (name : Who) (s trigger : StatementNo) (form : StatementForm) (g : Frame) (w : World) → G w → Calm name w → Begun name w → top_of w name ≡ Some g → From (Led G) w (async_by_trigger p name s trigger form)
       unfolding async_by_trigger
-      async_by_trigger-from p name s trigger (form.EntryCall entry owner actuals) g w good calm begun top = led-from _ w (keeps-from moves _ w good (entry_call-keeps moves openings p name call_kind.Triggering s))
+      async_by_trigger-from p name s trigger (form.EntryCall entry owner actuals) g w good calm begun top = led-from _ w (keeps-from (chains moves) _ w good (entry_call-keeps moves openings p name call_kind.Triggering s))
       async_by_trigger-from p name s trigger _ g w good calm begun top = async_delay-from p name s trigger g w good calm begun top
 
       pub asynchronous_select-from : (p : Image) (name : Who) (s trigger : StatementNo) (g : Frame) (w : World) → G w → Calm name w → Begun name w → top_of w name ≡ Some g → From (Led G) w (asynchronous_select p name s trigger)

@@ -26,14 +26,13 @@ use Rattle.machine_laws.proofs.Moves.{StepRelation, MoveRelation, own}
 use Rattle.world_laws.proofs.Marks.MarkFacts.{Ends, may_finalize, nature}
 use Rattle.world_laws.proofs.Marks.TopLemmas.{top_edited}
 use Rattle.world_laws.proofs.Marks.FinalizeLemmas.{unregistered-top, leaving-may_finalize, target-registered}
-use Rattle.world_laws.proofs.Marks.FineMoves.{FineMoves, Openings}
-use Rattle.world_laws.proofs.Marks.Kept.Combinators.{told_then-from, either-from, said_then-from, branch-keeps, changes-from, changes-keeps, cond-keeps, looks-from, looks-keeps, nothing-keeps, sees-keeps, then-keeps, changes_then-from, keeps-from, looks_at-from}
+use Rattle.world_laws.proofs.Marks.FineMoves.{FineMoves, Openings, chains}
+use Rattle.world_laws.proofs.Marks.Kept.Combinators.{told_then-from}
 use Rattle.world_laws.proofs.Marks.Kept.Frames.{goes-keeps, push-alters, leaves-keeps, raises-keeps, pass_on-keeps, given-keeps, with_room-keeps, with_room-from, goes_then-from, popped}
 use Rattle.world_laws.proofs.Marks.Kept.Tasks.{edit_top-alters}
 use Rattle.world_laws.proofs.Marks.Kept.Scopes.{write_cell-alters, open_scope-alters}
 use Rattle.std.proofs.Common.{◌≡◌, refl, sym, subst, eqb, ap, ◌∙◌, [], ◌∷◌, not}
 use Rattle.std.specs.Prelude.{find, is_some, ◌&&◌}
-use Rattle.trace_text.specs.declared.events.Who.TheVariants as who
 use Rattle.profile_machine.specs.Program.{next_of}
 use Rattle.profile_machine.specs.Tasks.{with_frames}
 use Rattle.ann_base.specs.declared.identities.RegionNo.{RegionNo}
@@ -43,8 +42,8 @@ use Rattle.profile_machine.specs.declared.world.marks.Mark.{Mark}
 use Rattle.profile_machine.specs.declared.world.marks.Mark.TheVariants.{Scope, Handled, InProtected, InAccept, Abortable, InInitialize, InFinalize, InAssign}
 use Rattle.profile_machine.specs.Frames.{top_of, pop, with_mark, pass_on, goes, goes_on, edit_first, edit_top, push, new_frame}
 use Rattle.machine_laws.proofs.FineMoves.{GoodWorld, Naming}
-use Rattle.machine_laws.proofs.Kept.Combinators.{Alters, From, Keeps, Kept}
 use Rattle.machine_laws.proofs.Kept.Controlled.{edit_task-registered}
+use Rattle.machine_laws.proofs.Kept.Combinators.{Alters, From, Keeps, Kept, branch-keeps, changes-from, changes-keeps, changes_then-from, cond-keeps, either-from, keeps-from, looks-from, looks-keeps, looks_at-from, nothing-keeps, said_then-from, sees-keeps, then-keeps}
 
 -- the region of a scope's mark is not edited, nor what another mark is
 scope-nature : (f : ScopeMark → ScopeMark) → ((m : ScopeMark) → nature (Scope (f m)) ≡ nature (Scope m)) → (mark : Mark) → nature (edit_scope_mark f mark) ≡ nature mark
@@ -81,7 +80,7 @@ module _ {G : GoodWorld} {May Other : Naming} {R : StepRelation} {Q : MoveRelati
 
   pub register-keeps : (p : Image) (name : Who) (l : Located) → Keeps G R (register p name l)
   unfolding register
-  register-keeps p name l = looks-from moves _ (λ w good. told_register-from p name l w good)
+  register-keeps p name l = looks-from (chains moves) _ (λ w good. told_register-from p name l w good)
 
   pub edit_top_scope-alters : (name : Who) (f : ScopeMark → ScopeMark) → ((m : ScopeMark) → nature (Scope (f m)) ≡ nature (Scope m)) → Alters G R (edit_top_scope name f)
   edit_top_scope-alters name f same = edit_top-alters moves name (λ x. with_mark (edit_scope_mark f x.mark) x) (λ x. scope-nature f same x.mark) (λ x. refl)
@@ -89,24 +88,24 @@ module _ {G : GoodWorld} {May Other : Naming} {R : StepRelation} {Q : MoveRelati
   pub behind_finalize-keeps : (p : Image) (name : Who) (leaving : Leaving) (test : Bool) → Keeps G R (behind_finalize p name leaving test)
   unfolding behind_finalize
   behind_finalize-keeps p name (how.Exception e) true = search (pass_on-keeps)
-  behind_finalize-keeps p name (how.Exception e) false = search (changes-keeps, edit_top_scope-alters)
-  behind_finalize-keeps p name how.End of_assignment = search (nothing-keeps)
-  behind_finalize-keeps p name how.Return of_assignment = search (nothing-keeps)
-  behind_finalize-keeps p name (how.Exit loop) of_assignment = search (nothing-keeps)
-  behind_finalize-keeps p name how.Abort of_assignment = search (nothing-keeps)
-  behind_finalize-keeps p name how.Terminate of_assignment = search (nothing-keeps)
+  behind_finalize-keeps p name (how.Exception e) false = search (changes-keeps, edit_top_scope-alters, chains)
+  behind_finalize-keeps p name how.End of_assignment = search (nothing-keeps, chains)
+  behind_finalize-keeps p name how.Return of_assignment = search (nothing-keeps, chains)
+  behind_finalize-keeps p name (how.Exit loop) of_assignment = search (nothing-keeps, chains)
+  behind_finalize-keeps p name how.Abort of_assignment = search (nothing-keeps, chains)
+  behind_finalize-keeps p name how.Terminate of_assignment = search (nothing-keeps, chains)
 
   pub end_in_initialize-from : (p : Image) (name : Who) (l : Located) (leaving : Leaving) (f : Frame) (w : World) → G w → May name → top_of w name ≡ Some f → Ends name f w → From R w (end_in_initialize p name l leaving)
   unfolding end_in_initialize
   end_in_initialize-from p name l leaving f w good may top free =
       let out = popped moves name f w good may top free in
-      changes_then-from moves (pop name) _ w out (keeps-from moves (cond (registers leaving) (register p name l) (pass_on p name leaving)) (pop name w) (moves.behind w (pop name w) out) (search (cond-keeps, register-keeps, pass_on-keeps)))
+      changes_then-from (chains moves) (pop name) _ w out (keeps-from (chains moves) (cond (registers leaving) (register p name l) (pass_on p name leaving)) (pop name w) (moves.behind w (pop name w) out) (search (cond-keeps, register-keeps, pass_on-keeps, chains)))
 
   pub end_in_finalize-from : (p : Image) (name : Who) (leaving : Leaving) (f : Frame) (w : World) → G w → May name → top_of w name ≡ Some f → Ends name f w → From R w (end_in_finalize p name leaving)
   unfolding end_in_finalize
   end_in_finalize-from p name leaving f w good may top free =
       let out = popped moves name f w good may top free in
-      changes_then-from moves (pop name) _ w out (keeps-from moves (looks (λ v. behind_finalize p name leaving (is_assignment (top_of v name)))) (pop name w) (moves.behind w (pop name w) out) (search (looks-keeps, behind_finalize-keeps)))
+      changes_then-from (chains moves) (pop name) _ w out (keeps-from (chains moves) (looks (λ v. behind_finalize p name leaving (is_assignment (top_of v name)))) (pop name w) (moves.behind w (pop name w) out) (search (looks-keeps, behind_finalize-keeps, chains)))
 
   pub edit_top_assign-alters : (name : Who) (f : AssignMark → AssignMark) → Alters G R (edit_top_assign name f)
   edit_top_assign-alters name f = edit_top-alters moves name (λ x. with_mark (edit_assign f x.mark) x) (λ x. assign-nature f x.mark) (λ x. refl)
@@ -125,16 +124,16 @@ module _ {G : GoodWorld} {May Other : Naming} {R : StepRelation} {Q : MoveRelati
 module _ {G : GoodWorld} {May Other : Naming} {Owns : Who → RegionNo → Type 0} {R : StepRelation} {Q : MoveRelation} (moves : FineMoves G May Other R Q) (openings : Openings G May Other Owns R) where
   pub open_operation-keeps : (p : Image) (name : Who) (f : SubprogramNo) (l : Located) → May name → Keeps G R (open_operation p name f l)
   unfolding open_operation
-  open_operation-keeps p name f l may = search (looks-keeps, changes-keeps, open_scope-alters)
+  open_operation-keeps p name f l may = search (looks-keeps, changes-keeps, open_scope-alters, chains)
 
   pub initialize_by-keeps : (p : Image) (name : Who) (s : StatementNo) (l : Located) (f : Option SubprogramNo) → May name → Keeps G R (initialize_by p name s l f)
   unfolding initialize_by
-  initialize_by-keeps p name s l None may = search (goes-keeps, then-keeps, register-keeps)
-  initialize_by-keeps p name s l (Some f) may = search (with_room-keeps, goes-keeps, then-keeps, changes-keeps, push-alters, open_operation-keeps)
+  initialize_by-keeps p name s l None may = search (goes-keeps, then-keeps, register-keeps, chains)
+  initialize_by-keeps p name s l (Some f) may = search (with_room-keeps, goes-keeps, then-keeps, changes-keeps, push-alters, open_operation-keeps, chains)
 
   pub initialize-keeps : (p : Image) (name : Who) (s : StatementNo) (d : DeclNo) → May name → Keeps G R (initialize p name s d)
   unfolding initialize
-  initialize-keeps p name s d may = search (sees-keeps, given-keeps, initialize_by-keeps) depth 6
+  initialize-keeps p name s d may = search (sees-keeps, given-keeps, initialize_by-keeps, chains) depth 7
 
   -- a Finalize is opened on the scope that is being left, or on the assignment
   open_finalize-from : (p : Image) (name : Who) (n : ℕ) (l : Located) (f : SubprogramNo) (g : Frame) (w : World) → G w → May name → top_of w name ≡ Some g → may_finalize w n g.mark ≡ true → From R w (open_finalize p name n l f)
@@ -142,19 +141,19 @@ module _ {G : GoodWorld} {May Other : Naming} {Owns : Who → RegionNo → Type 
   open_finalize-from p name n l f g w good may top here =
       let v = push name (new_frame (InFinalize n) None) w in
       let opened = moves.opens_finalize name n g w good top here in
-      changes_then-from moves (push name (new_frame (InFinalize n) None)) (open_operation p name f l) w opened
-      (keeps-from moves (open_operation p name f l) v (moves.behind w v opened) (open_operation-keeps p name f l may))
+      changes_then-from (chains moves) (push name (new_frame (InFinalize n) None)) (open_operation p name f l) w opened
+      (keeps-from (chains moves) (open_operation p name f l) v (moves.behind w v opened) (open_operation-keeps p name f l may))
 
   raised_finalize-keeps : (name : Who) → Keeps G R (changes (edit_top_scope name finalize_has_raised))
-  raised_finalize-keeps name = search (changes-keeps, edit_top_scope-alters)
+  raised_finalize-keeps name = search (changes-keeps, edit_top_scope-alters, chains)
 
   finalize_by-from : (p : Image) (name : Who) (r : Registered) (f : Option SubprogramNo) (g : Frame) (w : World) → G w → May name → top_of w name ≡ Some g → may_finalize w r.object g.mark ≡ true → From R w (finalize_by p name r f)
   unfolding finalize_by
-  finalize_by-from p name r None g w good may top here = keeps-from moves nothing w good (nothing-keeps moves)
+  finalize_by-from p name r None g w good may top here = keeps-from (chains moves) nothing w good (nothing-keeps (chains moves))
   finalize_by-from p name r (Some f) g w good may top here =
-      looks_at-from moves (λ v. elim (has_room_to_finalize p v name f) as (λ _. Step) [ true ↦ open_finalize p name r.object r.located f | false ↦ changes (edit_top_scope name finalize_has_raised) ]) w
-      (either-from moves (has_room_to_finalize p w name f) (open_finalize p name r.object r.located f) (changes (edit_top_scope name finalize_has_raised)) w
-      (open_finalize-from p name r.object r.located f g w good may top here) (keeps-from moves (changes (edit_top_scope name finalize_has_raised)) w good (raised_finalize-keeps name)))
+      looks_at-from (chains moves) (λ v. elim (has_room_to_finalize p v name f) as (λ _. Step) [ true ↦ open_finalize p name r.object r.located f | false ↦ changes (edit_top_scope name finalize_has_raised) ]) w
+      (either-from (chains moves) (has_room_to_finalize p w name f) (open_finalize p name r.object r.located f) (changes (edit_top_scope name finalize_has_raised)) w
+      (open_finalize-from p name r.object r.located f g w good may top here) (keeps-from (chains moves) (changes (edit_top_scope name finalize_has_raised)) w good (raised_finalize-keeps name)))
 
   -- the newest object of a region that is being left, to which nobody assigns
   finalize_now-from : (p : Image) (name : Who) (f : Frame) (m : ScopeMark) (r : RegionNo) (x : Registered) (w : World) → G w → May name → top_of w name ≡ Some f → f.mark ≡ Scope m → m.region ≡ Some r → m.being_left ≡ true → next_to_finalize w r ≡ Some x
@@ -169,9 +168,9 @@ module _ {G : GoodWorld} {May Other : Naming} {Owns : Who → RegionNo → Type 
   pub finalize-from : (p : Image) (name : Who) (f : Frame) (m : ScopeMark) (r : RegionNo) (x : Registered) (w : World) → G w → May name → top_of w name ≡ Some f → f.mark ≡ Scope m → m.region ≡ Some r → m.being_left ≡ true → next_to_finalize w r ≡ Some x
       → From R w (finalize p name x)
   unfolding finalize
-  finalize-from p name f m r x w good may top is region left next = looks_at-from moves (λ v. when (not (is_being_assigned v x.object)) (finalize_now p name x)) w (unless-from (is_being_assigned w x.object) refl) where
+  finalize-from p name f m r x w good may top is region left next = looks_at-from (chains moves) (λ v. when (not (is_being_assigned v x.object)) (finalize_now p name x)) w (unless-from (is_being_assigned w x.object) refl) where
     unless-from : (assigned : Bool) → is_being_assigned w x.object ≡ assigned → From R w (when (not assigned) (finalize_now p name x))
-    unless-from true is_assigned = keeps-from moves nothing w good (nothing-keeps moves)
+    unless-from true is_assigned = keeps-from (chains moves) nothing w good (nothing-keeps (chains moves))
     unless-from false free = finalize_now-from p name f m r x w good may top is region left next free
 
   -- an object that is registered is assigned to
@@ -182,37 +181,37 @@ module _ {G : GoodWorld} {May Other : Naming} {Owns : Who → RegionNo → Type 
       (goes_then-from moves name (next_of p s) _ w good (λ good_onward.
       let gone = edit_top name (goes_on (next_of p s)) w in
       let still : registered_at gone l ≡ Some x = ap (find (is_located l)) (edit_task-registered name (λ t. with_frames (edit_first (goes_on (next_of p s)) t.frames) t) w) ∙ found in
-      said_then-from moves Own (line.Replace name x.object) (changes (push name (new_frame (new_assign_mark x.object source) None))) gone (moves.replaces name l x gone good_onward still)
-      (keeps-from moves (changes (push name (new_frame (new_assign_mark x.object source) None))) gone good_onward (search (changes-keeps, push-alters)))))
+      said_then-from (chains moves) Own (line.Replace name x.object) (changes (push name (new_frame (new_assign_mark x.object source) None))) gone (moves.replaces name l x gone good_onward still)
+      (keeps-from (chains moves) (changes (push name (new_frame (new_assign_mark x.object source) None))) gone good_onward (search (changes-keeps, push-alters, chains)))))
 
   assign_registered-from : (p : Image) (name : Who) (s : StatementNo) (l : Located) (target source : Option Registered) (w : World) → G w → May name → registered_at w l ≡ target → From R w (assign_registered p name s target source)
   unfolding assign_registered
   assign_registered-from p name s l (Some target) (Some source) w good may found = begin_assignment-from p name s l target source.object w good may found
-  assign_registered-from p name s l (Some target) None w good may found = keeps-from moves _ w good (raises-keeps moves Own name exception.Program)
-  assign_registered-from p name s l None source w good may found = keeps-from moves _ w good (raises-keeps moves Own name exception.Program)
+  assign_registered-from p name s l (Some target) None w good may found = keeps-from (chains moves) _ w good (raises-keeps moves Own name exception.Program)
+  assign_registered-from p name s l None source w good may found = keeps-from (chains moves) _ w good (raises-keeps moves Own name exception.Program)
 
   pub assign_located-keeps : (p : Image) (name : Who) (s : StatementNo) (target source : Located) → May name → Keeps G R (assign_located p name s target source)
   unfolding assign_located
   assign_located-keeps p name s target source may =
-      cond-keeps moves (same_located target source) (goes name (next_of p s)) _ (goes-keeps moves name (next_of p s))
-      (looks-from moves _ (λ w good. assign_registered-from p name s target (registered_at w target) (registered_at w source) w good may refl))
+      cond-keeps (chains moves) (same_located target source) (goes name (next_of p s)) _ (goes-keeps moves name (next_of p s))
+      (looks-from (chains moves) _ (λ w good. assign_registered-from p name s target (registered_at w target) (registered_at w source) w good may refl))
 
   pub assign_controlled-keeps : (p : Image) (name : Who) (s : StatementNo) (target source : DeclNo) → May name → Keeps G R (assign_controlled p name s target source)
   unfolding assign_controlled
-  assign_controlled-keeps p name s target source may = search (sees-keeps, given-keeps, assign_located-keeps) depth 6
+  assign_controlled-keeps p name s target source may = search (sees-keeps, given-keeps, assign_located-keeps, chains) depth 7
 
   finalize_target_by-from : (p : Image) (name : Who) (r : Registered) (f : Option SubprogramNo) (g : Frame) (w : World) → G w → May name → top_of w name ≡ Some g → may_finalize w r.object g.mark ≡ true → From R w (finalize_target_by p name r f)
   unfolding finalize_target_by
-  finalize_target_by-from p name r None g w good may top here = keeps-from moves nothing w good (nothing-keeps moves)
+  finalize_target_by-from p name r None g w good may top here = keeps-from (chains moves) nothing w good (nothing-keeps (chains moves))
   finalize_target_by-from p name r (Some f) g w good may top here =
-      looks_at-from moves (λ v. elim (has_room_to_finalize p v name f) as (λ _. Step) [ true ↦ open_finalize p name r.object r.located f | false ↦ leave_without_room name ]) w
-      (either-from moves (has_room_to_finalize p w name f) (open_finalize p name r.object r.located f) (leave_without_room name) w
-      (open_finalize-from p name r.object r.located f g w good may top here) (keeps-from moves (leave_without_room name) w good (leave_without_room-keeps moves name)))
+      looks_at-from (chains moves) (λ v. elim (has_room_to_finalize p v name f) as (λ _. Step) [ true ↦ open_finalize p name r.object r.located f | false ↦ leave_without_room name ]) w
+      (either-from (chains moves) (has_room_to_finalize p w name f) (open_finalize p name r.object r.located f) (leave_without_room name) w
+      (open_finalize-from p name r.object r.located f g w good may top here) (keeps-from (chains moves) (leave_without_room name) w good (leave_without_room-keeps moves name)))
 
   pub adjust_by-keeps : (p : Image) (name : Who) (r : Registered) (f : Option SubprogramNo) → May name → Keeps G R (adjust_by p name r f)
   unfolding adjust_by
-  adjust_by-keeps p name r None may = search (nothing-keeps)
-  adjust_by-keeps p name r (Some f) may = looks-keeps moves _ (λ w. branch-keeps moves (has_room_to_adjust p w name f) (open_operation p name f r.located) (leave_without_room name) (search (open_operation-keeps)) (search (leave_without_room-keeps)))
+  adjust_by-keeps p name r None may = search (nothing-keeps, chains)
+  adjust_by-keeps p name r (Some f) may = looks-keeps (chains moves) _ (λ w. branch-keeps (chains moves) (has_room_to_adjust p w name f) (open_operation p name f r.located) (leave_without_room name) (search (open_operation-keeps)) (search (leave_without_room-keeps)))
 
   -- the target is finalized, whose number is the assignment's, and which is registered
   finalize_target-from : (p : Image) (name : Who) (m : AssignMark) (f : Frame) (target : Registered) (w : World) → G w → May name → top_of w name ≡ Some f → f.mark ≡ InAssign m → registered_object w m.target ≡ Some target
@@ -222,7 +221,7 @@ module _ {G : GoodWorld} {May Other : Naming} {Owns : Who → RegionNo → Type 
       let v = edit_top_assign name (at_step assigning.CopyComponents) w in
       let g = with_mark (edit_assign (at_step assigning.CopyComponents) f.mark) f in
       let edits = edit_top_assign-alters moves name (at_step assigning.CopyComponents) w good in
-      changes_then-from moves (edit_top_assign name (at_step assigning.CopyComponents)) (finalize_target_by p name target (type_of p target.located).finalize) w edits
+      changes_then-from (chains moves) (edit_top_assign name (at_step assigning.CopyComponents)) (finalize_target_by p name target (type_of p target.located).finalize) w edits
       (finalize_target_by-from p name target (type_of p target.located).finalize g v (moves.behind w v edits) may
       (top_edited name (λ x. with_mark (edit_assign (at_step assigning.CopyComponents) x.mark) x) f w top)
       (subst (λ k. may_finalize v target.object (edit_assign (at_step assigning.CopyComponents) k) ≡ true) (sym is)
@@ -230,19 +229,19 @@ module _ {G : GoodWorld} {May Other : Naming} {Owns : Who → RegionNo → Type 
 
   do_step-from : (p : Image) (name : Who) (step : AssignStep) (m : AssignMark) (f : Frame) (target source : Registered) (w : World) → G w → May name → top_of w name ≡ Some f → f.mark ≡ InAssign m → registered_object w m.target ≡ Some target → R w [] (pop name w) → From R w (do_step p name step target source)
   do_step-from p name assigning.FinalizeTarget m f target source w good may top is found out = finalize_target-from p name m f target w good may top is found
-  do_step-from p name assigning.CopyComponents m f target source w good may top is found out = keeps-from moves _ w good (search (changes-keeps, edit_top_assign-alters, then-keeps, copy_object-alters))
-  do_step-from p name assigning.AdjustTarget m f target source w good may top is found out = keeps-from moves _ w good (search (changes-keeps, edit_top_assign-alters, then-keeps, adjust_by-keeps))
-  do_step-from p name assigning.Assigned m f target source w good may top is found out = changes-from moves (pop name) w out
+  do_step-from p name assigning.CopyComponents m f target source w good may top is found out = keeps-from (chains moves) _ w good (search (changes-keeps, edit_top_assign-alters, then-keeps, copy_object-alters, chains))
+  do_step-from p name assigning.AdjustTarget m f target source w good may top is found out = keeps-from (chains moves) _ w good (search (changes-keeps, edit_top_assign-alters, then-keeps, adjust_by-keeps, chains))
+  do_step-from p name assigning.Assigned m f target source w good may top is found out = changes-from (chains moves) (pop name) w out
 
   step_with-from : (p : Image) (name : Who) (step : AssignStep) (m : AssignMark) (f : Frame) (target source : Option Registered) (w : World) → G w → May name → top_of w name ≡ Some f → f.mark ≡ InAssign m → registered_object w m.target ≡ target → R w [] (pop name w) → From R w (step_with p name step target source)
   step_with-from p name step m f (Some target) (Some source) w good may top is found out = do_step-from p name step m f target source w good may top is found out
-  step_with-from p name step m f (Some target) None w good may top is found out = changes-from moves (pop name) w out
-  step_with-from p name step m f None source w good may top is found out = changes-from moves (pop name) w out
+  step_with-from p name step m f (Some target) None w good may top is found out = changes-from (chains moves) (pop name) w out
+  step_with-from p name step m f None source w good may top is found out = changes-from (chains moves) (pop name) w out
 
   pub end_in_assign-from : (p : Image) (name : Who) (m : AssignMark) (leaving : Option Leaving) (f : Frame) (w : World) → G w → May name → top_of w name ≡ Some f → f.mark ≡ InAssign m → Ends name f w → From R w (end_in_assign p name m leaving)
   unfolding end_in_assign
   end_in_assign-from p name m (Some (how.Exception e)) f w good may top is free =
       let out = popped moves name f w good may top free in
-      changes_then-from moves (pop name) _ w out (keeps-from moves _ (pop name w) (moves.behind w (pop name w) out) (raises-keeps moves Own name exception.Program))
+      changes_then-from (chains moves) (pop name) _ w out (keeps-from (chains moves) _ (pop name w) (moves.behind w (pop name w) out) (raises-keeps moves Own name exception.Program))
   end_in_assign-from p name m _ f w good may top is free =
-      looks_at-from moves (λ v. step_with p name m.step (registered_object v m.target) (registered_object v m.source)) w (step_with-from p name m.step m f (registered_object w m.target) (registered_object w m.source) w good may top is refl (popped moves name f w good may top free))
+      looks_at-from (chains moves) (λ v. step_with p name m.step (registered_object v m.target) (registered_object v m.source)) w (step_with-from p name m.step m f (registered_object w m.target) (registered_object w m.source) w good may top is refl (popped moves name f w good may top free))

@@ -34,14 +34,13 @@ use Rattle.profile_machine.specs.CallEnds.{store}
 use Rattle.profile_machine.specs.Declarations.{default_cells, set_defaults, initialized, initial_of, components_initialized, located_here, set_thing, object_declared, object_drawn, new_object, with_object, says_object, declare_protected, controlled_declared, event_drawn, event_declared, with_budget, budget_declared, timed_task, with_timer, timer_declared, declared, declare_quietly, declare_by, declare}
 use Rattle.profile_machine.specs.Values.{seen_by}
 use Rattle.machine_laws.proofs.Moves.{StepRelation, MoveRelation}
-use Rattle.world_laws.proofs.Marks.FineMoves.{FineMoves}
-use Rattle.world_laws.proofs.Marks.Kept.Combinators.{bind-gives, changes-keeps, looks-from, next-gives, ok-gives, then-keeps, looks-keeps, says-keeps}
+use Rattle.world_laws.proofs.Marks.FineMoves.{FineMoves, chains, says-keeps}
 use Rattle.world_laws.proofs.Marks.Kept.Frames.{given-from, given_world-from, goes-keeps}
 use Rattle.world_laws.proofs.Marks.Kept.Scopes.{write_cell-alters}
 use Rattle.world_laws.proofs.Marks.Kept.CallEnds.{store-gives}
 use Rattle.world_laws.proofs.Marks.Kept.Statements.{copy_cells-alters}
 use Rattle.machine_laws.proofs.FineMoves.{GoodWorld, Naming}
-use Rattle.machine_laws.proofs.Kept.Combinators.{Alters, Gives, Keeps}
+use Rattle.machine_laws.proofs.Kept.Combinators.{Alters, Gives, Keeps, bind-gives, changes-keeps, looks-from, looks-keeps, next-gives, ok-gives, then-keeps}
 
 module _ {G : GoodWorld} {May Other : Naming} {R : StepRelation} {Q : MoveRelation} (moves : FineMoves G May Other R Q) where
   set_defaults-alters : (p : Image) (v : Variable) → Alters G R (set_defaults p v)
@@ -50,24 +49,24 @@ module _ {G : GoodWorld} {May Other : Naming} {R : StepRelation} {Q : MoveRelati
 
   initialized-gives : (q : Seen) (v : Variable) (i : Initial) (w : World) → G w → Gives R w (initialized q v i w)
   unfolding Alters
-  initialized-gives q v initial.Default w good = ok-gives moves w (set_defaults q.program v w) (set_defaults-alters q.program v w good)
-  initialized-gives q v (initial.Scalar e) w good = bind-gives moves (value q e) (λ x. store q.program v x w) w (λ x. store-gives moves q.program v x w good)
+  initialized-gives q v initial.Default w good = ok-gives (chains moves) w (set_defaults q.program v w) (set_defaults-alters q.program v w good)
+  initialized-gives q v (initial.Scalar e) w good = bind-gives (chains moves) (value q e) (λ x. store q.program v x w) w (λ x. store-gives moves q.program v x w good)
   initialized-gives q v (initial.Array source) w good =
-      bind-gives moves (object_cell q source) (λ f. Ok (copy_cells q.program v f w)) w (λ f. ok-gives moves w (copy_cells q.program v f w) (copy_cells-alters moves q.program v f w good))
+      bind-gives (chains moves) (object_cell q source) (λ f. Ok (copy_cells q.program v f w)) w (λ f. ok-gives (chains moves) w (copy_cells q.program v f w) (copy_cells-alters moves q.program v f w good))
 
   components_initialized-gives : (q : Seen) (own_cells : ℕ) (l : Located) (cs : List DeclNo) (w : World) → G w → Gives R w (components_initialized q own_cells l cs w)
-  components_initialized-gives q own_cells l [] w good = ok-gives moves w w (moves.stays w good)
+  components_initialized-gives q own_cells l [] w good = ok-gives (chains moves) w w (moves.stays w good)
   components_initialized-gives q own_cells l (c ∷ cs) w good =
       let v = component_at q.program own_cells l c in
       let i = initial_of (declaration_of q.program c).kind in
-      next-gives moves (initialized q v i w) (components_initialized q own_cells l cs) w (initialized-gives q v i w good) (components_initialized-gives q own_cells l cs)
+      next-gives (chains moves) (initialized q v i w) (components_initialized q own_cells l cs) w (initialized-gives q v i w good) (components_initialized-gives q own_cells l cs)
 
   pub set_thing-alters : (p : Image) (l : Located) (v : Value) → Alters G R (set_thing p l v)
   set_thing-alters p l v = search (write_cell-alters)
 
   object_declared-gives : (q : Seen) (d : DeclNo) (i : Initial) → G q.world → Gives R q.world (object_declared q d i)
   object_declared-gives q d i good =
-      bind-gives moves (object_cell q (Declared d)) (λ v. initialized q v i q.world) q.world (λ v. initialized-gives q v i q.world good)
+      bind-gives (chains moves) (object_cell q (Declared d)) (λ v. initialized q v i q.world) q.world (λ v. initialized-gives q v i q.world good)
 
   with_object-alters : (p : Image) (l : Located) (u : ProtectedUnitNo) → Alters G R (with_object p l u)
   unfolding Alters
@@ -79,32 +78,32 @@ module _ {G : GoodWorld} {May Other : Naming} {R : StepRelation} {Q : MoveRelati
 
   says_object-keeps : (p : Image) (l : Located) (u : ProtectedUnitNo) → Keeps G R (says_object p l u)
   unfolding says_object
-  says_object-keeps p l u = looks-keeps moves _ (λ w. says-keeps moves Own (line.New (created.Object (record { 0 = w.drawn.objects })) (Some l.declared) (protected_unit_of p u).ceiling) refl)
+  says_object-keeps p l u = looks-keeps (chains moves) _ (λ w. says-keeps moves Own (line.New (created.Object (record { 0 = w.drawn.objects })) (Some l.declared) (protected_unit_of p u).ceiling) refl)
 
   pub declare_protected-keeps : (p : Image) (name : Who) (s : StatementNo) (d : DeclNo) (u : ProtectedUnitNo) → Keeps G R (declare_protected p name s d u)
   unfolding declare_protected
   declare_protected-keeps p name s d u =
-      looks-from moves _ (λ w good. let q = seen_by p w name in
+      looks-from (chains moves) _ (λ w good. let q = seen_by p w name in
       given-from moves Own name (located_here q d) _ w good (λ l.
       given_world-from moves Own name (components_initialized q PROTECTED_CELLS l (protected_unit_of p u).components w) (λ _. goes name (next_of p s) ▷ changes (with_object p l u) ▷ says_object p l u) w good
       (components_initialized-gives q PROTECTED_CELLS l (protected_unit_of p u).components w good)
-      (λ _. search (then-keeps, goes-keeps, changes-keeps, with_object-alters, says_object-keeps))))
+      (λ _. search (then-keeps, goes-keeps, changes-keeps, with_object-alters, says_object-keeps, chains))))
 
   controlled_declared-gives : (q : Seen) (d : DeclNo) (c : ControlledNo) → G q.world → Gives R q.world (controlled_declared q d c)
   unfolding Alters
   controlled_declared-gives q d c good =
       let components = (controlled_of q.program c).components in
-      bind-gives moves (located_here q d) (λ l. components_initialized q CONTROLLED_CELLS l components q.world >>= λ next. Ok (set_thing q.program l (Thing 0) next)) q.world (λ l.
-      next-gives moves (components_initialized q CONTROLLED_CELLS l components q.world) (λ next. Ok (set_thing q.program l (Thing 0) next)) q.world
+      bind-gives (chains moves) (located_here q d) (λ l. components_initialized q CONTROLLED_CELLS l components q.world >>= λ next. Ok (set_thing q.program l (Thing 0) next)) q.world (λ l.
+      next-gives (chains moves) (components_initialized q CONTROLLED_CELLS l components q.world) (λ next. Ok (set_thing q.program l (Thing 0) next)) q.world
       (components_initialized-gives q CONTROLLED_CELLS l components q.world good)
-      (λ next good_next. ok-gives moves next (set_thing q.program l (Thing 0) next) (set_thing-alters q.program l (Thing 0) next good_next)))
+      (λ next good_next. ok-gives (chains moves) next (set_thing q.program l (Thing 0) next) (set_thing-alters q.program l (Thing 0) next good_next)))
 
   -- an object is located, and its first cell names it in a world that stands rightly to the one before
   thing_declared-gives : (q : Seen) (d : DeclNo) (v : Value) (next : World) → R q.world [] next → Gives R q.world (located_here q d >>= λ l. Ok (set_thing q.program l v next))
   unfolding Alters
   thing_declared-gives q d v next a =
-      bind-gives moves (located_here q d) (λ l. Ok (set_thing q.program l v next)) q.world (λ l.
-      ok-gives moves q.world (set_thing q.program l v next) (moves.goes_on q.world next (set_thing q.program l v next) a (set_thing-alters q.program l v next (moves.behind q.world next a))))
+      bind-gives (chains moves) (located_here q d) (λ l. Ok (set_thing q.program l v next)) q.world (λ l.
+      ok-gives (chains moves) q.world (set_thing q.program l v next) (moves.goes_on q.world next (set_thing q.program l v next) a (set_thing-alters q.program l v next (moves.behind q.world next a))))
 
   event_declared-gives : (q : Seen) (d : DeclNo) → G q.world → Gives R q.world (event_declared q d)
   event_declared-gives q d good = thing_declared-gives q d (Thing q.world.drawn.events) (record q.world { drawn = event_drawn q.world.drawn }) (moves.draws_event q.world good)
@@ -115,25 +114,25 @@ module _ {G : GoodWorld} {May Other : Naming} {R : StepRelation} {Q : MoveRelati
   timer_declared-gives : (q : Seen) (d task : DeclNo) → G q.world → Gives R q.world (timer_declared q d task)
   timer_declared-gives q d task good =
       let number = Thing (length q.world.timers) in
-      bind-gives moves (timed_task q task) (λ t. unless (not (leb 256 (length q.world.timers))) exception.TimerResource t >>= λ u. located_here q d >>= λ l. Ok (set_thing q.program l number (with_timer u q.world))) q.world (λ t.
-      bind-gives moves (unless (not (leb 256 (length q.world.timers))) exception.TimerResource t) (λ u. located_here q d >>= λ l. Ok (set_thing q.program l number (with_timer u q.world))) q.world (λ u.
+      bind-gives (chains moves) (timed_task q task) (λ t. unless (not (leb 256 (length q.world.timers))) exception.TimerResource t >>= λ u. located_here q d >>= λ l. Ok (set_thing q.program l number (with_timer u q.world))) q.world (λ t.
+      bind-gives (chains moves) (unless (not (leb 256 (length q.world.timers))) exception.TimerResource t) (λ u. located_here q d >>= λ l. Ok (set_thing q.program l number (with_timer u q.world))) q.world (λ u.
       thing_declared-gives q d number (with_timer u q.world) (moves.adds_timer u q.world good)))
 
   declared-gives : (q : Seen) (d : DeclNo) (kind : DeclarationKind) → G q.world → Gives R q.world (declared q d kind)
   declared-gives q d (kind.Object i) good = object_declared-gives q d i good
-  declared-gives q d (kind.Task u) good = ok-gives moves q.world q.world (moves.stays q.world good)
-  declared-gives q d (kind.Protected u) good = ok-gives moves q.world q.world (moves.stays q.world good)
+  declared-gives q d (kind.Task u) good = ok-gives (chains moves) q.world q.world (moves.stays q.world good)
+  declared-gives q d (kind.Protected u) good = ok-gives (chains moves) q.world q.world (moves.stays q.world good)
   declared-gives q d (kind.Controlled c) good = controlled_declared-gives q d c good
   declared-gives q d kind.Event good = event_declared-gives q d good
   declared-gives q d (kind.Timer task) good = timer_declared-gives q d task good
   declared-gives q d kind.Budget good = budget_declared-gives q d good
-  declared-gives q d kind.Parameter good = ok-gives moves q.world q.world (moves.stays q.world good)
-  declared-gives q d kind.Other good = ok-gives moves q.world q.world (moves.stays q.world good)
+  declared-gives q d kind.Parameter good = ok-gives (chains moves) q.world q.world (moves.stays q.world good)
+  declared-gives q d kind.Other good = ok-gives (chains moves) q.world q.world (moves.stays q.world good)
 
   pub declare_quietly-keeps : (p : Image) (name : Who) (s : StatementNo) (d : DeclNo) → Keeps G R (declare_quietly p name s d)
   unfolding declare_quietly
   declare_quietly-keeps p name s d =
-      looks-from moves _ (λ w good.
+      looks-from (chains moves) _ (λ w good.
       given_world-from moves Own name (declared (seen_by p w name) d (declaration_of p d).kind) (λ _. goes name (next_of p s)) w good
       (declared-gives (seen_by p w name) d (declaration_of p d).kind good) (λ _. goes-keeps moves name (next_of p s)))
 

@@ -18,13 +18,12 @@ use Rattle.std.proofs.Common.{◌≡◌, refl, Some, [], ◌∷◌, ◌++◌}
 use Rattle.std.specs.Prelude.{false}
 use Rattle.machine_laws.proofs.Moves.{StepRelation, MoveRelation}
 use Rattle.world_laws.proofs.Marks.MarkFacts.{ends_call}
-use Rattle.world_laws.proofs.Marks.FineMoves.{FineMoves}
-use Rattle.world_laws.proofs.Marks.Kept.Combinators.{changes-keeps, from-keeps, said-from, said-keeps, then-keeps, looks_at-from, then-kept}
+use Rattle.world_laws.proofs.Marks.FineMoves.{FineMoves, chains}
 use Rattle.world_laws.proofs.Marks.Kept.Tasks.{edit_task-alters}
 use Rattle.machine_laws.proofs.FineMoves.{GoodWorld, Naming, ready_line}
-use Rattle.machine_laws.proofs.Kept.Combinators.{Alters, From, Keeps, Kept}
 use Rattle.machine_laws.proofs.Kept.Dispatching.{full_quantum-frames, full_quantum-state, full_quantum-who}
 use Rattle.line_laws.proofs.Leaving.FineMoves.{ready_world}
+use Rattle.machine_laws.proofs.Kept.Combinators.{Alters, From, Keeps, Kept, changes-keeps, from-keeps, looks_at-from, said-from, said-keeps, then-keeps, then-kept}
 
 full_quantum-abnormal : (b : Bool) (n : ℕ) (t : Task) → (cond b (record t { quantum = n }) t).abnormal ≡ t.abnormal
 full_quantum-abnormal true n t = refl
@@ -38,7 +37,7 @@ module _ {G : GoodWorld} {May Other : Naming} {R : StepRelation} {Q : MoveRelati
   pub says_ready-keeps : (p : Image) (part : Part) (name : Who) (end : QueueEnd) → May name → Keeps G R (says_ready p part name end)
   unfolding says_ready
   says_ready-keeps p part name end may =
-      from-keeps moves _ (λ w good. looks_at-from moves (λ v. says part (line.Ready name (active p (task_of v name)) end (deadline_shown p (task_of v name)))) w (said-from moves part (line.Ready name (active p (task_of w name)) end (deadline_shown p (task_of w name))) w (moves.places p part name end w good may)))
+      from-keeps (chains moves) _ (λ w good. looks_at-from (chains moves) (λ v. says part (line.Ready name (active p (task_of v name)) end (deadline_shown p (task_of v name)))) w (said-from (chains moves) part (line.Ready name (active p (task_of w name)) end (deadline_shown p (task_of w name))) w (moves.places p part name end w good may)))
 
   pub grant_quantum-alters : (p : Image) (name : Who) → Alters G R (grant_quantum p name)
   unfolding Alters
@@ -51,7 +50,7 @@ module _ {G : GoodWorld} {May Other : Naming} {R : StepRelation} {Q : MoveRelati
 
   pub to_tail-keeps : (p : Image) (part : Part) (name : Who) → May name → Keeps G R (to_tail p part name)
   unfolding to_tail
-  to_tail-keeps p part name may = search (changes-keeps, grant_quantum-alters, then-keeps, says_ready-keeps)
+  to_tail-keeps p part name may = search (changes-keeps, grant_quantum-alters, then-keeps, says_ready-keeps, chains)
 
   pub to_head-keeps : (p : Image) (part : Part) (name : Who) → May name → Keeps G R (to_head p part name)
   unfolding to_head
@@ -64,20 +63,20 @@ module _ {G : GoodWorld} {May Other : Naming} {R : StepRelation} {Q : MoveRelati
   with_runnable-alters name other w good = moves.readies name w good other
 
   pub runnable-keeps : (name : Who) → Other name → Keeps G R (changes (edit_task name (with_state Runnable)))
-  runnable-keeps name other = changes-keeps moves (edit_task name (with_state Runnable)) (with_runnable-alters name other)
+  runnable-keeps name other = changes-keeps (chains moves) (edit_task name (with_state Runnable)) (with_runnable-alters name other)
 
   with_blocked-alters : (name : Who) (waiting : Waiting) → Other name → ends_call (Some waiting) ≡ false → Alters G R (edit_task name (with_state (Blocked waiting)))
   unfolding Alters
   with_blocked-alters name waiting other no_end w good = moves.blocks name waiting w good other no_end
 
   pub blocked-keeps : (name : Who) (waiting : Waiting) → Other name → ends_call (Some waiting) ≡ false → Keeps G R (changes (edit_task name (with_state (Blocked waiting))))
-  blocked-keeps name waiting other no_end = changes-keeps moves (edit_task name (with_state (Blocked waiting))) (with_blocked-alters name waiting other no_end)
+  blocked-keeps name waiting other no_end = changes-keeps (chains moves) (edit_task name (with_state (Blocked waiting))) (with_blocked-alters name waiting other no_end)
 
   pub ready-keeps : (p : Image) (part : Part) (name : Who) → Other name → Keeps G R (ready p part name)
   unfolding ready
   ready-keeps p part name other =
-      then-keeps moves (changes (edit_task name (with_state Runnable))) (changes (keep_level p name) ▷ to_tail p part name) (runnable-keeps name other)
-      (search (changes-keeps, then-keeps, keep_level-alters, to_tail-keeps, moves.other_may))
+      then-keeps (chains moves) (changes (edit_task name (with_state Runnable))) (changes (keep_level p name) ▷ to_tail p part name) (runnable-keeps name other)
+      (search (changes-keeps, then-keeps, keep_level-alters, to_tail-keeps, moves.other_may, chains))
 
   -- who has become ready, and what is done then
   pub ready-told : (p : Image) (part : Part) (name : Who) (w : World) → G w → Other name → R w (ready_line p part name Tail (ready_world p name w) ∷ []) (ready_world p name w)
@@ -100,15 +99,15 @@ module _ {G : GoodWorld} {May Other : Naming} {R : StepRelation} {Q : MoveRelati
       let v = ready_world p name w in
       let line = ready_line p part name Tail v in
       let told = ready-told p part name w good other in
-      then-kept moves w v said (said ++ line ∷ []) (g v (said ++ line ∷ [])) (line ∷ [], refl, told) (next (moves.behind w v told) (said ++ line ∷ []))
+      then-kept (chains moves) w v said (said ++ line ∷ []) (g v (said ++ line ∷ [])) (line ∷ [], refl, told) (next (moves.behind w v told) (said ++ line ∷ []))
 
   pub says_block-keeps : (part : Part) (name : Who) (waiting : Waiting) → Other name → Keeps G R (says_block part name waiting)
   unfolding says_block
   says_block-keeps part name waiting other =
-      then-keeps moves (changes (edit_task name without_kept_level)) (says part (line.Block name (word_of waiting))) (search (changes-keeps, edit_task-alters))
-      (said-keeps moves part (line.Block name (word_of waiting)) (λ w good. moves.says_blocked part name waiting w good other))
+      then-keeps (chains moves) (changes (edit_task name without_kept_level)) (says part (line.Block name (word_of waiting))) (search (changes-keeps, edit_task-alters, chains))
+      (said-keeps (chains moves) part (line.Block name (word_of waiting)) (λ w good. moves.says_blocked part name waiting w good other))
 
   pub block-keeps : (part : Part) (name : Who) (waiting : Waiting) → Other name → ends_call (Some waiting) ≡ false → Keeps G R (block part name waiting)
   unfolding block
   block-keeps part name waiting other no_end =
-      then-keeps moves (changes (edit_task name (with_state (Blocked waiting)))) (says_block part name waiting) (blocked-keeps name waiting other no_end) (says_block-keeps part name waiting other)
+      then-keeps (chains moves) (changes (edit_task name (with_state (Blocked waiting)))) (says_block part name waiting) (blocked-keeps name waiting other no_end) (says_block-keeps part name waiting other)

@@ -25,8 +25,7 @@ use Rattle.profile_machine.specs.Calls.{place_of_entry, take_call, put_call}
 use Rattle.profile_machine.specs.Masters.{part_of}
 use Rattle.profile_machine.specs.Priorities.{placed_anew, reprioritize, reprioritize_own, replace_in, says_base, set_base, says_deadline, set_deadline, take_base, take_deadline, set_deferred, placing_of, defer_base, set_or_defer_base, set_base_of, priority_in_range, set_priority, quantum_of, set_quantum, defer_deadline, set_or_defer_deadline, set_deadline_of, delay_with_deadline, delay_and_set_deadline, is_edf_base}
 use Rattle.machine_laws.proofs.Moves.{StepRelation, MoveRelation}
-use Rattle.world_laws.proofs.Marks.FineMoves.{FineMoves}
-use Rattle.world_laws.proofs.Marks.Kept.Combinators.{branch-keeps, changes-keeps, for_some-keeps, looks-keeps, nothing-keeps, says-keeps, sees-keeps, then-keeps, when-keeps, keeps-from, looks-from}
+use Rattle.world_laws.proofs.Marks.FineMoves.{FineMoves, chains, says-keeps}
 use Rattle.world_laws.proofs.Marks.Kept.Tasks.{edit_task-alters}
 use Rattle.world_laws.proofs.Marks.Kept.Dispatching.{to_tail-keeps}
 use Rattle.world_laws.proofs.Marks.Kept.Frames.{goes-keeps, given-keeps, raise_if-keeps, given-from, given_as-from}
@@ -38,9 +37,9 @@ use Rattle.profile_machine.specs.declared.world.World.{World}
 use Rattle.ann_base.specs.declared.identities.TaskNo.{TaskNo}
 use Rattle.profile_machine.specs.Tasks.{found_task, is_who}
 use Rattle.machine_laws.proofs.FineMoves.{GoodWorld, Naming}
-use Rattle.machine_laws.proofs.Kept.Combinators.{Alters, Keeps}
 use Rattle.machine_laws.proofs.Kept.Masters.{found-other}
 use Rattle.machine_laws.proofs.Kept.Priorities.{ok-is}
+use Rattle.machine_laws.proofs.Kept.Combinators.{Alters, Keeps, branch-keeps, changes-keeps, for_some-keeps, keeps-from, looks-from, looks-keeps, nothing-keeps, sees-keeps, then-keeps, when-keeps}
 
 module _ {G : GoodWorld} {May Other : Naming} {R : StepRelation} {Q : MoveRelation} (moves : FineMoves G May Other R Q) where
   pub placed_anew-alters : (queuing : Queuing) (p : Image) (c : Call) (level : ℕ) → Alters G R (placed_anew queuing p c level)
@@ -51,64 +50,64 @@ module _ {G : GoodWorld} {May Other : Naming} {R : StepRelation} {Q : MoveRelati
 
   pub reprioritize-keeps : (p : Image) (level : ℕ) (c : Call) → Keeps G R (reprioritize p level c)
   unfolding reprioritize
-  reprioritize-keeps p level c = search (when-keeps, changes-keeps, edit_call-alters, then-keeps, placed_anew-alters) depth 6
+  reprioritize-keeps p level c = search (when-keeps, changes-keeps, edit_call-alters, then-keeps, placed_anew-alters, chains) depth 7
 
   pub reprioritize_own-keeps : (p : Image) (name : Who) (waiting : Waiting) → Keeps G R (reprioritize_own p name waiting)
   unfolding reprioritize_own
-  reprioritize_own-keeps p name waiting = search (looks-keeps, for_some-keeps, with_call-keeps, reprioritize-keeps)
+  reprioritize_own-keeps p name waiting = search (looks-keeps, for_some-keeps, with_call-keeps, reprioritize-keeps, chains)
 
   pub replace_in-keeps : (p : Image) (part : Part) (name : Who) (state : State) → May name → Keeps G R (replace_in p part name state)
   unfolding replace_in
-  replace_in-keeps p part name Made may = search (nothing-keeps)
+  replace_in-keeps p part name Made may = search (nothing-keeps, chains)
   replace_in-keeps p part name Runnable may = search (to_tail-keeps)
   replace_in-keeps p part name (Blocked waiting) may = search (reprioritize_own-keeps)
 
   pub says_base-keeps : (part : Part) (name : Who) (level : ℕ) → Keeps G R (says_base part name level)
   unfolding says_base
   says_base-keeps part (who.Task t) level = search (says-keeps)
-  says_base-keeps part who.Agent level = search (nothing-keeps)
+  says_base-keeps part who.Agent level = search (nothing-keeps, chains)
 
   pub set_base-keeps : (p : Image) (part placing : Part) (name : Who) (level : ℕ) → May name → Keeps G R (set_base p part placing name level)
   unfolding set_base
-  set_base-keeps p part placing name level may = search (changes-keeps, edit_task-alters, then-keeps, says_base-keeps, looks-keeps, replace_in-keeps) depth 6
+  set_base-keeps p part placing name level may = search (changes-keeps, edit_task-alters, then-keeps, says_base-keeps, looks-keeps, replace_in-keeps, chains) depth 7
 
   pub says_deadline-keeps : (part : Part) (name : Who) (d : ℤ) → Keeps G R (says_deadline part name d)
   unfolding says_deadline
   says_deadline-keeps part (who.Task t) d = search (says-keeps)
-  says_deadline-keeps part who.Agent d = search (nothing-keeps)
+  says_deadline-keeps part who.Agent d = search (nothing-keeps, chains)
 
   pub set_deadline-keeps : (p : Image) (part placing : Part) (name : Who) (d : ℤ) → May name → Keeps G R (set_deadline p part placing name d)
   unfolding set_deadline
-  set_deadline-keeps p part placing name d may = search (changes-keeps, edit_task-alters, then-keeps, says_deadline-keeps, looks-keeps, when-keeps, to_tail-keeps) depth 7
+  set_deadline-keeps p part placing name d may = search (changes-keeps, edit_task-alters, then-keeps, says_deadline-keeps, looks-keeps, when-keeps, to_tail-keeps, chains) depth 8
 
   pub take_base-keeps : (p : Image) (name : Who) (n : Option ℕ) → May name → Keeps G R (take_base p name n)
   unfolding take_base
-  take_base-keeps p name None may = search (nothing-keeps)
-  take_base-keeps p name (Some level) may = search (changes-keeps, edit_task-alters, then-keeps, set_base-keeps)
+  take_base-keeps p name None may = search (nothing-keeps, chains)
+  take_base-keeps p name (Some level) may = search (changes-keeps, edit_task-alters, then-keeps, set_base-keeps, chains)
 
   pub take_deadline-keeps : (p : Image) (name : Who) (moment : Option ℤ) → May name → Keeps G R (take_deadline p name moment)
   unfolding take_deadline
-  take_deadline-keeps p name None may = search (nothing-keeps)
-  take_deadline-keeps p name (Some d) may = search (changes-keeps, edit_task-alters, then-keeps, set_deadline-keeps)
+  take_deadline-keeps p name None may = search (nothing-keeps, chains)
+  take_deadline-keeps p name (Some d) may = search (changes-keeps, edit_task-alters, then-keeps, set_deadline-keeps, chains)
 
   pub set_deferred-keeps : (p : Image) (name : Who) → May name → Keeps G R (set_deferred p name)
   unfolding set_deferred
-  set_deferred-keeps p name may = search (looks-keeps, when-keeps, take_base-keeps, then-keeps, take_deadline-keeps)
+  set_deferred-keeps p name may = search (looks-keeps, when-keeps, take_base-keeps, then-keeps, take_deadline-keeps, chains)
 
   pub defer_base-keeps : (name : Who) (level : ℕ) → Keeps G R (defer_base name level)
   unfolding defer_base
-  defer_base-keeps name level = search (changes-keeps, edit_task-alters)
+  defer_base-keeps name level = search (changes-keeps, edit_task-alters, chains)
 
   pub set_or_defer_base-keeps : (p : Image) (actor name : Who) (level : ℕ) → May name → Keeps G R (set_or_defer_base p actor name level)
   unfolding set_or_defer_base
-  set_or_defer_base-keeps p actor name level may = looks-keeps moves _ (λ w. branch-keeps moves (in_protected w name) (defer_base name level) (set_base p (part_of actor name) (placing_of actor name) name level) (search (defer_base-keeps)) (search (set_base-keeps)))
+  set_or_defer_base-keeps p actor name level may = looks-keeps (chains moves) _ (λ w. branch-keeps (chains moves) (in_protected w name) (defer_base name level) (set_base p (part_of actor name) (placing_of actor name) name level) (search (defer_base-keeps)) (search (set_base-keeps)))
 
   pub set_base_of-keeps : (p : Image) (actor : Who) (s : StatementNo) (level : ℕ) (t : Option world.Task) → ((u : world.Task) → t ≡ Some u → May u.who) → Keeps G R (set_base_of p actor s level t)
   unfolding set_base_of
   set_base_of-keeps p actor s level None may = search (goes-keeps)
   set_base_of-keeps p actor s level (Some t) may =
       raise_if-keeps moves actor (is_edf_base p t.base || is_edf_base p level) exception.Program _
-      (then-keeps moves (goes actor (next_of p s)) _ (search (goes-keeps)) (set_or_defer_base-keeps p actor t.who level (may t refl)))
+      (then-keeps (chains moves) (goes actor (next_of p s)) _ (search (goes-keeps)) (set_or_defer_base-keeps p actor t.who level (may t refl)))
 
   -- a task that is live is in the list
   live_found-other : (found : Option world.Task) (u : world.Task) → ((v : world.Task) → found ≡ Some v → Other v.who) → elim found as (λ _. Valued world.Task) [ None ↦ Err exception.Tasking | Some v ↦ Ok v ] ≡ Ok u → Other u.who
@@ -126,44 +125,44 @@ module _ {G : GoodWorld} {May Other : Naming} {R : StepRelation} {Q : MoveRelati
   pub set_priority-keeps : (p : Image) (name : Who) (s : StatementNo) (e : ExprNo) (task : Option ExprNo) → Keeps G R (set_priority p name s e task)
   unfolding set_priority
   set_priority-keeps p name s e task =
-      looks-from moves _ (λ w good. let q = seen_by p w name in
+      looks-from (chains moves) _ (λ w good. let q = seen_by p w name in
       given-from moves Own name (optional_task q task >>= must_be_task) _ w good (λ t.
       given-from moves Own name (value q e >>= λ v. priority_in_range (interrupt_priority p) (whole_in v)) _ w good (λ level.
-      keeps-from moves _ w good
+      keeps-from (chains moves) _ w good
       (set_base_of-keeps p name s level (found_task (who.Task t) w.tasks) (λ u is. moves.other_may u.who (found-other Other (is_who (who.Task t)) w.tasks u (moves.listed w good) is))))))
 
   set_level-keeps : (level ticks : ℕ) → Keeps G R (changes (λ w. record w { quanta = edit_at level (λ _. ticks) w.quanta }))
   unfolding Alters
-  set_level-keeps level ticks = changes-keeps moves (λ w. record w { quanta = edit_at level (λ _. ticks) w.quanta }) (λ w good. moves.sets_quantum level ticks w good)
+  set_level-keeps level ticks = changes-keeps (chains moves) (λ w. record w { quanta = edit_at level (λ _. ticks) w.quanta }) (λ w good. moves.sets_quantum level ticks w good)
 
   pub set_quantum-keeps : (p : Image) (name : Who) (s : StatementNo) (level quantum : ExprNo) → Keeps G R (set_quantum p name s level quantum)
   unfolding set_quantum
   set_quantum-keeps p name s level quantum =
-      sees-keeps moves p name _ (λ q. given-keeps moves Own name (value q level) _ (λ v. given-keeps moves Own name (moment q quantum) _ (λ n.
+      sees-keeps (chains moves) p name _ (λ q. given-keeps moves Own name (value q level) _ (λ v. given-keeps moves Own name (moment q quantum) _ (λ n.
       given-keeps moves Own name (priority_in_range p.policies.last_priority (whole_in v)) _ (λ l. given-keeps moves Own name (quantum_of p l n) _ (λ ticks.
-      then-keeps moves (goes name (next_of p s)) _ (goes-keeps moves name (next_of p s)) (set_level-keeps l ticks))))))
+      then-keeps (chains moves) (goes name (next_of p s)) _ (goes-keeps moves name (next_of p s)) (set_level-keeps l ticks))))))
 
   pub defer_deadline-keeps : (name : Who) (d : ℤ) → Keeps G R (defer_deadline name d)
   unfolding defer_deadline
-  defer_deadline-keeps name d = search (changes-keeps, edit_task-alters)
+  defer_deadline-keeps name d = search (changes-keeps, edit_task-alters, chains)
 
   pub set_or_defer_deadline-keeps : (p : Image) (actor name : Who) (d : ℤ) → May name → Keeps G R (set_or_defer_deadline p actor name d)
   unfolding set_or_defer_deadline
-  set_or_defer_deadline-keeps p actor name d may = looks-keeps moves _ (λ w. branch-keeps moves (in_protected w name && has_edf p) (defer_deadline name d) (set_deadline p (part_of actor name) (placing_of actor name) name d) (search (defer_deadline-keeps)) (search (set_deadline-keeps)))
+  set_or_defer_deadline-keeps p actor name d may = looks-keeps (chains moves) _ (λ w. branch-keeps (chains moves) (in_protected w name && has_edf p) (defer_deadline name d) (set_deadline p (part_of actor name) (placing_of actor name) name d) (search (defer_deadline-keeps)) (search (set_deadline-keeps)))
 
   pub set_deadline_of-keeps : (p : Image) (name : Who) (s : StatementNo) (e : ExprNo) (task : Option ExprNo) → Keeps G R (set_deadline_of p name s e task)
   unfolding set_deadline_of
   set_deadline_of-keeps p name s e task =
-      looks-from moves _ (λ w good. let q = seen_by p w name in
+      looks-from (chains moves) _ (λ w good. let q = seen_by p w name in
       given_as-from moves Own name (optional_task q task >>= live_task w) _ w good (λ t is.
       given-from moves Own name (moment q e) _ w good (λ d.
-      keeps-from moves _ w good
-      (then-keeps moves (goes name (next_of p s)) _ (search (goes-keeps)) (set_or_defer_deadline-keeps p name t.who d (moves.other_may t.who (named-other w good (optional_task q task) t is)))))))
+      keeps-from (chains moves) _ w good
+      (then-keeps (chains moves) (goes name (next_of p s)) _ (search (goes-keeps)) (set_or_defer_deadline-keeps p name t.who d (moves.other_may t.who (named-other w good (optional_task q task) t is)))))))
 
   pub delay_with_deadline-keeps : (p : Image) (name : Who) (s : StatementNo) (until offset : ℤ) → Keeps G R (delay_with_deadline p name s until offset)
   unfolding delay_with_deadline
-  delay_with_deadline-keeps p name s until offset = search (goes-keeps, then-keeps, changes-keeps, edit_task-alters, says_deadline-keeps, delay_to-keeps) depth 6
+  delay_with_deadline-keeps p name s until offset = search (goes-keeps, then-keeps, changes-keeps, edit_task-alters, says_deadline-keeps, delay_to-keeps, chains) depth 7
 
   pub delay_and_set_deadline-keeps : (p : Image) (name : Who) (s : StatementNo) (until offset : ExprNo) → Keeps G R (delay_and_set_deadline p name s until offset)
   unfolding delay_and_set_deadline
-  delay_and_set_deadline-keeps p name s until offset = search (sees-keeps, raise_if-keeps, given-keeps, delay_with_deadline-keeps) depth 6
+  delay_and_set_deadline-keeps p name s until offset = search (sees-keeps, raise_if-keeps, given-keeps, delay_with_deadline-keeps, chains) depth 7

@@ -46,10 +46,9 @@ use Rattle.profile_machine.specs.Values.{object_of}
 use Rattle.profile_machine.specs.Serving.{serves_nothing, is_served_now, serve_ends, end_release, close_action, wait_or_unwind, wait_for_own, resume_own, behind_action, release_object, settle_sent, begins_part, chosen_is_sent, serve_chosen, serve_next, serve_calls, go_on_by_mode, end_operation, finish_raised, finish_well, finish_call, end_entry_body, end_in_protected_by, end_in_protected, keep_values, end_body_of_entry, part_of_start, with_body_left, no_longer_serves, not_left, outcome_by, is_own_call, may_open_abortable}
 use Rattle.std.proofs.Common.{◌≡◌, refl, sym, subst, ap, ◌∙◌}
 use Rattle.machine_laws.proofs.Moves.{StepRelation, MoveRelation, own}
-use Rattle.world_laws.proofs.Marks.FineMoves.{FineMoves, RegionMoves}
+use Rattle.world_laws.proofs.Marks.FineMoves.{FineMoves, RegionMoves, chains, says-keeps}
 use Rattle.machine_laws.proofs.FinestMoves.{natures, action_first}
 use Rattle.line_laws.proofs.Exits.Steady.{FreeIn}
-use Rattle.world_laws.proofs.Marks.Kept.Combinators.{then-kept, looks_at-from, either-from, changes-keeps, keeps-from, looks-from, looks-keeps, then-from, nothing-keeps, says-keeps, then-keeps, when-keeps}
 use Rattle.world_laws.proofs.Marks.Kept.Dispatching.{block-keeps}
 use Rattle.world_laws.proofs.Marks.Kept.Frames.{leaves-keeps, pass_on-keeps}
 use Rattle.world_laws.proofs.Marks.Kept.Tasks.{edit_top-alters}
@@ -60,8 +59,8 @@ use Rattle.world_laws.proofs.Marks.Kept.Protected.{edit_top_protected-alters, be
 use Rattle.world_laws.proofs.Marks.Kept.Priorities.{set_deferred-keeps}
 use Rattle.world_laws.proofs.Marks.Kept.Sending.{open_abortable-alters, wait_for_call-keeps, send_on-keeps, begin_abortable-keeps, sent_not_begun-keeps}
 use Rattle.machine_laws.proofs.FineMoves.{GoodWorld, Naming}
-use Rattle.machine_laws.proofs.Kept.Combinators.{From, Keeps, Kept, world_behind}
 use Rattle.machine_laws.proofs.Kept.Serving.{keeps_sending-number}
+use Rattle.machine_laws.proofs.Kept.Combinators.{From, Keeps, Kept, changes-keeps, either-from, keeps-from, looks-from, looks-keeps, looks_at-from, nothing-keeps, then-from, then-keeps, then-kept, when-keeps, world_behind}
 
 -- ---- the agent has served a release
 
@@ -75,18 +74,18 @@ module _ {G : GoodWorld} {R : StepRelation} {Q : MoveRelation} (moves : RegionMo
   serve_ends-from : (r : Release) (n : ℕ) (w : World) → G w → w.serving ≡ Some r → n ≡ r.number → From R w (serve_ends n)
   unfolding serve_ends
   serve_ends-from r n w good is e =
-      then-from moves.fine (says Own (line.Served n) ▷ changes serves_nothing) (looks (λ v. when (is_empty v.releases) (block TheBlock who.Agent waits_for.Release))) w
+      then-from (chains moves.fine) (says Own (line.Served n) ▷ changes serves_nothing) (looks (λ v. when (is_empty v.releases) (block TheBlock who.Agent waits_for.Release))) w
       (told_served-from r n w good is e)
-      (looks-keeps moves.fine _ (λ v. when-keeps moves.fine (is_empty v.releases) _ (block-keeps moves.fine TheBlock who.Agent waits_for.Release tt refl)))
+      (looks-keeps (chains moves.fine) _ (λ v. when-keeps (chains moves.fine) (is_empty v.releases) _ (block-keeps moves.fine TheBlock who.Agent waits_for.Release tt refl)))
 
   end_served-from : (n : ℕ) (w : World) (serving : Option Release) (test : Bool) → G w → w.serving ≡ serving → is_served_now n serving ≡ test → From R w (when test (serve_ends n))
   end_served-from n w None true good is e = cc
   end_served-from n w (Some r) true good is e = serve_ends-from r n w good is (eqb-true n r.number e)
-  end_served-from n w serving false good is e = keeps-from moves.fine nothing w good (nothing-keeps moves.fine)
+  end_served-from n w serving false good is e = keeps-from (chains moves.fine) nothing w good (nothing-keeps (chains moves.fine))
 
   pub end_release-keeps : (n : ℕ) → Keeps G R (end_release n)
   unfolding end_release
-  end_release-keeps n = looks-from moves.fine _ (λ w good. end_served-from n w w.serving (is_served_now n w.serving) good refl refl)
+  end_release-keeps n = looks-from (chains moves.fine) _ (λ w good. end_served-from n w w.serving (is_served_now n w.serving) good refl refl)
 
 -- ---- a protected action goes on and ends: whose it is waits for no entry call, and has it on top up to its end
 
@@ -98,18 +97,18 @@ module _ {G : GoodWorld} {R : StepRelation} {Q : MoveRelation} (moves : RegionMo
   -- a step that leaves it there, and what is done behind it
   kept_then : (me : Who) (o : ObjectNo) (g : Step) (w : World) (said : List Said) (d : Done) → Kept R w said d → Holds action_on_top me o (world_behind d) → ((v : World) → Held me o v → From R v g) → Kept R w said (goes_on_with g d)
   unfolding From Kept
-  kept_then me o g w said (done v ys) a h k = then-kept moves.fine w v said ys (g v ys) a (k v (moves.fine.behind w v a.2, h) ys)
+  kept_then me o g w said (done v ys) a h k = then-kept (chains moves.fine) w v said ys (g v ys) a (k v (moves.fine.behind w v a.2, h) ys)
 
   step_then : (me : Who) (o : ObjectNo) (f g : Step) (w : World) → Held me o w → Keeps G R f → Steady action_on_top me o f → ((v : World) → Held me o v → From R v g) → From R w (f ▷ g)
   unfolding From Keeps Steady
   step_then me o f g w h a b k said = kept_then me o g w said (f w said) (a w h.0 said) (b w h.1 said) k
 
   some_from : {X : Type 0} (x : Option X) (f : X → Step) (w : World) → G w → ((y : X) → From R w (f y)) → From R w (for_some x f)
-  some_from None f w good k = keeps-from moves.fine nothing w good (nothing-keeps moves.fine)
+  some_from None f w good k = keeps-from (chains moves.fine) nothing w good (nothing-keeps (chains moves.fine))
   some_from (Some x) f w good k = k x
 
   call_then : (me : Who) (o : ObjectNo) (c : CallNo) (f : Call → Step) (w : World) → Held me o w → ((d : Call) → From R w (f d)) → From R w (with_call c f)
-  call_then me o c f w h k = looks_at-from moves.fine (λ v. for_some (call_of v c) f) w (some_from (call_of w c) f w h.0 k)
+  call_then me o c f w h k = looks_at-from (chains moves.fine) (λ v. for_some (call_of v c) f) w (some_from (call_of w c) f w h.0 k)
 
   told_exit-from : (name : Who) (m : ProtectedMark) (w : World) → Held name m.object w → From R w (says Own (line.Exit name m.object) ▷ changes (pop name) ▷ changes (close_action name m.object))
   unfolding From Kept
@@ -119,18 +118,18 @@ module _ {G : GoodWorld} {R : StepRelation} {Q : MoveRelation} (moves : RegionMo
   wait_or_unwind-keeps : (p : Image) (name : Who) (c : Call) (test : Bool) → Keeps G R (wait_or_unwind p name c test)
   unfolding wait_or_unwind
   wait_or_unwind-keeps p name c true =
-      attempt_with-keeps moves.fine p Own c _ _ (then-keeps moves.fine _ _ (changes-keeps moves.fine _ (forget_call-alters moves.fine c.number)) (leaves-keeps moves.fine name how.Abort)) (wait_for_call-keeps moves.fine c)
+      attempt_with-keeps moves.fine p Own c _ _ (then-keeps (chains moves.fine) _ _ (changes-keeps (chains moves.fine) _ (forget_call-alters moves.fine c.number)) (leaves-keeps moves.fine name how.Abort)) (wait_for_call-keeps moves.fine c)
   wait_or_unwind-keeps p name c false = wait_for_call-keeps moves.fine c
 
   wait_for_own-keeps : (p : Image) (name : Who) (c : Call) (test : Bool) → Keeps G R (wait_for_own p name c test)
   unfolding wait_for_own
-  wait_for_own-keeps p name c true = changes-keeps moves.fine _ (open_abortable-alters moves.fine p (who.Task c.caller) c.statement c.number tt)
-  wait_for_own-keeps p name c false = looks-keeps moves.fine _ (λ w. wait_or_unwind-keeps p name c (may_unwind (frames_of w name)))
+  wait_for_own-keeps p name c true = changes-keeps (chains moves.fine) _ (open_abortable-alters moves.fine p (who.Task c.caller) c.statement c.number tt)
+  wait_for_own-keeps p name c false = looks-keeps (chains moves.fine) _ (λ w. wait_or_unwind-keeps p name c (may_unwind (frames_of w name)))
 
   resume_own-keeps : (p : Image) (name : Who) (c : Call) (outcome : Option Outcome) → Keeps G R (resume_own p name c outcome)
   unfolding resume_own
   resume_own-keeps p name c (Some outcome) = resume-keeps moves.fine p TheBlock c outcome
-  resume_own-keeps p name c None = looks-keeps moves.fine _ (λ w. wait_for_own-keeps p name c (may_open_abortable w name c))
+  resume_own-keeps p name c None = looks-keeps (chains moves.fine) _ (λ w. wait_for_own-keeps p name c (may_open_abortable w name c))
 
   behind_action-keeps : (p : Image) (name : Who) (m : ProtectedMark) (n : Option ℕ) (c : Option CallNo) → Keeps G R (behind_action p name m n c)
   unfolding behind_action
@@ -141,21 +140,21 @@ module _ {G : GoodWorld} {R : StepRelation} {Q : MoveRelation} (moves : RegionMo
   release_object-from : (p : Image) (name : Who) (m : ProtectedMark) (w : World) → Held name m.object w → From R w (release_object p name m)
   unfolding release_object
   release_object-from p name m w h =
-      then-from moves.fine (says Own (line.Exit name m.object) ▷ changes (pop name) ▷ changes (close_action name m.object)) (lose_running p name (inherited_by.Ceiling m.object) ▷ set_deferred p name ▷ behind_action p name m m.release m.own_call) w
+      then-from (chains moves.fine) (says Own (line.Exit name m.object) ▷ changes (pop name) ▷ changes (close_action name m.object)) (lose_running p name (inherited_by.Ceiling m.object) ▷ set_deferred p name ▷ behind_action p name m m.release m.own_call) w
       (told_exit-from name m w h)
-      (then-keeps moves.fine _ _ (lose_running-keeps moves.fine p name (inherited_by.Ceiling m.object) tt)
-      (then-keeps moves.fine _ _ (set_deferred-keeps moves.fine p name tt) (behind_action-keeps p name m m.release m.own_call)))
+      (then-keeps (chains moves.fine) _ _ (lose_running-keeps moves.fine p name (inherited_by.Ceiling m.object) tt)
+      (then-keeps (chains moves.fine) _ _ (set_deferred-keeps moves.fine p name tt) (behind_action-keeps p name m m.release m.own_call)))
 
   settle_sent-keeps : (p : Image) (c : Option CallNo) (test : Bool) → Keeps G R (settle_sent p c test)
   unfolding settle_sent
-  settle_sent-keeps p None is_served = nothing-keeps moves.fine
-  settle_sent-keeps p (Some c) true = nothing-keeps moves.fine
+  settle_sent-keeps p None is_served = nothing-keeps (chains moves.fine)
+  settle_sent-keeps p (Some c) true = nothing-keeps (chains moves.fine)
   settle_sent-keeps p (Some c) false = sent_not_begun-keeps moves.fine p c
 
   begins_part-keeps : (p : Image) (test : Bool) (c : CallNo) → Keeps G R (begins_part p test c)
   unfolding begins_part
   begins_part-keeps p true c = begin_abortable-keeps moves.fine p c
-  begins_part-keeps p false c = nothing-keeps moves.fine
+  begins_part-keeps p false c = nothing-keeps (chains moves.fine)
 
   -- queued calls are served, and then the object is released
   module _ (p : Image) (name : Who) (m : ProtectedMark) where
@@ -165,10 +164,10 @@ module _ {G : GoodWorld} {R : StepRelation} {Q : MoveRelation} (moves : RegionMo
         let part = part_of_start is_sent in
         let otherwise = deliver p part c (call_ended.ToRaise exception.Storage) ▷ again in
         let by_room = λ (b : Bool). elim b as (λ _. Step) [ true ↦ body_opens p name m.object d ▷ begins_part p is_sent c | false ↦ says part (line.Finish name d.number (meeting.Raised exception.Storage)) ▷ otherwise ] in
-        looks_at-from moves.fine (λ v. begin_call p part name d ▷ by_room (has_room_for_body p v name d.entry)) w
+        looks_at-from (chains moves.fine) (λ v. begin_call p part name d ▷ by_room (has_room_for_body p v name d.entry)) w
         (step_then name m.object (begin_call p part name d) (by_room (has_room_for_body p w name d.entry)) w h (begin_call-keeps moves.fine p part name d) (begin_call-steady action_on_top name m.object p part name d)
-        (λ v k. either-from moves.fine (has_room_for_body p w name d.entry) (body_opens p name m.object d ▷ begins_part p is_sent c) (says part (line.Finish name d.number (meeting.Raised exception.Storage)) ▷ otherwise) v
-        (keeps-from moves.fine _ v k.0 (then-keeps moves.fine _ _ (body_opens-keeps moves.fine moves.openings p name m.object d tt) (begins_part-keeps p is_sent c)))
+        (λ v k. either-from (chains moves.fine) (has_room_for_body p w name d.entry) (body_opens p name m.object d ▷ begins_part p is_sent c) (says part (line.Finish name d.number (meeting.Raised exception.Storage)) ▷ otherwise) v
+        (keeps-from (chains moves.fine) _ v k.0 (then-keeps (chains moves.fine) _ _ (body_opens-keeps moves.fine moves.openings p name m.object d tt) (begins_part-keeps p is_sent c)))
         (step_then name m.object (says part (line.Finish name d.number (meeting.Raised exception.Storage))) otherwise v k (says-keeps moves.fine part (line.Finish name d.number (meeting.Raised exception.Storage)) refl) (says-steady action_on_top name m.object part _)
         (λ u l. step_then name m.object (deliver p part c (call_ended.ToRaise exception.Storage)) again u l (deliver-keeps moves.fine p part c (call_ended.ToRaise exception.Storage)) (deliver-steady action_on_top name m.object p part c (call_ended.ToRaise exception.Storage)) onward))))
 
@@ -181,13 +180,13 @@ module _ {G : GoodWorld} {R : StepRelation} {Q : MoveRelation} (moves : RegionMo
     serve_next-from zero sent w h = release_object-from p name m w h
     serve_next-from (suc fuel) sent w h =
         let chosen = λ (v : World). served_next p v name (object_of v m.object) in
-        looks_at-from moves.fine (λ v. settle_sent p sent (chosen_is_sent sent (chosen v)) ▷ serve_chosen p name m (chosen_is_sent sent (chosen v)) (serve_next fuel p name m None) (chosen v)) w
+        looks_at-from (chains moves.fine) (λ v. settle_sent p sent (chosen_is_sent sent (chosen v)) ▷ serve_chosen p name m (chosen_is_sent sent (chosen v)) (serve_next fuel p name m None) (chosen v)) w
         (step_then name m.object (settle_sent p sent (chosen_is_sent sent (chosen w))) _ w h (settle_sent-keeps p sent (chosen_is_sent sent (chosen w))) (settle_sent-steady action_on_top name m.object p sent (chosen_is_sent sent (chosen w)))
         (λ v k. serve_chosen-from (chosen_is_sent sent (chosen w)) (serve_next fuel p name m None) (chosen w) v (λ u l. serve_next-from fuel None u l) k))
 
     serve_calls-from : (sent : Option CallNo) (w : World) → Held name m.object w → From R w (serve_calls p name m sent)
     unfolding serve_calls
-    serve_calls-from sent w h = looks_at-from moves.fine (λ v. serve_next (suc (length v.calls)) p name m sent) w (serve_next-from (suc (length w.calls)) sent w h)
+    serve_calls-from sent w h = looks_at-from (chains moves.fine) (λ v. serve_next (suc (length v.calls)) p name m sent) w (serve_next-from (suc (length w.calls)) sent w h)
 
     by_mode-from : (mode : Mode) (w : World) → Held name m.object w → From R w (go_on_by_mode p name m mode)
     unfolding go_on_by_mode
@@ -227,8 +226,8 @@ module _ {G : GoodWorld} {R : StepRelation} {Q : MoveRelation} (moves : RegionMo
     edits_then : (f : ProtectedMark → ProtectedMark) (g : Step) (w : World) → ((x : ProtectedMark) → (f x).release ≡ x.release) → ((x : ProtectedMark) → (f x).object ≡ x.object) → Held name m.object w → ((v : World) → Held name m.object v → From R v g)
         → From R w (changes (edit_top_protected name f) ▷ changes (edit_top name not_left) ▷ g)
     edits_then f g w same alike h onward =
-        step_then name m.object (changes (edit_top_protected name f)) _ w h (changes-keeps moves.fine _ (edit_top_protected-alters moves.fine name f same alike)) (changes-steady action_on_top name m.object _ (edit_top_protected-spares action_on_top name m.object name f (λ k. protected-nature f same alike (InProtected k))))
-        (λ v k. step_then name m.object (changes (edit_top name not_left)) g v k (changes-keeps moves.fine _ (edit_top-alters moves.fine name not_left (λ x. refl) (λ x. refl))) (changes-steady action_on_top name m.object _ (edit_top-spares action_on_top name m.object name not_left (λ x. refl))) onward)
+        step_then name m.object (changes (edit_top_protected name f)) _ w h (changes-keeps (chains moves.fine) _ (edit_top_protected-alters moves.fine name f same alike)) (changes-steady action_on_top name m.object _ (edit_top_protected-spares action_on_top name m.object name f (λ k. protected-nature f same alike (InProtected k))))
+        (λ v k. step_then name m.object (changes (edit_top name not_left)) g v k (changes-keeps (chains moves.fine) _ (edit_top-alters moves.fine name not_left (λ x. refl) (λ x. refl))) (changes-steady action_on_top name m.object _ (edit_top-spares action_on_top name m.object name not_left (λ x. refl))) onward)
 
     operation-from : (w : World) → Held name m.object w → From R w (end_operation p name m leaving)
     unfolding end_operation
@@ -254,8 +253,8 @@ module _ {G : GoodWorld} {R : StepRelation} {Q : MoveRelation} (moves : RegionMo
 module _ {G : GoodWorld} {May Other : Naming} {R : StepRelation} {Q : MoveRelation} (moves : FineMoves G May Other R Q) where
   pub keep_values-keeps : (p : Image) (c : CallNo) (cells : List Value) → Keeps G R (keep_values p c cells)
   unfolding keep_values
-  keep_values-keeps p c cells = search (with_call-keeps, changes-keeps, edit_call-alters)
+  keep_values-keeps p c cells = search (with_call-keeps, changes-keeps, edit_call-alters, chains)
 
   pub end_body_of_entry-keeps : (p : Image) (c : CallNo) (cells : List Value) (leaving : Leaving) → Keeps G R (end_body_of_entry p c cells leaving)
   unfolding end_body_of_entry
-  end_body_of_entry-keeps p c cells leaving = search (changes-keeps, edit_call-alters, then-keeps, keep_values-keeps, keeps_sending-number)
+  end_body_of_entry-keeps p c cells leaving = search (changes-keeps, edit_call-alters, then-keeps, keep_values-keeps, keeps_sending-number, chains)

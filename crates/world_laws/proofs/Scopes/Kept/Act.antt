@@ -25,8 +25,7 @@ use Rattle.profile_machine.specs.Frames.{frames_of, top_of, pop, is_protected}
 use Rattle.profile_machine.specs.Calls.{with_call, attempt_with}
 use Rattle.profile_machine.specs.Act.{call_main, call, handle_or_pass, behind_handled, end_handled, end_top, wait_for_trigger, drop_trigger, below, end_abortable_by, end_in_abortable, act_statement, keeping, waiting_mark}
 use Rattle.machine_laws.proofs.Moves.{StepRelation, MoveRelation}
-use Rattle.world_laws.proofs.Scopes.FineMoves.{FineMoves, Openings, nature}
-use Rattle.world_laws.proofs.Scopes.Kept.Combinators.{Keeps, changes-keeps, cond-keeps, looks-keeps, nothing-keeps, option-keeps, sees-keeps, then-keeps, unchanged-alters, From, keeps-from, changes_then-from}
+use Rattle.world_laws.proofs.Scopes.FineMoves.{FineMoves, Openings, nature, chains}
 use Rattle.world_laws.proofs.Scopes.Kept.Dispatching.{block-keeps}
 use Rattle.world_laws.proofs.Scopes.Kept.Frames.{edit_top-alters, goes-keeps, raises-keeps, pass_on-keeps, with_room-keeps, popped}
 use Rattle.world_laws.proofs.Scopes.Kept.Scopes.{open_scope-alters}
@@ -49,7 +48,7 @@ use Rattle.profile_machine.specs.Scopes.{id_in}
 use Rattle.profile_machine.specs.Tasking.{activate, abort_statement}
 use Rattle.profile_machine.specs.declared.numbers.DeclNo.{DeclNo}
 use Rattle.machine_laws.proofs.FineMoves.{Anybody, GoodWorld, Naming}
-use Rattle.machine_laws.proofs.Kept.Combinators.{Alters}
+use Rattle.machine_laws.proofs.Kept.Combinators.{Alters, From, Keeps, changes-keeps, changes_then-from, cond-keeps, keeps-from, looks-keeps, nothing-keeps, option-keeps, sees-keeps, then-keeps, unchanged-alters}
 
 -- a mark that keeps an exception is what it was
 keeping-nature : (e : Raised) (mark : Mark) → nature (keeping e mark) ≡ nature mark
@@ -74,12 +73,12 @@ module _ {G : GoodWorld} {May Other : Naming} {R : StepRelation} {Q : MoveRelati
   pub handle_or_pass-keeps : (p : Image) (name : Who) (e : Raised) (next : Option StatementNo) → Keeps G R (handle_or_pass p name e next)
   unfolding handle_or_pass
   handle_or_pass-keeps p name e None = search (pass_on-keeps)
-  handle_or_pass-keeps p name e (Some first) = search (changes-keeps, edit_top-alters, keeping-nature, then-keeps, goes-keeps)
+  handle_or_pass-keeps p name e (Some first) = search (changes-keeps, edit_top-alters, keeping-nature, then-keeps, goes-keeps, chains)
 
   pub behind_handled-keeps : (p : Image) (name : Who) (s : StatementNo) (leaving : Leaving) → Keeps G R (behind_handled p name s leaving)
   unfolding behind_handled
   behind_handled-keeps p name s (how.Exception e) = search (handle_or_pass-keeps)
-  behind_handled-keeps p name s how.End = search (nothing-keeps)
+  behind_handled-keeps p name s how.End = search (nothing-keeps, chains)
   behind_handled-keeps p name s how.Return = search (pass_on-keeps)
   behind_handled-keeps p name s (how.Exit loop) = search (pass_on-keeps)
   behind_handled-keeps p name s how.Abort = search (pass_on-keeps)
@@ -89,7 +88,7 @@ module _ {G : GoodWorld} {May Other : Naming} {R : StepRelation} {Q : MoveRelati
   unfolding end_handled
   end_handled-from p name s leaving f w good may top free none =
       let out = popped moves name f w good may top free none in
-      changes_then-from moves (pop name) _ w out (keeps-from moves (behind_handled p name s leaving) (pop name w) (moves.behind w (pop name w) out) (behind_handled-keeps p name s leaving))
+      changes_then-from (chains moves) (pop name) _ w out (keeps-from (chains moves) (behind_handled p name s leaving) (pop name w) (moves.behind w (pop name w) out) (behind_handled-keeps p name s leaving))
 
   pub end_top-keeps : (p : Image) (name : Who) → May name → Keeps G R (end_top p name)
   unfolding end_top
@@ -97,24 +96,24 @@ module _ {G : GoodWorld} {May Other : Naming} {R : StepRelation} {Q : MoveRelati
 
   pub wait_for_trigger-keeps : (name : Who) (c : Call) (leaving : Leaving) → Other name → Keeps G R (wait_for_trigger name c leaving)
   unfolding wait_for_trigger
-  wait_for_trigger-keeps name c leaving other = search (changes-keeps, edit_top-alters, waiting-nature, then-keeps, block-keeps)
+  wait_for_trigger-keeps name c leaving other = search (changes-keeps, edit_top-alters, waiting-nature, then-keeps, block-keeps, chains)
 
   pub drop_trigger-alters : (name : Who) (depth : ℕ) → Alters G R (drop_trigger name depth)
   drop_trigger-alters (who.Task t) depth = search (drop_appointment-alters)
-  drop_trigger-alters who.Agent depth = search (unchanged-alters)
+  drop_trigger-alters who.Agent depth = search (unchanged-alters, chains)
 
   pub end_abortable_by-keeps : (p : Image) (name : Who) (m : AbortableMark) (leaving : Leaving) → Other name → Keeps G R (end_abortable_by p name m leaving)
   unfolding end_abortable_by
-  end_abortable_by-keeps p name m leaving other = option-keeps moves m.call (looks (λ w. changes (drop_trigger name (below (frames_of w name)))) ▷ end_top p name) (λ c. with_call c (λ d. attempt_with p Own d (end_top p name) (wait_for_trigger name d leaving))) (search (looks-keeps, changes-keeps, drop_trigger-alters, then-keeps, end_top-keeps, moves.other_may)) (λ c. search (with_call-keeps, attempt_with-keeps, end_top-keeps, wait_for_trigger-keeps, moves.other_may))
+  end_abortable_by-keeps p name m leaving other = option-keeps (chains moves) m.call (looks (λ w. changes (drop_trigger name (below (frames_of w name)))) ▷ end_top p name) (λ c. with_call c (λ d. attempt_with p Own d (end_top p name) (wait_for_trigger name d leaving))) (search (looks-keeps, changes-keeps, drop_trigger-alters, then-keeps, end_top-keeps, moves.other_may, chains)) (λ c. search (with_call-keeps, attempt_with-keeps, end_top-keeps, wait_for_trigger-keeps, moves.other_may))
 
   pub end_in_abortable-keeps : (p : Image) (name : Who) (m : AbortableMark) (leaving : Leaving) → Other name → Keeps G R (end_in_abortable p name m leaving)
   unfolding end_in_abortable
-  end_in_abortable-keeps p name m leaving other = search (cond-keeps, end_top-keeps, end_abortable_by-keeps, moves.other_may)
+  end_in_abortable-keeps p name m leaving other = search (cond-keeps, end_top-keeps, end_abortable_by-keeps, moves.other_may, chains)
 
 module _ {G : GoodWorld} {Acts : Naming} {R : StepRelation} {Q : MoveRelation} (moves : FineMoves G Anybody Anybody R Q) (openings : Openings G Acts R) where
   pub call_main-keeps : (p : Image) (name : Who) (s : StatementNo) → Acts name → Keeps G R (call_main p name s)
   unfolding call_main
-  call_main-keeps p name s acts = search (with_room-keeps, goes-keeps, then-keeps, looks-keeps, changes-keeps, open_scope-alters)
+  call_main-keeps p name s acts = search (with_room-keeps, goes-keeps, then-keeps, looks-keeps, changes-keeps, open_scope-alters, chains)
 
   pub call-keeps : (p : Image) (name : Who) (s : StatementNo) (callee : Callee) (actuals : List Actual) (to : Destination) → Acts name → Keeps G R (call p name s callee actuals to)
   unfolding call
@@ -131,7 +130,7 @@ module _ {G : GoodWorld} {Acts : Naming} {R : StepRelation} {Q : MoveRelation} (
   act_statement-keeps p name s (form.Activate part) acts = groups.activates p name s part acts
   act_statement-keeps p name s form.EndActivation acts = search (end_own_activation-keeps)
   act_statement-keeps p name s form.CallMain acts = search (call_main-keeps)
-  act_statement-keeps p name s (form.Handled handlers first) acts = search (nothing-keeps)
+  act_statement-keeps p name s (form.Handled handlers first) acts = search (nothing-keeps, chains)
   act_statement-keeps p name s form.Null acts = search (null-keeps)
   act_statement-keeps p name s (form.Assign target e) acts = search (assign-keeps)
   act_statement-keeps p name s (form.AssignArray target source) acts = search (assign_array-keeps)
@@ -149,8 +148,8 @@ module _ {G : GoodWorld} {Acts : Naming} {R : StepRelation} {Q : MoveRelation} (
   act_statement-keeps p name s (form.ReturnValue function e) acts = search (return_value-keeps)
   act_statement-keeps p name s (form.Raise e) acts = search (raises-keeps)
   act_statement-keeps p name s (form.RaiseAgain scope) acts = search (raise_again-keeps)
-  act_statement-keeps p name s (form.Delay e) acts = search (sees-keeps, delay_until-keeps)
-  act_statement-keeps p name s (form.DelayUntil e) acts = search (sees-keeps, delay_until-keeps)
+  act_statement-keeps p name s (form.Delay e) acts = search (sees-keeps, delay_until-keeps, chains)
+  act_statement-keeps p name s (form.DelayUntil e) acts = search (sees-keeps, delay_until-keeps, chains)
   act_statement-keeps p name s (form.Call callee actuals to) acts = search (call-keeps)
   act_statement-keeps p name s (form.PutLine pieces) acts = search (put_line-keeps)
   act_statement-keeps p name s (form.EntryCall entry owner actuals) acts = search (entry_call-keeps)

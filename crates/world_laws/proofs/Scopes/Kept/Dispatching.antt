@@ -13,12 +13,11 @@ use Rattle.profile_machine.specs.Tasks.{task_of, edit_task, with_state}
 use Rattle.profile_machine.specs.Dispatching.{active, level_kept_by, keep_level, deadline_shown, says_ready, granted, grant_quantum, to_tail, to_head, ready, word_of, says_block, block, without_kept_level}
 use Rattle.std.proofs.Common.{refl}
 use Rattle.machine_laws.proofs.Moves.{StepRelation, MoveRelation}
-use Rattle.world_laws.proofs.Scopes.FineMoves.{FineMoves}
-use Rattle.world_laws.proofs.Scopes.Kept.Combinators.{Keeps, changes-keeps, from-keeps, said-from, said-keeps, then-keeps, looks_at-from}
+use Rattle.world_laws.proofs.Scopes.FineMoves.{FineMoves, chains}
 use Rattle.world_laws.proofs.Scopes.Kept.Tasks.{edit_task-alters}
 use Rattle.machine_laws.proofs.FineMoves.{GoodWorld, Naming}
-use Rattle.machine_laws.proofs.Kept.Combinators.{Alters}
 use Rattle.machine_laws.proofs.Kept.Dispatching.{full_quantum-frames, full_quantum-master, full_quantum-state, full_quantum-who}
+use Rattle.machine_laws.proofs.Kept.Combinators.{Alters, Keeps, changes-keeps, from-keeps, looks_at-from, said-from, said-keeps, then-keeps}
 
 module _ {G : GoodWorld} {May Other : Naming} {R : StepRelation} {Q : MoveRelation} (moves : FineMoves G May Other R Q) where
   pub keep_level-alters : (p : Image) (name : Who) → Alters G R (keep_level p name)
@@ -28,7 +27,7 @@ module _ {G : GoodWorld} {May Other : Naming} {R : StepRelation} {Q : MoveRelati
   pub says_ready-keeps : (p : Image) (part : Part) (name : Who) (end : QueueEnd) → May name → Keeps G R (says_ready p part name end)
   unfolding says_ready
   says_ready-keeps p part name end may =
-      from-keeps moves _ (λ w good. looks_at-from moves (λ v. says part (line.Ready name (active p (task_of v name)) end (deadline_shown p (task_of v name)))) w (said-from moves part (line.Ready name (active p (task_of w name)) end (deadline_shown p (task_of w name))) w (moves.places p part name end w good may)))
+      from-keeps (chains moves) _ (λ w good. looks_at-from (chains moves) (λ v. says part (line.Ready name (active p (task_of v name)) end (deadline_shown p (task_of v name)))) w (said-from (chains moves) part (line.Ready name (active p (task_of w name)) end (deadline_shown p (task_of w name))) w (moves.places p part name end w good may)))
 
   pub grant_quantum-alters : (p : Image) (name : Who) → Alters G R (grant_quantum p name)
   unfolding Alters
@@ -41,7 +40,7 @@ module _ {G : GoodWorld} {May Other : Naming} {R : StepRelation} {Q : MoveRelati
 
   pub to_tail-keeps : (p : Image) (part : Part) (name : Who) → May name → Keeps G R (to_tail p part name)
   unfolding to_tail
-  to_tail-keeps p part name may = search (changes-keeps, grant_quantum-alters, then-keeps, says_ready-keeps)
+  to_tail-keeps p part name may = search (changes-keeps, grant_quantum-alters, then-keeps, says_ready-keeps, chains)
 
   pub to_head-keeps : (p : Image) (part : Part) (name : Who) → May name → Keeps G R (to_head p part name)
   unfolding to_head
@@ -54,28 +53,28 @@ module _ {G : GoodWorld} {May Other : Naming} {R : StepRelation} {Q : MoveRelati
   with_runnable-alters name other w good = moves.readies name w good other
 
   pub runnable-keeps : (name : Who) → Other name → Keeps G R (changes (edit_task name (with_state Runnable)))
-  runnable-keeps name other = changes-keeps moves (edit_task name (with_state Runnable)) (with_runnable-alters name other)
+  runnable-keeps name other = changes-keeps (chains moves) (edit_task name (with_state Runnable)) (with_runnable-alters name other)
 
   with_blocked-alters : (name : Who) (waiting : Waiting) → Other name → Alters G R (edit_task name (with_state (Blocked waiting)))
   unfolding Alters
   with_blocked-alters name waiting other w good = moves.blocks name waiting w good other
 
   pub blocked-keeps : (name : Who) (waiting : Waiting) → Other name → Keeps G R (changes (edit_task name (with_state (Blocked waiting))))
-  blocked-keeps name waiting other = changes-keeps moves (edit_task name (with_state (Blocked waiting))) (with_blocked-alters name waiting other)
+  blocked-keeps name waiting other = changes-keeps (chains moves) (edit_task name (with_state (Blocked waiting))) (with_blocked-alters name waiting other)
 
   pub ready-keeps : (p : Image) (part : Part) (name : Who) → Other name → Keeps G R (ready p part name)
   unfolding ready
   ready-keeps p part name other =
-      then-keeps moves (changes (edit_task name (with_state Runnable))) (changes (keep_level p name) ▷ to_tail p part name) (runnable-keeps name other)
-      (search (changes-keeps, then-keeps, keep_level-alters, to_tail-keeps, moves.other_may))
+      then-keeps (chains moves) (changes (edit_task name (with_state Runnable))) (changes (keep_level p name) ▷ to_tail p part name) (runnable-keeps name other)
+      (search (changes-keeps, then-keeps, keep_level-alters, to_tail-keeps, moves.other_may, chains))
 
   pub says_block-keeps : (part : Part) (name : Who) (waiting : Waiting) → Other name → Keeps G R (says_block part name waiting)
   unfolding says_block
   says_block-keeps part name waiting other =
-      then-keeps moves (changes (edit_task name without_kept_level)) (says part (line.Block name (word_of waiting))) (search (changes-keeps, edit_task-alters))
-      (said-keeps moves part (line.Block name (word_of waiting)) (λ w good. moves.says_blocked part name waiting w good other))
+      then-keeps (chains moves) (changes (edit_task name without_kept_level)) (says part (line.Block name (word_of waiting))) (search (changes-keeps, edit_task-alters, chains))
+      (said-keeps (chains moves) part (line.Block name (word_of waiting)) (λ w good. moves.says_blocked part name waiting w good other))
 
   pub block-keeps : (part : Part) (name : Who) (waiting : Waiting) → Other name → Keeps G R (block part name waiting)
   unfolding block
   block-keeps part name waiting other =
-      then-keeps moves (changes (edit_task name (with_state (Blocked waiting)))) (says_block part name waiting) (blocked-keeps name waiting other) (says_block-keeps part name waiting other)
+      then-keeps (chains moves) (changes (edit_task name (with_state (Blocked waiting)))) (says_block part name waiting) (blocked-keeps name waiting other) (says_block-keeps part name waiting other)

@@ -38,8 +38,7 @@ use Rattle.profile_machine.specs.Handlers.{add_release, says_release, wake_agent
 use Rattle.std.proofs.Common.{refl}
 use Rattle.std.specs.Prelude.{Bool}
 use Rattle.machine_laws.proofs.Moves.{StepRelation, MoveRelation}
-use Rattle.world_laws.proofs.Scopes.FineMoves.{FineMoves, Openings}
-use Rattle.world_laws.proofs.Scopes.Kept.Combinators.{Keeps, From, changes-keeps, for_some-keeps, keeps-from, looks-from, looks-keeps, nothing-keeps, says-keeps, sees-keeps, then-keeps, unchanged-alters, branch-keeps}
+use Rattle.world_laws.proofs.Scopes.FineMoves.{FineMoves, Openings, chains, says-keeps}
 use Rattle.world_laws.proofs.Scopes.Kept.Frames.{becomes-from, goes-keeps, given-keeps, raise_if-keeps, push-alters}
 use Rattle.world_laws.proofs.Scopes.Kept.Tasks.{edit_task-alters}
 use Rattle.world_laws.proofs.Scopes.Kept.Dispatching.{ready-keeps}
@@ -49,8 +48,8 @@ use Rattle.world_laws.proofs.Scopes.Kept.CallEnds.{store-gives}
 use Rattle.world_laws.proofs.Scopes.Kept.Serving.{end_release-keeps}
 use Rattle.world_laws.proofs.Scopes.Kept.Protected.{find_held-keeps, begin_action_on-keeps}
 use Rattle.machine_laws.proofs.FineMoves.{Anybody, GoodWorld, Naming}
-use Rattle.machine_laws.proofs.Kept.Combinators.{Alters}
 use Rattle.machine_laws.proofs.Kept.Handlers.{spent-frames, spent-master, spent-state, spent-who}
+use Rattle.machine_laws.proofs.Kept.Combinators.{Alters, From, Keeps, branch-keeps, changes-keeps, for_some-keeps, keeps-from, looks-from, looks-keeps, nothing-keeps, sees-keeps, then-keeps, unchanged-alters}
 
 -- ---- releases
 
@@ -61,19 +60,19 @@ module _ {G : GoodWorld} {R : StepRelation} {Q : MoveRelation} (moves : FineMove
 
   says_release-keeps : (part : Part) (h : HandlerOf) → Keeps G R (says_release part h)
   unfolding says_release
-  says_release-keeps part h = search (looks-keeps, says-keeps)
+  says_release-keeps part h = search (looks-keeps, says-keeps, chains)
 
   wake_agent-keeps : (p : Image) (part : Part) (state : State) → Keeps G R (wake_agent p part state)
   unfolding wake_agent
   wake_agent-keeps p part (Blocked waiting) = ready-keeps moves p part who.Agent tt
-  wake_agent-keeps p part Runnable = search (nothing-keeps)
-  wake_agent-keeps p part Made = search (nothing-keeps)
+  wake_agent-keeps p part Runnable = search (nothing-keeps, chains)
+  wake_agent-keeps p part Made = search (nothing-keeps, chains)
 
   pub release-keeps : (p : Image) (part : Part) (h : HandlerOf) (argument : Option ℕ) → Keeps G R (release p part h argument)
   unfolding release
   release-keeps p part h argument =
-      then-keeps moves (changes (add_release h argument)) _ (changes-keeps moves _ (add_release-alters h argument))
-      (then-keeps moves (says_release part h) _ (says_release-keeps part h) (looks-keeps moves _ (λ w. wake_agent-keeps p part w.agent.state)))
+      then-keeps (chains moves) (changes (add_release h argument)) _ (changes-keeps (chains moves) _ (add_release-alters h argument))
+      (then-keeps (chains moves) (says_release part h) _ (says_release-keeps part h) (looks-keeps (chains moves) _ (λ w. wake_agent-keeps p part w.agent.state)))
 
 -- ---- the handler of a release
 
@@ -81,14 +80,14 @@ module _ {G : GoodWorld} {Acts : Naming} {R : StepRelation} {Q : MoveRelation} (
   begin_handler-keeps : (p : Image) (r : Release) → Acts who.Agent → Keeps G R (begin_handler p r)
   unfolding begin_handler
   begin_handler-keeps p r acts =
-      then-keeps moves (begin_action_on p who.Agent r.handler.object Write None (Some r.number)) _
+      then-keeps (chains moves) (begin_action_on p who.Agent r.handler.object Write None (Some r.number)) _
       (begin_action_on-keeps moves p who.Agent r.handler.object Write None (Some r.number) tt (push-alters moves openings who.Agent (new_frame (new_protected_mark r.handler.object Write None (Some r.number)) None) refl))
-      (search (looks-keeps, changes-keeps, open_scope-alters) depth 6)
+      (search (looks-keeps, changes-keeps, open_scope-alters, chains) depth 7)
 
   begin_handler_if_room-keeps : (p : Image) (r : Release) → Acts who.Agent → Keeps G R (begin_handler_if_room p r)
   unfolding begin_handler_if_room
   begin_handler_if_room-keeps p r acts =
-      looks-keeps moves _ (λ w. branch-keeps moves (has_room w who.Agent (1 + marks_of p (subprogram_of p r.handler.procedure).scope) (size_of_body p r.handler.procedure)) (begin_handler p r) (end_release r.number)
+      looks-keeps (chains moves) _ (λ w. branch-keeps (chains moves) (has_room w who.Agent (1 + marks_of p (subprogram_of p r.handler.procedure).scope) (size_of_body p r.handler.procedure)) (begin_handler p r) (end_release r.number)
       (begin_handler-keeps p r acts) (end_release-keeps moves r.number))
 
   enter_handler-keeps : (p : Image) (r : Release) (is : Entering) → Acts who.Agent → Keeps G R (enter_handler p r is)
@@ -100,27 +99,27 @@ module _ {G : GoodWorld} {Acts : Naming} {R : StepRelation} {Q : MoveRelation} (
 
   pub call_handler-keeps : (p : Image) (r : Release) → Acts who.Agent → Keeps G R (call_handler p r)
   unfolding call_handler
-  call_handler-keeps p r acts = search (looks-keeps, enter_handler-keeps)
+  call_handler-keeps p r acts = search (looks-keeps, enter_handler-keeps, chains)
 
 -- ---- settings, and the charge of a tick
 
 module _ {G : GoodWorld} {May Other : Naming} {R : StepRelation} {Q : MoveRelation} (moves : FineMoves G May Other R Q) where
   pub with_room_for_release-keeps : (name : Who) (needed : Bool) (step : Step) → Keeps G R step → Keeps G R (with_room_for_release name needed step)
-  with_room_for_release-keeps name needed step kept = search (looks-keeps, raise_if-keeps)
+  with_room_for_release-keeps name needed step kept = search (looks-keeps, raise_if-keeps, chains)
 
   pub setting_of-keeps : (p : Image) (name : Who) (q : Seen) (base : ℤ) (set : Setting) (named : Option HandlerName) (step : Option HandlerOf → ℤ → Step) → ((x : Option HandlerOf) (y : ℤ) → Keeps G R (step x y)) → Keeps G R (setting_of p name q base set named step)
   setting_of-keeps p name q base set named step kept = search (given-keeps, with_room_for_release-keeps, raise_if-keeps)
 
   pub answer-keeps : (p : Image) (name : Who) (v : Variable) (b : Bool) → Keeps G R (answer p name v b)
   unfolding answer
-  answer-keeps p name v b = looks-from moves _ (λ w good. becomes-from moves Own name (store p v (Truth b) w) w good (store-gives moves p v (Truth b) w good))
+  answer-keeps p name v b = looks-from (chains moves) _ (λ w good. becomes-from moves Own name (store p v (Truth b) w) w good (store-gives moves p v (Truth b) w good))
 
   pub cancel_event_setting-alters : (e : ℕ) → Alters G R (cancel_event_setting e)
   cancel_event_setting-alters e = search (drop_appointment-alters)
 
   pub cancel_event-keeps : (p : Image) (name : Who) (s : StatementNo) (d : DeclNo) (target : VariableName) → Keeps G R (cancel_event p name s d target)
   unfolding cancel_event
-  cancel_event-keeps p name s d target = search (sees-keeps, given-keeps, goes-keeps, then-keeps, changes-keeps, cancel_event_setting-alters, answer-keeps) depth 9
+  cancel_event-keeps p name s d target = search (sees-keeps, given-keeps, goes-keeps, then-keeps, changes-keeps, cancel_event_setting-alters, answer-keeps, chains) depth 10
 
   pub clear_timer-alters : (k : ℕ) → Alters G R (clear_timer k)
   unfolding Alters
@@ -132,7 +131,7 @@ module _ {G : GoodWorld} {May Other : Naming} {R : StepRelation} {Q : MoveRelati
 
   pub cancel_timer-keeps : (p : Image) (name : Who) (s : StatementNo) (d : DeclNo) (target : VariableName) → Keeps G R (cancel_timer p name s d target)
   unfolding cancel_timer
-  cancel_timer-keeps p name s d target = search (sees-keeps, given-keeps, goes-keeps, then-keeps, changes-keeps, clear_timer-alters, answer-keeps) depth 9
+  cancel_timer-keeps p name s d target = search (sees-keeps, given-keeps, goes-keeps, then-keeps, changes-keeps, clear_timer-alters, answer-keeps, chains) depth 10
 
   edit_budget-alters : (b : ℕ) (f : Budget → Budget) → Alters G R (edit_budget b f)
   unfolding Alters
@@ -140,19 +139,19 @@ module _ {G : GoodWorld} {May Other : Naming} {R : StepRelation} {Q : MoveRelati
 
   pub change_member-keeps : (p : Image) (name : Who) (s : StatementNo) (t : world.Task) (is_right : Bool) (b : Option ℕ) → Keeps G R (change_member p name s t is_right b)
   unfolding change_member
-  change_member-keeps p name s t is_right b = search (raise_if-keeps, goes-keeps, then-keeps, changes-keeps, edit_task-alters)
+  change_member-keeps p name s t is_right b = search (raise_if-keeps, goes-keeps, then-keeps, changes-keeps, edit_task-alters, chains)
 
   pub add_member-keeps : (p : Image) (name : Who) (s : StatementNo) (d : DeclNo) (e : ExprNo) → Keeps G R (add_member p name s d e)
   unfolding add_member
-  add_member-keeps p name s d e = search (sees-keeps, given-keeps, change_member-keeps) depth 6
+  add_member-keeps p name s d e = search (sees-keeps, given-keeps, change_member-keeps, chains) depth 7
 
   pub remove_member-keeps : (p : Image) (name : Who) (s : StatementNo) (d : DeclNo) (e : ExprNo) → Keeps G R (remove_member p name s d e)
   unfolding remove_member
-  remove_member-keeps p name s d e = search (sees-keeps, given-keeps, change_member-keeps) depth 6
+  remove_member-keeps p name s d e = search (sees-keeps, given-keeps, change_member-keeps, chains) depth 7
 
   pub fill_budget-keeps : (p : Image) (name : Who) (s : StatementNo) (d : DeclNo) (e : ExprNo) (f : ℤ → Budget → Budget) → Keeps G R (fill_budget p name s d e f)
   unfolding fill_budget
-  fill_budget-keeps p name s d e f = search (sees-keeps, given-keeps, with_room_for_release-keeps, raise_if-keeps, goes-keeps, then-keeps, changes-keeps, edit_budget-alters) depth 8
+  fill_budget-keeps p name s d e f = search (sees-keeps, given-keeps, with_room_for_release-keeps, raise_if-keeps, goes-keeps, then-keeps, changes-keeps, edit_budget-alters, chains) depth 9
 
   pub replenish-keeps : (p : Image) (name : Who) (s : StatementNo) (d : DeclNo) (e : ExprNo) → Keeps G R (replenish p name s d e)
   unfolding replenish
@@ -164,14 +163,14 @@ module _ {G : GoodWorld} {May Other : Naming} {R : StepRelation} {Q : MoveRelati
 
   pub set_budget-keeps : (p : Image) (name : Who) (s : StatementNo) (d : DeclNo) (named : Option HandlerName) → Keeps G R (set_budget p name s d named)
   unfolding set_budget
-  set_budget-keeps p name s d named = search (sees-keeps, given-keeps, with_room_for_release-keeps, raise_if-keeps, goes-keeps, then-keeps, changes-keeps, edit_budget-alters) depth 8
+  set_budget-keeps p name s d named = search (sees-keeps, given-keeps, with_room_for_release-keeps, raise_if-keeps, goes-keeps, then-keeps, changes-keeps, edit_budget-alters, chains) depth 9
 
   pub cancel_budget-keeps : (p : Image) (name : Who) (s : StatementNo) (d : DeclNo) (target : VariableName) → Keeps G R (cancel_budget p name s d target)
   unfolding cancel_budget
-  cancel_budget-keeps p name s d target = search (sees-keeps, given-keeps, goes-keeps, then-keeps, changes-keeps, edit_budget-alters, answer-keeps) depth 9
+  cancel_budget-keeps p name s d target = search (sees-keeps, given-keeps, goes-keeps, then-keeps, changes-keeps, edit_budget-alters, answer-keeps, chains) depth 10
 
   pub charge_budget-alters : (n : Option ℕ) → Alters G R (charge_budget n)
-  charge_budget-alters None = search (unchanged-alters)
+  charge_budget-alters None = search (unchanged-alters, chains)
   charge_budget-alters (Some b) = search (edit_budget-alters)
 
   -- ---- a tick is charged
@@ -213,33 +212,33 @@ module _ {G : GoodWorld} {R : StepRelation} {Q : MoveRelation} (moves : FineMove
   pub interrupt-keeps : (p : Image) (n : ℕ) → Keeps G R (interrupt p n)
   unfolding interrupt
   interrupt-keeps p n =
-      then-keeps moves (says Own (line.Interrupt n)) _ (says-keeps moves Own (line.Interrupt n))
-      (looks-keeps moves _ (λ w. for_some-keeps moves (handler_attached p n w.objects) _ (λ h. release-keeps moves p Own h None)))
+      then-keeps (chains moves) (says Own (line.Interrupt n)) _ (says-keeps moves Own (line.Interrupt n))
+      (looks-keeps (chains moves) _ (λ w. for_some-keeps (chains moves) (handler_attached p n w.objects) _ (λ h. release-keeps moves p Own h None)))
 
   appoint_event-from : (p : Image) (e : ℕ) (h : HandlerOf) (m : ℤ) (test : Bool) (w : World) → G w → From R w (appoint_event p e h m test)
   unfolding appoint_event
   appoint_event-from p e h m true w good = appoint-from moves (due_for.Event e h) m w good
-  appoint_event-from p e h m false w good = keeps-from moves (release p Own h (Some e)) w good (release-keeps moves p Own h (Some e))
+  appoint_event-from p e h m false w good = keeps-from (chains moves) (release p Own h (Some e)) w good (release-keeps moves p Own h (Some e))
 
   pub event_set_to-keeps : (p : Image) (e : ℕ) (h : Option HandlerOf) (m : ℤ) → Keeps G R (event_set_to p e h m)
   unfolding event_set_to
-  event_set_to-keeps p e None m = search (nothing-keeps)
-  event_set_to-keeps p e (Some h) m = looks-from moves _ (λ w good. appoint_event-from p e h m (int_lt (pos w.time) m) w good)
+  event_set_to-keeps p e None m = search (nothing-keeps, chains)
+  event_set_to-keeps p e (Some h) m = looks-from (chains moves) _ (λ w good. appoint_event-from p e h m (int_lt (pos w.time) m) w good)
 
   pub set_event-keeps : (p : Image) (name : Who) (s : StatementNo) (d : DeclNo) (set : Setting) (named : Option HandlerName) → Keeps G R (set_event p name s d set named)
   unfolding set_event
-  set_event-keeps p name s d set named = search (sees-keeps, given-keeps, setting_of-keeps, goes-keeps, then-keeps, changes-keeps, cancel_event_setting-alters, event_set_to-keeps) depth 9
+  set_event-keeps p name s d set named = search (sees-keeps, given-keeps, setting_of-keeps, goes-keeps, then-keeps, changes-keeps, cancel_event_setting-alters, event_set_to-keeps, chains) depth 10
 
   pub timer_set_beyond-keeps : (p : Image) (k : ℕ) (h : HandlerOf) (v : ℤ) (test : Bool) → Keeps G R (timer_set_beyond p k h v test)
   unfolding timer_set_beyond
-  timer_set_beyond-keeps p k h v true = search (changes-keeps, with_timer_set-alters)
+  timer_set_beyond-keeps p k h v true = search (changes-keeps, with_timer_set-alters, chains)
   timer_set_beyond-keeps p k h v false = release-keeps moves p Own h (Some k)
 
   pub timer_set_to-keeps : (p : Image) (k clock : ℕ) (h : Option HandlerOf) (v : ℤ) → Keeps G R (timer_set_to p k clock h v)
   unfolding timer_set_to
-  timer_set_to-keeps p k clock None v = search (nothing-keeps)
+  timer_set_to-keeps p k clock None v = search (nothing-keeps, chains)
   timer_set_to-keeps p k clock (Some h) v = search (timer_set_beyond-keeps)
 
   pub set_timer-keeps : (p : Image) (name : Who) (s : StatementNo) (d : DeclNo) (set : Setting) (named : Option HandlerName) → Keeps G R (set_timer p name s d set named)
   unfolding set_timer
-  set_timer-keeps p name s d set named = search (sees-keeps, given-keeps, setting_of-keeps, goes-keeps, then-keeps, changes-keeps, clear_timer-alters, timer_set_to-keeps) depth 9
+  set_timer-keeps p name s d set named = search (sees-keeps, given-keeps, setting_of-keeps, goes-keeps, then-keeps, changes-keeps, clear_timer-alters, timer_set_to-keeps, chains) depth 10

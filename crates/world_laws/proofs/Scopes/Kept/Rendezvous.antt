@@ -33,8 +33,8 @@ use Rattle.profile_machine.specs.Serving.{with_values}
 use Rattle.profile_machine.specs.Rendezvous.{open_accept, has_room_for_accept, begin_accept, finish_without_room, accept_with_room, accept_call, meet_with_room, meet_without_room, meet, accept_or_wait, accept, accept_chosen, wait_at_select, appoint_delay, select_delay, select_wait, select_otherwise, select_by_call, select_open, selective_accept, gone_sent, meet_sent, arrive_at, arrive, finish_accept, finish_rendezvous, behind_accept, finished_call, end_in_accept, accept_for}
 use Rattle.std.proofs.Common.{◌≡◌, refl}
 use Rattle.machine_laws.proofs.Moves.{StepRelation, MoveRelation}
-use Rattle.world_laws.proofs.Scopes.FineMoves.{FineMoves, Openings, Live}
-use Rattle.world_laws.proofs.Scopes.Kept.Combinators.{Keeps, From, changes-keeps, for_some-keeps, keeps-from, looks-from, looks-keeps, nothing-keeps, says-keeps, then-from, then-keeps, unchanged-alters, changes_then-from, looks_at-from, sees-keeps, either-from, behind-from, both_then-from}
+use Rattle.world_laws.proofs.Scopes.FineMoves.{FineMoves, Openings, Live, chains, says-keeps}
+use Rattle.world_laws.proofs.Scopes.Kept.Combinators.{both_then-from}
 use Rattle.world_laws.proofs.Scopes.Kept.Dispatching.{ready-keeps, block-keeps, blocked-keeps}
 use Rattle.world_laws.proofs.Scopes.Kept.Frames.{goes-keeps, raises-keeps, open_sequence-keeps, pass_on-keeps, raise_if-keeps, goes_then-from, given-keeps}
 use Rattle.world_laws.proofs.Scopes.Kept.Inheritance.{inherit-alters, inherit_running-keeps, lose_running-keeps}
@@ -50,13 +50,13 @@ use Rattle.profile_machine.specs.declared.world.tasks.State.TheVariants.{Made, R
 use Rattle.profile_machine.specs.Tasks.{waiting_in, waiting_of, is_made_state, task_of}
 use Rattle.profile_machine.specs.Dispatching.{ready}
 use Rattle.machine_laws.proofs.FineMoves.{Anybody, GoodWorld, Naming}
-use Rattle.machine_laws.proofs.Kept.Combinators.{Alters}
 use Rattle.machine_laws.proofs.Kept.Serving.{keeps_sending-number}
+use Rattle.machine_laws.proofs.Kept.Combinators.{Alters, From, Keeps, after-from, changes-keeps, changes_then-from, either-from, for_some-keeps, keeps-from, looks-from, looks-keeps, looks_at-from, nothing-keeps, sees-keeps, then-from, then-keeps, unchanged-alters}
 
 module _ {G : GoodWorld} {May Other : Naming} {R : StepRelation} {Q : MoveRelation} (moves : FineMoves G May Other R Q) where
   begin_accept-keeps : (p : Image) (part : Part) (name : Who) (s : StatementNo) (c : Call) → Keeps G R (begin_accept p part name s c)
   unfolding begin_accept
-  begin_accept-keeps p part name s c = search (begin_call-keeps, then-keeps, goes-keeps)
+  begin_accept-keeps p part name s c = search (begin_call-keeps, then-keeps, goes-keeps, chains)
 
   finish_without_room-keeps : (part : Part) (name : Who) (c : Call) → Keeps G R (finish_without_room part name c)
   unfolding finish_without_room
@@ -69,21 +69,21 @@ module _ {G : GoodWorld} {May Other : Naming} {R : StepRelation} {Q : MoveRelati
 
   appoint_delay-from : (name : Who) (m : ℤ) (w : World) → G w → From R w (changes (appoint_delay name m))
   appoint_delay-from (who.Task t) m w good = appoint-from moves (due_for.Delay t) m w good
-  appoint_delay-from who.Agent m w good = keeps-from moves (changes (λ v. v)) w good (changes-keeps moves (λ v. v) (unchanged-alters moves))
+  appoint_delay-from who.Agent m w good = keeps-from (chains moves) (changes (λ v. v)) w good (changes-keeps (chains moves) (λ v. v) (unchanged-alters (chains moves)))
 
   select_delay-from : (p : Image) (name : Who) (s : StatementNo) (accepts : List StatementNo) (m : DelayMoment) (terminate test : Bool) (w : World) → G w → Other name → From R w (select_delay p name s accepts m terminate test)
   unfolding select_delay
-  select_delay-from p name s accepts m terminate true w good other = keeps-from moves _ w good (search (goes-keeps))
+  select_delay-from p name s accepts m terminate true w good other = keeps-from (chains moves) _ w good (search (goes-keeps))
   select_delay-from p name s accepts m terminate false w good other =
       goes_then-from moves name (next_of p s) _ w good (λ good_onward.
-      then-from moves (changes (appoint_delay name m.at)) _ _
+      then-from (chains moves) (changes (appoint_delay name m.at)) _ _
       (appoint_delay-from name m.at _ good_onward)
       (wait_at_select-keeps name accepts (Some m.delay) terminate other))
 
   pub select_wait-keeps : (p : Image) (name : Who) (s : StatementNo) (accepts : List StatementNo) (terminate : Bool) (moment : Option DelayMoment) → Other name → Keeps G R (select_wait p name s accepts terminate moment)
   unfolding select_wait
-  select_wait-keeps p name s accepts terminate None other = search (goes-keeps, then-keeps, wait_at_select-keeps)
-  select_wait-keeps p name s accepts terminate (Some m) other = looks-from moves _ (λ w good. select_delay-from p name s accepts m terminate (int_le m.at (pos w.time)) w good other)
+  select_wait-keeps p name s accepts terminate None other = search (goes-keeps, then-keeps, wait_at_select-keeps, chains)
+  select_wait-keeps p name s accepts terminate (Some m) other = looks-from (chains moves) _ (λ w good. select_delay-from p name s accepts m terminate (int_le m.at (pos w.time)) w good other)
 
   pub select_otherwise-keeps : (p : Image) (name : Who) (s : StatementNo) (kinds : List SelectKind) (m : Option DelayMoment) (next : Option StatementNo) → Other name → Keeps G R (select_otherwise p name s kinds m next)
   unfolding select_otherwise
@@ -92,12 +92,12 @@ module _ {G : GoodWorld} {May Other : Naming} {R : StepRelation} {Q : MoveRelati
 
   pub gone_sent-keeps : (p : Image) (c : Call) → Keeps G R (gone_sent p c)
   unfolding gone_sent
-  gone_sent-keeps p c = search (gone-keeps, then-keeps, deliver-keeps)
+  gone_sent-keeps p c = search (gone-keeps, then-keeps, deliver-keeps, chains)
 
   pub behind_accept-keeps : (p : Image) (name : Who) (leaving : Leaving) → Keeps G R (behind_accept p name leaving)
   unfolding behind_accept
-  behind_accept-keeps p name how.End = search (nothing-keeps)
-  behind_accept-keeps p name how.Return = search (nothing-keeps)
+  behind_accept-keeps p name how.End = search (nothing-keeps, chains)
+  behind_accept-keeps p name how.Return = search (nothing-keeps, chains)
   behind_accept-keeps p name (how.Exit loop) = search (pass_on-keeps)
   behind_accept-keeps p name (how.Exception e) = search (pass_on-keeps)
   behind_accept-keeps p name how.Abort = search (pass_on-keeps)
@@ -124,21 +124,21 @@ module _ {G : GoodWorld} {Acts : Naming} {R : StepRelation} {Q : MoveRelation} (
 
   accept_with_room-keeps : (p : Image) (name : Who) (s : StatementNo) (c : Call) (has_room : Bool) → Acts name → Keeps G R (accept_with_room p name s c has_room)
   unfolding accept_with_room
-  accept_with_room-keeps p name s c true acts = then-keeps moves (changes (open_accept p name s c)) _ (changes-keeps moves _ (acts_accept-alters p name s c acts)) (inherit_running-keeps moves p name (inherited_by.Rendezvous c.number) c.priority tt)
-  accept_with_room-keeps p name s c false acts = search (finish_without_room-keeps, then-keeps, deliver-keeps, raises-keeps)
+  accept_with_room-keeps p name s c true acts = then-keeps (chains moves) (changes (open_accept p name s c)) _ (changes-keeps (chains moves) _ (acts_accept-alters p name s c acts)) (inherit_running-keeps moves p name (inherited_by.Rendezvous c.number) c.priority tt)
+  accept_with_room-keeps p name s c false acts = search (finish_without_room-keeps, then-keeps, deliver-keeps, raises-keeps, chains)
 
   pub accept_call-keeps : (p : Image) (name : Who) (s : StatementNo) (c : CallNo) → Acts name → Keeps G R (accept_call p name s c)
   unfolding accept_call
-  accept_call-keeps p name s c acts = search (with_call-keeps, begin_accept-keeps, then-keeps, looks-keeps, accept_with_room-keeps) depth 6
+  accept_call-keeps p name s c acts = search (with_call-keeps, begin_accept-keeps, then-keeps, looks-keeps, accept_with_room-keeps, chains) depth 7
 
   pub accept_or_wait-keeps : (p : Image) (name : Who) (s : StatementNo) (c : Option CallNo) → Acts name → Keeps G R (accept_or_wait p name s c)
   unfolding accept_or_wait
   accept_or_wait-keeps p name s (Some c) acts = search (accept_call-keeps)
-  accept_or_wait-keeps p name s None acts = search (goes-keeps, then-keeps, block-keeps)
+  accept_or_wait-keeps p name s None acts = search (goes-keeps, then-keeps, block-keeps, chains)
 
   pub accept_chosen-keeps : (p : Image) (name : Who) (accepts : List StatementNo) (c : CallNo) → Acts name → Keeps G R (accept_chosen p name accepts c)
   unfolding accept_chosen
-  accept_chosen-keeps p name accepts c acts = search (with_call-keeps, for_some-keeps, accept_call-keeps)
+  accept_chosen-keeps p name accepts c acts = search (with_call-keeps, for_some-keeps, accept_call-keeps, chains)
 
   pub select_by_call-keeps : (p : Image) (name : Who) (s : StatementNo) (kinds : List SelectKind) (m : Option DelayMoment) (otherwise : Option StatementNo) (c : Option CallNo) → Acts name → Keeps G R (select_by_call p name s kinds m otherwise c)
   unfolding select_by_call
@@ -147,31 +147,31 @@ module _ {G : GoodWorld} {Acts : Naming} {R : StepRelation} {Q : MoveRelation} (
 
   pub select_open-keeps : (p : Image) (name : Who) (s : StatementNo) (otherwise : Option StatementNo) (kinds : List SelectKind) (moments : List DelayMoment) → Acts name → Keeps G R (select_open p name s otherwise kinds moments)
   unfolding select_open
-  select_open-keeps p name s otherwise kinds moments acts = search (raise_if-keeps, looks-keeps, select_by_call-keeps)
+  select_open-keeps p name s otherwise kinds moments acts = search (raise_if-keeps, looks-keeps, select_by_call-keeps, chains)
 
   pub accept-keeps : (p : Image) (name : Who) (s : StatementNo) (e : EntryNo) → Acts name → Keeps G R (accept p name s e)
   unfolding accept
-  accept-keeps p name s e acts = search (looks-keeps, raise_if-keeps, accept_or_wait-keeps)
+  accept-keeps p name s e acts = search (looks-keeps, raise_if-keeps, accept_or_wait-keeps, chains)
 
   pub selective_accept-keeps : (p : Image) (name : Who) (s : StatementNo) (alternatives : List SelectAlternative) (otherwise : Option StatementNo) → Acts name → Keeps G R (selective_accept p name s alternatives otherwise)
   unfolding selective_accept
-  selective_accept-keeps p name s alternatives otherwise acts = search (sees-keeps, raise_if-keeps, given-keeps, select_open-keeps) depth 6
+  selective_accept-keeps p name s alternatives otherwise acts = search (sees-keeps, raise_if-keeps, given-keeps, select_open-keeps, chains) depth 7
 
   -- ---- the acceptor waited
 
   meet_with_room-from : (p : Image) (part : Part) (name : Who) (s : StatementNo) (c : Call) (then_ : Step) (w : World) → G w → Live name w → Keeps G R then_ → From R w (meet_with_room p part name s c then_)
   meet_with_room-from p part name s c then_ w good live kept =
-      behind-from moves (begin_accept p part name s c) _ w (keeps-from moves _ w good (begin_accept-keeps moves p part name s c)) (λ v xs k.
+      after-from (chains moves) (begin_accept p part name s c) _ w (keeps-from (chains moves) _ w good (begin_accept-keeps moves p part name s c)) (λ v xs k.
       let good_begun = moves.behind w v k in
       let opened = openings.opens_accept p name s c v good_begun (openings.still_live name w v k live) in
       let w_opened = open_accept p name s c v in
-      changes_then-from moves (open_accept p name s c) _ v opened
-      (keeps-from moves (changes (inherit name (inherited_by.Rendezvous c.number) c.priority) ▷ ready p part name ▷ open_sequence p part name ▷ then_) w_opened (moves.behind v w_opened opened)
-      (then-keeps moves _ _ (changes-keeps moves _ (inherit-alters moves name (inherited_by.Rendezvous c.number) c.priority))
-      (then-keeps moves _ _ (ready-keeps moves p part name tt) (then-keeps moves _ _ (open_sequence-keeps moves p part name tt) kept)))))
+      changes_then-from (chains moves) (open_accept p name s c) _ v opened
+      (keeps-from (chains moves) (changes (inherit name (inherited_by.Rendezvous c.number) c.priority) ▷ ready p part name ▷ open_sequence p part name ▷ then_) w_opened (moves.behind v w_opened opened)
+      (then-keeps (chains moves) _ _ (changes-keeps (chains moves) _ (inherit-alters moves name (inherited_by.Rendezvous c.number) c.priority))
+      (then-keeps (chains moves) _ _ (ready-keeps moves p part name tt) (then-keeps (chains moves) _ _ (open_sequence-keeps moves p part name tt) kept)))))
 
   meet_without_room-keeps : (p : Image) (part : Part) (name : Who) (s : StatementNo) (c : Call) (otherwise : Step) → Keeps G R otherwise → Keeps G R (meet_without_room p part name s c otherwise)
-  meet_without_room-keeps p part name s c otherwise kept = search (begin_accept-keeps, then-keeps, finish_without_room-keeps, ready-keeps, raises-keeps) depth 8
+  meet_without_room-keeps p part name s c otherwise kept = search (begin_accept-keeps, then-keeps, finish_without_room-keeps, ready-keeps, raises-keeps, chains) depth 9
 
   pub meet-from : (p : Image) (part : Part) (name : Who) (s : StatementNo) (c : Call) (then_ otherwise : Step) (w : World) → G w → Live name w → Keeps G R then_ → Keeps G R otherwise → From R w (meet p part name s c then_ otherwise)
   unfolding Alters
@@ -179,36 +179,36 @@ module _ {G : GoodWorld} {Acts : Naming} {R : StepRelation} {Q : MoveRelation} (
       let dropped = drop_delay-alters moves name w good in
       let v = drop_delay name w in
       let good_dropped = moves.behind w v dropped in
-      changes_then-from moves (drop_delay name) _ w dropped
-      (looks_at-from moves (λ u. elim (has_room_for_accept p u name s) as (λ _. Step) [ true ↦ meet_with_room p part name s c then_ | false ↦ meet_without_room p part name s c otherwise ]) v
-      (either-from moves (has_room_for_accept p v name s) (meet_with_room p part name s c then_) (meet_without_room p part name s c otherwise) v
+      changes_then-from (chains moves) (drop_delay name) _ w dropped
+      (looks_at-from (chains moves) (λ u. elim (has_room_for_accept p u name s) as (λ _. Step) [ true ↦ meet_with_room p part name s c then_ | false ↦ meet_without_room p part name s c otherwise ]) v
+      (either-from (chains moves) (has_room_for_accept p v name s) (meet_with_room p part name s c then_) (meet_without_room p part name s c otherwise) v
       (meet_with_room-from p part name s c then_ v good_dropped (openings.still_live name w v dropped live) kept)
-      (keeps-from moves _ v good_dropped (meet_without_room-keeps p part name s c otherwise also_kept))))
+      (keeps-from (chains moves) _ v good_dropped (meet_without_room-keeps p part name s c otherwise also_kept))))
 
   meet_sent-from : (p : Image) (t : TaskNo) (c : Call) (next : Option StatementNo) (w : World) → G w → accept_for p c.entry (waiting_of w (who.Task t)) ≡ next → From R w (meet_sent p t c next)
   unfolding meet_sent
   meet_sent-from p t c (Some s) w good is = meet-from p TheFinish (who.Task t) s c _ _ w good (waiting-live p c.entry (who.Task t) s w is) (search (begin_abortable-keeps)) (search (deliver-keeps))
-  meet_sent-from p t c None w good is = keeps-from moves _ w good (search (enqueue-keeps, then-keeps, sent_not_begun-keeps))
+  meet_sent-from p t c None w good is = keeps-from (chains moves) _ w good (search (enqueue-keeps, then-keeps, sent_not_begun-keeps, chains))
 
   arrive_at-keeps : (p : Image) (t : TaskNo) (c : Call) (test : Bool) → Keeps G R (arrive_at p t c test)
   unfolding arrive_at
   arrive_at-keeps p t c false = search (gone_sent-keeps)
-  arrive_at-keeps p t c true = looks-from moves _ (λ w good. meet_sent-from p t c (accept_for p c.entry (waiting_of w (who.Task t))) w good refl)
+  arrive_at-keeps p t c true = looks-from (chains moves) _ (λ w good. meet_sent-from p t c (accept_for p c.entry (waiting_of w (who.Task t))) w good refl)
 
   arrive-keeps : (p : Image) (c : Call) (owner : Owner) → Keeps G R (arrive p c owner)
   unfolding arrive
-  arrive-keeps p c (owned_by.Task t) = search (looks-keeps, arrive_at-keeps)
+  arrive-keeps p c (owned_by.Task t) = search (looks-keeps, arrive_at-keeps, chains)
   arrive-keeps p c (owned_by.Object o) = search (gone_sent-keeps)
 
   finish_accept-keeps : (p : Image) (name : Who) (c : Call) (sending : Option Sending) → Keeps G R (finish_accept p name c sending)
   unfolding finish_accept
-  finish_accept-keeps p name c None = search (says-keeps, then-keeps, deliver-keeps)
-  finish_accept-keeps p name c (Some s) = search (says-keeps, then-keeps, send_on-keeps, with_call-keeps, arrive-keeps)
+  finish_accept-keeps p name c None = search (says-keeps, then-keeps, deliver-keeps, chains)
+  finish_accept-keeps p name c (Some s) = search (says-keeps, then-keeps, send_on-keeps, with_call-keeps, arrive-keeps, chains)
 
   finish_rendezvous-keeps : (p : Image) (name : Who) (c : Call) (leaving : Leaving) → Keeps G R (finish_rendezvous p name c leaving)
   unfolding finish_rendezvous
-  finish_rendezvous-keeps p name c (how.Exception e) = search (says-keeps, then-keeps, deliver-keeps)
-  finish_rendezvous-keeps p name c how.Abort = search (says-keeps, then-keeps, deliver-keeps)
+  finish_rendezvous-keeps p name c (how.Exception e) = search (says-keeps, then-keeps, deliver-keeps, chains)
+  finish_rendezvous-keeps p name c how.Abort = search (says-keeps, then-keeps, deliver-keeps, chains)
   finish_rendezvous-keeps p name c how.End = search (finish_accept-keeps)
   finish_rendezvous-keeps p name c how.Return = search (finish_accept-keeps)
   finish_rendezvous-keeps p name c (how.Exit loop) = search (finish_accept-keeps)
@@ -219,10 +219,10 @@ module _ {G : GoodWorld} {Acts : Naming} {R : StepRelation} {Q : MoveRelation} (
   unfolding end_in_accept
   end_in_accept-from p name m leaving w out =
       let cells = cells_of (scope_in_use w m.within) in
-      then-from moves _ (lose_running p name (inherited_by.Rendezvous m.call) ▷ behind_accept p name leaving) w
-      (looks_at-from moves (λ v. changes (pop name) ▷ changes (end_scope m.within) ▷ changes (edit_call m.call (finished_call p (cells_of (scope_in_use v m.within)) leaving)) ▷ with_call m.call (λ c. finish_rendezvous p name c leaving)) w
+      then-from (chains moves) _ (lose_running p name (inherited_by.Rendezvous m.call) ▷ behind_accept p name leaving) w
+      (looks_at-from (chains moves) (λ v. changes (pop name) ▷ changes (end_scope m.within) ▷ changes (edit_call m.call (finished_call p (cells_of (scope_in_use v m.within)) leaving)) ▷ with_call m.call (λ c. finish_rendezvous p name c leaving)) w
       (both_then-from moves (pop name) (end_scope m.within) _ w out
-      (keeps-from moves (changes (edit_call m.call (finished_call p cells leaving)) ▷ with_call m.call (λ c. finish_rendezvous p name c leaving)) _ (moves.behind w _ out)
-      (then-keeps moves (changes (edit_call m.call (finished_call p cells leaving))) _ (changes-keeps moves _ (edit_call-alters moves m.call (finished_call p cells leaving) (finished_call-number moves p cells leaving)))
+      (keeps-from (chains moves) (changes (edit_call m.call (finished_call p cells leaving)) ▷ with_call m.call (λ c. finish_rendezvous p name c leaving)) _ (moves.behind w _ out)
+      (then-keeps (chains moves) (changes (edit_call m.call (finished_call p cells leaving))) _ (changes-keeps (chains moves) _ (edit_call-alters moves m.call (finished_call p cells leaving) (finished_call-number moves p cells leaving)))
       (with_call-keeps moves m.call _ (λ c. finish_rendezvous-keeps p name c leaving))))))
-      (search (lose_running-keeps, then-keeps, behind_accept-keeps))
+      (search (lose_running-keeps, then-keeps, behind_accept-keeps, chains))

@@ -17,12 +17,11 @@ use Rattle.profile_machine.specs.Cost.{cost}
 use Rattle.profile_machine.specs.Handlers.{charge}
 use Rattle.profile_machine.specs.Run.{say, silently, says_run, with_serving, serve_if_free, serve, begin_action, one_tick_less, spend_tick, says_idle}
 use Rattle.machine_laws.proofs.Moves.{StepRelation, MoveRelation}
-use Rattle.world_laws.proofs.Scopes.Kept.Combinators.{then-leads, rests-leads, watches-leads}
 use Rattle.world_laws.proofs.Scopes.Kept.Handlers.{charge-alters}
-use Rattle.world_laws.proofs.Scopes.FineMoves.{FineMoves}
-use Rattle.machine_laws.proofs.Kept.Combinators.{Alters, Leads}
+use Rattle.world_laws.proofs.Scopes.FineMoves.{FineMoves, move_chains}
 use Rattle.machine_laws.proofs.FineMoves.{Anybody, GoodWorld}
 use Rattle.machine_laws.proofs.Kept.Run.{before_tick}
+use Rattle.machine_laws.proofs.Kept.Combinators.{Alters, Leads, then-leads, watches-leads}
 
 -- ---- a tock up to its tick
 
@@ -45,15 +44,17 @@ module _ {G : GoodWorld} {R : StepRelation} {Q : MoveRelation} (moves : FineMove
     say-leads event w good = tells event w good
 
     says_run-test : (same : Bool) (name : Who) → Leads G Q (cond same rests (say (line.Run name)))
-    says_run-test true name = rests-leads moves
-    says_run-test false name = say-leads (line.Run name)
+    unfolding Leads
+    says_run-test true name w good = moves.rests w good
+    says_run-test false name w good = say-leads (line.Run name) w good
 
     says_run-leads : (name : Who) (ran : Option Who) → Leads G Q (says_run name ran)
     says_run-leads name ran = says_run-test (same_option same_who ran (Some name)) name
 
     says_idle-leads : (ran : Option Who) → Leads G Q (says_idle ran)
-    says_idle-leads None = rests-leads moves
-    says_idle-leads (Some name) = say-leads line.Idle
+    unfolding Leads
+    says_idle-leads None w good = moves.rests w good
+    says_idle-leads (Some name) w good = say-leads line.Idle w good
 
     serve_if_free-leads : (serving : Option Release) (frames : List Frame) (releases : List Release) (w : World) → G w → let done = serve_if_free serving frames releases w in Q w done.1 done.0
     serve_if_free-leads None [] [] w good = moves.rests w good
@@ -67,9 +68,9 @@ module _ {G : GoodWorld} {R : StepRelation} {Q : MoveRelation} (moves : FineMove
     serve-leads who.Agent w good = serve_if_free-leads w.serving w.agent.frames w.releases w good
 
     pub before_tick-leads : (p : Image) (chosen : Option Who) → Leads G Q (before_tick p chosen)
-    before_tick-leads p None = watches-leads moves _ (λ w. says_idle-leads w.ran)
+    before_tick-leads p None = watches-leads (move_chains moves) _ (λ w. says_idle-leads w.ran)
     before_tick-leads p (Some name) =
-        then-leads moves _ _ (watches-leads moves _ (λ w. says_run-leads name w.ran))
-        (then-leads moves _ _ (serve-leads name)
-        (then-leads moves _ _ (silently-leads (begin_action p name) (begin_action-alters p name))
-        (then-leads moves _ _ (silently-leads (charge p name) (charge-alters moves p name)) (silently-leads (spend_tick name) (spend_tick-alters name)))))
+        then-leads (move_chains moves) _ _ (watches-leads (move_chains moves) _ (λ w. says_run-leads name w.ran))
+        (then-leads (move_chains moves) _ _ (serve-leads name)
+        (then-leads (move_chains moves) _ _ (silently-leads (begin_action p name) (begin_action-alters p name))
+        (then-leads (move_chains moves) _ _ (silently-leads (charge p name) (charge-alters moves p name)) (silently-leads (spend_tick name) (spend_tick-alters name)))))

@@ -30,8 +30,8 @@ use Rattle.profile_machine.specs.Frames.{frames_of, top_of, pop, leaving_of, is_
 use Rattle.profile_machine.specs.Calls.{with_call, attempt_with}
 use Rattle.profile_machine.specs.Act.{call_main, call, handle_or_pass, behind_handled, end_handled, end_top, wait_for_trigger, drop_trigger, below, end_abortable_by, end_in_abortable, act_statement, end_mark, act_frame, keeping, waiting_mark}
 use Rattle.machine_laws.proofs.FineMoves.{GoodWorld, Naming, nature, is_abortable}
-use Rattle.world_laws.proofs.Sequences.FineMoves.{FineMoves, Openings, Behind, Loosens, Again, Departing}
-use Rattle.world_laws.proofs.Sequences.Kept.Combinators.{changes-keeps, cond-keeps, looks-keeps, nothing-keeps, option-keeps, sees-keeps, then-keeps, unchanged-alters, keeps-from, changes_then-from, wide-from}
+use Rattle.world_laws.proofs.Sequences.FineMoves.{FineMoves, Openings, Behind, Loosens, Again, Departing, chains}
+use Rattle.world_laws.proofs.Sequences.Kept.Combinators.{wide-from}
 use Rattle.world_laws.proofs.Sequences.Kept.Dispatching.{block-keeps}
 use Rattle.world_laws.proofs.Sequences.Kept.Frames.{edit_top-alters, goes-keeps, raises-keeps, pass_on-keeps, with_room-keeps, popped, edit_mark-alters}
 use Rattle.world_laws.proofs.Sequences.Kept.Scopes.{open_scope-alters}
@@ -52,7 +52,7 @@ use Rattle.profile_machine.specs.declared.world.marks.ProtectedMark.{ProtectedMa
 use Rattle.profile_machine.specs.Serving.{end_in_protected}
 use Rattle.world_laws.proofs.Sequences.Kept.CallEnds.{end_found_abortable-keeps, abortable-nature}
 use Rattle.profile_machine.specs.CallEnds.{edit_abortable}
-use Rattle.machine_laws.proofs.Kept.Combinators.{Alters, From, Keeps}
+use Rattle.machine_laws.proofs.Kept.Combinators.{Alters, From, Keeps, changes-keeps, changes_then-from, cond-keeps, keeps-from, looks-keeps, nothing-keeps, option-keeps, sees-keeps, then-keeps, unchanged-alters}
 
 -- a mark that keeps an exception is what it was
 keeping-nature : (e : Raised) (mark : Mark) → nature (keeping e mark) ≡ nature mark
@@ -69,12 +69,12 @@ module _ {p : Image} {G : GoodWorld} {May Other : Naming} (moves : FineMoves p G
   pub handle_or_pass-keeps : (name : Who) (e : Raised) (next : Option StatementNo) → May name → Keeps G (Behind G) (handle_or_pass p name e next)
   unfolding handle_or_pass
   handle_or_pass-keeps name e None may = search (pass_on-keeps)
-  handle_or_pass-keeps name e (Some first) may = then-keeps moves (changes (edit_top name (λ f. with_mark (keeping e f.mark) f))) (goes name (Some first)) (changes-keeps moves _ (edit_mark-alters moves name (keeping e) (λ mark. keeping-nature e mark))) (goes-keeps moves name (Some first) may)
+  handle_or_pass-keeps name e (Some first) may = then-keeps (chains moves) (changes (edit_top name (λ f. with_mark (keeping e f.mark) f))) (goes name (Some first)) (changes-keeps (chains moves) _ (edit_mark-alters moves name (keeping e) (λ mark. keeping-nature e mark))) (goes-keeps moves name (Some first) may)
 
   pub behind_handled-keeps : (name : Who) (s : StatementNo) (leaving : Leaving) → May name → Keeps G (Behind G) (behind_handled p name s leaving)
   unfolding behind_handled
   behind_handled-keeps name s (how.Exception e) may = search (handle_or_pass-keeps)
-  behind_handled-keeps name s how.End may = search (nothing-keeps)
+  behind_handled-keeps name s how.End may = search (nothing-keeps, chains)
   behind_handled-keeps name s how.Return may = search (pass_on-keeps)
   behind_handled-keeps name s (how.Exit loop) may = search (pass_on-keeps)
   behind_handled-keeps name s how.Abort may = search (pass_on-keeps)
@@ -84,7 +84,7 @@ module _ {p : Image} {G : GoodWorld} {May Other : Naming} (moves : FineMoves p G
   unfolding end_handled
   end_handled-from name s leaving f w good may top free =
       let out = popped moves name f w good may top free in
-      changes_then-from moves (pop name) _ w out (keeps-from moves (behind_handled p name s leaving) (pop name w) (moves.behind w (pop name w) out) (behind_handled-keeps name s leaving may))
+      changes_then-from (chains moves) (pop name) _ w out (keeps-from (chains moves) (behind_handled p name s leaving) (pop name w) (moves.behind w (pop name w) out) (behind_handled-keeps name s leaving may))
 
   pub end_top-keeps : (name : Who) → May name → Keeps G (Behind G) (end_top p name)
   unfolding end_top
@@ -92,25 +92,25 @@ module _ {p : Image} {G : GoodWorld} {May Other : Naming} (moves : FineMoves p G
 
   pub drop_trigger-alters : (name : Who) (depth : ℕ) → Alters G (Behind G) (drop_trigger name depth)
   drop_trigger-alters (who.Task t) depth = search (drop_appointment-alters)
-  drop_trigger-alters who.Agent depth = search (unchanged-alters)
+  drop_trigger-alters who.Agent depth = search (unchanged-alters, chains)
 
 module _ {p : Image} {G : GoodWorld} {May Other : Naming} (moves : FineMoves p G May Other) (openings : Openings p G May Other) where
   pub wait_for_trigger-keeps : (name : Who) (c : Call) (leaving : Leaving) → Other name → Keeps G (Behind G) (wait_for_trigger name c leaving)
   unfolding wait_for_trigger
   wait_for_trigger-keeps name c leaving other =
-      then-keeps moves _ (block TheBlock name (waits_for.EndOfCall c.number)) (changes-keeps moves _ (edit_top-alters moves name (λ f. with_mark (edit_abortable waiting_mark f.mark) (record f { left_as = Some leaving })) (λ x. abortable-nature waiting_mark x.mark) (λ x. inl refl))) (block-keeps moves openings TheBlock name (waits_for.EndOfCall c.number) other refl)
+      then-keeps (chains moves) _ (block TheBlock name (waits_for.EndOfCall c.number)) (changes-keeps (chains moves) _ (edit_top-alters moves name (λ f. with_mark (edit_abortable waiting_mark f.mark) (record f { left_as = Some leaving })) (λ x. abortable-nature waiting_mark x.mark) (λ x. inl refl))) (block-keeps moves openings TheBlock name (waits_for.EndOfCall c.number) other refl)
 
   pub end_abortable_by-keeps : (name : Who) (m : AbortableMark) (leaving : Leaving) → Other name → May name → Keeps G (Behind G) (end_abortable_by p name m leaving)
   unfolding end_abortable_by
-  end_abortable_by-keeps name m leaving other may = option-keeps moves m.call (looks (λ w. changes (drop_trigger name (below (frames_of w name)))) ▷ end_top p name) (λ c. with_call c (λ d. attempt_with p Own d (end_top p name) (wait_for_trigger name d leaving))) (then-keeps moves _ _ (looks-keeps moves _ (λ w. changes-keeps moves _ (drop_trigger-alters moves name (below (frames_of w name))))) (end_top-keeps moves name may)) (λ c. with_call-keeps moves c _ (λ d. attempt_with-keeps moves Own d _ _ (end_top-keeps moves name may) (wait_for_trigger-keeps name d leaving other)))
+  end_abortable_by-keeps name m leaving other may = option-keeps (chains moves) m.call (looks (λ w. changes (drop_trigger name (below (frames_of w name)))) ▷ end_top p name) (λ c. with_call c (λ d. attempt_with p Own d (end_top p name) (wait_for_trigger name d leaving))) (then-keeps (chains moves) _ _ (looks-keeps (chains moves) _ (λ w. changes-keeps (chains moves) _ (drop_trigger-alters moves name (below (frames_of w name))))) (end_top-keeps moves name may)) (λ c. with_call-keeps moves c _ (λ d. attempt_with-keeps moves Own d _ _ (end_top-keeps moves name may) (wait_for_trigger-keeps name d leaving other)))
 
   pub end_in_abortable-keeps : (name : Who) (m : AbortableMark) (leaving : Leaving) → Other name → May name → Keeps G (Behind G) (end_in_abortable p name m leaving)
   unfolding end_in_abortable
-  end_in_abortable-keeps name m leaving other may = search (cond-keeps, end_top-keeps, end_abortable_by-keeps)
+  end_in_abortable-keeps name m leaving other may = search (cond-keeps, end_top-keeps, end_abortable_by-keeps, chains)
 
   pub call_main-keeps : (name : Who) (s : StatementNo) → May name → Keeps G (Behind G) (call_main p name s)
   unfolding call_main
-  call_main-keeps name s may = search (with_room-keeps, goes-keeps, then-keeps, looks-keeps, changes-keeps, open_scope-alters)
+  call_main-keeps name s may = search (with_room-keeps, goes-keeps, then-keeps, looks-keeps, changes-keeps, open_scope-alters, chains)
 
   pub call-keeps : (name : Who) (s : StatementNo) (callee : Callee) (actuals : List Actual) (to : Destination) → May name → Keeps G (Behind G) (call p name s callee actuals to)
   unfolding call
@@ -127,7 +127,7 @@ module _ {p : Image} {G : GoodWorld} {May Other : Naming} (moves : FineMoves p G
   act_statement-keeps name s (form.Activate part) may is = search (activate-keeps)
   act_statement-keeps name s form.EndActivation may is = search (end_own_activation-keeps)
   act_statement-keeps name s form.CallMain may is = search (call_main-keeps)
-  act_statement-keeps name s (form.Handled handlers first) may is = search (nothing-keeps)
+  act_statement-keeps name s (form.Handled handlers first) may is = search (nothing-keeps, chains)
   act_statement-keeps name s form.Null may is = search (null-keeps)
   act_statement-keeps name s (form.Assign target e) may is = search (assign-keeps)
   act_statement-keeps name s (form.AssignArray target source) may is = search (assign_array-keeps)
@@ -145,8 +145,8 @@ module _ {p : Image} {G : GoodWorld} {May Other : Naming} (moves : FineMoves p G
   act_statement-keeps name s (form.ReturnValue function e) may is = search (return_value-keeps)
   act_statement-keeps name s (form.Raise e) may is = search (raises-keeps)
   act_statement-keeps name s (form.RaiseAgain scope) may is = search (raise_again-keeps)
-  act_statement-keeps name s (form.Delay e) may is = search (sees-keeps, delay_until-keeps)
-  act_statement-keeps name s (form.DelayUntil e) may is = search (sees-keeps, delay_until-keeps)
+  act_statement-keeps name s (form.Delay e) may is = search (sees-keeps, delay_until-keeps, chains)
+  act_statement-keeps name s (form.DelayUntil e) may is = search (sees-keeps, delay_until-keeps, chains)
   act_statement-keeps name s (form.Call callee actuals to) may is = search (call-keeps)
   act_statement-keeps name s (form.PutLine pieces) may is = put_line-keeps moves name s pieces is may
   act_statement-keeps name s (form.EntryCall entry owner actuals) may is = entry_call-keeps moves loose openings name call_kind.Plain s may
@@ -180,13 +180,13 @@ module _ {p : Image} {G : GoodWorld} {May Other : Naming} (moves : FineMoves p G
   end_mark-from name Y departs f (InProtected m) w good may top is plain action = action m refl
   end_mark-from name Y departs f (InAccept m) w good may top is plain action = wide-from G Y _ w departs.over (end_in_accept-from moves loose again name m (leaving_of f) f w good may top (ap is_protected is))
   end_mark-from name Y departs f (Abortable m) w good may top is plain action =
-      wide-from G Y _ w departs.over (keeps-from moves _ w good (end_in_abortable-keeps moves openings name m (leaving_of f) (openings.within_part name f w good may top (ap is_abortable is)) may))
+      wide-from G Y _ w departs.over (keeps-from (chains moves) _ w good (end_in_abortable-keeps moves openings name m (leaving_of f) (openings.within_part name f w good may top (ap is_abortable is)) may))
   end_mark-from name Y departs f (InInitialize l) w good may top is plain action = wide-from G Y _ w departs.over (end_in_initialize-from moves name l (leaving_of f) f w good may top (ap is_protected is))
   end_mark-from name Y departs f (InFinalize o) w good may top is plain action = wide-from G Y _ w departs.over (end_in_finalize-from moves name (leaving_of f) f w good may top (ap is_protected is))
   end_mark-from name Y departs f (InAssign m) w good may top is plain action = wide-from G Y _ w departs.over (end_in_assign-from moves openings name m f.left_as f w good may top (ap is_protected is))
 
   pub act_frame-from : (name : Who) (Y : GoodWorld) (departs : Departing p Other name G Y) (f : Frame) (next : Option StatementNo) (w : World) → G w → May name → top_of w name ≡ Some f → f.onward ≡ next → ((m : ProtectedMark) → f.mark ≡ InProtected m → From (Behind Y) w (end_in_protected p name m (leaving_of f))) → From (Behind Y) w (act_frame p name f next)
   unfolding act_frame
-  act_frame-from name Y departs f (Some s) w good may top on action = wide-from G Y _ w departs.over (keeps-from moves _ w good (act_statement-keeps name s (form_of p s) may refl))
+  act_frame-from name Y departs f (Some s) w good may top on action = wide-from G Y _ w departs.over (keeps-from (chains moves) _ w good (act_statement-keeps name s (form_of p s) may refl))
   act_frame-from name Y departs f None w good may top on action =
       end_mark-from name Y departs f f.mark w good may top refl (ap (λ t. begins_sequence p (option_and_then (λ g. g.onward) t)) top ∙ ap (begins_sequence p) on) action

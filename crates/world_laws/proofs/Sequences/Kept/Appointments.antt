@@ -8,13 +8,12 @@ use Rattle.profile_machine.specs.declared.world.appointments.Due.{Due}
 use Rattle.profile_machine.specs.Steps.{changes}
 use Rattle.profile_machine.specs.Appointments.{appoint, drop_appointment, drop_delay}
 use Rattle.machine_laws.proofs.FineMoves.{GoodWorld, Naming}
-use Rattle.world_laws.proofs.Sequences.FineMoves.{FineMoves, Behind}
-use Rattle.world_laws.proofs.Sequences.Kept.Combinators.{changes-from, unchanged-alters}
-use Rattle.machine_laws.proofs.Kept.Combinators.{Alters, From}
+use Rattle.world_laws.proofs.Sequences.FineMoves.{FineMoves, Behind, chains}
+use Rattle.machine_laws.proofs.Kept.Combinators.{Alters, From, changes-from, unchanged-alters}
 
 module _ {p : Image} {G : GoodWorld} {May Other : Naming} (moves : FineMoves p G May Other) where
   pub appoint-from : (due : Due) (moment : ℤ) (w : World) → G w → From (Behind G) w (changes (appoint due moment))
-  appoint-from due moment w good = changes-from moves (appoint due moment) w (moves.appoints due moment w good)
+  appoint-from due moment w good = changes-from (chains moves) (appoint due moment) w (moves.appoints due moment w good)
 
   pub drop_appointment-alters : (test : Due → Bool) → Alters G (Behind G) (drop_appointment test)
   unfolding Alters
@@ -22,4 +21,4 @@ module _ {p : Image} {G : GoodWorld} {May Other : Naming} (moves : FineMoves p G
 
   pub drop_delay-alters : (name : Who) → Alters G (Behind G) (drop_delay name)
   drop_delay-alters (who.Task t) = search (drop_appointment-alters)
-  drop_delay-alters who.Agent = search (unchanged-alters)
+  drop_delay-alters who.Agent = search (unchanged-alters, chains)

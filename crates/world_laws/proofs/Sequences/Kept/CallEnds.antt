@@ -29,15 +29,15 @@ use Rattle.profile_machine.specs.CallEnds.{go_by_outcome, resume, store, or_stor
 use Rattle.std.specs.Prelude.{slice_set, true, false, cond, eqb, length}
 use Rattle.std.proofs.Common.{◌≡◌, refl, ap, inr, inl}
 use Rattle.machine_laws.proofs.FineMoves.{GoodWorld, Naming, nature, natures}
-use Rattle.world_laws.proofs.Sequences.FineMoves.{FineMoves, Behind, Loosens, StaysOn, onward_in}
-use Rattle.world_laws.proofs.Sequences.Kept.Combinators.{bind-gives, branch-keeps, changes-keeps, looks-keeps, nothing-keeps, ok-gives, says-keeps, then-keeps, unchanged-alters, when-keeps, changes_then-from, keeps-from, looks-from, looks_at-from, then-turns}
+use Rattle.world_laws.proofs.Sequences.FineMoves.{FineMoves, Behind, Loosens, StaysOn, onward_in, chains, says-keeps}
+use Rattle.world_laws.proofs.Sequences.Kept.Combinators.{then-turns}
 use Rattle.world_laws.proofs.Sequences.Kept.Tasks.{edit_frames-alters}
 use Rattle.world_laws.proofs.Sequences.Kept.Dispatching.{ready-keeps}
 use Rattle.world_laws.proofs.Sequences.Kept.Frames.{goes-keeps, popped, leaves-keeps, raises-keeps, pass_on-keeps}
 use Rattle.world_laws.proofs.Sequences.Kept.Calls.{edit_call-alters, forget_call-alters, with_call-keeps, unqueued-alters}
 use Rattle.world_laws.proofs.Sequences.Kept.Unwinding.{unwind-keeps}
 use Rattle.profile_machine.specs.Dispatching.{ready}
-use Rattle.machine_laws.proofs.Kept.Combinators.{Alters, From, Gives, Keeps}
+use Rattle.machine_laws.proofs.Kept.Combinators.{Alters, From, Gives, Keeps, bind-gives, branch-keeps, changes-keeps, changes_then-from, keeps-from, looks-from, looks-keeps, looks_at-from, nothing-keeps, ok-gives, then-keeps, unchanged-alters, when-keeps}
 
 -- an edit of a mark somewhere, and of an abortable part
 at_depth-natures : (test : Bool) (f : Frame → Frame) (x : Frame) (xs ys : List Frame) → nature (f x).mark ≡ nature x.mark → natures ys ≡ natures xs → natures (cond test (f x ∷ xs) (x ∷ ys)) ≡ natures (x ∷ xs)
@@ -77,11 +77,11 @@ module _ {p : Image} {G : GoodWorld} {May Other : Naming} (moves : FineMoves p G
 
   pub resume-keeps : (part : Part) (c : Call) (outcome : Outcome) → May (who.Task c.caller) → Keeps G (Behind G) (resume p part c outcome)
   unfolding resume
-  resume-keeps part c outcome may = search (changes-keeps, forget_call-alters, then-keeps, go_by_outcome-keeps)
+  resume-keeps part c outcome may = search (changes-keeps, forget_call-alters, then-keeps, go_by_outcome-keeps, chains)
 
   -- by any image
   pub store_by-gives : (r : Image) (v : Variable) (value : Value) (w : World) → G w → Gives (Behind G) w (store r v value w)
-  store_by-gives r v value w good = bind-gives moves (checked (declaration_of r v.declared).constraint value) (λ x. Ok (write_cell v.within v.place x w)) w (λ x. ok-gives moves w (write_cell v.within v.place x w) (moves.edits_cells v.within (λ cells. slice_set cells v.place x) w good))
+  store_by-gives r v value w good = bind-gives (chains moves) (checked (declaration_of r v.declared).constraint value) (λ x. Ok (write_cell v.within v.place x w)) w (λ x. ok-gives (chains moves) w (write_cell v.within v.place x w) (moves.edits_cells v.within (λ cells. slice_set cells v.place x) w good))
 
   pub store-gives : (v : Variable) (value : Value) (w : World) → G w → Gives (Behind G) w (store p v value w)
   store-gives v value w good = store_by-gives p v value w good
@@ -113,48 +113,48 @@ module _ {p : Image} {G : GoodWorld} {May Other : Naming} (moves : FineMoves p G
 
   pub trigger_at-keeps : (part : Part) (t : TaskNo) (depth : ℕ) → Keeps G (Behind G) (trigger_at part t depth)
   unfolding trigger_at
-  trigger_at-keeps part t depth = search (changes-keeps, edit_abortable_at-alters, then-keeps, says-keeps, edit_frame-alters) depth 7
+  trigger_at-keeps part t depth = search (changes-keeps, edit_abortable_at-alters, then-keeps, says-keeps, edit_frame-alters, chains) depth 8
 
   pub forget_trigger-alters : (c : Option CallNo) → Alters G (Behind G) (forget_trigger c)
-  forget_trigger-alters None = search (unchanged-alters)
+  forget_trigger-alters None = search (unchanged-alters, chains)
   forget_trigger-alters (Some c) = search (forget_call-alters)
 
   pub run_triggered-keeps : (part : Part) (name : Who) (select : StatementNo) (outcome : Outcome) → May name → Keeps G (Behind G) (run_triggered p part name select outcome)
   unfolding run_triggered
   run_triggered-keeps part name select call_ended.Finished may = search (goes-keeps)
-  run_triggered-keeps part name select call_ended.Cancelled may = search (nothing-keeps)
+  run_triggered-keeps part name select call_ended.Cancelled may = search (nothing-keeps, chains)
   run_triggered-keeps part name select (call_ended.ToRaise e) may = search (raises-keeps)
   run_triggered-keeps part name select (call_ended.WasRaised e) may = search (leaves-keeps)
 
   pub behind_abortable-keeps : (part : Part) (name : Who) (m : AbortableMark) (outcome : Outcome) → May name → Keeps G (Behind G) (behind_abortable p part name m outcome)
   unfolding behind_abortable
-  behind_abortable-keeps part name m outcome may = search (when-keeps, run_triggered-keeps)
+  behind_abortable-keeps part name m outcome may = search (when-keeps, run_triggered-keeps, chains)
 
   -- it ends where it is on top
   end_abortable-from : (part : Part) (name : Who) (m : AbortableMark) (f : Frame) (below : List Frame) (w : World) → G w → May name → top_of w name ≡ Some f → is_protected f.mark ≡ false → From (Behind G) w (end_abortable p part name m f below)
   unfolding end_abortable
   end_abortable-from part name m f below w good may top free =
       let out = popped moves name f w good may top free in
-      looks_at-from moves (λ v. changes (pop name) ▷ changes (forget_trigger m.call) ▷ elim (ended_by_itself f below) as (λ _. Step) [ true ↦ behind_abortable p part name m (trigger_outcome v m.call) | false ↦ pass_on p name (leaving_of f) ]) w
-      (changes_then-from moves (pop name) _ w out (keeps-from moves _ (pop name w) (moves.behind w (pop name w) out)
-      (then-keeps moves (changes (forget_trigger m.call)) _ (search (changes-keeps, forget_trigger-alters)) (branch-keeps moves (ended_by_itself f below) (behind_abortable p part name m (trigger_outcome w m.call)) (pass_on p name (leaving_of f)) (search (behind_abortable-keeps)) (search (pass_on-keeps))))))
+      looks_at-from (chains moves) (λ v. changes (pop name) ▷ changes (forget_trigger m.call) ▷ elim (ended_by_itself f below) as (λ _. Step) [ true ↦ behind_abortable p part name m (trigger_outcome v m.call) | false ↦ pass_on p name (leaving_of f) ]) w
+      (changes_then-from (chains moves) (pop name) _ w out (keeps-from (chains moves) _ (pop name w) (moves.behind w (pop name w) out)
+      (then-keeps (chains moves) (changes (forget_trigger m.call)) _ (search (changes-keeps, forget_trigger-alters, chains)) (branch-keeps (chains moves) (ended_by_itself f below) (behind_abortable p part name m (trigger_outcome w m.call)) (pass_on p name (leaving_of f)) (search (behind_abortable-keeps)) (search (pass_on-keeps))))))
 
   end_abortable_in-from : (part : Part) (name : Who) (f : Frame) (below : List Frame) (mark : Mark) (w : World) → G w → May name → top_of w name ≡ Some f → f.mark ≡ mark → From (Behind G) w (end_abortable_in p part name f below mark)
   unfolding end_abortable_in
   end_abortable_in-from part name f below (Abortable m) w good may top is = end_abortable-from part name m f below w good may top (ap is_protected is)
-  end_abortable_in-from part name f below _ w good may top is = keeps-from moves _ w good (nothing-keeps moves)
+  end_abortable_in-from part name f below _ w good may top is = keeps-from (chains moves) _ w good (nothing-keeps (chains moves))
 
   end_top_abortable-from : (part : Part) (name : Who) (frames : List Frame) (w : World) → G w → May name → frames_of w name ≡ frames → From (Behind G) w (end_top_abortable p part name frames)
   unfolding end_top_abortable
-  end_top_abortable-from part name [] w good may is = keeps-from moves _ w good (nothing-keeps moves)
+  end_top_abortable-from part name [] w good may is = keeps-from (chains moves) _ w good (nothing-keeps (chains moves))
   end_top_abortable-from part name (f ∷ below) w good may is = end_abortable_in-from part name f below f.mark w good may (ap first_of is) refl
 
   pub end_found_abortable-keeps : (part : Part) (name : Who) → May name → Keeps G (Behind G) (looks (λ w. end_top_abortable p part name (frames_of w name)))
-  end_found_abortable-keeps part name may = looks-from moves _ (λ w good. end_top_abortable-from part name (frames_of w name) w good may refl)
+  end_found_abortable-keeps part name may = looks-from (chains moves) _ (λ w good. end_top_abortable-from part name (frames_of w name) w good may refl)
 
   pub gone-keeps : (part : Part) (c : Call) → Keeps G (Behind G) (gone p part c)
   unfolding gone
-  gone-keeps part c = search (changes-keeps, unqueued-alters, then-keeps, says-keeps)
+  gone-keeps part c = search (changes-keeps, unqueued-alters, then-keeps, says-keeps, chains)
 
 -- ---- where the caller waits it becomes ready
 
@@ -166,12 +166,12 @@ module _ {p : Image} {G : GoodWorld} {May Other : Naming} (moves : FineMoves p G
       let other = moves.task_other c.caller in
       let l = loose name other in
       woken moves loose name other (ready p part name) _ (ready-keeps l.moves part name (inr refl))
-      (then-turns l.Loose l.Loose G (changes (edit_abortable_at name depth (waited_mark (not (is_cancelled outcome))))) _ (changes-keeps l.moves _ (edit_abortable_at-alters l.moves name depth (waited_mark (not (is_cancelled outcome)))))
+      (then-turns l.Loose l.Loose G (changes (edit_abortable_at name depth (waited_mark (not (is_cancelled outcome))))) _ (changes-keeps (chains l.moves) _ (edit_abortable_at-alters l.moves name depth (waited_mark (not (is_cancelled outcome)))))
       (then-turns l.Loose l.Loose G (looks (λ w. end_top_abortable p part name (frames_of w name))) _ (end_found_abortable-keeps l.moves part name (inr refl)) (opened-turns moves loose part name other)))
 
   pub end_for_abortable-keeps : (part : Part) (c : Call) (depth : ℕ) (outcome : Outcome) → Keeps G (Behind G) (end_for_abortable p part c depth outcome)
   unfolding end_for_abortable
-  end_for_abortable-keeps part c depth outcome = looks-keeps moves _ (λ w. branch-keeps moves (waits_for_end c.number (waiting_of w (who.Task c.caller))) (end_wait p part c depth outcome) (trigger_at part c.caller depth) (search (end_wait-keeps)) (search (trigger_at-keeps)))
+  end_for_abortable-keeps part c depth outcome = looks-keeps (chains moves) _ (λ w. branch-keeps (chains moves) (waits_for_end c.number (waiting_of w (who.Task c.caller))) (end_wait p part c depth outcome) (trigger_at part c.caller depth) (search (end_wait-keeps)) (search (trigger_at-keeps)))
 
   pub end_for_caller-keeps : (part : Part) (c : Call) (outcome : Outcome) → Keeps G (Behind G) (end_for_caller p part c outcome)
   unfolding end_for_caller
@@ -179,7 +179,7 @@ module _ {p : Image} {G : GoodWorld} {May Other : Naming} (moves : FineMoves p G
       let name = who.Task c.caller in
       let other = moves.task_other c.caller in
       let l = loose name other in
-      looks-keeps moves _ (λ w. when-keeps moves (waits_for_call c.number (waiting_of w name)) _
+      looks-keeps (chains moves) _ (λ w. when-keeps (chains moves) (waits_for_call c.number (waiting_of w name)) _
       (woken moves loose name other (ready p part name) _ (ready-keeps l.moves part name (inr refl))
       (then-turns l.Loose l.Loose G (resume p part c outcome) _ (resume-keeps l.moves part c outcome (inr refl)) (opened-turns moves loose part name other))))
 
@@ -190,15 +190,15 @@ module _ {p : Image} {G : GoodWorld} {May Other : Naming} (moves : FineMoves p G
 
   pub end_with-keeps : (part : Part) (c : Call) (outcome : Outcome) → Keeps G (Behind G) (end_with p part c outcome)
   unfolding end_with
-  end_with-keeps part c outcome = search (changes-keeps, edit_call-alters, then-keeps, looks-keeps, end_for-keeps)
+  end_with-keeps part c outcome = search (changes-keeps, edit_call-alters, then-keeps, looks-keeps, end_for-keeps, chains)
 
   pub end_call-keeps : (part : Part) (c : Call) (outcome : Outcome) → Keeps G (Behind G) (end_call p part c outcome)
   unfolding end_call
   end_call-keeps part c outcome =
-      looks-from moves _ (λ w good. let r = with_results p c outcome w in
+      looks-from (chains moves) _ (λ w good. let r = with_results p c outcome w in
       let first = with_results-world moves c outcome w good in
-      changes_then-from moves (λ _. r.0) (end_with p part c r.1) w first (keeps-from moves (end_with p part c r.1) r.0 (moves.behind w r.0 first) (end_with-keeps part c r.1)))
+      changes_then-from (chains moves) (λ _. r.0) (end_with p part c r.1) w first (keeps-from (chains moves) (end_with p part c r.1) r.0 (moves.behind w r.0 first) (end_with-keeps part c r.1)))
 
   pub deliver-keeps : (part : Part) (c : CallNo) (outcome : Outcome) → Keeps G (Behind G) (deliver p part c outcome)
   unfolding deliver
-  deliver-keeps part c outcome = search (with_call-keeps, end_call-keeps, then-keeps, unwind-keeps, moves.task_other)
+  deliver-keeps part c outcome = search (with_call-keeps, end_call-keeps, then-keeps, unwind-keeps, moves.task_other, chains)

@@ -15,10 +15,9 @@ use Rattle.profile_machine.specs.Appointments.{is_timeout_of}
 use Rattle.profile_machine.specs.Calls.{edit_call, forget_call, with_call, says_call, edit_object, edit_queue, place_of_entry, put_call, take_call, enqueued, enqueue, unqueued, is_cancellable, attempt_on, attempt_with, attempt, call_of}
 use Rattle.std.proofs.Common.{◌≡◌, refl, None, Some, Option}
 use Rattle.machine_laws.proofs.FineMoves.{GoodWorld, Naming}
-use Rattle.world_laws.proofs.Sequences.FineMoves.{FineMoves, Behind}
-use Rattle.world_laws.proofs.Sequences.Kept.Combinators.{branch-keeps, changes-keeps, for_some-keeps, looks-keeps, says-keeps, then-keeps, looks-from, nothing-keeps, keeps-from}
+use Rattle.world_laws.proofs.Sequences.FineMoves.{FineMoves, Behind, chains, says-keeps}
 use Rattle.world_laws.proofs.Sequences.Kept.Tasks.{edit_task-alters}
-use Rattle.machine_laws.proofs.Kept.Combinators.{Alters, From, Keeps}
+use Rattle.machine_laws.proofs.Kept.Combinators.{Alters, From, Keeps, branch-keeps, changes-keeps, for_some-keeps, keeps-from, looks-from, looks-keeps, nothing-keeps, then-keeps}
 
 module _ {p : Image} {G : GoodWorld} {May Other : Naming} (moves : FineMoves p G May Other) where
   pub edit_call-alters : (c : CallNo) (f : Call → Call) → ((d : Call) → (f d).number ≡ d.number) → ((d : Call) → (f d).caller ≡ d.caller) → Alters G (Behind G) (edit_call c f)
@@ -30,15 +29,15 @@ module _ {p : Image} {G : GoodWorld} {May Other : Naming} (moves : FineMoves p G
   forget_call-alters c w good = moves.forgets_call c w good
 
   pub with_call-keeps : (c : CallNo) (f : Call → Step) → ((x : Call) → Keeps G (Behind G) (f x)) → Keeps G (Behind G) (with_call c f)
-  with_call-keeps c f kept = search (looks-keeps, for_some-keeps)
+  with_call-keeps c f kept = search (looks-keeps, for_some-keeps, chains)
 
   -- a call that is found
   found-from : (found : Option Call) (f : Call → Step) (w : World) → G w → ((x : Call) → found ≡ Some x → Keeps G (Behind G) (f x)) → From (Behind G) w (for_some found f)
-  found-from None f w good kept = keeps-from moves nothing w good (nothing-keeps moves)
-  found-from (Some d) f w good kept = keeps-from moves (f d) w good (kept d refl)
+  found-from None f w good kept = keeps-from (chains moves) nothing w good (nothing-keeps (chains moves))
+  found-from (Some d) f w good kept = keeps-from (chains moves) (f d) w good (kept d refl)
 
   pub with_call_known-keeps : (c : CallNo) (f : Call → Step) → ((w : World) → G w → (x : Call) → call_of w c ≡ Some x → Keeps G (Behind G) (f x)) → Keeps G (Behind G) (with_call c f)
-  with_call_known-keeps c f kept = looks-from moves _ (λ w good. found-from (call_of w c) f w good (kept w good))
+  with_call_known-keeps c f kept = looks-from (chains moves) _ (λ w good. found-from (call_of w c) f w good (kept w good))
 
   pub says_call-keeps : (part : Part) (c : Call) → Keeps G (Behind G) (says_call part c)
   unfolding says_call
@@ -61,7 +60,7 @@ module _ {p : Image} {G : GoodWorld} {May Other : Naming} (moves : FineMoves p G
 
   pub enqueue-keeps : (c : CallNo) → Keeps G (Behind G) (enqueue p c)
   unfolding enqueue
-  enqueue-keeps c = search (with_call-keeps, changes-keeps, enqueued-alters)
+  enqueue-keeps c = search (with_call-keeps, changes-keeps, enqueued-alters, chains)
 
   pub unqueued-alters : (c : Call) → Alters G (Behind G) (unqueued p c)
   unfolding Alters
@@ -72,10 +71,10 @@ module _ {p : Image} {G : GoodWorld} {May Other : Naming} (moves : FineMoves p G
 
   pub attempt_on-keeps : (part : Part) (c : Call) → Keeps G (Behind G) (attempt_on p part c)
   unfolding attempt_on
-  attempt_on-keeps part c = branch-keeps moves (is_cancellable c) (changes (unqueued p c) ▷ says part (line.Cancel c.caller c.number)) (changes (edit_call c.number (λ d. record d { attempted = true }))) (search (changes-keeps, unqueued-alters, then-keeps, says-keeps)) (search (changes-keeps, edit_call-alters))
+  attempt_on-keeps part c = branch-keeps (chains moves) (is_cancellable c) (changes (unqueued p c) ▷ says part (line.Cancel c.caller c.number)) (changes (edit_call c.number (λ d. record d { attempted = true }))) (search (changes-keeps, unqueued-alters, then-keeps, says-keeps, chains)) (search (changes-keeps, edit_call-alters, chains))
 
   pub attempt_with-keeps : (part : Part) (c : Call) (cancels stays : Step) → Keeps G (Behind G) cancels → Keeps G (Behind G) stays → Keeps G (Behind G) (attempt_with p part c cancels stays)
-  attempt_with-keeps part c cancels stays kept also_kept = then-keeps moves (attempt_on p part c) _ (search (attempt_on-keeps)) (branch-keeps moves (is_cancellable c) cancels stays (search) (search))
+  attempt_with-keeps part c cancels stays kept also_kept = then-keeps (chains moves) (attempt_on p part c) _ (search (attempt_on-keeps)) (branch-keeps (chains moves) (is_cancellable c) cancels stays (search) (search))
 
   pub attempt-keeps : (part : Part) (c : CallNo) (cancels stays : Step) → Keeps G (Behind G) cancels → Keeps G (Behind G) stays → Keeps G (Behind G) (attempt p part c cancels stays)
   attempt-keeps part c cancels stays kept also_kept = search (with_call-keeps, attempt_with-keeps)

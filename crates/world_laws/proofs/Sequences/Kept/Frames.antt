@@ -17,11 +17,10 @@ use Rattle.profile_machine.specs.Steps.{Step, changes, ◌▷◌}
 use Rattle.profile_machine.specs.Frames.{top_of, edit_first, edit_top, goes, push, pop, leaves, raises, has_room, stands_in, exit_loop, pass_on, is_protected, given, raise_if, with_room, goes_on, with_mark, left_so}
 use Rattle.profile_machine.specs.Operators.{Valued}
 use Rattle.machine_laws.proofs.FineMoves.{GoodWorld, Naming, nature, natures}
-use Rattle.world_laws.proofs.Sequences.FineMoves.{FineMoves, Openings, Behind, StaysOn, onward_in}
-use Rattle.world_laws.proofs.Sequences.Kept.Combinators.{branch-keeps, changes-keeps, keeps-from, looks-keeps, nothing-keeps, says-keeps, then-keeps, changes-from, changes_then-from}
+use Rattle.world_laws.proofs.Sequences.FineMoves.{FineMoves, Openings, Behind, StaysOn, onward_in, chains, says-keeps}
 use Rattle.world_laws.proofs.Sequences.Kept.Tasks.{edit_frames-alters}
 use Rattle.std.proofs.Common.{◌≡◌, List, [], ◌∷◌, refl, ap, inl, inr}
-use Rattle.machine_laws.proofs.Kept.Combinators.{Alters, From, Gives, Keeps}
+use Rattle.machine_laws.proofs.Kept.Combinators.{Alters, From, Gives, Keeps, branch-keeps, changes-from, changes-keeps, changes_then-from, keeps-from, looks-keeps, nothing-keeps, then-keeps}
 
 -- an edit of a mark on top
 first-natures : (f : Frame → Frame) (fs : List Frame) → ((x : Frame) → nature (f x).mark ≡ nature x.mark) → natures (edit_first f fs) ≡ natures fs
@@ -45,7 +44,7 @@ module _ {p : Image} {G : GoodWorld} {May Other : Naming} (moves : FineMoves p G
 
   pub goes-keeps : (name : Who) (onward : Option StatementNo) → May name → Keeps G (Behind G) (goes name onward)
   unfolding goes
-  goes-keeps name onward may = changes-keeps moves (edit_top name (goes_on onward)) (goes_on-alters name onward may)
+  goes-keeps name onward may = changes-keeps (chains moves) (edit_top name (goes_on onward)) (goes_on-alters name onward may)
 
   -- a mark that is no protected action ends
   pub popped : (name : Who) (f : Frame) (w : World) → G w → May name → top_of w name ≡ Some f → is_protected f.mark ≡ false → Behind G w [] (pop name w)
@@ -53,19 +52,19 @@ module _ {p : Image} {G : GoodWorld} {May Other : Naming} (moves : FineMoves p G
 
   pub leaves-keeps : (name : Who) (leaving : Leaving) → Keeps G (Behind G) (leaves name leaving)
   unfolding leaves
-  leaves-keeps name leaving = changes-keeps moves (edit_top name (left_so leaving)) (edit_top-alters name (left_so leaving) (λ x. refl) (λ x. inr refl))
+  leaves-keeps name leaving = changes-keeps (chains moves) (edit_top name (left_so leaving)) (edit_top-alters name (left_so leaving) (λ x. refl) (λ x. inr refl))
 
   pub raises-keeps : (part : Part) (name : Who) (e : Raised) → Keeps G (Behind G) (raises part name e)
   unfolding raises
-  raises-keeps part name e = search (says-keeps, then-keeps, leaves-keeps)
+  raises-keeps part name e = search (says-keeps, then-keeps, leaves-keeps, chains)
 
   pub exit_loop-keeps : (name : Who) (loop : StatementNo) → May name → Keeps G (Behind G) (exit_loop p name loop)
   unfolding exit_loop
-  exit_loop-keeps name loop may = looks-keeps moves _ (λ w. branch-keeps moves (stands_in p loop (top_of w name)) (goes name (next_of p loop)) (leaves name (how.Exit loop)) (search (goes-keeps)) (search (leaves-keeps)))
+  exit_loop-keeps name loop may = looks-keeps (chains moves) _ (λ w. branch-keeps (chains moves) (stands_in p loop (top_of w name)) (goes name (next_of p loop)) (leaves name (how.Exit loop)) (search (goes-keeps)) (search (leaves-keeps)))
 
   pub pass_on-keeps : (name : Who) (leaving : Leaving) → May name → Keeps G (Behind G) (pass_on p name leaving)
   unfolding pass_on
-  pass_on-keeps name how.End may = search (nothing-keeps)
+  pass_on-keeps name how.End may = search (nothing-keeps, chains)
   pass_on-keeps name how.Return may = search (leaves-keeps)
   pass_on-keeps name (how.Exit loop) may = search (exit_loop-keeps)
   pass_on-keeps name (how.Exception e) may = search (leaves-keeps)
@@ -80,14 +79,14 @@ module _ {p : Image} {G : GoodWorld} {May Other : Naming} (moves : FineMoves p G
 
   pub given-from : {X : Type 0} (part : Part) (name : Who) (result : Result X Raised) (f : X → Step) (w : World) → G w → ((x : X) → From (Behind G) w (f x)) → From (Behind G) w (given part name result f)
   given-from part name (Ok x) f w good k = k x
-  given-from part name (Err e) f w good k = keeps-from moves (raises part name e) w good (raises-keeps part name e)
+  given-from part name (Err e) f w good k = keeps-from (chains moves) (raises part name e) w good (raises-keeps part name e)
 
   pub given_as-from : {X : Type 0} (part : Part) (name : Who) (result : Result X Raised) (f : X → Step) (w : World) → G w → ((x : X) → result ≡ Ok x → From (Behind G) w (f x)) → From (Behind G) w (given part name result f)
   given_as-from part name (Ok x) f w good k = k x refl
-  given_as-from part name (Err e) f w good k = keeps-from moves (raises part name e) w good (raises-keeps part name e)
+  given_as-from part name (Err e) f w good k = keeps-from (chains moves) (raises part name e) w good (raises-keeps part name e)
 
   pub raise_if-from : (name : Who) (test : Bool) (e : Raised) (step : Step) (w : World) → G w → (test ≡ false → From (Behind G) w step) → From (Behind G) w (raise_if name test e step)
-  raise_if-from name true e step w good k = keeps-from moves (raises Own name e) w good (raises-keeps Own name e)
+  raise_if-from name true e step w good k = keeps-from (chains moves) (raises Own name e) w good (raises-keeps Own name e)
   raise_if-from name false e step w good k = k refl
 
   -- a step behind the going on
@@ -95,25 +94,25 @@ module _ {p : Image} {G : GoodWorld} {May Other : Naming} (moves : FineMoves p G
   unfolding goes Alters
   goes_then-from name onward g w good k may =
       let gone = goes_on-alters name onward may w good in
-      changes_then-from moves (edit_top name (goes_on onward)) g w gone (k (moves.behind w (edit_top name (goes_on onward) w) gone))
+      changes_then-from (chains moves) (edit_top name (goes_on onward)) g w gone (k (moves.behind w (edit_top name (goes_on onward) w) gone))
 
   -- the world that a value gives becomes the world
   pub given_world-from : (part : Part) (name : Who) (result : Valued World) (f : World → Step) (w : World) → G w → Gives (Behind G) w result → ((next : World) → Keeps G (Behind G) (f next)) → From (Behind G) w (given part name result (λ next. changes (λ _. next) ▷ f next))
   unfolding Gives
-  given_world-from part name (Ok next) f w good a k = changes_then-from moves (λ _. next) (f next) w a (keeps-from moves (f next) next (moves.behind w next a) (k next))
-  given_world-from part name (Err e) f w good a k = keeps-from moves (raises part name e) w good (raises-keeps part name e)
+  given_world-from part name (Ok next) f w good a k = changes_then-from (chains moves) (λ _. next) (f next) w a (keeps-from (chains moves) (f next) next (moves.behind w next a) (k next))
+  given_world-from part name (Err e) f w good a k = keeps-from (chains moves) (raises part name e) w good (raises-keeps part name e)
 
   pub becomes-from : (part : Part) (name : Who) (result : Valued World) (w : World) → G w → Gives (Behind G) w result → From (Behind G) w (given part name result (λ next. changes (λ _. next)))
   unfolding Gives
-  becomes-from part name (Ok next) w good a = changes-from moves (λ _. next) w a
-  becomes-from part name (Err e) w good a = keeps-from moves (raises part name e) w good (raises-keeps part name e)
+  becomes-from part name (Ok next) w good a = changes-from (chains moves) (λ _. next) w a
+  becomes-from part name (Err e) w good a = keeps-from (chains moves) (raises part name e) w good (raises-keeps part name e)
 
   pub raise_if-keeps : (name : Who) (test : Bool) (e : Raised) (step : Step) → Keeps G (Behind G) step → Keeps G (Behind G) (raise_if name test e step)
   raise_if-keeps name true e step kept = search (raises-keeps)
   raise_if-keeps name false e step kept = search
 
   pub with_room-keeps : (name : Who) (marks cells : ℕ) (step : Step) → Keeps G (Behind G) step → Keeps G (Behind G) (with_room name marks cells step)
-  with_room-keeps name marks cells step kept = looks-keeps moves _ (λ w. branch-keeps moves (has_room w name marks cells) step (raises Own name exception.Storage) (search) (search (raises-keeps)))
+  with_room-keeps name marks cells step kept = looks-keeps (chains moves) _ (λ w. branch-keeps (chains moves) (has_room w name marks cells) step (raises Own name exception.Storage) (search) (search (raises-keeps)))
 
   -- ---- who acts opens a mark
 

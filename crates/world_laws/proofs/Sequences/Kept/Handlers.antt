@@ -31,15 +31,14 @@ use Rattle.profile_machine.specs.Handlers.{add_release, says_release, wake_agent
 use Rattle.std.proofs.Common.{◌≡◌, refl}
 use Rattle.std.specs.Prelude.{Bool}
 use Rattle.machine_laws.proofs.FineMoves.{GoodWorld, Naming}
-use Rattle.world_laws.proofs.Sequences.FineMoves.{FineMoves, Behind}
-use Rattle.world_laws.proofs.Sequences.Kept.Combinators.{changes-keeps, for_some-keeps, keeps-from, looks-from, looks-keeps, nothing-keeps, says-keeps, sees-keeps, then-keeps, unchanged-alters, said-keeps, from-keeps}
+use Rattle.world_laws.proofs.Sequences.FineMoves.{FineMoves, Behind, chains, says-keeps}
 use Rattle.world_laws.proofs.Sequences.Kept.Frames.{becomes-from, goes-keeps, given-keeps, raise_if-keeps}
 use Rattle.world_laws.proofs.Sequences.Kept.Tasks.{edit_task-alters}
 use Rattle.world_laws.proofs.Sequences.Kept.Dispatching.{ready-from}
 use Rattle.world_laws.proofs.Sequences.Kept.Appointments.{appoint-from, drop_appointment-alters}
 use Rattle.world_laws.proofs.Sequences.Kept.CallEnds.{store-gives}
-use Rattle.machine_laws.proofs.Kept.Combinators.{Alters, From, Keeps}
 use Rattle.machine_laws.proofs.Kept.Handlers.{spent-frames, spent-state, spent-who}
+use Rattle.machine_laws.proofs.Kept.Combinators.{Alters, From, Keeps, changes-keeps, for_some-keeps, from-keeps, keeps-from, looks-from, looks-keeps, nothing-keeps, said-keeps, sees-keeps, then-keeps, unchanged-alters}
 
 spent-unit : (robin : Bool) (t : world.Task) → (cond robin (record t { quantum = t.quantum - 1 }) t).unit ≡ t.unit
 spent-unit true t = refl
@@ -54,39 +53,39 @@ module _ {p : Image} {G : GoodWorld} {May Other : Naming} (moves : FineMoves p G
 
   says_release-keeps : (part : Part) (h : HandlerOf) → Keeps G (Behind G) (says_release part h)
   unfolding says_release
-  says_release-keeps part h = looks-keeps moves _ (λ w. said-keeps moves part (line.Release w.drawn.releases h) (λ v good. good))
+  says_release-keeps part h = looks-keeps (chains moves) _ (λ w. said-keeps (chains moves) part (line.Release w.drawn.releases h) (λ v good. good))
 
   wake_agent-keeps : (part : Part) (state : State) → Keeps G (Behind G) (wake_agent p part state)
   unfolding wake_agent
-  wake_agent-keeps part (Blocked waiting) = from-keeps moves _ (λ w good. ready-from moves part who.Agent w (moves.readies_agent w good))
-  wake_agent-keeps part Runnable = nothing-keeps moves
-  wake_agent-keeps part Made = nothing-keeps moves
+  wake_agent-keeps part (Blocked waiting) = from-keeps (chains moves) _ (λ w good. ready-from moves part who.Agent w (moves.readies_agent w good))
+  wake_agent-keeps part Runnable = nothing-keeps (chains moves)
+  wake_agent-keeps part Made = nothing-keeps (chains moves)
 
   pub release-keeps : (part : Part) (h : HandlerOf) (argument : Option ℕ) → Keeps G (Behind G) (release p part h argument)
   unfolding release
   release-keeps part h argument =
-      then-keeps moves (changes (add_release h argument)) _ (changes-keeps moves _ (adds_release-alters h argument))
-      (then-keeps moves (says_release part h) _ (says_release-keeps part h) (looks-keeps moves _ (λ w. wake_agent-keeps part w.agent.state)))
+      then-keeps (chains moves) (changes (add_release h argument)) _ (changes-keeps (chains moves) _ (adds_release-alters h argument))
+      (then-keeps (chains moves) (says_release part h) _ (says_release-keeps part h) (looks-keeps (chains moves) _ (λ w. wake_agent-keeps part w.agent.state)))
 
 -- ---- settings, and the charge of a tick
 
 module _ {p : Image} {G : GoodWorld} {May Other : Naming} (moves : FineMoves p G May Other) where
   pub with_room_for_release-keeps : (name : Who) (needed : Bool) (step : Step) → Keeps G (Behind G) step → Keeps G (Behind G) (with_room_for_release name needed step)
-  with_room_for_release-keeps name needed step kept = search (looks-keeps, raise_if-keeps)
+  with_room_for_release-keeps name needed step kept = search (looks-keeps, raise_if-keeps, chains)
 
   pub setting_of-keeps : (name : Who) (q : Seen) (base : ℤ) (set : Setting) (named : Option HandlerName) (step : Option HandlerOf → ℤ → Step) → ((x : Option HandlerOf) (y : ℤ) → Keeps G (Behind G) (step x y)) → Keeps G (Behind G) (setting_of p name q base set named step)
   setting_of-keeps name q base set named step kept = search (given-keeps, with_room_for_release-keeps, raise_if-keeps)
 
   pub answer-keeps : (name : Who) (v : Variable) (b : Bool) → Keeps G (Behind G) (answer p name v b)
   unfolding answer
-  answer-keeps name v b = looks-from moves _ (λ w good. becomes-from moves Own name (store p v (Truth b) w) w good (store-gives moves v (Truth b) w good))
+  answer-keeps name v b = looks-from (chains moves) _ (λ w good. becomes-from moves Own name (store p v (Truth b) w) w good (store-gives moves v (Truth b) w good))
 
   pub cancel_event_setting-alters : (e : ℕ) → Alters G (Behind G) (cancel_event_setting e)
   cancel_event_setting-alters e = search (drop_appointment-alters)
 
   pub cancel_event-keeps : (name : Who) (s : StatementNo) (d : DeclNo) (target : VariableName) → May name → Keeps G (Behind G) (cancel_event p name s d target)
   unfolding cancel_event
-  cancel_event-keeps name s d target may = search (sees-keeps, given-keeps, goes-keeps, then-keeps, changes-keeps, cancel_event_setting-alters, answer-keeps) depth 9
+  cancel_event-keeps name s d target may = search (sees-keeps, given-keeps, goes-keeps, then-keeps, changes-keeps, cancel_event_setting-alters, answer-keeps, chains) depth 10
 
   pub clear_timer-alters : (k : ℕ) → Alters G (Behind G) (clear_timer k)
   unfolding Alters
@@ -98,7 +97,7 @@ module _ {p : Image} {G : GoodWorld} {May Other : Naming} (moves : FineMoves p G
 
   pub cancel_timer-keeps : (name : Who) (s : StatementNo) (d : DeclNo) (target : VariableName) → May name → Keeps G (Behind G) (cancel_timer p name s d target)
   unfolding cancel_timer
-  cancel_timer-keeps name s d target may = search (sees-keeps, given-keeps, goes-keeps, then-keeps, changes-keeps, clear_timer-alters, answer-keeps) depth 9
+  cancel_timer-keeps name s d target may = search (sees-keeps, given-keeps, goes-keeps, then-keeps, changes-keeps, clear_timer-alters, answer-keeps, chains) depth 10
 
   edit_budget-alters : (b : ℕ) (f : Budget → Budget) → Alters G (Behind G) (edit_budget b f)
   unfolding Alters
@@ -106,19 +105,19 @@ module _ {p : Image} {G : GoodWorld} {May Other : Naming} (moves : FineMoves p G
 
   pub change_member-keeps : (name : Who) (s : StatementNo) (t : world.Task) (is_right : Bool) (b : Option ℕ) → May name → Keeps G (Behind G) (change_member p name s t is_right b)
   unfolding change_member
-  change_member-keeps name s t is_right b may = search (raise_if-keeps, goes-keeps, then-keeps, changes-keeps, edit_task-alters)
+  change_member-keeps name s t is_right b may = search (raise_if-keeps, goes-keeps, then-keeps, changes-keeps, edit_task-alters, chains)
 
   pub add_member-keeps : (name : Who) (s : StatementNo) (d : DeclNo) (e : ExprNo) → May name → Keeps G (Behind G) (add_member p name s d e)
   unfolding add_member
-  add_member-keeps name s d e may = search (sees-keeps, given-keeps, change_member-keeps) depth 6
+  add_member-keeps name s d e may = search (sees-keeps, given-keeps, change_member-keeps, chains) depth 7
 
   pub remove_member-keeps : (name : Who) (s : StatementNo) (d : DeclNo) (e : ExprNo) → May name → Keeps G (Behind G) (remove_member p name s d e)
   unfolding remove_member
-  remove_member-keeps name s d e may = search (sees-keeps, given-keeps, change_member-keeps) depth 6
+  remove_member-keeps name s d e may = search (sees-keeps, given-keeps, change_member-keeps, chains) depth 7
 
   pub fill_budget-keeps : (name : Who) (s : StatementNo) (d : DeclNo) (e : ExprNo) (f : ℤ → Budget → Budget) → May name → Keeps G (Behind G) (fill_budget p name s d e f)
   unfolding fill_budget
-  fill_budget-keeps name s d e f may = search (sees-keeps, given-keeps, with_room_for_release-keeps, raise_if-keeps, goes-keeps, then-keeps, changes-keeps, edit_budget-alters) depth 8
+  fill_budget-keeps name s d e f may = search (sees-keeps, given-keeps, with_room_for_release-keeps, raise_if-keeps, goes-keeps, then-keeps, changes-keeps, edit_budget-alters, chains) depth 9
 
   pub replenish-keeps : (name : Who) (s : StatementNo) (d : DeclNo) (e : ExprNo) → May name → Keeps G (Behind G) (replenish p name s d e)
   unfolding replenish
@@ -130,14 +129,14 @@ module _ {p : Image} {G : GoodWorld} {May Other : Naming} (moves : FineMoves p G
 
   pub set_budget-keeps : (name : Who) (s : StatementNo) (d : DeclNo) (named : Option HandlerName) → May name → Keeps G (Behind G) (set_budget p name s d named)
   unfolding set_budget
-  set_budget-keeps name s d named may = search (sees-keeps, given-keeps, with_room_for_release-keeps, raise_if-keeps, goes-keeps, then-keeps, changes-keeps, edit_budget-alters) depth 8
+  set_budget-keeps name s d named may = search (sees-keeps, given-keeps, with_room_for_release-keeps, raise_if-keeps, goes-keeps, then-keeps, changes-keeps, edit_budget-alters, chains) depth 9
 
   pub cancel_budget-keeps : (name : Who) (s : StatementNo) (d : DeclNo) (target : VariableName) → May name → Keeps G (Behind G) (cancel_budget p name s d target)
   unfolding cancel_budget
-  cancel_budget-keeps name s d target may = search (sees-keeps, given-keeps, goes-keeps, then-keeps, changes-keeps, edit_budget-alters, answer-keeps) depth 9
+  cancel_budget-keeps name s d target may = search (sees-keeps, given-keeps, goes-keeps, then-keeps, changes-keeps, edit_budget-alters, answer-keeps, chains) depth 10
 
   pub charge_budget-alters : (n : Option ℕ) → Alters G (Behind G) (charge_budget n)
-  charge_budget-alters None = search (unchanged-alters)
+  charge_budget-alters None = search (unchanged-alters, chains)
   charge_budget-alters (Some b) = search (edit_budget-alters)
 
   -- ---- a tick is charged
@@ -179,33 +178,33 @@ module _ {p : Image} {G : GoodWorld} {May Other : Naming} (moves : FineMoves p G
   pub interrupt-keeps : (n : ℕ) → Keeps G (Behind G) (interrupt p n)
   unfolding interrupt
   interrupt-keeps n =
-      then-keeps moves (says Own (line.Interrupt n)) _ (says-keeps moves Own (line.Interrupt n) refl)
-      (looks-keeps moves _ (λ w. for_some-keeps moves (handler_attached p n w.objects) _ (λ h. release-keeps moves Own h None)))
+      then-keeps (chains moves) (says Own (line.Interrupt n)) _ (says-keeps moves Own (line.Interrupt n) refl)
+      (looks-keeps (chains moves) _ (λ w. for_some-keeps (chains moves) (handler_attached p n w.objects) _ (λ h. release-keeps moves Own h None)))
 
   appoint_event-from : (e : ℕ) (h : HandlerOf) (m : ℤ) (test : Bool) (w : World) → G w → int_lt (pos w.time) m ≡ test → From (Behind G) w (appoint_event p e h m test)
   unfolding appoint_event
   appoint_event-from e h m true w good is = appoint-from moves (due_for.Event e h) m w good
-  appoint_event-from e h m false w good is = keeps-from moves (release p Own h (Some e)) w good (release-keeps moves Own h (Some e))
+  appoint_event-from e h m false w good is = keeps-from (chains moves) (release p Own h (Some e)) w good (release-keeps moves Own h (Some e))
 
   pub event_set_to-keeps : (e : ℕ) (h : Option HandlerOf) (m : ℤ) → Keeps G (Behind G) (event_set_to p e h m)
   unfolding event_set_to
-  event_set_to-keeps e None m = search (nothing-keeps)
-  event_set_to-keeps e (Some h) m = looks-from moves _ (λ w good. appoint_event-from e h m (int_lt (pos w.time) m) w good refl)
+  event_set_to-keeps e None m = search (nothing-keeps, chains)
+  event_set_to-keeps e (Some h) m = looks-from (chains moves) _ (λ w good. appoint_event-from e h m (int_lt (pos w.time) m) w good refl)
 
   pub set_event-keeps : (name : Who) (s : StatementNo) (d : DeclNo) (set : Setting) (named : Option HandlerName) → May name → Keeps G (Behind G) (set_event p name s d set named)
   unfolding set_event
-  set_event-keeps name s d set named may = search (sees-keeps, given-keeps, setting_of-keeps, goes-keeps, then-keeps, changes-keeps, cancel_event_setting-alters, event_set_to-keeps) depth 9
+  set_event-keeps name s d set named may = search (sees-keeps, given-keeps, setting_of-keeps, goes-keeps, then-keeps, changes-keeps, cancel_event_setting-alters, event_set_to-keeps, chains) depth 10
 
   pub timer_set_beyond-keeps : (k : ℕ) (h : HandlerOf) (v : ℤ) (test : Bool) → Keeps G (Behind G) (timer_set_beyond p k h v test)
   unfolding timer_set_beyond
-  timer_set_beyond-keeps k h v true = search (changes-keeps, with_timer_set-alters)
+  timer_set_beyond-keeps k h v true = search (changes-keeps, with_timer_set-alters, chains)
   timer_set_beyond-keeps k h v false = release-keeps moves Own h (Some k)
 
   pub timer_set_to-keeps : (k clock : ℕ) (h : Option HandlerOf) (v : ℤ) → Keeps G (Behind G) (timer_set_to p k clock h v)
   unfolding timer_set_to
-  timer_set_to-keeps k clock None v = search (nothing-keeps)
+  timer_set_to-keeps k clock None v = search (nothing-keeps, chains)
   timer_set_to-keeps k clock (Some h) v = search (timer_set_beyond-keeps)
 
   pub set_timer-keeps : (name : Who) (s : StatementNo) (d : DeclNo) (set : Setting) (named : Option HandlerName) → May name → Keeps G (Behind G) (set_timer p name s d set named)
   unfolding set_timer
-  set_timer-keeps name s d set named may = search (sees-keeps, given-keeps, setting_of-keeps, goes-keeps, then-keeps, changes-keeps, clear_timer-alters, timer_set_to-keeps) depth 9
+  set_timer-keeps name s d set named may = search (sees-keeps, given-keeps, setting_of-keeps, goes-keeps, then-keeps, changes-keeps, clear_timer-alters, timer_set_to-keeps, chains) depth 10

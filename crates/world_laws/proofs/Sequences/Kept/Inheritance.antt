@@ -5,11 +5,10 @@ use Rattle.profile_machine.specs.declared.image.Image.{Image}
 use Rattle.profile_machine.specs.declared.world.tasks.Cause.{Cause}
 use Rattle.profile_machine.specs.Inheritance.{inherit, lose, inherit_running, lose_running}
 use Rattle.machine_laws.proofs.FineMoves.{GoodWorld, Naming}
-use Rattle.world_laws.proofs.Sequences.FineMoves.{FineMoves, Behind}
-use Rattle.world_laws.proofs.Sequences.Kept.Combinators.{changes-keeps, looks-keeps, then-keeps, when-keeps}
+use Rattle.world_laws.proofs.Sequences.FineMoves.{FineMoves, Behind, chains}
 use Rattle.world_laws.proofs.Sequences.Kept.Tasks.{edit_task-alters}
 use Rattle.world_laws.proofs.Sequences.Kept.Dispatching.{to_head-keeps}
-use Rattle.machine_laws.proofs.Kept.Combinators.{Alters, Keeps}
+use Rattle.machine_laws.proofs.Kept.Combinators.{Alters, Keeps, changes-keeps, looks-keeps, then-keeps, when-keeps}
 
 module _ {p : Image} {G : GoodWorld} {May Other : Naming} (moves : FineMoves p G May Other) where
   pub inherit-alters : (name : Who) (cause : Cause) (level : ℕ) → Alters G (Behind G) (inherit name cause level)
@@ -20,8 +19,8 @@ module _ {p : Image} {G : GoodWorld} {May Other : Naming} (moves : FineMoves p G
 
   pub inherit_running-keeps : (name : Who) (cause : Cause) (level : ℕ) → Keeps G (Behind G) (inherit_running p name cause level)
   unfolding inherit_running
-  inherit_running-keeps name cause level = search (looks-keeps, changes-keeps, inherit-alters, then-keeps, when-keeps, to_head-keeps) depth 6
+  inherit_running-keeps name cause level = search (looks-keeps, changes-keeps, inherit-alters, then-keeps, when-keeps, to_head-keeps, chains) depth 7
 
   pub lose_running-keeps : (name : Who) (cause : Cause) → Keeps G (Behind G) (lose_running p name cause)
   unfolding lose_running
-  lose_running-keeps name cause = search (looks-keeps, changes-keeps, lose-alters, then-keeps, when-keeps, to_head-keeps) depth 6
+  lose_running-keeps name cause = search (looks-keeps, changes-keeps, lose-alters, then-keeps, when-keeps, to_head-keeps, chains) depth 7

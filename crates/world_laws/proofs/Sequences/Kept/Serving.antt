@@ -44,8 +44,8 @@ use Rattle.profile_machine.specs.Serving.{serves_nothing, is_served_now, serve_e
 use Rattle.std.proofs.Common.{◌≡◌, refl, sym, inl, ◌∙◌}
 use Rattle.machine_laws.proofs.Moves.{own}
 use Rattle.machine_laws.proofs.FineMoves.{GoodWorld, Naming}
-use Rattle.world_laws.proofs.Sequences.FineMoves.{FineMoves, Openings, Behind, Loosens, Ending}
-use Rattle.world_laws.proofs.Sequences.Kept.Combinators.{changes-keeps, looks-keeps, nothing-keeps, says-keeps, then-keeps, Turns, then-turns, wide-turns, changes-turns, looks-turns, turns-from, when-turns, says-turns, with_call-turns, branch-turns, said-keeps}
+use Rattle.world_laws.proofs.Sequences.FineMoves.{FineMoves, Openings, Behind, Loosens, Ending, chains, says-keeps}
+use Rattle.world_laws.proofs.Sequences.Kept.Combinators.{Turns, then-turns, wide-turns, changes-turns, looks-turns, turns-from, when-turns, says-turns, with_call-turns, branch-turns}
 use Rattle.world_laws.proofs.Sequences.Kept.Frames.{edit_top-alters, leaves-keeps, pass_on-keeps}
 use Rattle.world_laws.proofs.Sequences.Kept.Inheritance.{lose_running-keeps}
 use Rattle.world_laws.proofs.Sequences.Kept.Calls.{edit_call-alters, forget_call-alters, with_call-keeps, enqueue-keeps, attempt_with-keeps, with_call_known-keeps}
@@ -53,9 +53,9 @@ use Rattle.world_laws.proofs.Sequences.Kept.CallEnds.{resume-keeps, deliver-keep
 use Rattle.world_laws.proofs.Sequences.Kept.Protected.{edit_top_protected-alters, begin_call-keeps}
 use Rattle.world_laws.proofs.Sequences.Kept.Priorities.{set_deferred-keeps}
 use Rattle.world_laws.proofs.Sequences.Kept.Sending.{open_abortable-alters, wait_for_call-keeps, send_on-keeps, begin_abortable-keeps, sent_not_begun-keeps}
-use Rattle.machine_laws.proofs.Kept.Combinators.{Alters, Keeps}
 use Rattle.machine_laws.proofs.Kept.Serving.{keeps_sending-number}
 use Rattle.line_laws.proofs.Leaving.Kept.Serving.{keeps_sending-caller}
+use Rattle.machine_laws.proofs.Kept.Combinators.{Alters, Keeps, changes-keeps, looks-keeps, nothing-keeps, said-keeps, then-keeps}
 
 -- ---- where nothing else is served
 
@@ -63,18 +63,18 @@ module _ {p : Image} {G : GoodWorld} {May Other : Naming} (moves : FineMoves p G
   wait_or_unwind-keeps : (name : Who) (c : Call) (test : Bool) → Keeps G (Behind G) (wait_or_unwind p name c test)
   unfolding wait_or_unwind
   wait_or_unwind-keeps name c true =
-      attempt_with-keeps moves Own c _ (wait_for_call c) (then-keeps moves (changes (forget_call c.number)) (leaves name how.Abort) (changes-keeps moves _ (forget_call-alters moves c.number)) (leaves-keeps moves name how.Abort)) (wait_for_call-keeps moves openings c)
+      attempt_with-keeps moves Own c _ (wait_for_call c) (then-keeps (chains moves) (changes (forget_call c.number)) (leaves name how.Abort) (changes-keeps (chains moves) _ (forget_call-alters moves c.number)) (leaves-keeps moves name how.Abort)) (wait_for_call-keeps moves openings c)
   wait_or_unwind-keeps name c false = wait_for_call-keeps moves openings c
 
   wait_for_own-keeps : (name : Who) (c : Call) (test : Bool) → Keeps G (Behind G) (wait_for_own p name c test)
   unfolding wait_for_own
-  wait_for_own-keeps name c true = changes-keeps moves _ (open_abortable-alters moves (who.Task c.caller) c.statement (Some c.number) (moves.task_other c.caller))
-  wait_for_own-keeps name c false = looks-keeps moves _ (λ w. wait_or_unwind-keeps name c (may_unwind (frames_of w name)))
+  wait_for_own-keeps name c true = changes-keeps (chains moves) _ (open_abortable-alters moves (who.Task c.caller) c.statement (Some c.number) (moves.task_other c.caller))
+  wait_for_own-keeps name c false = looks-keeps (chains moves) _ (λ w. wait_or_unwind-keeps name c (may_unwind (frames_of w name)))
 
   resume_own-keeps : (name : Who) (c : Call) (outcome : Option Outcome) → May (who.Task c.caller) → Keeps G (Behind G) (resume_own p name c outcome)
   unfolding resume_own
   resume_own-keeps name c (Some outcome) may = resume-keeps moves TheBlock c outcome may
-  resume_own-keeps name c None may = looks-keeps moves _ (λ w. wait_for_own-keeps name c (may_open_abortable w name c))
+  resume_own-keeps name c None may = looks-keeps (chains moves) _ (λ w. wait_for_own-keeps name c (may_open_abortable w name c))
 
   pub behind_task_action-keeps : (name : Who) (m : ProtectedMark) (own_call : Option CallNo) → May name → ((c : CallNo) → own_call ≡ Some c → (w : World) → G w → (d : Call) → call_of w c ≡ Some d → May (who.Task d.caller)) → Keeps G (Behind G) (behind_action p name m None own_call)
   unfolding behind_action
@@ -84,14 +84,14 @@ module _ {p : Image} {G : GoodWorld} {May Other : Naming} (moves : FineMoves p G
 module _ {p : Image} {G : GoodWorld} {May Other : Naming} (moves : FineMoves p G May Other) where
   pub settle_sent-keeps : (loose : Loosens p G May Other) (c : Option CallNo) (test : Bool) → Keeps G (Behind G) (settle_sent p c test)
   unfolding settle_sent
-  settle_sent-keeps loose None is_served = nothing-keeps moves
-  settle_sent-keeps loose (Some c) true = nothing-keeps moves
+  settle_sent-keeps loose None is_served = nothing-keeps (chains moves)
+  settle_sent-keeps loose (Some c) true = nothing-keeps (chains moves)
   settle_sent-keeps loose (Some c) false = sent_not_begun-keeps moves loose c
 
   begins_part-keeps : (loose : Loosens p G May Other) (test : Bool) (c : CallNo) → Keeps G (Behind G) (begins_part p test c)
   unfolding begins_part
   begins_part-keeps loose true c = begin_abortable-keeps moves loose c
-  begins_part-keeps loose false c = nothing-keeps moves
+  begins_part-keeps loose false c = nothing-keeps (chains moves)
 
 -- ---- a protected action goes on and ends
 
@@ -102,7 +102,7 @@ module _ {p : Image} {Other : Naming} {name : Who} {release : Option ℕ} {own_c
 
   -- the agent has served its release
   told_served-keeps : (n : ℕ) → Keeps e.E (Behind e.E) (says Own (line.Served n))
-  told_served-keeps n = said-keeps e.ended Own (line.Served n) (λ w good. good)
+  told_served-keeps n = said-keeps (chains e.ended) Own (line.Served n) (λ w good. good)
 
   sleeps-turns : (n : ℕ) → release ≡ Some n → Turns e.E e.Y (block TheBlock who.Agent waits_for.Release)
   unfolding block says_block
@@ -130,9 +130,9 @@ module _ {p : Image} {Other : Naming} {name : Who} {release : Option ℕ} {own_c
   release_object-turns : (m : ProtectedMark) → (m.release ≡ release) × (m.own_call ≡ own_call) → Turns e.S e.Y (release_object p name m)
   unfolding release_object
   release_object-turns m is =
-      then-turns e.S e.S e.Y (says Own (line.Exit name m.object)) _ (said-keeps e.serving Own (line.Exit name m.object) (λ w good. good))
+      then-turns e.S e.S e.Y (says Own (line.Exit name m.object)) _ (said-keeps (chains e.serving) Own (line.Exit name m.object) (λ w good. good))
       (then-turns e.S e.E e.Y (changes (pop name)) _ (changes-turns e.S e.E (pop name) e.pops)
-      (then-turns e.E e.E e.Y (changes (close_action name m.object)) _ (changes-keeps e.ended _ (closes-alters m.object))
+      (then-turns e.E e.E e.Y (changes (close_action name m.object)) _ (changes-keeps (chains e.ended) _ (closes-alters m.object))
       (then-turns e.E e.E e.Y (lose_running p name (inherited_by.Ceiling m.object)) _ (lose_running-keeps e.ended name (inherited_by.Ceiling m.object))
       (then-turns e.E e.E e.Y (set_deferred p name) _ (set_deferred-keeps e.ended name) (behind_action-turns m m.release is.0 is.1)))))
 
@@ -140,7 +140,7 @@ module _ {p : Image} {Other : Naming} {name : Who} {release : Option ℕ} {own_c
   body_opens-turns : (o : ObjectNo) (c : Call) → Turns e.S e.G (body_opens p name o c)
   unfolding body_opens
   body_opens-turns o c =
-      then-turns e.S e.S e.G (changes (edit_top_protected name (λ m. record m { serves = Some c.number }))) _ (changes-keeps e.serving _ (edit_top_protected-alters e.serving name (λ m. record m { serves = Some c.number }) (λ m. refl)))
+      then-turns e.S e.S e.G (changes (edit_top_protected name (λ m. record m { serves = Some c.number }))) _ (changes-keeps (chains e.serving) _ (edit_top_protected-alters e.serving name (λ m. record m { serves = Some c.number }) (λ m. refl)))
       (looks-turns e.S e.G _ (λ w good. turns-from e.S e.G _ w good (changes-turns e.S e.G _ (λ v h. e.opens (body_scope_of p c.entry) (body_of_object p w (body_scope_of p c.entry) o None (parameters_of p c)) (opened_for.EntryBody c.number) v h))))
 
   serve_call-turns : (part : Part) (o : ObjectNo) (c : Call) (then_ otherwise : Step) → Keeps e.G (Behind e.G) then_ → Turns e.S e.Y otherwise → Turns e.S e.Y (serve_call p part name o c then_ otherwise)
@@ -176,10 +176,10 @@ module _ {p : Image} {Other : Naming} {name : Who} {release : Option ℕ} {own_c
   go_on_by_mode-turns m Write is = serve_calls-turns m None is
 
   not_left-keeps : Keeps e.S (Behind e.S) (changes (edit_top name not_left))
-  not_left-keeps = changes-keeps e.serving _ (edit_top-alters e.serving name not_left (λ x. refl) (λ x. inl refl))
+  not_left-keeps = changes-keeps (chains e.serving) _ (edit_top-alters e.serving name not_left (λ x. refl) (λ x. inl refl))
 
   marks-keeps : (f : ProtectedMark → ProtectedMark) → ((m : ProtectedMark) → (f m).release ≡ m.release) → Keeps e.S (Behind e.S) (changes (edit_top_protected name f))
-  marks-keeps f same = changes-keeps e.serving _ (edit_top_protected-alters e.serving name f same)
+  marks-keeps f same = changes-keeps (chains e.serving) _ (edit_top_protected-alters e.serving name f same)
 
   end_operation-turns : (m : ProtectedMark) (leaving : Leaving) → (m.release ≡ release) × (m.own_call ≡ own_call) → Turns e.S e.Y (end_operation p name m leaving)
   unfolding end_operation
@@ -232,8 +232,8 @@ module _ {p : Image} {Other : Naming} {name : Who} {release : Option ℕ} {own_c
 module _ {p : Image} {G : GoodWorld} {May Other : Naming} (moves : FineMoves p G May Other) where
   pub keep_values-keeps : (c : CallNo) (cells : List Value) → Keeps G (Behind G) (keep_values p c cells)
   unfolding keep_values
-  keep_values-keeps c cells = search (with_call-keeps, changes-keeps, edit_call-alters)
+  keep_values-keeps c cells = search (with_call-keeps, changes-keeps, edit_call-alters, chains)
 
   pub end_body_of_entry-keeps : (c : CallNo) (cells : List Value) (leaving : Leaving) → Keeps G (Behind G) (end_body_of_entry p c cells leaving)
   unfolding end_body_of_entry
-  end_body_of_entry-keeps c cells leaving = search (changes-keeps, edit_call-alters, then-keeps, keep_values-keeps, keeps_sending-number, keeps_sending-caller)
+  end_body_of_entry-keeps c cells leaving = search (changes-keeps, edit_call-alters, then-keeps, keep_values-keeps, keeps_sending-number, keeps_sending-caller, chains)

@@ -5,6 +5,7 @@ pub mod Chains
 pub mod FinestMoves
 mod AtOnce
 pub mod Kept
+pub mod Plain
 pub mod TimeLemmas
 pub mod LineLemmas
 mod AppointmentLemmas

@@ -34,19 +34,17 @@ use Rattle.machine_laws.proofs.FineMoves.{GoodWorld, Naming, is_abortable}
 use Rattle.machine_laws.proofs.FinestMoves.{FinestMoves, MarkOpenings, OwnRegions, SettingMoves, AllMoves, Holding, Anyhow, nature, chains}
 use Rattle.profile_machine.specs.Tasks.{edit_task, with_ticks}
 use Rattle.machine_laws.proofs.Kept.Dispatching.{block-keeps}
-use Rattle.machine_laws.proofs.Kept.Frames.{edit_top-alters, goes-keeps, raises-keeps, pass_on-keeps, with_room-keeps, popped}
+use Rattle.machine_laws.proofs.Kept.Frames.{edit_top-alters, goes-keeps, popped, plain_steps}
 use Rattle.machine_laws.proofs.Kept.Scopes.{open_scope-alters}
 use Rattle.machine_laws.proofs.Kept.Appointments.{drop_appointment-alters}
-use Rattle.machine_laws.proofs.Kept.Calls.{with_call-keeps, attempt_with-keeps}
-use Rattle.machine_laws.proofs.Kept.Statements.{null-keeps, assign-keeps, assign_array-keeps, if_statement-keeps, case_statement-keeps, while_turn-keeps, for_bounds-keeps, first_turn-keeps, later_turn-keeps, exit_statement-keeps, block_statement-keeps, raise_again-keeps, delay_until-keeps, put_line-keeps}
-use Rattle.machine_laws.proofs.Kept.Subprograms.{call_subprogram-keeps, return_value-keeps, return-keeps}
+use Rattle.machine_laws.proofs.Kept.Statements.{block_statement-keeps, delay_until-keeps, put_line-keeps}
+use Rattle.machine_laws.proofs.Kept.Subprograms.{call_subprogram-keeps}
 use Rattle.machine_laws.proofs.Kept.Protected.{call_operation-keeps, call_own_operation-keeps}
 use Rattle.machine_laws.proofs.Kept.Priorities.{set_priority-keeps, set_quantum-keeps, set_deadline_of-keeps, delay_and_set_deadline-keeps}
 use Rattle.machine_laws.proofs.Kept.Serving.{end_in_protected-from, ending, Stays}
 use Rattle.machine_laws.proofs.Kept.Rendezvous.{accept-keeps, selective_accept-keeps, end_in_accept-from}
 use Rattle.machine_laws.proofs.Kept.EntryCalls.{entry_call-keeps, asynchronous_select-keeps, requeue-keeps}
 use Rattle.machine_laws.proofs.Kept.Controlled.{initialize-keeps, assign_controlled-keeps, end_in_initialize-from, end_in_finalize-from, end_in_assign-from}
-use Rattle.machine_laws.proofs.Kept.Declarations.{declare-keeps}
 use Rattle.machine_laws.proofs.Kept.Tasking.{create-keeps, activate-keeps, end_own_activation-keeps, abort_statement-keeps, end_scope_mark-from, own_region-from}
 use Rattle.machine_laws.proofs.Kept.Handlers.{call_handler-keeps, set_event-keeps, cancel_event-keeps, set_timer-keeps, cancel_timer-keeps, add_member-keeps, remove_member-keeps, replenish-keeps, add_to_budget-keeps, set_budget-keeps, cancel_budget-keeps, Releasing, releasing}
 use Rattle.ann_base.specs.declared.identities.RegionNo.{RegionNo}
@@ -57,6 +55,12 @@ use Rattle.profile_machine.specs.Serving.{end_in_protected}
 use Rattle.machine_laws.proofs.Kept.CallEnds.{end_found_abortable-keeps, abortable-nature}
 use Rattle.profile_machine.specs.CallEnds.{edit_abortable}
 use Rattle.machine_laws.proofs.Kept.Combinators.{Alters, From, Keeps, changes-keeps, changes_then-from, cond-keeps, keeps-from, looks-keeps, looks_at-from, nothing-keeps, option-keeps, sees-keeps, then-keeps, unchanged-alters}
+use Rattle.machine_laws.proofs.Plain.Frames.{raises-keeps, pass_on-keeps, with_room-keeps}
+use Rattle.machine_laws.proofs.Plain.Calls.{with_call-keeps, attempt_with-keeps}
+use Rattle.machine_laws.proofs.Plain.Statements.{null-keeps, assign-keeps, assign_array-keeps, if_statement-keeps, case_statement-keeps, while_turn-keeps, for_bounds-keeps, first_turn-keeps, later_turn-keeps, exit_statement-keeps, raise_again-keeps}
+use Rattle.machine_laws.proofs.Plain.Subprograms.{return_value-keeps, return-keeps}
+use Rattle.machine_laws.proofs.Plain.Declarations.{declare-keeps}
+use Rattle.machine_laws.proofs.Plain.PlainSteps.{anybody}
 
 -- a mark that keeps an exception is what it was
 keeping-nature : (e : Raised) (mark : Mark) → nature (keeping e mark) ≡ nature mark
@@ -85,17 +89,17 @@ asks_nothing _ = true
 module _ {G : GoodWorld} {May Other : Naming} {R : StepRelation} {Q : MoveRelation} (moves : FinestMoves G May Other R Q) where
   pub handle_or_pass-keeps : (p : Image) (name : Who) (e : Raised) (next : Option StatementNo) → Keeps G R (handle_or_pass p name e next)
   unfolding handle_or_pass
-  handle_or_pass-keeps p name e None = search (pass_on-keeps)
+  handle_or_pass-keeps p name e None = search (pass_on-keeps, plain_steps, anybody)
   handle_or_pass-keeps p name e (Some first) = search (changes-keeps, edit_top-alters, keeping-nature, then-keeps, goes-keeps, chains)
 
   pub behind_handled-keeps : (p : Image) (name : Who) (s : StatementNo) (leaving : Leaving) → Keeps G R (behind_handled p name s leaving)
   unfolding behind_handled
   behind_handled-keeps p name s (how.Exception e) = search (handle_or_pass-keeps)
   behind_handled-keeps p name s how.End = search (nothing-keeps, chains)
-  behind_handled-keeps p name s how.Return = search (pass_on-keeps)
-  behind_handled-keeps p name s (how.Exit loop) = search (pass_on-keeps)
-  behind_handled-keeps p name s how.Abort = search (pass_on-keeps)
-  behind_handled-keeps p name s how.Terminate = search (pass_on-keeps)
+  behind_handled-keeps p name s how.Return = search (pass_on-keeps, plain_steps, anybody)
+  behind_handled-keeps p name s (how.Exit loop) = search (pass_on-keeps, plain_steps, anybody)
+  behind_handled-keeps p name s how.Abort = search (pass_on-keeps, plain_steps, anybody)
+  behind_handled-keeps p name s how.Terminate = search (pass_on-keeps, plain_steps, anybody)
 
   pub end_handled-from : (p : Image) (name : Who) (s : StatementNo) (leaving : Leaving) (f : Frame) (w : World) → G w → May name → top_of w name ≡ Some f → is_protected f.mark ≡ false → From R w (end_handled p name s leaving)
   unfolding end_handled
@@ -117,7 +121,7 @@ module _ {G : GoodWorld} {May Other : Naming} {R : StepRelation} {Q : MoveRelati
 
   pub end_abortable_by-keeps : (p : Image) (name : Who) (m : AbortableMark) (leaving : Leaving) → Other name → Keeps G R (end_abortable_by p name m leaving)
   unfolding end_abortable_by
-  end_abortable_by-keeps p name m leaving other = option-keeps (chains moves) m.call (looks (λ w. changes (drop_trigger name (below (frames_of w name)))) ▷ end_top p name) (λ c. with_call c (λ d. attempt_with p Own d (end_top p name) (wait_for_trigger name d leaving))) (search (looks-keeps, changes-keeps, drop_trigger-alters, then-keeps, end_top-keeps, moves.other_may, chains)) (λ c. search (with_call-keeps, attempt_with-keeps, end_top-keeps, wait_for_trigger-keeps, moves.other_may))
+  end_abortable_by-keeps p name m leaving other = option-keeps (chains moves) m.call (looks (λ w. changes (drop_trigger name (below (frames_of w name)))) ▷ end_top p name) (λ c. with_call c (λ d. attempt_with p Own d (end_top p name) (wait_for_trigger name d leaving))) (search (looks-keeps, changes-keeps, drop_trigger-alters, then-keeps, end_top-keeps, moves.other_may, chains)) (λ c. search (with_call-keeps, attempt_with-keeps, end_top-keeps, wait_for_trigger-keeps, moves.other_may, plain_steps))
 
   pub end_in_abortable-keeps : (p : Image) (name : Who) (m : AbortableMark) (leaving : Leaving) → Other name → Keeps G R (end_in_abortable p name m leaving)
   unfolding end_in_abortable
@@ -126,7 +130,7 @@ module _ {G : GoodWorld} {May Other : Naming} {R : StepRelation} {Q : MoveRelati
 module _ {G : GoodWorld} {May Other : Naming} {R : StepRelation} {Q : MoveRelation} (moves : FinestMoves G May Other R Q) (openings : MarkOpenings G May Other R) where
   pub call_main-keeps : (p : Image) (name : Who) (s : StatementNo) → May name → Keeps G R (call_main p name s)
   unfolding call_main
-  call_main-keeps p name s may = search (with_room-keeps, goes-keeps, then-keeps, looks-keeps, changes-keeps, open_scope-alters, chains)
+  call_main-keeps p name s may = search (with_room-keeps, goes-keeps, then-keeps, looks-keeps, changes-keeps, open_scope-alters, chains, plain_steps)
 
   pub call-keeps : (p : Image) (name : Who) (s : StatementNo) (callee : Callee) (actuals : List Actual) (to : Destination) → May name → Keeps G R (call p name s callee actuals to)
   unfolding call
@@ -150,30 +154,30 @@ module _ {G : GoodWorld} {May Other : Naming} {R : StepRelation} {Q : MoveRelati
 module _ {G : GoodWorld} {May Other : Naming} {R : StepRelation} {Q : MoveRelation} (moves : FinestMoves G May Other R Q) (openings : MarkOpenings G May Other R) where
   pub calm_statement-keeps : (p : Image) → Puts G R p → (name : Who) (s : StatementNo) (form : StatementForm) → May name → form_of p s ≡ form → asks_nothing form ≡ true → Keeps G R (act_statement p name s form)
   unfolding act_statement
-  calm_statement-keeps p puts name s (form.Declare object) may is calm = search (declare-keeps)
+  calm_statement-keeps p puts name s (form.Declare object) may is calm = search (declare-keeps, plain_steps, anybody)
   calm_statement-keeps p puts name s (form.Initialize object) may is calm = search (initialize-keeps)
   calm_statement-keeps p puts name s (form.CreateTask object part) may is calm = search (create-keeps)
   calm_statement-keeps p puts name s (form.Activate part) may is calm = search (activate-keeps)
   calm_statement-keeps p puts name s form.EndActivation may is calm = search (end_own_activation-keeps)
   calm_statement-keeps p puts name s form.CallMain may is calm = search (call_main-keeps)
   calm_statement-keeps p puts name s (form.Handled handlers first) may is calm = search (nothing-keeps, chains)
-  calm_statement-keeps p puts name s form.Null may is calm = search (null-keeps)
-  calm_statement-keeps p puts name s (form.Assign target e) may is calm = search (assign-keeps)
-  calm_statement-keeps p puts name s (form.AssignArray target source) may is calm = search (assign_array-keeps)
+  calm_statement-keeps p puts name s form.Null may is calm = search (null-keeps, plain_steps, anybody)
+  calm_statement-keeps p puts name s (form.Assign target e) may is calm = search (assign-keeps, plain_steps, anybody)
+  calm_statement-keeps p puts name s (form.AssignArray target source) may is calm = search (assign_array-keeps, plain_steps, anybody)
   calm_statement-keeps p puts name s (form.AssignControlled target source) may is calm = search (assign_controlled-keeps)
-  calm_statement-keeps p puts name s (form.If condition first otherwise) may is calm = search (if_statement-keeps)
-  calm_statement-keeps p puts name s (form.Case selector alternatives) may is calm = search (case_statement-keeps)
+  calm_statement-keeps p puts name s (form.If condition first otherwise) may is calm = search (if_statement-keeps, plain_steps, anybody)
+  calm_statement-keeps p puts name s (form.Case selector alternatives) may is calm = search (case_statement-keeps, plain_steps, anybody)
   calm_statement-keeps p puts name s (form.Loop body within) may is calm = search (goes-keeps)
-  calm_statement-keeps p puts name s (form.While condition body within) may is calm = search (while_turn-keeps)
-  calm_statement-keeps p puts name s (form.For parameter reverse low high turn within) may is calm = search (for_bounds-keeps)
-  calm_statement-keeps p puts name s (form.FirstTurn parameter reverse body) may is calm = search (first_turn-keeps)
-  calm_statement-keeps p puts name s (form.LaterTurn parameter reverse body) may is calm = search (later_turn-keeps)
-  calm_statement-keeps p puts name s (form.Exit condition of_loop) may is calm = search (exit_statement-keeps)
+  calm_statement-keeps p puts name s (form.While condition body within) may is calm = search (while_turn-keeps, plain_steps, anybody)
+  calm_statement-keeps p puts name s (form.For parameter reverse low high turn within) may is calm = search (for_bounds-keeps, plain_steps, anybody)
+  calm_statement-keeps p puts name s (form.FirstTurn parameter reverse body) may is calm = search (first_turn-keeps, plain_steps, anybody)
+  calm_statement-keeps p puts name s (form.LaterTurn parameter reverse body) may is calm = search (later_turn-keeps, plain_steps, anybody)
+  calm_statement-keeps p puts name s (form.Exit condition of_loop) may is calm = search (exit_statement-keeps, plain_steps, anybody)
   calm_statement-keeps p puts name s (form.Block scope) may is calm = search (block_statement-keeps)
-  calm_statement-keeps p puts name s form.Return may is calm = search (return-keeps)
-  calm_statement-keeps p puts name s (form.ReturnValue function e) may is calm = search (return_value-keeps)
-  calm_statement-keeps p puts name s (form.Raise e) may is calm = search (raises-keeps)
-  calm_statement-keeps p puts name s (form.RaiseAgain scope) may is calm = search (raise_again-keeps)
+  calm_statement-keeps p puts name s form.Return may is calm = search (return-keeps, plain_steps)
+  calm_statement-keeps p puts name s (form.ReturnValue function e) may is calm = search (return_value-keeps, plain_steps)
+  calm_statement-keeps p puts name s (form.Raise e) may is calm = search (raises-keeps, plain_steps)
+  calm_statement-keeps p puts name s (form.RaiseAgain scope) may is calm = search (raise_again-keeps, plain_steps)
   calm_statement-keeps p puts name s (form.Delay e) may is calm = search (sees-keeps, delay_until-keeps, chains)
   calm_statement-keeps p puts name s (form.DelayUntil e) may is calm = search (sees-keeps, delay_until-keeps, chains)
   calm_statement-keeps p puts name s (form.Call callee actuals to) may is calm = search (call-keeps)

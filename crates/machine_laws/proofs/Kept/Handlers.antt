@@ -43,15 +43,16 @@ use Rattle.std.proofs.Common.{◌≡◌, refl}
 use Rattle.machine_laws.proofs.Moves.{StepRelation, MoveRelation, LetsIn}
 use Rattle.machine_laws.proofs.FineMoves.{GoodWorld, Naming, Anybody}
 use Rattle.machine_laws.proofs.FinestMoves.{FinestMoves, MarkOpenings, HandlerMoves, SettingMoves, AllMoves, Holding, chains, says-keeps}
-use Rattle.machine_laws.proofs.Kept.Frames.{becomes-from, goes-keeps, given-keeps, raise_if-keeps}
+use Rattle.machine_laws.proofs.Kept.Frames.{goes-keeps, plain_steps}
 use Rattle.machine_laws.proofs.Kept.Tasks.{edit_task-alters}
 use Rattle.machine_laws.proofs.Kept.Dispatching.{ready-keeps}
 use Rattle.machine_laws.proofs.Kept.Scopes.{open_scope-alters}
-use Rattle.machine_laws.proofs.Kept.CallEnds.{store-gives}
 use Rattle.machine_laws.proofs.Kept.Protected.{find_held-from, begin_action_on-from}
 use Rattle.machine_laws.proofs.Kept.Entering.{entering-inside, entering-held}
 use Rattle.machine_laws.proofs.Kept.Serving.{end_release-keeps}
 use Rattle.machine_laws.proofs.Kept.Combinators.{Alters, From, Keeps, Kept, changes-from, changes-keeps, either-from, for_some-keeps, keeps-from, looks-from, looks-keeps, looks_at-from, nothing-keeps, sees-keeps, then-from, then-keeps, unchanged-alters}
+use Rattle.machine_laws.proofs.Plain.Frames.{becomes-from, given-keeps, raise_if-keeps}
+use Rattle.machine_laws.proofs.Plain.Cells.{store-gives}
 
 pub spent-who : (robin : Bool) (t : world.Task) → (cond robin (record t { quantum = t.quantum - 1 }) t).who ≡ t.who
 spent-who true t = refl
@@ -129,14 +130,14 @@ module _ {G : GoodWorld} {R : StepRelation} {Q : MoveRelation} (moves : FinestMo
 
 module _ {G : GoodWorld} {May Other : Naming} {R : StepRelation} {Q : MoveRelation} (moves : FinestMoves G May Other R Q) where
   pub with_room_for_release-keeps : (name : Who) (needed : Bool) (step : Step) → Keeps G R step → Keeps G R (with_room_for_release name needed step)
-  with_room_for_release-keeps name needed step kept = search (looks-keeps, raise_if-keeps, chains)
+  with_room_for_release-keeps name needed step kept = search (looks-keeps, raise_if-keeps, chains, plain_steps)
 
   pub setting_of-keeps : (p : Image) (name : Who) (q : Seen) (base : ℤ) (set : Setting) (named : Option HandlerName) (step : Option HandlerOf → ℤ → Step) → ((x : Option HandlerOf) (y : ℤ) → Keeps G R (step x y)) → Keeps G R (setting_of p name q base set named step)
-  setting_of-keeps p name q base set named step kept = search (given-keeps, with_room_for_release-keeps, raise_if-keeps)
+  setting_of-keeps p name q base set named step kept = search (given-keeps, with_room_for_release-keeps, raise_if-keeps, plain_steps)
 
   pub answer-keeps : (p : Image) (name : Who) (v : Variable) (b : Bool) → Keeps G R (answer p name v b)
   unfolding answer
-  answer-keeps p name v b = looks-from (chains moves) _ (λ w good. becomes-from moves Own name (store p v (Truth b) w) w good (store-gives moves p v (Truth b) w good))
+  answer-keeps p name v b = looks-from (chains moves) _ (λ w good. becomes-from (plain_steps moves) Own name (store p v (Truth b) w) w good (store-gives (plain_steps moves) p v (Truth b) w good))
 
   edit_budget-alters : (b : ℕ) (f : Budget → Budget) → ((x : Budget) → (f x).handler ≡ x.handler) → Alters G R (edit_budget b f)
   unfolding Alters
@@ -144,21 +145,21 @@ module _ {G : GoodWorld} {May Other : Naming} {R : StepRelation} {Q : MoveRelati
 
   pub change_member-keeps : (p : Image) (name : Who) (s : StatementNo) (t : world.Task) (is_right : Bool) (b : Option ℕ) → Keeps G R (change_member p name s t is_right b)
   unfolding change_member
-  change_member-keeps p name s t is_right b = search (raise_if-keeps, goes-keeps, then-keeps, changes-keeps, edit_task-alters, chains)
+  change_member-keeps p name s t is_right b = search (raise_if-keeps, goes-keeps, then-keeps, changes-keeps, edit_task-alters, chains, plain_steps)
 
   pub add_member-keeps : (p : Image) (name : Who) (s : StatementNo) (d : DeclNo) (e : ExprNo) → Keeps G R (add_member p name s d e)
   unfolding add_member
-  add_member-keeps p name s d e = search (sees-keeps, given-keeps, change_member-keeps, chains) depth 7
+  add_member-keeps p name s d e = search (sees-keeps, given-keeps, change_member-keeps, chains, plain_steps) depth 8
 
   pub remove_member-keeps : (p : Image) (name : Who) (s : StatementNo) (d : DeclNo) (e : ExprNo) → Keeps G R (remove_member p name s d e)
   unfolding remove_member
-  remove_member-keeps p name s d e = search (sees-keeps, given-keeps, change_member-keeps, chains) depth 7
+  remove_member-keeps p name s d e = search (sees-keeps, given-keeps, change_member-keeps, chains, plain_steps) depth 8
 
   pub fill_budget-keeps : (p : Image) (name : Who) (s : StatementNo) (d : DeclNo) (e : ExprNo) (f : ℤ → Budget → Budget) → ((n : ℤ) (x : Budget) → (f n x).handler ≡ x.handler) → Keeps G R (fill_budget p name s d e f)
   unfolding fill_budget
   fill_budget-keeps p name s d e f same =
-      sees-keeps (chains moves) p name _ (λ q. given-keeps moves Own name (number_of_thing q d) _ (λ b. with_room_for_release-keeps name true _
-      (given-keeps moves Own name (moment q e) _ (λ amount. raise_if-keeps moves name (int_le amount (pos 0)) exception.GroupBudget _
+      sees-keeps (chains moves) p name _ (λ q. given-keeps (plain_steps moves) Own name (number_of_thing q d) _ (λ b. with_room_for_release-keeps name true _
+      (given-keeps (plain_steps moves) Own name (moment q e) _ (λ amount. raise_if-keeps (plain_steps moves) name (int_le amount (pos 0)) exception.GroupBudget _
       (then-keeps (chains moves) (goes name (next_of p s)) _ (goes-keeps moves name (next_of p s)) (changes-keeps (chains moves) _ (edit_budget-alters b (f amount) (same amount))))))))
 
   pub replenish-keeps : (p : Image) (name : Who) (s : StatementNo) (d : DeclNo) (e : ExprNo) → Keeps G R (replenish p name s d e)
@@ -178,7 +179,7 @@ module _ {G : GoodWorld} {May Other : Naming} {R : StepRelation} {Q : MoveRelati
 
   pub cancel_event-keeps : (p : Image) (name : Who) (s : StatementNo) (d : DeclNo) (target : VariableName) → Keeps G R (cancel_event p name s d target)
   unfolding cancel_event
-  cancel_event-keeps p name s d target = search (sees-keeps, given-keeps, goes-keeps, then-keeps, changes-keeps, cancel_event_setting-alters, answer-keeps, chains) depth 10
+  cancel_event-keeps p name s d target = search (sees-keeps, given-keeps, goes-keeps, then-keeps, changes-keeps, cancel_event_setting-alters, answer-keeps, chains, plain_steps) depth 11
 
   pub clear_timer-alters : (k : ℕ) → Alters G R (clear_timer k)
   unfolding Alters
@@ -190,7 +191,7 @@ module _ {G : GoodWorld} {May Other : Naming} {R : StepRelation} {Q : MoveRelati
 
   pub cancel_timer-keeps : (p : Image) (name : Who) (s : StatementNo) (d : DeclNo) (target : VariableName) → Keeps G R (cancel_timer p name s d target)
   unfolding cancel_timer
-  cancel_timer-keeps p name s d target = search (sees-keeps, given-keeps, goes-keeps, then-keeps, changes-keeps, clear_timer-alters, answer-keeps, chains) depth 10
+  cancel_timer-keeps p name s d target = search (sees-keeps, given-keeps, goes-keeps, then-keeps, changes-keeps, clear_timer-alters, answer-keeps, chains, plain_steps) depth 11
 
   any_budget-alters : (b : ℕ) (f : Budget → Budget) → Alters G R (edit_budget b f)
   unfolding Alters
@@ -198,11 +199,11 @@ module _ {G : GoodWorld} {May Other : Naming} {R : StepRelation} {Q : MoveRelati
 
   pub set_budget-keeps : (p : Image) (name : Who) (s : StatementNo) (d : DeclNo) (named : Option HandlerName) → Keeps G R (set_budget p name s d named)
   unfolding set_budget
-  set_budget-keeps p name s d named = search (sees-keeps, given-keeps, with_room_for_release-keeps, raise_if-keeps, goes-keeps, then-keeps, changes-keeps, any_budget-alters, chains) depth 9
+  set_budget-keeps p name s d named = search (sees-keeps, given-keeps, with_room_for_release-keeps, raise_if-keeps, goes-keeps, then-keeps, changes-keeps, any_budget-alters, chains, plain_steps) depth 10
 
   pub cancel_budget-keeps : (p : Image) (name : Who) (s : StatementNo) (d : DeclNo) (target : VariableName) → Keeps G R (cancel_budget p name s d target)
   unfolding cancel_budget
-  cancel_budget-keeps p name s d target = search (sees-keeps, given-keeps, goes-keeps, then-keeps, changes-keeps, any_budget-alters, answer-keeps, chains) depth 10
+  cancel_budget-keeps p name s d target = search (sees-keeps, given-keeps, goes-keeps, then-keeps, changes-keeps, any_budget-alters, answer-keeps, chains, plain_steps) depth 11
 
   pub charge_budget-alters : (n : Option ℕ) → Alters G R (charge_budget n)
   charge_budget-alters None = search (unchanged-alters, chains)
@@ -262,7 +263,7 @@ module _ {G : GoodWorld} {May Other : Naming} {R : StepRelation} {Q : MoveRelati
 
   pub set_event-keeps : (p : Image) (name : Who) (s : StatementNo) (d : DeclNo) (set : Setting) (named : Option HandlerName) → Keeps G R (set_event p name s d set named)
   unfolding set_event
-  set_event-keeps p name s d set named = search (sees-keeps, given-keeps, setting_of-keeps, goes-keeps, then-keeps, changes-keeps, cancel_event_setting-alters, event_set_to-keeps, chains) depth 10
+  set_event-keeps p name s d set named = search (sees-keeps, given-keeps, setting_of-keeps, goes-keeps, then-keeps, changes-keeps, cancel_event_setting-alters, event_set_to-keeps, chains, plain_steps) depth 11
 
   pub timer_set_beyond-keeps : (p : Image) (k : ℕ) (h : HandlerOf) (v : ℤ) (test : Bool) → Keeps G R (timer_set_beyond p k h v test)
   unfolding timer_set_beyond
@@ -276,4 +277,4 @@ module _ {G : GoodWorld} {May Other : Naming} {R : StepRelation} {Q : MoveRelati
 
   pub set_timer-keeps : (p : Image) (name : Who) (s : StatementNo) (d : DeclNo) (set : Setting) (named : Option HandlerName) → Keeps G R (set_timer p name s d set named)
   unfolding set_timer
-  set_timer-keeps p name s d set named = search (sees-keeps, given-keeps, setting_of-keeps, goes-keeps, then-keeps, changes-keeps, clear_timer-alters, timer_set_to-keeps, chains) depth 10
+  set_timer-keeps p name s d set named = search (sees-keeps, given-keeps, setting_of-keeps, goes-keeps, then-keeps, changes-keeps, clear_timer-alters, timer_set_to-keeps, chains, plain_steps) depth 11

@@ -26,9 +26,8 @@ use Rattle.machine_laws.proofs.FineMoves.{GoodWorld, Naming}
 use Rattle.machine_laws.proofs.FinestMoves.{FinestMoves, SettingMoves, SparesEvents, AllMoves, Holding, Anyhow, chains, move_chains, says-keeps, effect-leads}
 use Rattle.machine_laws.proofs.Kept.Tasks.{edit_task-alters}
 use Rattle.machine_laws.proofs.Kept.Dispatching.{to_tail-keeps, ready-keeps}
-use Rattle.machine_laws.proofs.Kept.Frames.{goes-keeps, open_sequence-keeps, open_if_ready-keeps}
+use Rattle.machine_laws.proofs.Kept.Frames.{goes-keeps, open_sequence-keeps, open_if_ready-keeps, plain_steps}
 use Rattle.machine_laws.proofs.Kept.Appointments.{drop_appointment-alters}
-use Rattle.machine_laws.proofs.Kept.Calls.{with_call-keeps, unqueued-alters}
 use Rattle.machine_laws.proofs.Kept.Unwinding.{unwind-keeps}
 use Rattle.machine_laws.proofs.Kept.CallEnds.{trigger_at-keeps, deliver-keeps}
 use Rattle.machine_laws.proofs.Kept.Tasking.{take_terminates-keeps, unwind_all-keeps}
@@ -38,6 +37,7 @@ use Rattle.machine_laws.proofs.Kept.Serving.{Stays, stays_anyhow}
 use Rattle.profile_machine.specs.Values.{budget_of}
 use Rattle.profile_machine.specs.Handlers.{clear_timer}
 use Rattle.machine_laws.proofs.Kept.Combinators.{Alters, From, Keeps, Leads, changes-from, changes-keeps, changes_then-from, for_each-keeps, for_some-keeps, keeps-from, looks-from, looks-keeps, nothing-keeps, settles-from, then-from, then-keeps, then-leads, when-keeps}
+use Rattle.machine_laws.proofs.Plain.Calls.{with_call-keeps, unqueued-alters}
 
 abbrev pub is_there : {X : Type 0} → Option X → Bool
 is_there (Some x) = true
@@ -59,7 +59,7 @@ module _ {G : GoodWorld} {May Other : Naming} {R : StepRelation} {Q : MoveRelati
 
   pub time_out-keeps : (p : Image) (c : CallNo) → Keeps G R (time_out p c)
   unfolding time_out
-  time_out-keeps p c = search (with_call-keeps, changes-keeps, unqueued-alters, then-keeps, says-keeps, deliver-keeps, chains) depth 7
+  time_out-keeps p c = search (with_call-keeps, changes-keeps, unqueued-alters, then-keeps, says-keeps, deliver-keeps, chains, plain_steps) depth 8
 
   pub spend_quantum-keeps : (p : Image) (by : Option Who) → Keeps G R (spend_quantum p by)
   unfolding spend_quantum

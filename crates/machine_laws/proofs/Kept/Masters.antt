@@ -24,11 +24,12 @@ use Rattle.machine_laws.proofs.FineMoves.{GoodWorld, Naming, EachIs}
 use Rattle.machine_laws.proofs.FinestMoves.{FinestMoves, chains}
 use Rattle.machine_laws.proofs.Kept.Tasks.{edit_task-alters}
 use Rattle.machine_laws.proofs.Kept.Dispatching.{runnable-keeps, ready-keeps}
-use Rattle.machine_laws.proofs.Kept.Frames.{leaves-keeps, raises-keeps, open_sequence-keeps}
+use Rattle.machine_laws.proofs.Kept.Frames.{leaves-keeps, open_sequence-keeps, plain_steps}
 use Rattle.machine_laws.proofs.Kept.Inheritance.{lose-alters}
 use Rattle.machine_laws.proofs.Kept.Appointments.{drop_delay-alters}
 use Rattle.machine_laws.proofs.Kept.CallEnds.{end_call-keeps, gone-keeps}
 use Rattle.machine_laws.proofs.Kept.Combinators.{Alters, Keeps, changes-keeps, cond-keeps, for_each-keeps, for_some-keeps, keeps-from, looks-from, looks-keeps, nothing-keeps, then-keeps, when-keeps, when-keeps-if}
+use Rattle.machine_laws.proofs.Plain.Frames.{raises-keeps}
 
 pub some-is : (t u : Task) → Some t ≡ Some u → t ≡ u
 some-is t u e = cc
@@ -49,7 +50,7 @@ module _ {G : GoodWorld} {May Other : Naming} {R : StepRelation} {Q : MoveRelati
 
   pub wake_activator-keeps : (p : Image) (part : Part) (name : Who) → Other name → Keeps G R (wake_activator p part name)
   unfolding wake_activator
-  wake_activator-keeps p part name other = search (looks-keeps, ready-keeps, then-keeps, when-keeps, raises-keeps, open_sequence-keeps, moves.other_may, chains) depth 8
+  wake_activator-keeps p part name other = search (looks-keeps, ready-keeps, then-keeps, when-keeps, raises-keeps, open_sequence-keeps, moves.other_may, chains, plain_steps) depth 9
 
   pub end_group-keeps : (p : Image) (actor activator : Who) → Keeps G R (end_group p actor activator)
   unfolding end_group

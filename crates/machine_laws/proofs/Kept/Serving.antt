@@ -11,7 +11,6 @@ use Rattle.trace_text.specs.declared.events.Who.{Who}
 use Rattle.profile_machine.specs.declared.image.Image.{Image}
 use Rattle.profile_machine.specs.declared.run_data.Leaving.{Leaving}
 use Rattle.profile_machine.specs.declared.run_data.Leaving.TheVariants as how
-use Rattle.profile_machine.specs.declared.values.Value.{Value}
 use Rattle.profile_machine.specs.declared.world.World.{World}
 use Rattle.profile_machine.specs.declared.world.appointments.Release.{Release}
 use Rattle.profile_machine.specs.declared.world.marks.ProtectedMark.{ProtectedMark}
@@ -38,20 +37,23 @@ use Rattle.profile_machine.specs.Dispatching.{block}
 use Rattle.profile_machine.specs.Steps.{Step, Done, done, goes_on_with, says, changes, looks, when, nothing, for_some, ◌▷◌}
 use Rattle.profile_machine.specs.Protected.{served_next, edit_top_protected, begin_call, body_opens, serve_call, has_room_for_body}
 use Rattle.profile_machine.specs.Values.{object_of}
-use Rattle.profile_machine.specs.Serving.{serves_nothing, is_served_now, serve_ends, end_release, close_action, wait_or_unwind, wait_for_own, resume_own, behind_action, release_object, settle_sent, begins_part, chosen_is_sent, serve_chosen, serve_next, serve_calls, go_on_by_mode, end_operation, finish_raised, finish_well, finish_call, end_entry_body, end_in_protected_by, end_in_protected, keep_values, keeps_sending, end_body_of_entry, part_of_start, with_body_left, no_longer_serves, not_left, outcome_by, is_own_call}
+use Rattle.profile_machine.specs.Serving.{serves_nothing, is_served_now, serve_ends, end_release, close_action, wait_or_unwind, wait_for_own, resume_own, behind_action, release_object, settle_sent, begins_part, chosen_is_sent, serve_chosen, serve_next, serve_calls, go_on_by_mode, end_operation, finish_raised, finish_well, finish_call, end_entry_body, end_in_protected_by, end_in_protected, part_of_start, with_body_left, no_longer_serves, not_left, outcome_by, is_own_call}
 use Rattle.std.proofs.Common.{◌≡◌, refl, sym, subst}
 use Rattle.machine_laws.proofs.Moves.{StepRelation, MoveRelation, own}
 use Rattle.machine_laws.proofs.FineMoves.{GoodWorld, Naming, Anybody, AnyRelease}
 use Rattle.machine_laws.proofs.FinestMoves.{FinestMoves, MarkOpenings, ActionEnds, HandlerMoves, Holding, Anyhow, chains, says-keeps}
 use Rattle.machine_laws.proofs.Kept.Dispatching.{block-keeps}
-use Rattle.machine_laws.proofs.Kept.Frames.{edit_top-alters, leaves-keeps, pass_on-keeps}
+use Rattle.machine_laws.proofs.Kept.Frames.{edit_top-alters, leaves-keeps, plain_steps}
 use Rattle.machine_laws.proofs.Kept.Inheritance.{lose_running-keeps}
-use Rattle.machine_laws.proofs.Kept.Calls.{edit_call-alters, forget_call-alters, with_call-keeps, enqueue-keeps, attempt_with-keeps}
-use Rattle.machine_laws.proofs.Kept.CallEnds.{resume-keeps, deliver-keeps}
+use Rattle.machine_laws.proofs.Kept.CallEnds.{deliver-keeps}
 use Rattle.machine_laws.proofs.Kept.Protected.{edit_top_protected-alters, begin_call-keeps, body_opens-keeps}
 use Rattle.machine_laws.proofs.Kept.Priorities.{set_deferred-keeps}
 use Rattle.machine_laws.proofs.Kept.Sending.{open_abortable-alters, wait_for_call-keeps, send_on-keeps, begin_abortable-keeps, sent_not_begun-keeps}
 use Rattle.machine_laws.proofs.Kept.Combinators.{From, Keeps, Kept, changes-keeps, either-from, keeps-from, looks-from, looks-keeps, looks_at-from, nothing-keeps, then-from, then-keeps, then-kept, when-keeps, world_behind}
+use Rattle.machine_laws.proofs.Plain.Frames.{pass_on-keeps}
+use Rattle.machine_laws.proofs.Plain.Calls.{forget_call-alters, with_call-keeps, enqueue-keeps, attempt_with-keeps}
+use Rattle.machine_laws.proofs.Plain.Results.{resume-keeps}
+use Rattle.machine_laws.proofs.Plain.PlainSteps.{anybody}
 
 -- what is known of who has a protected action stays so while calls are served
 pub record Stays (Holds : Holding) : Type 0 where
@@ -111,7 +113,7 @@ module _ {G : GoodWorld} {R : StepRelation} {Q : MoveRelation} (moves : FinestMo
 module _ {G : GoodWorld} {May Other : Naming} {R : StepRelation} {Q : MoveRelation} (moves : FinestMoves G May Other R Q) where
   pub wait_or_unwind-keeps : (p : Image) (name : Who) (c : Call) (test : Bool) → Keeps G R (wait_or_unwind p name c test)
   unfolding wait_or_unwind
-  wait_or_unwind-keeps p name c true = search (attempt_with-keeps, changes-keeps, forget_call-alters, then-keeps, leaves-keeps, wait_for_call-keeps, chains)
+  wait_or_unwind-keeps p name c true = search (attempt_with-keeps, changes-keeps, forget_call-alters, then-keeps, leaves-keeps, wait_for_call-keeps, chains, plain_steps)
   wait_or_unwind-keeps p name c false = search (wait_for_call-keeps)
 
   pub wait_for_own-keeps : (p : Image) (name : Who) (c : Call) (test : Bool) → Other name → Keeps G R (wait_for_own p name c test)
@@ -121,7 +123,7 @@ module _ {G : GoodWorld} {May Other : Naming} {R : StepRelation} {Q : MoveRelati
 
   pub resume_own-keeps : (p : Image) (name : Who) (c : Call) (outcome : Option Outcome) → Other name → Keeps G R (resume_own p name c outcome)
   unfolding resume_own
-  resume_own-keeps p name c (Some outcome) other = search (resume-keeps)
+  resume_own-keeps p name c (Some outcome) other = search (resume-keeps, plain_steps, anybody)
   resume_own-keeps p name c None other = search (looks-keeps, wait_for_own-keeps, chains)
 
   pub settle_sent-keeps : (p : Image) (c : Option CallNo) (test : Bool) → Keeps G R (settle_sent p c test)
@@ -158,8 +160,8 @@ module _ {G : GoodWorld} {May Other : Naming} {MayEnd : Who → Option ℕ → T
     behind_action-keeps : (m : ProtectedMark) (n : Option ℕ) (c : Option CallNo) → MayEnd name n → Keeps G R (behind_action p name m n c)
     unfolding behind_action
     behind_action-keeps m (Some release) call may_end = ending.ends name release may_end
-    behind_action-keeps m None None may_end = pass_on-keeps moves p name m.body_left
-    behind_action-keeps m None (Some c) may_end = with_call-keeps moves c _ (λ d. resume_own-keeps moves p name d d.outcome other)
+    behind_action-keeps m None None may_end = pass_on-keeps (plain_steps moves) p name m.body_left tt
+    behind_action-keeps m None (Some c) may_end = with_call-keeps (plain_steps moves) c _ (λ d. resume_own-keeps moves p name d d.outcome other)
 
   module _ (p : Image) (name : Who) (m : ProtectedMark) (other : Other name) (may_end : MayEnd name m.release) where
     told_exit-from : (w : World) → G w → Holds name m.object w → From R w (says Own (line.Exit name m.object) ▷ changes (pop name) ▷ changes (close_action name m.object))
@@ -226,7 +228,7 @@ module _ {G : GoodWorld} {May Other : Naming} {MayEnd : Who → Option ℕ → T
     well-from c (Some s) w good h =
         step_then name m.object (says TheFinish (line.Finish name c.number meeting.Requeue)) _ w good (says-keeps moves TheFinish (line.Finish name c.number meeting.Requeue) refl) (λ said. h)
         (λ v fine k. step_then name m.object (send_on c.number s) _ v fine (send_on-keeps moves c.number s) (λ said. stays.sends_on name m.object c.number s v said k)
-        (λ u good_u l. step_then name m.object (enqueue p c.number) _ u good_u (enqueue-keeps moves p c.number) (λ said. stays.enqueues name m.object p c.number u said l)
+        (λ u good_u l. step_then name m.object (enqueue p c.number) _ u good_u (enqueue-keeps (plain_steps moves) p c.number) (λ said. stays.enqueues name m.object p c.number u said l)
         (λ t good_t n. serve_calls-from (Some c.number) t good_t n)))
 
     finish-from : (leaving : Leaving) (c : Call) (w : World) → G w → Holds name m.object w → From R w (finish_call p name m leaving c)
@@ -264,22 +266,3 @@ module _ {G : GoodWorld} {May Other : Naming} {MayEnd : Who → Option ℕ → T
     pub end_in_protected-from : (w : World) → G w → Holds name m.object w → From R w (end_in_protected p name m leaving)
     unfolding end_in_protected
     end_in_protected-from w good h = by_body-from m.serves w good h
-
--- ---- the scope of an entry body has ended
-
-pub keeps_sending-number : (leaving : Leaving) (c : Call) → (keeps_sending leaving c).number ≡ c.number
-keeps_sending-number how.Return c = refl
-keeps_sending-number how.End c = refl
-keeps_sending-number (how.Exit loop) c = refl
-keeps_sending-number (how.Exception e) c = refl
-keeps_sending-number how.Abort c = refl
-keeps_sending-number how.Terminate c = refl
-
-module _ {G : GoodWorld} {May Other : Naming} {R : StepRelation} {Q : MoveRelation} (moves : FinestMoves G May Other R Q) where
-  pub keep_values-keeps : (p : Image) (c : CallNo) (cells : List Value) → Keeps G R (keep_values p c cells)
-  unfolding keep_values
-  keep_values-keeps p c cells = search (with_call-keeps, changes-keeps, edit_call-alters, chains)
-
-  pub end_body_of_entry-keeps : (p : Image) (c : CallNo) (cells : List Value) (leaving : Leaving) → Keeps G R (end_body_of_entry p c cells leaving)
-  unfolding end_body_of_entry
-  end_body_of_entry-keeps p c cells leaving = search (changes-keeps, edit_call-alters, then-keeps, keep_values-keeps, keeps_sending-number, chains)

@@ -34,17 +34,14 @@ use Rattle.profile_machine.specs.Values.{seen_by}
 use Rattle.machine_laws.proofs.Moves.{StepRelation, MoveRelation, own}
 use Rattle.machine_laws.proofs.FineMoves.{GoodWorld, Naming, EachIs, first_is_false}
 use Rattle.machine_laws.proofs.FinestMoves.{FinestMoves, MarkOpenings, OwnRegions, chains, says-keeps}
-use Rattle.machine_laws.proofs.Kept.Frames.{raise_if-from, given-from, goes-keeps, raises-keeps, pass_on-keeps, given-keeps, raise_if-keeps, popped}
+use Rattle.machine_laws.proofs.Kept.Frames.{goes-keeps, popped, plain_steps}
 use Rattle.machine_laws.proofs.Kept.Tasks.{edit_task-alters}
 use Rattle.machine_laws.proofs.Kept.Dispatching.{to_head-keeps, ready-keeps, says_block-keeps, block-keeps}
 use Rattle.machine_laws.proofs.Kept.Scopes.{open_scope-alters, end_scope-alters}
 use Rattle.machine_laws.proofs.Kept.Inheritance.{inherit-alters}
 use Rattle.machine_laws.proofs.Kept.Unwinding.{strike_outermost-alters, unwind-keeps}
 use Rattle.machine_laws.proofs.Kept.Masters.{end_activation-keeps, complete-keeps, terminate-keeps, leave_by_terminate-keeps}
-use Rattle.machine_laws.proofs.Kept.Subprograms.{end_subprogram-keeps}
-use Rattle.machine_laws.proofs.Kept.Serving.{end_body_of_entry-keeps}
 use Rattle.machine_laws.proofs.Kept.Controlled.{finalize-from}
-use Rattle.machine_laws.proofs.Kept.Declarations.{set_thing-alters}
 use Rattle.ann_base.specs.declared.identities.TaskNo.{TaskNo}
 use Rattle.profile_machine.specs.declared.world.marks.Frame.{Frame}
 use Rattle.profile_machine.specs.declared.world.marks.Mark.TheVariants.{Scope}
@@ -54,6 +51,11 @@ use Rattle.profile_machine.specs.Dispatching.{active_of}
 use Rattle.profile_machine.specs.Unwinding.{any_struck}
 use Rattle.profile_machine.specs.Masters.{region_of_mark, has_dependents, may_terminate, leave_by_terminate, has_activating}
 use Rattle.machine_laws.proofs.Kept.Combinators.{Alters, From, Keeps, branch-keeps, changes-keeps, changes_then-from, changes_told-from, cond-keeps, for_each-keeps, for_each_task-keeps, for_some-keeps, keeps-from, listed-keeps, looks-from, looks-keeps, looks_at-from, nothing-keeps, sees-keeps, some_of-others, then-keeps, when-keeps, when-keeps-if}
+use Rattle.machine_laws.proofs.Plain.Frames.{raise_if-from, given-from, raises-keeps, pass_on-keeps, given-keeps, raise_if-keeps}
+use Rattle.machine_laws.proofs.Plain.Subprograms.{end_subprogram-keeps}
+use Rattle.machine_laws.proofs.Plain.Declarations.{set_thing-alters}
+use Rattle.machine_laws.proofs.Plain.PlainSteps.{anybody}
+use Rattle.machine_laws.proofs.Plain.Results.{end_body_of_entry-keeps}
 
 pub same_region_in : (r q : RegionNo) (region : Option RegionNo) → region ≡ Some r → region ≡ Some q → q ≡ r
 same_region_in r q region a b = let one : Some q ≡ Some r = sym b ∙ a in cc
@@ -81,7 +83,7 @@ module _ {G : GoodWorld} {May Other : Naming} {R : StepRelation} {Q : MoveRelati
   unfolding create_task
   create_task-from p name s d id t w good other same_who none master clock =
       added_then-from name (next_of p s) t (for_some id (name_task p d) ▷ says_created d t) w (moves.adds_task name (next_of p s) t w good other same_who none master clock)
-      (search (then-keeps, for_some-keeps, looks-keeps, changes-keeps, set_thing-alters, says_created-keeps, chains) depth 9)
+      (search (then-keeps, for_some-keeps, looks-keeps, changes-keeps, set_thing-alters, says_created-keeps, chains, plain_steps) depth 10)
 
   pub fall_from-keeps : (p : Image) (name : Who) (before : World) → May name → Keeps G R (fall_from p name before)
   unfolding fall_from
@@ -99,7 +101,7 @@ module _ {G : GoodWorld} {May Other : Naming} {R : StepRelation} {Q : MoveRelati
   pub await_group-keeps : (name : Who) (begins failed : Bool) → Other name → Keeps G R (await_group name begins failed)
   unfolding await_group
   await_group-keeps name true failed other = search (block-keeps)
-  await_group-keeps name false true other = search (raises-keeps)
+  await_group-keeps name false true other = search (raises-keeps, plain_steps)
   await_group-keeps name false false other = search (nothing-keeps, chains)
 
   pub end_own_activation-keeps : (p : Image) (name : Who) (s : StatementNo) → May name → Keeps G R (end_own_activation p name s)
@@ -123,13 +125,13 @@ module _ {G : GoodWorld} {May Other : Naming} {R : StepRelation} {Q : MoveRelati
   end_task-keeps p name leaving = search (says_done-keeps, then-keeps, looks-keeps, end_activation-keeps, terminate-keeps, when-keeps, changes-keeps, end_environment-alters, chains) depth 9
 
   pub end_body-keeps : (p : Image) (name : Who) (leaving : Leaving) (normally : Step) → Keeps G R normally → Keeps G R (end_body p name leaving normally)
-  end_body-keeps p name leaving normally kept = branch-keeps (chains moves) (is_normal leaving) normally (pass_on p name leaving) (search) (search (pass_on-keeps))
+  end_body-keeps p name leaving normally kept = branch-keeps (chains moves) (is_normal leaving) normally (pass_on p name leaving) (search) (search (pass_on-keeps, plain_steps, anybody))
 
   pub behind_scope-keeps : (p : Image) (name : Who) (purpose : Purpose) (cells : List Value) (leaving : Leaving) → Keeps G R (behind_scope p name purpose cells leaving)
   unfolding behind_scope
-  behind_scope-keeps p name (opened_for.Block s) cells leaving = search (pass_on-keeps)
-  behind_scope-keeps p name (opened_for.Subprogram back to) cells leaving = search (end_body-keeps, end_subprogram-keeps)
-  behind_scope-keeps p name (opened_for.EntryBody c) cells leaving = search (end_body-keeps, end_body_of_entry-keeps)
+  behind_scope-keeps p name (opened_for.Block s) cells leaving = search (pass_on-keeps, plain_steps, anybody)
+  behind_scope-keeps p name (opened_for.Subprogram back to) cells leaving = search (end_body-keeps, end_subprogram-keeps, plain_steps)
+  behind_scope-keeps p name (opened_for.EntryBody c) cells leaving = search (end_body-keeps, end_body_of_entry-keeps, plain_steps)
   behind_scope-keeps p name opened_for.Task cells leaving = search (end_task-keeps)
 
   -- Program_Error, where a Finalize raised
@@ -189,7 +191,7 @@ module _ {G : GoodWorld} {May Other : Naming} {R : StepRelation} {Q : MoveRelati
   pub abort_statement-keeps : (p : Image) (name : Who) (s : StatementNo) (tasks : List DeclNo) → Keeps G R (abort_statement p name s tasks)
   unfolding abort_statement
   abort_statement-keeps p name s tasks =
-      sees-keeps (chains moves) p name _ (λ q. raise_if-keeps moves name (in_protected q.world name) exception.Program _ (given-keeps moves Own name (named_tasks q tasks) _ (λ aborted.
+      sees-keeps (chains moves) p name _ (λ q. raise_if-keeps (plain_steps moves) name (in_protected q.world name) exception.Program _ (given-keeps (plain_steps moves) Own name (named_tasks q tasks) _ (λ aborted.
       then-keeps (chains moves) (goes name (next_of p s)) _ (goes-keeps moves name (next_of p s)) (abort_named-keeps p name aborted))))
 
   pub block_at_terminate-keeps : (name : Who) (waiting : Option Waiting) → Other name → Keeps G R (block_at_terminate name waiting)
@@ -213,9 +215,9 @@ module _ {G : GoodWorld} {May Other : Naming} {R : StepRelation} {Q : MoveRelati
   unfolding create
   create-keeps p name s d part may =
       looks-from (chains moves) _ (λ w good. let q = seen_by p w name in
-      raise_if-from moves name (in_protected w name || is_deferred w name) exception.Program _ w good (λ allowed.
-      raise_if-from moves name (leb 256 (length w.tasks)) exception.Storage _ w good (λ few.
-      given-from moves Own name (optional_span q (task_unit_of p (unit_of_declaration p d)).relative_deadline) _ w good (λ span.
+      raise_if-from (plain_steps moves) name (in_protected w name || is_deferred w name) exception.Program _ w good (λ allowed.
+      raise_if-from (plain_steps moves) name (leb 256 (length w.tasks)) exception.Storage _ w good (λ few.
+      given-from (plain_steps moves) Own name (optional_span q (task_unit_of p (unit_of_declaration p d)).relative_deadline) _ w good (λ span.
       create_task-from moves p name s d (home w (declaration_of p d).scope q.within) (created_task q d (unit_of_declaration p d) part span w.drawn.tasks) w good (openings.outside name w good may (first_is_false (in_protected w name) (is_deferred w name) allowed)) refl refl refl refl))))
 
   pub begin_task-keeps : (p : Image) (activator : Who) (level : ℕ) (t : world.Task) → Other t.who → Keeps G R (begin_task p activator level t)
@@ -243,7 +245,7 @@ module _ {G : GoodWorld} {May Other : Naming} {R : StepRelation} {Q : MoveRelati
   pub activate-keeps : (p : Image) (name : Who) (s : StatementNo) (part : ℕ) → May name → Keeps G R (activate p name s part)
   unfolding activate
   activate-keeps p name s part may =
-      looks-from (chains moves) _ (λ w good. raise_if-from moves name (in_protected w name || is_deferred w name) exception.Program _ w good
+      looks-from (chains moves) _ (λ w good. raise_if-from (plain_steps moves) name (in_protected w name || is_deferred w name) exception.Program _ w good
       (λ allowed. keeps-from (chains moves) _ w good (activate_group-keeps p name s part (openings.outside name w good may (first_is_false (in_protected w name) (is_deferred w name) allowed)))))
 
   pub leave_region-from : (p : Image) (name : Who) (f : Frame) (m : ScopeMark) (leaving : Leaving) (r : RegionNo) (w : World) → G w → May name → top_of w name ≡ Some f → f.mark ≡ Scope m → m.region ≡ Some r → m.being_left ≡ false → Keeps G R (wait_for_dependents name r) → From R w (leave_region p name m leaving r)

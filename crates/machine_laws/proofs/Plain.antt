@@ -1,0 +1,9 @@
+pub mod PlainSteps
+pub mod Tasks
+pub mod Frames
+pub mod Cells
+pub mod Results
+pub mod Calls
+pub mod Statements
+pub mod Subprograms
+pub mod Declarations

@@ -43,11 +43,10 @@ use Rattle.profile_machine.specs.Unwinding.{may_unwind}
 use Rattle.profile_machine.specs.Serving.{wait_for_own, resume_own, may_open_abortable, serves_nothing, is_served_now, serve_ends, end_release, close_action, behind_action, release_object, settle_sent, begins_part, chosen_is_sent, part_of_start, serve_chosen, serve_next, serve_calls, go_on_by_mode, with_body_left, not_left, end_operation, is_own_call, outcome_by, finish_raised, finish_well, finish_call, no_longer_serves, end_entry_body, end_in_protected_by, end_in_protected}
 use Rattle.machine_laws.proofs.Moves.{own}
 use Rattle.machine_laws.proofs.FineMoves.{Nature, nature, natures}
-use Rattle.machine_laws.proofs.Kept.Frames.{edit_top-alters, pass_on-keeps}
+use Rattle.machine_laws.proofs.Kept.Frames.{edit_top-alters, plain_steps}
 use Rattle.machine_laws.proofs.Kept.Inheritance.{lose_running-keeps}
 use Rattle.machine_laws.proofs.Kept.Priorities.{set_deferred-keeps}
-use Rattle.machine_laws.proofs.Kept.Calls.{with_call-keeps, enqueue-keeps}
-use Rattle.machine_laws.proofs.Kept.CallEnds.{resume-keeps, deliver-keeps}
+use Rattle.machine_laws.proofs.Kept.CallEnds.{deliver-keeps}
 use Rattle.machine_laws.proofs.Kept.Protected.{edit_top_protected-alters, begin_call-keeps, body_opens-keeps}
 use Rattle.machine_laws.proofs.Kept.Sending.{open_abortable-alters, send_on-keeps, begin_abortable-keeps}
 use Rattle.machine_laws.proofs.Kept.Serving.{wait_or_unwind-keeps, Ending, settle_sent-keeps}
@@ -60,6 +59,9 @@ use Rattle.line_laws.proofs.Handlers.Attending.{Acted, calm_so, closes_so, busy-
 use Rattle.line_laws.proofs.Handlers.Mixed.{from_by, keeps_at, then_by, looks_by, when_by, some_by, either_by, nothing_by}
 use Rattle.machine_laws.proofs.FinestMoves.{chains, says-keeps}
 use Rattle.machine_laws.proofs.Kept.Combinators.{From, Keeps, Kept, changes-keeps, from-keeps, keeps-from, looks-keeps, nothing-keeps, then-keeps}
+use Rattle.machine_laws.proofs.Plain.Frames.{pass_on-keeps}
+use Rattle.machine_laws.proofs.Plain.Calls.{with_call-keeps, enqueue-keeps}
+use Rattle.machine_laws.proofs.Plain.Results.{resume-keeps}
 
 -- ---- the release has been served
 
@@ -150,11 +152,11 @@ module _ (colour : Colour) where
 
   own_resumes-keeps : (p : Image) (c : Call) (outcome : Option Outcome) → Keeps (Apart colour) (Spared colour true) (resume_own p who.Agent c outcome)
   unfolding resume_own
-  own_resumes-keeps p c (Some outcome) = resume-keeps (spares colour true) p TheBlock c outcome
+  own_resumes-keeps p c (Some outcome) = resume-keeps (plain_steps (spares colour true)) p TheBlock c outcome tt
   own_resumes-keeps p c None = looks-keeps (chains (spares colour true)) _ (λ w. own_waits-keeps p c (may_open_abortable w who.Agent c))
 
   own_call-keeps : (p : Image) (c : CallNo) → Keeps (Apart colour) (Spared colour true) (with_call c (λ d. resume_own p who.Agent d d.outcome))
-  own_call-keeps p c = with_call-keeps (spares colour true) c _ (λ d. own_resumes-keeps p d d.outcome)
+  own_call-keeps p c = with_call-keeps (plain_steps (spares colour true)) c _ (λ d. own_resumes-keeps p d d.outcome)
 
 -- what stands behind the exit
 own_call-from : (p : Image) (c : CallNo) (w : World) → Busy Rooted None w → From (BusyStep Rooted None) w (with_call c (λ d. resume_own p who.Agent d d.outcome))
@@ -164,7 +166,7 @@ own_call-from p c w good =
 
 goes_on-keeps : (p : Image) (m : ProtectedMark) (call : Option CallNo) → Keeps (Busy Rooted None) (BusyStep Rooted None) (behind_action p who.Agent m None call)
 unfolding behind_action
-goes_on-keeps p m None = pass_on-keeps (busies rooted None) p who.Agent m.body_left
+goes_on-keeps p m None = pass_on-keeps (plain_steps (busies rooted None)) p who.Agent m.body_left tt
 goes_on-keeps p m (Some c) = from-keeps (chains (busies rooted None)) _ (λ w good. own_call-from p c w good)
 
 behind_inner-from : (p : Image) (m : ProtectedMark) (call : Option CallNo) (w : World) → Busy Rooted None w → From (BusyStep Rooted None) w (lose_running p who.Agent (inherited_by.Ceiling m.object) ▷ set_deferred p who.Agent ▷ behind_action p who.Agent m None call)
@@ -291,7 +293,7 @@ module _ (p : Image) (m : ProtectedMark) where
   well-from c (Some s) w h =
       step_then m.release (says TheFinish (said.Finish who.Agent c.number meeting.Requeue)) _ w h (λ colour. says-keeps (spares colour true) TheFinish (said.Finish who.Agent c.number meeting.Requeue) refl)
       (λ v k. step_then m.release (send_on c.number s) _ v k (λ colour. send_on-keeps (spares colour true) c.number s)
-      (λ u l. step_then m.release (enqueue p c.number) _ u l (λ colour. enqueue-keeps (spares colour true) p c.number)
+      (λ u l. step_then m.release (enqueue p c.number) _ u l (λ colour. enqueue-keeps (plain_steps (spares colour true)) p c.number)
       (λ t n. serve_calls-from (Some c.number) t n)))
 
   finish-from : (leaving : Leaving) (c : Call) (w : World) → Heads m.release w → From Acted w (finish_call p who.Agent m leaving c)

@@ -37,16 +37,18 @@ use Rattle.line_laws.proofs.Leaving.RegionTies.{popped-tied}
 use Rattle.line_laws.proofs.Leaving.CoreMoves.{Base, base-then, pop-base, popped-free}
 use Rattle.line_laws.proofs.Leaving.Moving.{Moved, GoodAs}
 use Rattle.line_laws.proofs.Leaving.Modes.{acting, acting-self, Known, Steady, none, going, steady}
-use Rattle.line_laws.proofs.Leaving.Kept.Frames.{raises-keeps, pass_on-keeps}
 use Rattle.line_laws.proofs.Leaving.Kept.Scopes.{end_scope-alters}
-use Rattle.line_laws.proofs.Leaving.Kept.Calls.{edit_call-alters, with_call-keeps, attempt_on-keeps}
 use Rattle.line_laws.proofs.Leaving.Kept.CallEnds.{end_found_abortable-from}
 use Rattle.line_laws.proofs.Leaving.Kept.Inheritance.{lose_running-keeps}
-use Rattle.line_laws.proofs.Leaving.Kept.Rendezvous.{finish_rendezvous-keeps, behind_accept-keeps, finished_call-number, finished_call-caller}
+use Rattle.line_laws.proofs.Leaving.Kept.Rendezvous.{finish_rendezvous-keeps, behind_accept-keeps}
+use Rattle.machine_laws.proofs.Plain.Results.{finished_call-number, finished_call-caller}
 use Rattle.line_laws.proofs.Leaving.Kept.Controlled.{register-keeps, behind_finalize-keeps, do_step-keeps}
 use Rattle.line_laws.proofs.Leaving.Kept.Act.{behind_handled-keeps, wait_for_trigger-keeps, drop_trigger-alters}
 use Rattle.machine_laws.proofs.FinestMoves.{being_left_in}
 use Rattle.machine_laws.proofs.Kept.Combinators.{From, Keeps, Kept, changes-keeps, cond-keeps, keeps-from, looks-keeps, nothing-keeps, then-keeps}
+use Rattle.machine_laws.proofs.Plain.Frames.{raises-keeps, pass_on-keeps}
+use Rattle.machine_laws.proofs.Plain.Calls.{edit_call-alters, with_call-keeps, attempt_on-keeps}
+use Rattle.line_laws.proofs.Leaving.Kept.Frames.{plain_steps}
 
 -- ---- steps that are put together, whatever each of them knows
 
@@ -99,7 +101,7 @@ pub initialized-from : (p : Image) (a : Who) (l : Located) (leaving : Leaving) (
 unfolding end_in_initialize
 initialized-from p a l leaving f w inv awake top plain =
     plainly-from a f (cond (registers leaving) (register p a l) (pass_on p a leaving)) w inv awake top plain
-    (cond-keeps (chains (going a)) (registers leaving) (register p a l) (pass_on p a leaving) (register-keeps (going a) p a l refl) (pass_on-keeps (going a) p a leaving refl))
+    (cond-keeps (chains (going a)) (registers leaving) (register p a l) (pass_on p a leaving) (register-keeps (going a) p a l refl) (pass_on-keeps (plain_steps (going a)) p a leaving refl))
 
 pub finalized-from : (p : Image) (a : Who) (leaving : Leaving) (w : World) → Inv w → Awake a w → From (Does a) w (end_in_finalize p a leaving)
 unfolding end_in_finalize From
@@ -128,7 +130,7 @@ step_with-from p a step None source f w inv awake free = popped-alone a f w inv 
 
 pub assigned-from : (p : Image) (a : Who) (m : AssignMark) (leaving : Option Leaving) (f : Frame) (w : World) → Inv w → Awake a w → top_of w a ≡ Some f → is_special f.mark ≡ false → being_left_in f.mark ≡ false → From (Does a) w (end_in_assign p a m leaving)
 unfolding end_in_assign From
-assigned-from p a m (Some (how.Exception e)) f w inv awake top plain not_left said = plainly-from a f (raises Own a exception.Program) w inv awake top plain (raises-keeps (going a) Own a exception.Program) said
+assigned-from p a m (Some (how.Exception e)) f w inv awake top plain not_left said = plainly-from a f (raises Own a exception.Program) w inv awake top plain (raises-keeps (plain_steps (going a)) Own a exception.Program) said
 assigned-from p a m _ f w inv awake top plain not_left said = step_with-from p a m.step (registered_object w m.target) (registered_object w m.source) f w inv awake (free-top a f w top not_left) said
 
 -- ---- an abortable part
@@ -154,7 +156,7 @@ attempted-from p a leaving n d false w inv stays not_left = weak a (Free a) w _ 
 by_call-from : (p : Image) (a : Who) (leaving : Leaving) (n : Nature) (found : Option Call) (w : World) → Inv w → Steady a n w → n.leaving ≡ false → From (Does a) w (for_some found (λ d. attempt_with p Own d (end_top p a) (wait_for_trigger a d leaving)))
 by_call-from p a leaving n None w inv stays not_left = weak a Known w nothing (keeps-from (chains (none a true)) nothing w (inv, tt) (nothing-keeps (chains (none a true))))
 by_call-from p a leaving n (Some d) w inv stays not_left =
-    steady-then a n (attempt_on p Own d) (elim (is_cancellable d) as (λ _. Step) [ true ↦ end_top p a | false ↦ wait_for_trigger a d leaving ]) w inv stays (attempt_on-keeps (steady a n) p Own d)
+    steady-then a n (attempt_on p Own d) (elim (is_cancellable d) as (λ _. Step) [ true ↦ end_top p a | false ↦ wait_for_trigger a d leaving ]) w inv stays (attempt_on-keeps (plain_steps (steady a n)) p Own d)
     (λ v xs h inv_v stays_v. attempted-from p a leaving n d (is_cancellable d) v inv_v stays_v not_left)
 
 by_own-from : (p : Image) (a : Who) (m : AbortableMark) (leaving : Leaving) (n : Nature) (call : Option CallNo) (w : World) → Inv w → Steady a n w → n.leaving ≡ false
@@ -186,6 +188,6 @@ accepted-from p a m leaving f w inv awake top plain said =
     plainly-from a f (g ▷ rest) w inv awake top plain
     (then-keeps (chains G) g rest
     (then-keeps (chains G) (changes (end_scope m.within)) _ (changes-keeps (chains G) _ (end_scope-alters G m.within))
-    (then-keeps (chains G) (changes (edit_call m.call (finished_call p (cells_of (scope_in_use w m.within)) leaving))) _ (changes-keeps (chains G) _ (edit_call-alters G m.call (finished_call p (cells_of (scope_in_use w m.within)) leaving) (finished_call-number p (cells_of (scope_in_use w m.within)) leaving) (finished_call-caller p (cells_of (scope_in_use w m.within)) leaving)))
-    (with_call-keeps G m.call _ (λ c. finish_rendezvous-keeps G p a c leaving))))
+    (then-keeps (chains G) (changes (edit_call m.call (finished_call p (cells_of (scope_in_use w m.within)) leaving))) _ (changes-keeps (chains G) _ (edit_call-alters (plain_steps G) m.call (finished_call p (cells_of (scope_in_use w m.within)) leaving) (finished_call-number p (cells_of (scope_in_use w m.within)) leaving) (finished_call-caller p (cells_of (scope_in_use w m.within)) leaving)))
+    (with_call-keeps (plain_steps G) m.call _ (λ c. finish_rendezvous-keeps G p a c leaving))))
     (then-keeps (chains G) (lose_running p a (inherited_by.Rendezvous m.call)) (behind_accept p a leaving) (lose_running-keeps G p a (inherited_by.Rendezvous m.call) (acting-self a)) (behind_accept-keeps G p a leaving refl))) said

@@ -5,7 +5,6 @@ pub mod Frames
 pub mod Scopes
 pub mod Inheritance
 pub mod Appointments
-pub mod Calls
 pub mod Unwinding
 pub mod CallEnds
 pub mod Masters
@@ -15,7 +14,6 @@ pub mod Protected
 pub mod Priorities
 pub mod Sending
 pub mod Serving
-pub mod Declarations
 pub mod Rendezvous
 pub mod EntryCalls
 pub mod Controlled

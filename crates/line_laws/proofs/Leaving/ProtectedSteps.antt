@@ -41,8 +41,7 @@ use Rattle.line_laws.proofs.Leaving.RegionTies.{popped-tied}
 use Rattle.line_laws.proofs.Leaving.CoreMoves.{pop-base, popped-free}
 use Rattle.line_laws.proofs.Leaving.Moving.{Moved, GoodAs}
 use Rattle.line_laws.proofs.Leaving.Modes.{acting, acting-self, Known, Steady, none, going, steady}
-use Rattle.line_laws.proofs.Leaving.Kept.Frames.{edit_top-alters}
-use Rattle.line_laws.proofs.Leaving.Kept.Calls.{enqueue-keeps}
+use Rattle.line_laws.proofs.Leaving.Kept.Frames.{edit_top-alters, plain_steps}
 use Rattle.line_laws.proofs.Leaving.Kept.CallEnds.{deliver-keeps}
 use Rattle.line_laws.proofs.Leaving.Kept.Inheritance.{lose_running-keeps}
 use Rattle.line_laws.proofs.Leaving.Kept.Priorities.{set_deferred-keeps}
@@ -52,6 +51,7 @@ use Rattle.line_laws.proofs.Leaving.Kept.Serving.{end_release-keeps, behind_acti
 use Rattle.line_laws.proofs.Leaving.ActSteps.{Does, weak, joined, told-from, silent-from, steady-then, top_steady, steady-free}
 use Rattle.line_laws.proofs.Leaving.FreeWorlds.{OwnCalls, CallerIn}
 use Rattle.machine_laws.proofs.Kept.Combinators.{From, Keeps, changes-keeps, keeps-from, nothing-keeps, then-keeps}
+use Rattle.machine_laws.proofs.Plain.Calls.{enqueue-keeps}
 
 -- ---- the object is released
 
@@ -204,7 +204,7 @@ finish_well-from p a m c (Some s) w inv stays =
     let n = nature (InProtected m) in
     steady-then a n (says TheFinish (line.Finish a c.number meeting.Requeue)) (send_on c.number s ▷ enqueue p c.number ▷ serve_calls p a m (Some c.number)) w inv stays (says-keeps (steady a n) TheFinish (line.Finish a c.number meeting.Requeue) refl)
     (λ v xs h inv_v stays_v. steady-then a n (send_on c.number s) (enqueue p c.number ▷ serve_calls p a m (Some c.number)) v inv_v stays_v (send_on-keeps (steady a n) c.number s)
-    (λ u ys k inv_u stays_u. steady-then a n (enqueue p c.number) (serve_calls p a m (Some c.number)) u inv_u stays_u (enqueue-keeps (steady a n) p c.number)
+    (λ u ys k inv_u stays_u. steady-then a n (enqueue p c.number) (serve_calls p a m (Some c.number)) u inv_u stays_u (enqueue-keeps (plain_steps (steady a n)) p c.number)
     (λ x zs l inv_x stays_x. serve_calls-from p a m (Some c.number) x inv_x stays_x)))
 
 finish_call-from : (p : Image) (a : Who) (m : ProtectedMark) (leaving : Leaving) (c : Call) (w : World) → Inv w → Entered a m w → From (Does a) w (finish_call p a m leaving c)

@@ -29,23 +29,26 @@ use Rattle.profile_machine.specs.declared.world.tasks.Waiting.TheVariants as wai
 use Rattle.machine_laws.proofs.Moves.{StepRelation, MoveRelation, Puts}
 use Rattle.line_laws.proofs.Leaving.FineMoves.{FineMoves, nature, chains}
 use Rattle.line_laws.proofs.Leaving.Kept.Dispatching.{block-keeps}
-use Rattle.line_laws.proofs.Leaving.Kept.Frames.{edit_top-alters, goes-keeps, raises-keeps, pass_on-keeps, with_room-keeps}
+use Rattle.line_laws.proofs.Leaving.Kept.Frames.{edit_top-alters, goes-keeps, plain_steps}
 use Rattle.line_laws.proofs.Leaving.Kept.Scopes.{open_scope-alters}
 use Rattle.line_laws.proofs.Leaving.Kept.Appointments.{drop_appointment-alters}
-use Rattle.line_laws.proofs.Leaving.Kept.Statements.{null-keeps, assign-keeps, assign_array-keeps, if_statement-keeps, case_statement-keeps, while_turn-keeps, for_bounds-keeps, first_turn-keeps, later_turn-keeps, exit_statement-keeps, block_statement-keeps, raise_again-keeps, delay_until-keeps, put_line-keeps}
-use Rattle.line_laws.proofs.Leaving.Kept.Subprograms.{call_subprogram-keeps, return_value-keeps, return-keeps}
+use Rattle.line_laws.proofs.Leaving.Kept.Statements.{block_statement-keeps, delay_until-keeps, put_line-keeps}
+use Rattle.line_laws.proofs.Leaving.Kept.Subprograms.{call_subprogram-keeps}
 use Rattle.line_laws.proofs.Leaving.Kept.Protected.{call_operation-keeps, call_own_operation-keeps}
 use Rattle.line_laws.proofs.Leaving.Kept.Priorities.{set_priority-keeps, set_quantum-keeps, set_deadline_of-keeps, delay_and_set_deadline-keeps}
 use Rattle.line_laws.proofs.Leaving.Kept.Rendezvous.{accept-keeps, selective_accept-keeps}
 use Rattle.line_laws.proofs.Leaving.Kept.EntryCalls.{entry_call-keeps, asynchronous_select-keeps, requeue-keeps}
 use Rattle.line_laws.proofs.Leaving.Kept.Controlled.{initialize-keeps, assign_controlled-keeps}
-use Rattle.line_laws.proofs.Leaving.Kept.Declarations.{declare-keeps}
 use Rattle.line_laws.proofs.Leaving.Kept.Tasking.{create-keeps, activate-keeps, end_own_activation-keeps, abort_statement-keeps}
 use Rattle.line_laws.proofs.Leaving.Kept.Handlers.{set_event-keeps, cancel_event-keeps, set_timer-keeps, cancel_timer-keeps, add_member-keeps, remove_member-keeps, replenish-keeps, add_to_budget-keeps, set_budget-keeps, cancel_budget-keeps}
 use Rattle.line_laws.proofs.Leaving.Kept.CallEnds.{abortable-nature}
 use Rattle.profile_machine.specs.CallEnds.{edit_abortable}
 use Rattle.machine_laws.proofs.FineMoves.{GoodWorld, Naming}
 use Rattle.machine_laws.proofs.Kept.Combinators.{Alters, Keeps, changes-keeps, looks-keeps, nothing-keeps, sees-keeps, then-keeps, unchanged-alters}
+use Rattle.machine_laws.proofs.Plain.Frames.{raises-keeps, pass_on-keeps, with_room-keeps}
+use Rattle.machine_laws.proofs.Plain.Statements.{null-keeps, assign-keeps, assign_array-keeps, if_statement-keeps, case_statement-keeps, while_turn-keeps, for_bounds-keeps, first_turn-keeps, later_turn-keeps, exit_statement-keeps, raise_again-keeps}
+use Rattle.machine_laws.proofs.Plain.Subprograms.{return_value-keeps, return-keeps}
+use Rattle.machine_laws.proofs.Plain.Declarations.{declare-keeps}
 
 -- a mark that keeps an exception is what it was
 keeping-nature : (e : Raised) (mark : Mark) → nature (keeping e mark) ≡ nature mark
@@ -67,17 +70,17 @@ module _ {G : GoodWorld} {May Acts Pushes : Naming} {Stops : Type 0} {R : StepRe
 
   pub handle_or_pass-keeps : (p : Image) (name : Who) (e : Raised) (next : Option StatementNo) → May name → Keeps G R (handle_or_pass p name e next)
   unfolding handle_or_pass
-  handle_or_pass-keeps p name e None may = search (pass_on-keeps)
+  handle_or_pass-keeps p name e None may = search (pass_on-keeps, plain_steps)
   handle_or_pass-keeps p name e (Some first) may = then-keeps (chains moves) (changes (edit_top name (λ f. with_mark (keeping e f.mark) f))) (goes name (Some first)) (changes-keeps (chains moves) _ (keeping-alters name e)) (goes-keeps moves name (Some first) may)
 
   pub behind_handled-keeps : (p : Image) (name : Who) (s : StatementNo) (leaving : Leaving) → May name → Keeps G R (behind_handled p name s leaving)
   unfolding behind_handled
   behind_handled-keeps p name s (how.Exception e) may = search (handle_or_pass-keeps)
   behind_handled-keeps p name s how.End may = search (nothing-keeps, chains)
-  behind_handled-keeps p name s how.Return may = search (pass_on-keeps)
-  behind_handled-keeps p name s (how.Exit loop) may = search (pass_on-keeps)
-  behind_handled-keeps p name s how.Abort may = search (pass_on-keeps)
-  behind_handled-keeps p name s how.Terminate may = search (pass_on-keeps)
+  behind_handled-keeps p name s how.Return may = search (pass_on-keeps, plain_steps)
+  behind_handled-keeps p name s (how.Exit loop) may = search (pass_on-keeps, plain_steps)
+  behind_handled-keeps p name s how.Abort may = search (pass_on-keeps, plain_steps)
+  behind_handled-keeps p name s how.Terminate may = search (pass_on-keeps, plain_steps)
 
   waiting-alters : (name : Who) (leaving : Leaving) → Alters G R (edit_top name (λ f. with_mark (edit_abortable waiting_mark f.mark) (record f { left_as = Some leaving })))
   waiting-alters name leaving = edit_top-alters moves name (λ f. with_mark (edit_abortable waiting_mark f.mark) (record f { left_as = Some leaving })) waiting-nature (λ f. refl)
@@ -92,7 +95,7 @@ module _ {G : GoodWorld} {May Acts Pushes : Naming} {Stops : Type 0} {R : StepRe
 
   pub call_main-keeps : (p : Image) (name : Who) (s : StatementNo) → May name → Keeps G R (call_main p name s)
   unfolding call_main
-  call_main-keeps p name s may = search (with_room-keeps, goes-keeps, then-keeps, looks-keeps, changes-keeps, open_scope-alters, chains)
+  call_main-keeps p name s may = search (with_room-keeps, goes-keeps, then-keeps, looks-keeps, changes-keeps, open_scope-alters, chains, plain_steps)
 
   pub call-keeps : (p : Image) (name : Who) (s : StatementNo) (callee : Callee) (actuals : List Actual) (to : Destination) → May name → Keeps G R (call p name s callee actuals to)
   unfolding call
@@ -102,30 +105,30 @@ module _ {G : GoodWorld} {May Acts Pushes : Naming} {Stops : Type 0} {R : StepRe
 
   pub act_statement-keeps : (p : Image) → Puts G R p → (name : Who) (s : StatementNo) (form : StatementForm) → May name → Stops → form_of p s ≡ form → Keeps G R (act_statement p name s form)
   unfolding act_statement
-  act_statement-keeps p puts name s (form.Declare object) may stops is = search (declare-keeps)
+  act_statement-keeps p puts name s (form.Declare object) may stops is = search (declare-keeps, plain_steps)
   act_statement-keeps p puts name s (form.Initialize object) may stops is = search (initialize-keeps)
   act_statement-keeps p puts name s (form.CreateTask object part) may stops is = search (create-keeps)
   act_statement-keeps p puts name s (form.Activate part) may stops is = search (activate-keeps)
   act_statement-keeps p puts name s form.EndActivation may stops is = search (end_own_activation-keeps)
   act_statement-keeps p puts name s form.CallMain may stops is = search (call_main-keeps)
   act_statement-keeps p puts name s (form.Handled handlers first) may stops is = search (nothing-keeps, chains)
-  act_statement-keeps p puts name s form.Null may stops is = search (null-keeps)
-  act_statement-keeps p puts name s (form.Assign target e) may stops is = search (assign-keeps)
-  act_statement-keeps p puts name s (form.AssignArray target source) may stops is = search (assign_array-keeps)
+  act_statement-keeps p puts name s form.Null may stops is = search (null-keeps, plain_steps)
+  act_statement-keeps p puts name s (form.Assign target e) may stops is = search (assign-keeps, plain_steps)
+  act_statement-keeps p puts name s (form.AssignArray target source) may stops is = search (assign_array-keeps, plain_steps)
   act_statement-keeps p puts name s (form.AssignControlled target source) may stops is = search (assign_controlled-keeps)
-  act_statement-keeps p puts name s (form.If condition first otherwise) may stops is = search (if_statement-keeps)
-  act_statement-keeps p puts name s (form.Case selector alternatives) may stops is = search (case_statement-keeps)
+  act_statement-keeps p puts name s (form.If condition first otherwise) may stops is = search (if_statement-keeps, plain_steps)
+  act_statement-keeps p puts name s (form.Case selector alternatives) may stops is = search (case_statement-keeps, plain_steps)
   act_statement-keeps p puts name s (form.Loop body within) may stops is = search (goes-keeps)
-  act_statement-keeps p puts name s (form.While condition body within) may stops is = search (while_turn-keeps)
-  act_statement-keeps p puts name s (form.For parameter reverse low high turn within) may stops is = search (for_bounds-keeps)
-  act_statement-keeps p puts name s (form.FirstTurn parameter reverse body) may stops is = search (first_turn-keeps)
-  act_statement-keeps p puts name s (form.LaterTurn parameter reverse body) may stops is = search (later_turn-keeps)
-  act_statement-keeps p puts name s (form.Exit condition of_loop) may stops is = search (exit_statement-keeps)
+  act_statement-keeps p puts name s (form.While condition body within) may stops is = search (while_turn-keeps, plain_steps)
+  act_statement-keeps p puts name s (form.For parameter reverse low high turn within) may stops is = search (for_bounds-keeps, plain_steps)
+  act_statement-keeps p puts name s (form.FirstTurn parameter reverse body) may stops is = search (first_turn-keeps, plain_steps)
+  act_statement-keeps p puts name s (form.LaterTurn parameter reverse body) may stops is = search (later_turn-keeps, plain_steps)
+  act_statement-keeps p puts name s (form.Exit condition of_loop) may stops is = search (exit_statement-keeps, plain_steps)
   act_statement-keeps p puts name s (form.Block scope) may stops is = search (block_statement-keeps)
-  act_statement-keeps p puts name s form.Return may stops is = search (return-keeps)
-  act_statement-keeps p puts name s (form.ReturnValue function e) may stops is = search (return_value-keeps)
-  act_statement-keeps p puts name s (form.Raise e) may stops is = search (raises-keeps)
-  act_statement-keeps p puts name s (form.RaiseAgain scope) may stops is = search (raise_again-keeps)
+  act_statement-keeps p puts name s form.Return may stops is = search (return-keeps, plain_steps)
+  act_statement-keeps p puts name s (form.ReturnValue function e) may stops is = search (return_value-keeps, plain_steps)
+  act_statement-keeps p puts name s (form.Raise e) may stops is = search (raises-keeps, plain_steps)
+  act_statement-keeps p puts name s (form.RaiseAgain scope) may stops is = search (raise_again-keeps, plain_steps)
   act_statement-keeps p puts name s (form.Delay e) may stops is = search (sees-keeps, delay_until-keeps, chains)
   act_statement-keeps p puts name s (form.DelayUntil e) may stops is = search (sees-keeps, delay_until-keeps, chains)
   act_statement-keeps p puts name s (form.Call callee actuals to) may stops is = search (call-keeps)

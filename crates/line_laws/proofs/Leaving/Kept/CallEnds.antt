@@ -40,12 +40,14 @@ use Rattle.line_laws.proofs.Leaving.TaskLemmas.{awake-edited}
 use Rattle.line_laws.proofs.Leaving.Kept.Combinators.{free_then-from, when-from}
 use Rattle.line_laws.proofs.Leaving.Kept.Tasks.{edit_frames-alters}
 use Rattle.line_laws.proofs.Leaving.Kept.Dispatching.{ready-keeps, ready_then-from}
-use Rattle.line_laws.proofs.Leaving.Kept.Frames.{alike, goes-from, leaves-keeps, raises-keeps, pass_on-from, open_sequence-keeps}
-use Rattle.line_laws.proofs.Leaving.Kept.Calls.{edit_call-alters, forget_call-alters, with_call-keeps, unqueued-alters}
+use Rattle.line_laws.proofs.Leaving.Kept.Frames.{alike, goes-from, leaves-keeps, pass_on-from, open_sequence-keeps, plain_steps}
 use Rattle.line_laws.proofs.Leaving.Kept.Unwinding.{unwind-keeps}
 use Rattle.profile_machine.specs.Dispatching.{ready}
 use Rattle.machine_laws.proofs.FineMoves.{GoodWorld, Naming}
 use Rattle.machine_laws.proofs.Kept.Combinators.{Alters, From, Gives, Keeps, bind-gives, changes-keeps, changes_then-from, either-from, from-keeps, keeps-from, looks-from, looks-keeps, looks_at-from, nothing-keeps, ok-gives, then-from, then-keeps, unchanged-alters}
+use Rattle.machine_laws.proofs.Plain.Frames.{raises-keeps}
+use Rattle.machine_laws.proofs.Plain.Calls.{edit_call-alters, forget_call-alters, with_call-keeps, unqueued-alters}
+use Rattle.machine_laws.proofs.Plain.Results.{with_results-world}
 
 -- an edit of a mark somewhere, and of an abortable part
 at_depth-alike : (test : Bool) (f : Frame → Frame) (x : Frame) (xs ys : List Frame) → nature (f x).mark ≡ nature x.mark → (f x).onward ≡ x.onward → Alike ys xs → Alike (cond test (f x ∷ xs) (x ∷ ys)) (x ∷ xs)
@@ -71,40 +73,14 @@ module _ {G : GoodWorld} {May Acts Pushes : Naming} {Stops : Type 0} {R : StepRe
   unfolding go_by_outcome
   go_by_outcome-from p part name s call_ended.Finished w good free = goes-from moves name (onward_when_done p s) w good free
   go_by_outcome-from p part name s call_ended.Cancelled w good free = goes-from moves name (onward_when_cancelled p s) w good free
-  go_by_outcome-from p part name s (call_ended.ToRaise e) w good free = keeps-from (chains moves) (raises part name e) w good (raises-keeps moves part name e)
+  go_by_outcome-from p part name s (call_ended.ToRaise e) w good free = keeps-from (chains moves) (raises part name e) w good (raises-keeps (plain_steps moves) part name e)
   go_by_outcome-from p part name s (call_ended.WasRaised e) w good free = keeps-from (chains moves) (leaves name (how.Exception e)) w good (leaves-keeps moves name (how.Exception e))
 
   pub resume-from : (p : Image) (part : Part) (c : Call) (outcome : Outcome) (w : World) → G w → Free (who.Task c.caller) w → From R w (resume p part c outcome)
   unfolding resume
   resume-from p part c outcome w good free =
-      free_then-from moves (who.Task c.caller) (changes (forget_call c.number)) _ w free (keeps-from (chains moves) _ w good (search (changes-keeps, forget_call-alters, chains)))
+      free_then-from moves (who.Task c.caller) (changes (forget_call c.number)) _ w free (keeps-from (chains moves) _ w good (search (changes-keeps, forget_call-alters, chains, plain_steps)))
       (λ v good_v free_v. go_by_outcome-from p part (who.Task c.caller) c.statement outcome v good_v free_v)
-
-  -- of who may go on
-  pub resume-keeps : (p : Image) (part : Part) (c : Call) (outcome : Outcome) → May (who.Task c.caller) → Keeps G R (resume p part c outcome)
-  resume-keeps p part c outcome may = from-keeps (chains moves) (resume p part c outcome) (λ w good. resume-from p part c outcome w good (moves.may_free (who.Task c.caller) w good may))
-
-  pub store-gives : (p : Image) (v : Variable) (value : Value) (w : World) → G w → Gives R w (store p v value w)
-  store-gives p v value w good = bind-gives (chains moves) (checked (declaration_of p v.declared).constraint value) (λ x. Ok (write_cell v.within v.place x w)) w (λ x. ok-gives (chains moves) w (write_cell v.within v.place x w) (moves.edits_cells v.within (λ cells. slice_set cells v.place x) w good))
-
-  -- the world behind the results that are copied back
-  or_stored-world : (result : Valued World) (again : World → World × Bool) (w : World) → G w → Gives R w result → ((v : World) → G v → R v [] (again v).0) → R w [] (or_stored w result again).0
-  unfolding Gives
-  or_stored-world (Ok next) again w good a b = moves.goes_on w next (again next).0 a (b next (moves.behind w next a))
-  or_stored-world (Err e) again w good a b = moves.stays w good
-
-  copy_back-world : (p : Image) (results : List (Option Variable)) (values : List Value) (w : World) → G w → R w [] (copy_back p results values w).0
-  copy_back-world p [] values w good = moves.stays w good
-  copy_back-world p (None ∷ results) [] w good = moves.stays w good
-  copy_back-world p (None ∷ results) (v ∷ values) w good = copy_back-world p results values w good
-  copy_back-world p (Some target ∷ results) [] w good = moves.stays w good
-  copy_back-world p (Some target ∷ results) (v ∷ values) w good = or_stored-world (store p target v w) (copy_back p results values) w good (store-gives p target v w good) (copy_back-world p results values)
-
-  with_results-world : (p : Image) (c : Call) (outcome : Outcome) (w : World) → G w → R w [] (with_results p c outcome w).0
-  with_results-world p c call_ended.Finished w good = copy_back-world p c.results c.values w good
-  with_results-world p c call_ended.Cancelled w good = moves.stays w good
-  with_results-world p c (call_ended.ToRaise e) w good = moves.stays w good
-  with_results-world p c (call_ended.WasRaised e) w good = moves.stays w good
 
   pub edit_frame-alters : (name : Who) (depth : ℕ) (f : Frame → Frame) → ((x : Frame) → nature (f x).mark ≡ nature x.mark) → ((x : Frame) → (f x).onward ≡ x.onward) → Alters G R (edit_frame name depth f)
   edit_frame-alters name depth f same onward = edit_frames-alters moves name (edit_depth depth f) (λ fs. depth-alike depth f fs same onward)
@@ -118,13 +94,13 @@ module _ {G : GoodWorld} {May Acts Pushes : Naming} {Stops : Type 0} {R : StepRe
 
   pub forget_trigger-alters : (c : Option CallNo) → Alters G R (forget_trigger c)
   forget_trigger-alters None = search (unchanged-alters, chains)
-  forget_trigger-alters (Some c) = search (forget_call-alters)
+  forget_trigger-alters (Some c) = search (forget_call-alters, plain_steps)
 
   run_triggered-from : (p : Image) (part : Part) (name : Who) (select : StatementNo) (outcome : Outcome) (w : World) → G w → Free name w → From R w (run_triggered p part name select outcome)
   unfolding run_triggered
   run_triggered-from p part name select call_ended.Finished w good free = goes-from moves name (onward_when_done p select) w good free
   run_triggered-from p part name select call_ended.Cancelled w good free = keeps-from (chains moves) nothing w good (nothing-keeps (chains moves))
-  run_triggered-from p part name select (call_ended.ToRaise e) w good free = keeps-from (chains moves) (raises part name e) w good (raises-keeps moves part name e)
+  run_triggered-from p part name select (call_ended.ToRaise e) w good free = keeps-from (chains moves) (raises part name e) w good (raises-keeps (plain_steps moves) part name e)
   run_triggered-from p part name select (call_ended.WasRaised e) w good free = keeps-from (chains moves) (leaves name (how.Exception e)) w good (leaves-keeps moves name (how.Exception e))
 
   behind_abortable-from : (p : Image) (part : Part) (name : Who) (m : AbortableMark) (outcome : Outcome) (w : World) → G w → Free name w → From R w (behind_abortable p part name m outcome)
@@ -230,19 +206,19 @@ module _ {G : GoodWorld} {May Acts Pushes : Naming} {Stops : Type 0} {R : StepRe
 
   pub end_with-keeps : (p : Image) (part : Part) (c : Call) (outcome : Outcome) → Keeps G R (end_with p part c outcome)
   unfolding end_with
-  end_with-keeps p part c outcome = search (changes-keeps, edit_call-alters, then-keeps, looks-keeps, end_for-keeps, chains)
+  end_with-keeps p part c outcome = search (changes-keeps, edit_call-alters, then-keeps, looks-keeps, end_for-keeps, chains, plain_steps)
 
   pub end_call-keeps : (p : Image) (part : Part) (c : Call) (outcome : Outcome) → Keeps G R (end_call p part c outcome)
   unfolding end_call
   end_call-keeps p part c outcome =
       looks-from (chains moves) _ (λ w good. let r = with_results p c outcome w in
-      let first = with_results-world p c outcome w good in
+      let first = with_results-world (plain_steps moves) p c outcome w good in
       changes_then-from (chains moves) (λ _. r.0) (end_with p part c r.1) w first (keeps-from (chains moves) (end_with p part c r.1) r.0 (moves.behind w r.0 first) (end_with-keeps p part c r.1)))
 
   pub deliver-keeps : (p : Image) (part : Part) (c : CallNo) (outcome : Outcome) → Keeps G R (deliver p part c outcome)
   unfolding deliver
-  deliver-keeps p part c outcome = search (with_call-keeps, end_call-keeps, then-keeps, unwind-keeps, chains)
+  deliver-keeps p part c outcome = search (with_call-keeps, end_call-keeps, then-keeps, unwind-keeps, chains, plain_steps)
 
   pub gone-keeps : (p : Image) (part : Part) (c : Call) → Keeps G R (gone p part c)
   unfolding gone
-  gone-keeps p part c = search (changes-keeps, unqueued-alters, then-keeps, says-keeps, chains)
+  gone-keeps p part c = search (changes-keeps, unqueued-alters, then-keeps, says-keeps, chains, plain_steps)

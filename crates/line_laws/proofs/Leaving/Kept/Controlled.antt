@@ -24,8 +24,8 @@ use Rattle.profile_machine.specs.Statements.{cells_from}
 use Rattle.profile_machine.specs.Controlled.{first_place, open_operation, operation_beginning, top_region, registered_as, register, initialize_by, initialize, edit_top_scope, finalize_has_raised, open_finalize, has_room_to_finalize, finalize_by, no_longer_registered, is_being_assigned, finalize_now, finalize, behind_finalize, begin_assignment, assign_registered, assign_located, assign_controlled, edit_top_assign, leave_without_room, finalize_target_by, has_room_to_adjust, adjust_by, copy_components_of, copy_object, do_step, edit_scope_mark, edit_assign, registered_at, is_located, same_located, new_assign_mark, next_to_finalize, type_of}
 use Rattle.machine_laws.proofs.Moves.{StepRelation, MoveRelation, own}
 use Rattle.line_laws.proofs.Leaving.FineMoves.{FineMoves, nature, chains}
-use Rattle.line_laws.proofs.Leaving.Kept.Frames.{edit_top-alters, goes-keeps, push-alters, leaves-keeps, raises-keeps, given-keeps, with_room-keeps, with_room-from, goes_then-from}
-use Rattle.line_laws.proofs.Leaving.Kept.Scopes.{write_cell-alters, open_scope-alters}
+use Rattle.line_laws.proofs.Leaving.Kept.Frames.{edit_top-alters, goes-keeps, push-alters, leaves-keeps, goes_then-from, plain_steps}
+use Rattle.line_laws.proofs.Leaving.Kept.Scopes.{open_scope-alters}
 use Rattle.std.proofs.Common.{◌≡◌, refl, ap, ◌∙◌, [], ◌∷◌, not}
 use Rattle.std.specs.Prelude.{find}
 use Rattle.line_laws.proofs.Leaving.TaskLemmas.{pushed-free}
@@ -44,6 +44,8 @@ use Rattle.profile_machine.specs.Frames.{top_of, with_mark, pass_on, goes, goes_
 use Rattle.machine_laws.proofs.FineMoves.{GoodWorld, Naming}
 use Rattle.machine_laws.proofs.Kept.Controlled.{edit_task-registered}
 use Rattle.machine_laws.proofs.Kept.Combinators.{Alters, From, Keeps, Kept, branch-keeps, changes-from, changes-keeps, changes_then-from, cond-keeps, from-keeps, keeps-from, looks-from, looks-keeps, looks_at-from, nothing-keeps, said_then-from, sees-keeps, then-keeps, told_change-from}
+use Rattle.machine_laws.proofs.Plain.Frames.{raises-keeps, given-keeps, with_room-keeps, with_room-from}
+use Rattle.machine_laws.proofs.Plain.Cells.{write_cell-alters}
 
 -- the region of a scope's mark is not edited, nor what another mark is
 scope-nature : (f : ScopeMark → ScopeMark) → ((m : ScopeMark) → nature (Scope (f m)) ≡ nature (Scope m)) → (mark : Mark) → nature (edit_scope_mark f mark) ≡ nature mark
@@ -76,7 +78,7 @@ module _ {G : GoodWorld} {May Acts Pushes : Naming} {Stops : Type 0} {R : StepRe
       let v = registered_as n (top_region w name) l w in
       let told = own (line.Init name n (top_region w name) l.declared) ∷ [] in
       let first = moves.registers name l w good free in
-      (told, refl, moves.goes_on w v (write_cell l.within (first_place p l) (Thing n) v) {xs = told} {ys = []} first (write_cell-alters moves l.within (first_place p l) (Thing n) v (moves.behind w v first)))
+      (told, refl, moves.goes_on w v (write_cell l.within (first_place p l) (Thing n) v) {xs = told} {ys = []} first (write_cell-alters (plain_steps moves) l.within (first_place p l) (Thing n) v (moves.behind w v first)))
 
   pub register-keeps : (p : Image) (name : Who) (l : Located) → May name → Keeps G R (register p name l)
   unfolding register
@@ -117,11 +119,11 @@ module _ {G : GoodWorld} {May Acts Pushes : Naming} {Stops : Type 0} {R : StepRe
   pub initialize_by-keeps : (p : Image) (name : Who) (s : StatementNo) (l : Located) (f : Option SubprogramNo) → May name → Keeps G R (initialize_by p name s l f)
   unfolding initialize_by
   initialize_by-keeps p name s l None may = search (goes-keeps, then-keeps, register-keeps, chains)
-  initialize_by-keeps p name s l (Some f) may = search (with_room-keeps, goes-keeps, then-keeps, changes-keeps, push-alters, open_operation-keeps, chains)
+  initialize_by-keeps p name s l (Some f) may = search (with_room-keeps, goes-keeps, then-keeps, changes-keeps, push-alters, open_operation-keeps, chains, plain_steps)
 
   pub initialize-keeps : (p : Image) (name : Who) (s : StatementNo) (d : DeclNo) → May name → Keeps G R (initialize p name s d)
   unfolding initialize
-  initialize-keeps p name s d may = search (sees-keeps, given-keeps, initialize_by-keeps, chains) depth 7
+  initialize-keeps p name s d may = search (sees-keeps, given-keeps, initialize_by-keeps, chains, plain_steps) depth 8
 
   -- above any mark
   open_operation-from : (p : Image) (name : Who) (f : SubprogramNo) (l : Located) (w : World) → G w → Pushes name → Free name w → From R w (open_operation p name f l)
@@ -164,7 +166,7 @@ module _ {G : GoodWorld} {May Acts Pushes : Naming} {Stops : Type 0} {R : StepRe
   begin_assignment-from : (p : Image) (name : Who) (s : StatementNo) (l : Located) (x : Registered) (source : ℕ) (w : World) → G w → May name → registered_at w l ≡ Some x → From R w (begin_assignment p name s x.object source)
   unfolding begin_assignment
   begin_assignment-from p name s l x source w good may found =
-      with_room-from moves name 1 0 _ w good
+      with_room-from (plain_steps moves) name 1 0 _ w good
       (goes_then-from moves name (next_of p s) _ w good may (λ good_onward.
       let gone = edit_top name (goes_on (next_of p s)) w in
       let still : registered_at gone l ≡ Some x = ap (find (is_located l)) (edit_task-registered name (λ t. with_frames (edit_first (goes_on (next_of p s)) t.frames) t) w) ∙ found in
@@ -174,8 +176,8 @@ module _ {G : GoodWorld} {May Acts Pushes : Naming} {Stops : Type 0} {R : StepRe
   assign_registered-from : (p : Image) (name : Who) (s : StatementNo) (l : Located) (target source : Option Registered) (w : World) → G w → May name → registered_at w l ≡ target → From R w (assign_registered p name s target source)
   unfolding assign_registered
   assign_registered-from p name s l (Some target) (Some source) w good may found = begin_assignment-from p name s l target source.object w good may found
-  assign_registered-from p name s l (Some target) None w good may found = keeps-from (chains moves) _ w good (raises-keeps moves Own name exception.Program)
-  assign_registered-from p name s l None source w good may found = keeps-from (chains moves) _ w good (raises-keeps moves Own name exception.Program)
+  assign_registered-from p name s l (Some target) None w good may found = keeps-from (chains moves) _ w good (raises-keeps (plain_steps moves) Own name exception.Program)
+  assign_registered-from p name s l None source w good may found = keeps-from (chains moves) _ w good (raises-keeps (plain_steps moves) Own name exception.Program)
 
   pub assign_located-keeps : (p : Image) (name : Who) (s : StatementNo) (target source : Located) → May name → Keeps G R (assign_located p name s target source)
   unfolding assign_located
@@ -185,7 +187,7 @@ module _ {G : GoodWorld} {May Acts Pushes : Naming} {Stops : Type 0} {R : StepRe
 
   pub assign_controlled-keeps : (p : Image) (name : Who) (s : StatementNo) (target source : DeclNo) → May name → Keeps G R (assign_controlled p name s target source)
   unfolding assign_controlled
-  assign_controlled-keeps p name s target source may = search (sees-keeps, given-keeps, assign_located-keeps, chains) depth 7
+  assign_controlled-keeps p name s target source may = search (sees-keeps, given-keeps, assign_located-keeps, chains, plain_steps) depth 8
 
   pub finalize_target_by-keeps : (p : Image) (name : Who) (r : Registered) (f : Option SubprogramNo) → May name → Keeps G R (finalize_target_by p name r f)
   unfolding finalize_target_by

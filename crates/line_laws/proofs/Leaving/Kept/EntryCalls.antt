@@ -51,9 +51,8 @@ use Rattle.line_laws.proofs.Leaving.FineMoves.{FineMoves, Free}
 use Rattle.machine_laws.proofs.Kept.Entering.{LetsIn-same, edit_task-objects}
 use Rattle.line_laws.proofs.Leaving.Kept.Combinators.{free_then-from}
 use Rattle.line_laws.proofs.Leaving.Kept.Dispatching.{block-keeps}
-use Rattle.line_laws.proofs.Leaving.Kept.Frames.{goes-keeps, leaves-keeps, raises-keeps, given-from, given-keeps, raise_if-from, raise_if-keeps, with_room-from, with_room-keeps, goes_then-from}
+use Rattle.line_laws.proofs.Leaving.Kept.Frames.{goes-keeps, leaves-keeps, goes_then-from, plain_steps}
 use Rattle.line_laws.proofs.Leaving.Kept.Appointments.{appoint-from}
-use Rattle.line_laws.proofs.Leaving.Kept.Calls.{edit_call-alters, forget_call-alters, says_call-keeps, enqueued-alters, enqueue-keeps}
 use Rattle.line_laws.proofs.Leaving.Kept.CallEnds.{gone-keeps}
 use Rattle.line_laws.proofs.Leaving.Kept.Protected.{where_let_inside-keeps, begin_action_on-from, serve_call-keeps}
 use Rattle.line_laws.proofs.Leaving.Kept.Sending.{open_abortable-alters, not_accepted-keeps}
@@ -62,6 +61,8 @@ use Rattle.profile_machine.specs.Rendezvous.{delay_moment}
 use Rattle.profile_machine.specs.Values.{seen_by}
 use Rattle.machine_laws.proofs.FineMoves.{GoodWorld, Naming}
 use Rattle.machine_laws.proofs.Kept.Combinators.{Alters, From, Keeps, Kept, changes-keeps, changes_then-from, either-from, keeps-from, looks-from, looks-keeps, looks_at-from, nothing-keeps, said_then-from, sees-keeps, then-from, then-keeps, unchanged-alters}
+use Rattle.machine_laws.proofs.Plain.Frames.{raises-keeps, given-from, given-keeps, raise_if-from, raise_if-keeps, with_room-from, with_room-keeps}
+use Rattle.machine_laws.proofs.Plain.Calls.{edit_call-alters, forget_call-alters, says_call-keeps, enqueued-alters, enqueue-keeps}
 
 some_call : (c d : Call) → Some c ≡ Some d → c ≡ d
 some_call c d e = cc
@@ -82,11 +83,11 @@ module _ {G : GoodWorld} {May Acts Pushes : Naming} {Stops : Type 0} {R : StepRe
   add_call-alters c w good = moves.adds_call c w good
 
   pub make_call-keeps : (p : Image) (c : Call) (step : Call → Step) → ((n : ℕ) → Keeps G R (step (numbered n c))) → May (who.Task c.caller) → Keeps G R (make_call p c step)
-  make_call-keeps p c step kept may = search (goes-keeps, then-keeps, looks-keeps, changes-keeps, add_call-alters, says_call-keeps, chains) depth 8
+  make_call-keeps p c step kept may = search (goes-keeps, then-keeps, looks-keeps, changes-keeps, add_call-alters, says_call-keeps, chains, plain_steps) depth 9
 
   pub end_at_once-keeps : (part : Part) (c : Call) (e : Raised) → Keeps G R (end_at_once part c e)
   unfolding end_at_once
-  end_at_once-keeps part c e = search (changes-keeps, forget_call-alters, then-keeps, raises-keeps, chains)
+  end_at_once-keeps part c e = search (changes-keeps, forget_call-alters, then-keeps, raises-keeps, chains, plain_steps)
 
   pub call_gone-keeps : (p : Image) (c : Call) → Keeps G R (call_gone p c)
   unfolding call_gone
@@ -113,12 +114,12 @@ module _ {G : GoodWorld} {May Acts Pushes : Naming} {Stops : Type 0} {R : StepRe
 
   pub call_queues-keeps : (p : Image) (c : Call) → May (who.Task c.caller) → Keeps G R (call_queues p c)
   unfolding call_queues
-  call_queues-keeps p c may = search (enqueue-keeps, then-keeps, not_accepted-keeps, chains)
+  call_queues-keeps p c may = search (enqueue-keeps, then-keeps, not_accepted-keeps, chains, plain_steps)
 
   pub call_not_met-keeps : (p : Image) (c : Call) (test : Bool) → May (who.Task c.caller) → Keeps G R (call_not_met p c test)
   unfolding call_not_met
   call_not_met-keeps p c true may = search (make_call-keeps, end_at_once-keeps)
-  call_not_met-keeps p c false may = search (with_room-keeps, make_call-keeps, call_queues-keeps)
+  call_not_met-keeps p c false may = search (with_room-keeps, make_call-keeps, call_queues-keeps, plain_steps)
 
   call_accepted_by-from : (p : Image) (t : TaskNo) (c : Call) (next : Option StatementNo) (w : World) → G w → May (who.Task c.caller) → accept_for p c.entry (waiting_of w (who.Task t)) ≡ next → From R w (call_accepted_by p t c next)
   unfolding call_accepted_by
@@ -185,7 +186,7 @@ module _ {G : GoodWorld} {May Acts Pushes : Naming} {Stops : Type 0} {R : StepRe
   unfolding From Kept Alters
   told_queued-from p o c d w good h said =
       let name = who.Task c.caller in
-      (own (line.Enter name o Write) ∷ own (line.Exit name o) ∷ [], append_assoc said (own (line.Enter name o Write) ∷ []) (own (line.Exit name o) ∷ []), moves.visits name o Write [] w (enqueued p d w) good h tt (enqueued-alters moves p d w good))
+      (own (line.Enter name o Write) ∷ own (line.Exit name o) ∷ [], append_assoc said (own (line.Enter name o Write) ∷ []) (own (line.Exit name o) ∷ []), moves.visits name o Write [] w (enqueued p d w) good h tt (enqueued-alters (plain_steps moves) p d w good))
 
   passes_found-kept : (p : Image) (o : ObjectNo) (c : Call) (w : World) (found : Option Call) (said : List Said) → G w → May (who.Task c.caller) → LetsIn (who.Task c.caller) o Write w
       → Kept R w said (goes_on_with (says Own (line.Exit (who.Task c.caller) o) ▷ not_accepted p Own c c.kind) (for_some found (λ d. changes (enqueued p d)) w (said ++ own (line.Enter (who.Task c.caller) o Write) ∷ [])))
@@ -220,17 +221,17 @@ module _ {G : GoodWorld} {May Acts Pushes : Naming} {Stops : Type 0} {R : StepRe
   unfolding trigger_delay
   trigger_delay-from p name s trigger m false w good may = keeps-from (chains moves) _ w good (search (goes-keeps))
   trigger_delay-from p name s trigger m true w good may =
-      with_room-from moves name 1 0 _ w good
+      with_room-from (plain_steps moves) name 1 0 _ w good
       (goes_then-from moves name (next_of p s) _ w good may (λ good_onward.
       opens_until p name s m _ good_onward may))
 
   pub mark_sending-alters : (c : Option CallNo) (o : Owner) (e : EntryNo) (with_abort : Bool) → Alters G R (mark_sending c o e with_abort)
   mark_sending-alters None o e with_abort = search (unchanged-alters, chains)
-  mark_sending-alters (Some c) o e with_abort = search (edit_call-alters)
+  mark_sending-alters (Some c) o e with_abort = search (edit_call-alters, plain_steps)
 
   pub requeue-keeps : (p : Image) (name : Who) (e : EntryNo) (o : EntryOwner) (with_abort : Bool) → Keeps G R (requeue p name e o with_abort)
   unfolding requeue
-  requeue-keeps p name e o with_abort = search (sees-keeps, given-keeps, changes-keeps, mark_sending-alters, then-keeps, leaves-keeps, chains) depth 9
+  requeue-keeps p name e o with_abort = search (sees-keeps, given-keeps, changes-keeps, mark_sending-alters, then-keeps, leaves-keeps, chains, plain_steps) depth 10
 
 module _ {G : GoodWorld} {May Acts Pushes : Naming} {Stops : Type 0} {R : StepRelation} {Q : MoveRelation} (moves : FineMoves G May Acts Pushes Stops R Q) where
   call_runs-from : (p : Image) (o : ObjectNo) (c : Call) (w : World) → G w → May (who.Task c.caller) → LetsIn (who.Task c.caller) o Write w → Caller c.number (who.Task c.caller) w → From R w (call_runs p o c)
@@ -248,12 +249,12 @@ module _ {G : GoodWorld} {May Acts Pushes : Naming} {Stops : Type 0} {R : StepRe
   unfolding call_closed
   call_closed-from p o c true w good may h = make_call-from moves p o c (call_refused o) w good may h (λ n v g k own. call_refused-from moves o (numbered n c) v g k)
   call_closed-from p o c false w good may h =
-      with_room-from moves (who.Task c.caller) (marks_if_queued c.kind) 0 (make_call p c (call_passes p o)) w good (make_call-from moves p o c (call_passes p o) w good may h (λ n v g k own. call_passes-from moves p o (numbered n c) v g may k))
+      with_room-from (plain_steps moves) (who.Task c.caller) (marks_if_queued c.kind) 0 (make_call p c (call_passes p o)) w good (make_call-from moves p o c (call_passes p o) w good may h (λ n v g k own. call_passes-from moves p o (numbered n c) v g may k))
 
   call_by_barrier-from : (p : Image) (o : ObjectNo) (c : Call) (test : Bool) (w : World) → G w → May (who.Task c.caller) → LetsIn (who.Task c.caller) o Write w → From R w (call_by_barrier p o c test)
   unfolding call_by_barrier
   call_by_barrier-from p o c true w good may h =
-      with_room-from moves (who.Task c.caller) 1 0 (make_call p c (call_runs_if_room p o)) w good (make_call-from moves p o c (call_runs_if_room p o) w good may h (λ n v g k own. call_runs_if_room-from p o (numbered n c) v g may k own))
+      with_room-from (plain_steps moves) (who.Task c.caller) 1 0 (make_call p c (call_runs_if_room p o)) w good (make_call-from moves p o c (call_runs_if_room p o) w good may h (λ n v g k own. call_runs_if_room-from p o (numbered n c) v g may k own))
   call_by_barrier-from p o c false w good may h = looks_at-from (chains moves) (λ v. call_closed p o c (is_full p v c.owner c.entry)) w (call_closed-from p o c (is_full p w c.owner c.entry) w good may h)
 
   pub call_object-keeps : (p : Image) (o : ObjectNo) (c : Call) → May (who.Task c.caller) → Keeps G R (call_object p o c)
@@ -268,19 +269,19 @@ module _ {G : GoodWorld} {May Acts Pushes : Naming} {Stops : Type 0} {R : StepRe
 
   pub call_named-keeps : (p : Image) (t : TaskNo) (kind : CallKind) (s : StatementNo) (n : EntryCallNamed) → May (who.Task t) → Keeps G R (call_named p t kind s n)
   unfolding call_named
-  call_named-keeps p t kind s n may = search (sees-keeps, given-keeps, call_owner-keeps, chains) depth 7
+  call_named-keeps p t kind s n may = search (sees-keeps, given-keeps, call_owner-keeps, chains, plain_steps) depth 8
 
   pub entry_call-keeps : (p : Image) (name : Who) (kind : CallKind) (s : StatementNo) → May name → Keeps G R (entry_call p name kind s)
   unfolding entry_call
-  entry_call-keeps p (who.Task t) kind s may = search (looks-keeps, raise_if-keeps, call_named-keeps, chains)
-  entry_call-keeps p who.Agent kind s may = search (raises-keeps)
+  entry_call-keeps p (who.Task t) kind s may = search (looks-keeps, raise_if-keeps, call_named-keeps, chains, plain_steps)
+  entry_call-keeps p who.Agent kind s may = search (raises-keeps, plain_steps)
 
   pub async_delay-keeps : (p : Image) (name : Who) (s trigger : StatementNo) → May name → Keeps G R (async_delay p name s trigger)
   unfolding async_delay
   async_delay-keeps p name s trigger may =
       looks-from (chains moves) (λ v. raise_if name (is_forbidden v name call_kind.Triggering) exception.Program (given Own name (delay_moment (seen_by p v name) trigger) (λ m. trigger_delay p name s trigger m (int_lt (pos v.time) m))))
-      (λ w good. raise_if-from moves name (is_forbidden w name call_kind.Triggering) exception.Program _ w good (λ allowed.
-      given-from moves Own name (delay_moment (seen_by p w name) trigger) _ w good (λ m.
+      (λ w good. raise_if-from (plain_steps moves) name (is_forbidden w name call_kind.Triggering) exception.Program _ w good (λ allowed.
+      given-from (plain_steps moves) Own name (delay_moment (seen_by p w name) trigger) _ w good (λ m.
       trigger_delay-from moves p name s trigger m (int_lt (pos w.time) m) w good may)))
 
   pub async_by_trigger-keeps : (p : Image) (name : Who) (s trigger : StatementNo) (form : StatementForm) → May name → Keeps G R (async_by_trigger p name s trigger form)

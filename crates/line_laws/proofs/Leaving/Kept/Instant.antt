@@ -34,9 +34,8 @@ use Rattle.profile_machine.specs.declared.world.lines.Line.TheVariants as line
 use Rattle.machine_laws.proofs.Moves.{StepRelation, MoveRelation}
 use Rattle.line_laws.proofs.Leaving.FineMoves.{FineMoves, Free, waits, chains, effect-leads, move_chains, says-keeps}
 use Rattle.line_laws.proofs.Leaving.Kept.Dispatching.{to_tail-from, ready-keeps}
-use Rattle.line_laws.proofs.Leaving.Kept.Frames.{goes-from, open_sequence-keeps}
+use Rattle.line_laws.proofs.Leaving.Kept.Frames.{goes-from, open_sequence-keeps, plain_steps}
 use Rattle.line_laws.proofs.Leaving.Kept.Appointments.{drop_appointment-alters}
-use Rattle.line_laws.proofs.Leaving.Kept.Calls.{with_call-keeps, unqueued-alters}
 use Rattle.line_laws.proofs.Leaving.Kept.Unwinding.{unwind-keeps}
 use Rattle.line_laws.proofs.Leaving.Kept.CallEnds.{trigger_at-keeps, deliver-keeps}
 use Rattle.line_laws.proofs.Leaving.Kept.Handlers.{interrupt-keeps, clear_timer-alters, release-keeps}
@@ -44,6 +43,7 @@ use Rattle.profile_machine.specs.Values.{budget_of}
 use Rattle.profile_machine.specs.Handlers.{clear_timer}
 use Rattle.machine_laws.proofs.FineMoves.{GoodWorld, Naming}
 use Rattle.machine_laws.proofs.Kept.Combinators.{Alters, From, Keeps, Leads, changes-from, changes-keeps, for_each-keeps, for_some-keeps, keeps-from, looks-from, looks-keeps, nothing-keeps, said_then-from, then-from, then-keeps, then-leads}
+use Rattle.machine_laws.proofs.Plain.Calls.{with_call-keeps, unqueued-alters}
 
 module _ {G : GoodWorld} {May Acts Pushes : Naming} {Stops : Type 0} {R : StepRelation} {Q : MoveRelation} (moves : FineMoves G May Acts Pushes Stops R Q) where
   with_port-alters : (n : ℕ) (value : ℤ) → Alters G R (with_port n value)
@@ -110,7 +110,7 @@ module _ {G : GoodWorld} {May Acts Pushes : Naming} {Stops : Type 0} {R : StepRe
 
   pub time_out-keeps : (p : Image) (c : CallNo) → Keeps G R (time_out p c)
   unfolding time_out
-  time_out-keeps p c = search (with_call-keeps, changes-keeps, unqueued-alters, then-keeps, says-keeps, deliver-keeps, chains) depth 7
+  time_out-keeps p c = search (with_call-keeps, changes-keeps, unqueued-alters, then-keeps, says-keeps, deliver-keeps, chains, plain_steps) depth 8
 
   pub come_due-keeps : (p : Image) (due : Due) → Stops → Keeps G R (come_due p due)
   unfolding come_due

@@ -11,12 +11,13 @@ use Rattle.machine_laws.proofs.Moves.{StepRelation, MoveRelation}
 use Rattle.line_laws.proofs.Leaving.FineMoves.{FineMoves, chains}
 use Rattle.line_laws.proofs.Leaving.Kept.Tasks.{edit_task-alters}
 use Rattle.line_laws.proofs.Leaving.Kept.Dispatching.{runnable-keeps, ready-keeps}
-use Rattle.line_laws.proofs.Leaving.Kept.Frames.{leaves-keeps, raises-keeps, open_sequence-keeps}
+use Rattle.line_laws.proofs.Leaving.Kept.Frames.{leaves-keeps, open_sequence-keeps, plain_steps}
 use Rattle.line_laws.proofs.Leaving.Kept.Inheritance.{lose-alters}
 use Rattle.line_laws.proofs.Leaving.Kept.Appointments.{drop_delay-alters}
 use Rattle.line_laws.proofs.Leaving.Kept.CallEnds.{end_call-keeps, gone-keeps}
 use Rattle.machine_laws.proofs.FineMoves.{GoodWorld, Naming}
 use Rattle.machine_laws.proofs.Kept.Combinators.{Alters, Keeps, changes-keeps, cond-keeps, for_each-keeps, for_some-keeps, looks-keeps, nothing-keeps, then-keeps, when-keeps}
+use Rattle.machine_laws.proofs.Plain.Frames.{raises-keeps}
 
 module _ {G : GoodWorld} {May Acts Pushes : Naming} {Stops : Type 0} {R : StepRelation} {Q : MoveRelation} (moves : FineMoves G May Acts Pushes Stops R Q) where
   pub gone_by_completion-keeps : (p : Image) (actor : Who) (c : Call) → Keeps G R (gone_by_completion p actor c)
@@ -25,7 +26,7 @@ module _ {G : GoodWorld} {May Acts Pushes : Naming} {Stops : Type 0} {R : StepRe
 
   pub wake_activator-keeps : (p : Image) (part : Part) (name : Who) → Pushes name → Keeps G R (wake_activator p part name)
   unfolding wake_activator
-  wake_activator-keeps p part name pushes = search (looks-keeps, ready-keeps, then-keeps, when-keeps, raises-keeps, open_sequence-keeps, chains) depth 8
+  wake_activator-keeps p part name pushes = search (looks-keeps, ready-keeps, then-keeps, when-keeps, raises-keeps, open_sequence-keeps, chains, plain_steps) depth 9
 
   pub end_group-keeps : (p : Image) (actor activator : Who) → Stops → Keeps G R (end_group p actor activator)
   unfolding end_group

@@ -50,26 +50,19 @@ use Rattle.profile_machine.specs.Appointments.{drop_delay}
 use Rattle.machine_laws.proofs.Moves.{StepRelation, MoveRelation}
 use Rattle.line_laws.proofs.Leaving.FineMoves.{FineMoves, Free, waits, chains, says-keeps}
 use Rattle.line_laws.proofs.Leaving.Kept.Combinators.{free_then-from}
-use Rattle.line_laws.proofs.Leaving.Kept.Serving.{keeps_sending-caller}
 use Rattle.line_laws.proofs.Leaving.Kept.Dispatching.{ready-keeps, block-keeps, block-keeps}
-use Rattle.line_laws.proofs.Leaving.Kept.Frames.{no_call, goes-from, goes-keeps, raises-keeps, open_sequence-keeps, pass_on-keeps, raise_if-keeps, goes_then-from, given-from, raise_if-from}
+use Rattle.line_laws.proofs.Leaving.Kept.Frames.{no_call, goes-from, goes-keeps, open_sequence-keeps, goes_then-from, plain_steps}
 use Rattle.line_laws.proofs.Leaving.Kept.Inheritance.{inherit-alters, inherit_running-keeps}
 use Rattle.line_laws.proofs.Leaving.Kept.Appointments.{appoint-from, drop_delay-alters}
-use Rattle.line_laws.proofs.Leaving.Kept.Calls.{with_call-keeps, enqueue-keeps}
 use Rattle.line_laws.proofs.Leaving.Kept.CallEnds.{deliver-keeps, gone-keeps}
 use Rattle.line_laws.proofs.Leaving.Kept.Protected.{begin_call-keeps}
 use Rattle.line_laws.proofs.Leaving.Kept.Sending.{send_on-keeps, begin_abortable-keeps, sent_not_begun-keeps}
 use Rattle.profile_machine.specs.Values.{seen_by}
 use Rattle.profile_machine.specs.declared.world.lines.Part.TheVariants.{Own}
 use Rattle.machine_laws.proofs.FineMoves.{GoodWorld, Naming}
-use Rattle.machine_laws.proofs.Kept.Serving.{keeps_sending-number}
 use Rattle.machine_laws.proofs.Kept.Combinators.{Alters, From, Keeps, changes-from, changes-keeps, either-from, for_some-keeps, keeps-from, looks-from, looks-keeps, looks_at-from, nothing-keeps, then-from, then-keeps, unchanged-alters}
-
-pub finished_call-number : (p : Image) (cells : List Value) (leaving : Leaving) (c : Call) → (finished_call p cells leaving c).number ≡ c.number
-finished_call-number p cells leaving c = keeps_sending-number leaving (with_values cells (formals_count p c) c)
-
-pub finished_call-caller : (p : Image) (cells : List Value) (leaving : Leaving) (c : Call) → (finished_call p cells leaving c).caller ≡ c.caller
-finished_call-caller p cells leaving c = keeps_sending-caller leaving (with_values cells (formals_count p c) c)
+use Rattle.machine_laws.proofs.Plain.Frames.{raises-keeps, pass_on-keeps, raise_if-keeps, given-from, raise_if-from}
+use Rattle.machine_laws.proofs.Plain.Calls.{with_call-keeps, enqueue-keeps}
 
 module _ {G : GoodWorld} {May Acts Pushes : Naming} {Stops : Type 0} {R : StepRelation} {Q : MoveRelation} (moves : FineMoves G May Acts Pushes Stops R Q) where
   -- who is free opens an accept
@@ -102,11 +95,11 @@ module _ {G : GoodWorld} {May Acts Pushes : Naming} {Stops : Type 0} {R : StepRe
   accept_with_room-keeps : (p : Image) (name : Who) (s : StatementNo) (c : Call) (has_room : Bool) → May name → Keeps G R (accept_with_room p name s c has_room)
   unfolding accept_with_room
   accept_with_room-keeps p name s c true may = search (changes-keeps, open_accept-alters, then-keeps, inherit_running-keeps, moves.may_acts, chains)
-  accept_with_room-keeps p name s c false may = search (finish_without_room-keeps, then-keeps, deliver-keeps, raises-keeps, chains)
+  accept_with_room-keeps p name s c false may = search (finish_without_room-keeps, then-keeps, deliver-keeps, raises-keeps, chains, plain_steps)
 
   pub accept_call-keeps : (p : Image) (name : Who) (s : StatementNo) (c : CallNo) → May name → Keeps G R (accept_call p name s c)
   unfolding accept_call
-  accept_call-keeps p name s c may = search (with_call-keeps, begin_accept-keeps, then-keeps, looks-keeps, accept_with_room-keeps, chains) depth 7
+  accept_call-keeps p name s c may = search (with_call-keeps, begin_accept-keeps, then-keeps, looks-keeps, accept_with_room-keeps, chains, plain_steps) depth 8
 
   meet_with_room-from : (p : Image) (part : Part) (name : Who) (s : StatementNo) (c : Call) (then_ : Step) (w : World) → G w → Pushes name → Free name w → Keeps G R then_ → From R w (meet_with_room p part name s c then_)
   meet_with_room-from p part name s c then_ w good pushes free kept =
@@ -116,7 +109,7 @@ module _ {G : GoodWorld} {May Acts Pushes : Naming} {Stops : Type 0} {R : StepRe
 
   meet_without_room-from : (p : Image) (part : Part) (name : Who) (s : StatementNo) (c : Call) (otherwise : Step) (w : World) → G w → Free name w → Keeps G R otherwise → From R w (meet_without_room p part name s c otherwise)
   meet_without_room-from p part name s c otherwise w good free kept =
-      then-from (chains moves) (begin_accept p TheFinish name s c) (finish_without_room TheFinish name c ▷ otherwise ▷ ready p part name ▷ raises part name exception.Storage) w (begin_accept-from p TheFinish name s c w good free) (search (then-keeps, finish_without_room-keeps, ready-keeps, raises-keeps, chains) depth 8)
+      then-from (chains moves) (begin_accept p TheFinish name s c) (finish_without_room TheFinish name c ▷ otherwise ▷ ready p part name ▷ raises part name exception.Storage) w (begin_accept-from p TheFinish name s c w good free) (search (then-keeps, finish_without_room-keeps, ready-keeps, raises-keeps, chains, plain_steps) depth 9)
 
   -- who waits meets a call
   pub meet-from : (p : Image) (part : Part) (name : Who) (s : StatementNo) (c : Call) (then_ otherwise : Step) (w : World) → G w → Pushes name → Free name w → Keeps G R then_ → Keeps G R otherwise → From R w (meet p part name s c then_ otherwise)
@@ -144,7 +137,7 @@ module _ {G : GoodWorld} {May Acts Pushes : Naming} {Stops : Type 0} {R : StepRe
 
   pub accept_chosen-keeps : (p : Image) (name : Who) (accepts : List StatementNo) (c : CallNo) → May name → Keeps G R (accept_chosen p name accepts c)
   unfolding accept_chosen
-  accept_chosen-keeps p name accepts c may = search (with_call-keeps, for_some-keeps, accept_call-keeps, chains)
+  accept_chosen-keeps p name accepts c may = search (with_call-keeps, for_some-keeps, accept_call-keeps, chains, plain_steps)
 
   silent-alters : (name : Who) (accepts : List StatementNo) (delay : Option StatementNo) → May name → Alters G R (edit_task name (with_state (Blocked (waits_for.Select accepts delay true))))
   unfolding Alters
@@ -185,7 +178,7 @@ module _ {G : GoodWorld} {May Acts Pushes : Naming} {Stops : Type 0} {R : StepRe
 
   pub select_open-keeps : (p : Image) (name : Who) (s : StatementNo) (otherwise : Option StatementNo) (kinds : List SelectKind) (moments : List DelayMoment) → May name → Keeps G R (select_open p name s otherwise kinds moments)
   unfolding select_open
-  select_open-keeps p name s otherwise kinds moments may = search (raise_if-keeps, looks-keeps, select_by_call-keeps, chains)
+  select_open-keeps p name s otherwise kinds moments may = search (raise_if-keeps, looks-keeps, select_by_call-keeps, chains, plain_steps)
 
   pub gone_sent-keeps : (p : Image) (c : Call) → Keeps G R (gone_sent p c)
   unfolding gone_sent
@@ -196,7 +189,7 @@ module _ {G : GoodWorld} {May Acts Pushes : Naming} {Stops : Type 0} {R : StepRe
   meet_sent-from p t c (Some s) w good is =
       let waiting = accept-waits p c.entry (waiting_of w (who.Task t)) s is in
       meet-from p TheFinish (who.Task t) s c (begin_abortable p c.number) _ w good (moves.waiting_pushes (who.Task t) w good waiting) (moves.waiting_free (who.Task t) w good waiting) (begin_abortable-keeps moves p c.number) (deliver-keeps moves p TheFinish c.number (call_ended.ToRaise exception.Storage))
-  meet_sent-from p t c None w good is = keeps-from (chains moves) _ w good (search (enqueue-keeps, then-keeps, sent_not_begun-keeps, chains))
+  meet_sent-from p t c None w good is = keeps-from (chains moves) _ w good (search (enqueue-keeps, then-keeps, sent_not_begun-keeps, chains, plain_steps))
 
   pub arrive_at-keeps : (p : Image) (t : TaskNo) (c : Call) (test : Bool) → Keeps G R (arrive_at p t c test)
   unfolding arrive_at
@@ -211,7 +204,7 @@ module _ {G : GoodWorld} {May Acts Pushes : Naming} {Stops : Type 0} {R : StepRe
   pub finish_accept-keeps : (p : Image) (name : Who) (c : Call) (sending : Option Sending) → Keeps G R (finish_accept p name c sending)
   unfolding finish_accept
   finish_accept-keeps p name c None = search (says-keeps, then-keeps, deliver-keeps, chains)
-  finish_accept-keeps p name c (Some s) = search (says-keeps, then-keeps, send_on-keeps, with_call-keeps, arrive-keeps, chains)
+  finish_accept-keeps p name c (Some s) = search (says-keeps, then-keeps, send_on-keeps, with_call-keeps, arrive-keeps, chains, plain_steps)
 
   pub finish_rendezvous-keeps : (p : Image) (name : Who) (c : Call) (leaving : Leaving) → Keeps G R (finish_rendezvous p name c leaving)
   unfolding finish_rendezvous
@@ -226,23 +219,23 @@ module _ {G : GoodWorld} {May Acts Pushes : Naming} {Stops : Type 0} {R : StepRe
   unfolding behind_accept
   behind_accept-keeps p name how.End may = search (nothing-keeps, chains)
   behind_accept-keeps p name how.Return may = search (nothing-keeps, chains)
-  behind_accept-keeps p name (how.Exit loop) may = search (pass_on-keeps)
-  behind_accept-keeps p name (how.Exception e) may = search (pass_on-keeps)
-  behind_accept-keeps p name how.Abort may = search (pass_on-keeps)
-  behind_accept-keeps p name how.Terminate may = search (pass_on-keeps)
+  behind_accept-keeps p name (how.Exit loop) may = search (pass_on-keeps, plain_steps)
+  behind_accept-keeps p name (how.Exception e) may = search (pass_on-keeps, plain_steps)
+  behind_accept-keeps p name how.Abort may = search (pass_on-keeps, plain_steps)
+  behind_accept-keeps p name how.Terminate may = search (pass_on-keeps, plain_steps)
 
 module _ {G : GoodWorld} {May Acts Pushes : Naming} {Stops : Type 0} {R : StepRelation} {Q : MoveRelation} (moves : FineMoves G May Acts Pushes Stops R Q) where
   pub accept-keeps : (p : Image) (name : Who) (s : StatementNo) (e : EntryNo) → May name → Keeps G R (accept p name s e)
   unfolding accept
   accept-keeps p name s e may =
-      looks-from (chains moves) _ (λ w good. raise_if-from moves name (in_protected w name) exception.Program _ w good
+      looks-from (chains moves) _ (λ w good. raise_if-from (plain_steps moves) name (in_protected w name) exception.Program _ w good
       (λ free. keeps-from (chains moves) _ w good (accept_or_wait-keeps moves p name s (next_call p w (own_queue w name (place_of_entry p e) ∷ [])) may)))
 
   pub selective_accept-keeps : (p : Image) (name : Who) (s : StatementNo) (alternatives : List SelectAlternative) (otherwise : Option StatementNo) → May name → Keeps G R (selective_accept p name s alternatives otherwise)
   unfolding selective_accept
   selective_accept-keeps p name s alternatives otherwise may =
-      looks-from (chains moves) _ (λ w good. raise_if-from moves name (in_protected w name) exception.Program _ w good
+      looks-from (chains moves) _ (λ w good. raise_if-from (plain_steps moves) name (in_protected w name) exception.Program _ w good
       (λ free.
-      given-from moves Own name (open_alternatives (seen_by p w name) alternatives) _ w good (λ kinds.
-      given-from moves Own name (open_delays (seen_by p w name) kinds) _ w good (λ moments.
+      given-from (plain_steps moves) Own name (open_alternatives (seen_by p w name) alternatives) _ w good (λ kinds.
+      given-from (plain_steps moves) Own name (open_delays (seen_by p w name) kinds) _ w good (λ moments.
       keeps-from (chains moves) _ w good (select_open-keeps moves p name s otherwise kinds moments may)))))

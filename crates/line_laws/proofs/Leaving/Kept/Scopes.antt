@@ -14,13 +14,6 @@ use Rattle.machine_laws.proofs.FineMoves.{GoodWorld, Naming}
 use Rattle.machine_laws.proofs.Kept.Combinators.{Alters}
 
 module _ {G : GoodWorld} {May Acts Pushes : Naming} {Stops : Type 0} {R : StepRelation} {Q : MoveRelation} (moves : FineMoves G May Acts Pushes Stops R Q) where
-  pub edit_cells-alters : (id : ScopeId) (f : List Value → List Value) → Alters G R (edit_cells id f)
-  unfolding Alters
-  edit_cells-alters id f w good = moves.edits_cells id f w good
-
-  pub write_cell-alters : (id : ScopeId) (place : ℕ) (value : Value) → Alters G R (write_cell id place value)
-  write_cell-alters id place value = search (edit_cells-alters)
-
   pub end_scope-alters : (id : ScopeId) → Alters G R (end_scope id)
   unfolding Alters
   end_scope-alters id w good = moves.ends_scope id w good

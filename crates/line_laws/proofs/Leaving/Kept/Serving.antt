@@ -28,13 +28,13 @@ use Rattle.profile_machine.specs.Steps.{nothing, for_some}
 use Rattle.machine_laws.proofs.Moves.{StepRelation, MoveRelation, own}
 use Rattle.line_laws.proofs.Leaving.FineMoves.{FineMoves, chains}
 use Rattle.line_laws.proofs.Leaving.Kept.Dispatching.{block_apart-keeps}
-use Rattle.line_laws.proofs.Leaving.Kept.Frames.{leaves-keeps, pass_on-keeps}
-use Rattle.line_laws.proofs.Leaving.Kept.Calls.{edit_call-alters, forget_call-alters, with_call-keeps, attempt_with-keeps}
-use Rattle.line_laws.proofs.Leaving.Kept.CallEnds.{resume-keeps}
+use Rattle.line_laws.proofs.Leaving.Kept.Frames.{leaves-keeps, plain_steps}
 use Rattle.line_laws.proofs.Leaving.Kept.Sending.{open_abortable-alters, wait_for_call-keeps, begin_abortable-keeps, sent_not_begun-keeps}
 use Rattle.machine_laws.proofs.FineMoves.{GoodWorld, Naming}
-use Rattle.machine_laws.proofs.Kept.Serving.{keeps_sending-number}
 use Rattle.machine_laws.proofs.Kept.Combinators.{From, Keeps, Kept, changes-keeps, keeps-from, looks-from, looks-keeps, looks_at-from, nothing-keeps, then-from, then-keeps, when-keeps}
+use Rattle.machine_laws.proofs.Plain.Frames.{pass_on-keeps}
+use Rattle.machine_laws.proofs.Plain.Calls.{forget_call-alters, attempt_with-keeps}
+use Rattle.machine_laws.proofs.Plain.Results.{resume-keeps}
 
 module _ {G : GoodWorld} {May Acts Pushes : Naming} {Stops : Type 0} {R : StepRelation} {Q : MoveRelation} (moves : FineMoves G May Acts Pushes Stops R Q) where
   -- the release that the agent serves ends, and is told
@@ -61,7 +61,7 @@ module _ {G : GoodWorld} {May Acts Pushes : Naming} {Stops : Type 0} {R : StepRe
 
   pub wait_or_unwind-keeps : (p : Image) (name : Who) (c : Call) (test : Bool) → May (who.Task c.caller) → Keeps G R (wait_or_unwind p name c test)
   unfolding wait_or_unwind
-  wait_or_unwind-keeps p name c true mine = search (attempt_with-keeps, changes-keeps, forget_call-alters, then-keeps, leaves-keeps, wait_for_call-keeps, chains)
+  wait_or_unwind-keeps p name c true mine = search (attempt_with-keeps, changes-keeps, forget_call-alters, then-keeps, leaves-keeps, wait_for_call-keeps, chains, plain_steps)
   wait_or_unwind-keeps p name c false mine = search (wait_for_call-keeps)
 
   pub wait_for_own-keeps : (p : Image) (name : Who) (c : Call) (test : Bool) → May name → May (who.Task c.caller) → Keeps G R (wait_for_own p name c test)
@@ -71,7 +71,7 @@ module _ {G : GoodWorld} {May Acts Pushes : Naming} {Stops : Type 0} {R : StepRe
 
   pub resume_own-keeps : (p : Image) (name : Who) (c : Call) (outcome : Option Outcome) → May name → May (who.Task c.caller) → Keeps G R (resume_own p name c outcome)
   unfolding resume_own
-  resume_own-keeps p name c (Some outcome) may mine = search (resume-keeps)
+  resume_own-keeps p name c (Some outcome) may mine = search (resume-keeps, plain_steps)
   resume_own-keeps p name c None may mine = search (looks-keeps, wait_for_own-keeps, chains)
 
   -- of no release; the call that the holder made itself is its own
@@ -81,7 +81,7 @@ module _ {G : GoodWorld} {May Acts Pushes : Naming} {Stops : Type 0} {R : StepRe
 
   pub behind_action-from : (p : Image) (name : Who) (m : ProtectedMark) (c : Option CallNo) (w : World) → G w → May name → ((n : CallNo) → c ≡ Some n → (d : Call) → call_of w n ≡ Some d → who.Task d.caller ≡ name) → From R w (behind_action p name m None c)
   unfolding behind_action
-  behind_action-from p name m None w good may own = keeps-from (chains moves) (pass_on p name m.body_left) w good (pass_on-keeps moves p name m.body_left may)
+  behind_action-from p name m None w good may own = keeps-from (chains moves) (pass_on p name m.body_left) w good (pass_on-keeps (plain_steps moves) p name m.body_left may)
   behind_action-from p name m (Some c) w good may own = looks_at-from (chains moves) (λ v. for_some (call_of v c) (λ d. resume_own p name d d.outcome)) w (owns_found-from p name (call_of w c) c w good may refl (own c refl))
 
   pub settle_sent-keeps : (p : Image) (c : Option CallNo) (test : Bool) → Keeps G R (settle_sent p c test)
@@ -97,19 +97,3 @@ module _ {G : GoodWorld} {May Acts Pushes : Naming} {Stops : Type 0} {R : StepRe
 
 -- ---- the scope of an entry body has ended
 
-pub keeps_sending-caller : (leaving : Leaving) (c : Call) → (keeps_sending leaving c).caller ≡ c.caller
-keeps_sending-caller how.Return c = refl
-keeps_sending-caller how.End c = refl
-keeps_sending-caller (how.Exit loop) c = refl
-keeps_sending-caller (how.Exception e) c = refl
-keeps_sending-caller how.Abort c = refl
-keeps_sending-caller how.Terminate c = refl
-
-module _ {G : GoodWorld} {May Acts Pushes : Naming} {Stops : Type 0} {R : StepRelation} {Q : MoveRelation} (moves : FineMoves G May Acts Pushes Stops R Q) where
-  pub keep_values-keeps : (p : Image) (c : CallNo) (cells : List Value) → Keeps G R (keep_values p c cells)
-  unfolding keep_values
-  keep_values-keeps p c cells = search (with_call-keeps, changes-keeps, edit_call-alters, chains)
-
-  pub end_body_of_entry-keeps : (p : Image) (c : CallNo) (cells : List Value) (leaving : Leaving) → Keeps G R (end_body_of_entry p c cells leaving)
-  unfolding end_body_of_entry
-  end_body_of_entry-keeps p c cells leaving = search (changes-keeps, edit_call-alters, then-keeps, keep_values-keeps, keeps_sending-number, keeps_sending-caller, chains)

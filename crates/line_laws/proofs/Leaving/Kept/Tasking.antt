@@ -38,21 +38,22 @@ use Rattle.profile_machine.specs.declared.numbers.ScopeNo.{ScopeNo}
 use Rattle.machine_laws.proofs.Moves.{StepRelation, MoveRelation}
 use Rattle.line_laws.proofs.Leaving.FineMoves.{FineMoves, chains, says-keeps}
 use Rattle.line_laws.proofs.Leaving.Kept.Combinators.{listed-keeps}
-use Rattle.line_laws.proofs.Leaving.Kept.Frames.{raise_if-from, given-from, goes-keeps, raises-keeps, pass_on-keeps, given-keeps, raise_if-keeps}
+use Rattle.line_laws.proofs.Leaving.Kept.Frames.{goes-keeps, plain_steps}
 use Rattle.line_laws.proofs.Leaving.Kept.Tasks.{edit_task-alters}
 use Rattle.line_laws.proofs.Leaving.Kept.Dispatching.{to_head-keeps, ready-keeps, block_apart-keeps}
 use Rattle.line_laws.proofs.Leaving.Kept.Inheritance.{inherit-alters}
 use Rattle.line_laws.proofs.Leaving.Kept.Unwinding.{strike_outermost-alters, unwind-keeps}
 use Rattle.line_laws.proofs.Leaving.Kept.Masters.{end_activation-keeps, complete-keeps, terminate-keeps, leave_by_terminate-keeps}
-use Rattle.line_laws.proofs.Leaving.Kept.Subprograms.{end_subprogram-keeps}
-use Rattle.line_laws.proofs.Leaving.Kept.Serving.{end_body_of_entry-keeps}
-use Rattle.line_laws.proofs.Leaving.Kept.Declarations.{set_thing-alters}
 use Rattle.ann_base.specs.declared.identities.TaskNo.{TaskNo}
 use Rattle.profile_machine.specs.Tasks.{edit_task}
 use Rattle.profile_machine.specs.Unwinding.{any_struck}
 use Rattle.profile_machine.specs.Masters.{has_dependents, may_terminate, leave_by_terminate}
 use Rattle.machine_laws.proofs.FineMoves.{GoodWorld, Naming}
 use Rattle.machine_laws.proofs.Kept.Combinators.{Alters, From, Keeps, branch-keeps, changes-from, changes-keeps, changes_then-from, cond-keeps, for_each-keeps, for_some-keeps, looks-from, looks-keeps, nothing-keeps, sees-keeps, then-from, then-keeps, when-keeps}
+use Rattle.machine_laws.proofs.Plain.Frames.{raise_if-from, given-from, raises-keeps, pass_on-keeps, given-keeps, raise_if-keeps}
+use Rattle.machine_laws.proofs.Plain.Subprograms.{end_subprogram-keeps}
+use Rattle.machine_laws.proofs.Plain.Results.{end_body_of_entry-keeps}
+use Rattle.machine_laws.proofs.Plain.Declarations.{set_thing-alters}
 
 -- an edit of a task draws nothing
 pub edit_found-drawn : (name : Who) (f : world.Task → world.Task) (w : World) (found : Option world.Task) → (edit_task_found name f w found).drawn ≡ w.drawn
@@ -82,7 +83,7 @@ module _ {G : GoodWorld} {May Acts Pushes : Naming} {Stops : Type 0} {R : StepRe
       changes_then-from (chains moves) (edit_top name (goes_on (next_of p s))) _ w first
       (then-from (chains moves) (changes (add_task t)) (for_some id (name_task p d) ▷ says_created d t) gone
       (changes-from (chains moves) (add_task t) gone (moves.adds_task t gone good_gone (same_who ∙ ap (λ k. who.Task (record { 0 = k.tasks })) (sym drawn)) none still))
-      (search (then-keeps, for_some-keeps, looks-keeps, changes-keeps, set_thing-alters, says_created-keeps, chains) depth 9))
+      (search (then-keeps, for_some-keeps, looks-keeps, changes-keeps, set_thing-alters, says_created-keeps, chains, plain_steps) depth 10))
 
   pub fall_from-keeps : (p : Image) (name : Who) (before : World) → Acts name → Keeps G R (fall_from p name before)
   unfolding fall_from
@@ -100,7 +101,7 @@ module _ {G : GoodWorld} {May Acts Pushes : Naming} {Stops : Type 0} {R : StepRe
   pub await_group-keeps : (name : Who) (begins failed : Bool) → Stops → Keeps G R (await_group name begins failed)
   unfolding await_group
   await_group-keeps name true failed stops = block_apart-keeps moves name waits_for.Activation stops refl
-  await_group-keeps name false true stops = search (raises-keeps)
+  await_group-keeps name false true stops = search (raises-keeps, plain_steps)
   await_group-keeps name false false stops = search (nothing-keeps, chains)
 
   pub end_own_activation-keeps : (p : Image) (name : Who) (s : StatementNo) → May name → Stops → Keeps G R (end_own_activation p name s)
@@ -124,14 +125,14 @@ module _ {G : GoodWorld} {May Acts Pushes : Naming} {Stops : Type 0} {R : StepRe
   end_task-keeps p name leaving stops = search (says_done-keeps, then-keeps, looks-keeps, end_activation-keeps, terminate-keeps, when-keeps, changes-keeps, end_environment-alters, chains) depth 9
 
   pub end_body-keeps : (p : Image) (name : Who) (leaving : Leaving) (normally : Step) → May name → Keeps G R normally → Keeps G R (end_body p name leaving normally)
-  end_body-keeps p name leaving normally may kept = branch-keeps (chains moves) (is_normal leaving) normally (pass_on p name leaving) (search) (search (pass_on-keeps))
+  end_body-keeps p name leaving normally may kept = branch-keeps (chains moves) (is_normal leaving) normally (pass_on p name leaving) (search) (search (pass_on-keeps, plain_steps))
 
   -- behind the scope of a task the task has ended; behind others who may go on goes on
   pub behind_scope-keeps : (p : Image) (name : Who) (purpose : Purpose) (cells : List Value) (leaving : Leaving) → May name → is_task_scope purpose ≡ false → Keeps G R (behind_scope p name purpose cells leaving)
   unfolding behind_scope
-  behind_scope-keeps p name (opened_for.Block s) cells leaving may other = search (pass_on-keeps)
-  behind_scope-keeps p name (opened_for.Subprogram back to) cells leaving may other = search (end_body-keeps, end_subprogram-keeps)
-  behind_scope-keeps p name (opened_for.EntryBody c) cells leaving may other = search (end_body-keeps, end_body_of_entry-keeps)
+  behind_scope-keeps p name (opened_for.Block s) cells leaving may other = search (pass_on-keeps, plain_steps)
+  behind_scope-keeps p name (opened_for.Subprogram back to) cells leaving may other = search (end_body-keeps, end_subprogram-keeps, plain_steps)
+  behind_scope-keeps p name (opened_for.EntryBody c) cells leaving may other = search (end_body-keeps, end_body_of_entry-keeps, plain_steps)
   behind_scope-keeps p name opened_for.Task cells leaving may other = absurd cc
 
   pub behind_task-keeps : (p : Image) (name : Who) (cells : List Value) (leaving : Leaving) → Stops → Keeps G R (behind_scope p name opened_for.Task cells leaving)
@@ -171,7 +172,7 @@ module _ {G : GoodWorld} {May Acts Pushes : Naming} {Stops : Type 0} {R : StepRe
   pub abort_statement-keeps : (p : Image) (name : Who) (s : StatementNo) (tasks : List DeclNo) → May name → Stops → Keeps G R (abort_statement p name s tasks)
   unfolding abort_statement
   abort_statement-keeps p name s tasks may stops =
-      sees-keeps (chains moves) p name _ (λ q. raise_if-keeps moves name (in_protected q.world name) exception.Program _ (given-keeps moves Own name (named_tasks q tasks) _ (λ aborted.
+      sees-keeps (chains moves) p name _ (λ q. raise_if-keeps (plain_steps moves) name (in_protected q.world name) exception.Program _ (given-keeps (plain_steps moves) Own name (named_tasks q tasks) _ (λ aborted.
       then-keeps (chains moves) (goes name (next_of p s)) _ (goes-keeps moves name (next_of p s) may) (abort_named-keeps p name aborted stops))))
 
   pub all_terminate-keeps : (p : Image) (actor : Who) → Keeps G R (looks (λ w. for_each (filter (may_terminate w) w.tasks) (leave_by_terminate p actor)))
@@ -186,9 +187,9 @@ module _ {G : GoodWorld} {May Acts Pushes : Naming} {Stops : Type 0} {R : StepRe
   unfolding create
   create-keeps p name s d part may =
       looks-from (chains moves) _ (λ w good. let q = seen_by p w name in
-      raise_if-from moves name (in_protected w name || is_deferred w name) exception.Program _ w good (λ allowed.
-      raise_if-from moves name (leb 256 (length w.tasks)) exception.Storage _ w good (λ few.
-      given-from moves Own name (optional_span q (task_unit_of p (unit_of_declaration p d)).relative_deadline) _ w good (λ span.
+      raise_if-from (plain_steps moves) name (in_protected w name || is_deferred w name) exception.Program _ w good (λ allowed.
+      raise_if-from (plain_steps moves) name (leb 256 (length w.tasks)) exception.Storage _ w good (λ few.
+      given-from (plain_steps moves) Own name (optional_span q (task_unit_of p (unit_of_declaration p d)).relative_deadline) _ w good (λ span.
       create_task-from moves p name s d (home w (declaration_of p d).scope q.within) (created_task q d (unit_of_declaration p d) part span w.drawn.tasks) w good may refl refl refl))))
 
   open_task-alters : (p : Image) (name : Who) (scope : ScopeNo) (b : Beginning) → Stops → Alters G R (open_scope p name scope b opened_for.Task)
@@ -209,7 +210,7 @@ module _ {G : GoodWorld} {May Acts Pushes : Naming} {Stops : Type 0} {R : StepRe
 
   pub activate-keeps : (p : Image) (name : Who) (s : StatementNo) (part : ℕ) → May name → Stops → Keeps G R (activate p name s part)
   unfolding activate
-  activate-keeps p name s part may stops = search (looks-keeps, raise_if-keeps, activate_group-keeps, chains)
+  activate-keeps p name s part may stops = search (looks-keeps, raise_if-keeps, activate_group-keeps, chains, plain_steps)
 
   pub wait_for_dependents-keeps : (name : Who) (r : RegionNo) → Stops → Keeps G R (wait_for_dependents name r)
   unfolding wait_for_dependents

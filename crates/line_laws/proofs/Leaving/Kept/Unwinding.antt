@@ -13,11 +13,11 @@ use Rattle.line_laws.proofs.Leaving.FineMoves.{FineMoves, Alike, chains}
 use Rattle.std.proofs.Common.{List, [], ◌∷◌, refl}
 use Rattle.line_laws.proofs.Leaving.Kept.Tasks.{edit_task-alters, edit_frames-alters}
 use Rattle.line_laws.proofs.Leaving.Kept.Dispatching.{ready-keeps}
-use Rattle.line_laws.proofs.Leaving.Kept.Frames.{leaves-keeps}
+use Rattle.line_laws.proofs.Leaving.Kept.Frames.{leaves-keeps, plain_steps}
 use Rattle.line_laws.proofs.Leaving.Kept.Appointments.{drop_delay-alters}
-use Rattle.line_laws.proofs.Leaving.Kept.Calls.{forget_call-alters, attempt-keeps}
 use Rattle.machine_laws.proofs.FineMoves.{GoodWorld, Naming}
 use Rattle.machine_laws.proofs.Kept.Combinators.{Alters, Keeps, changes-keeps, looks-keeps, nothing-keeps, then-keeps, when-keeps}
+use Rattle.machine_laws.proofs.Plain.Calls.{forget_call-alters, attempt-keeps}
 
 -- who is struck has the marks that it had
 last-alike : (fs : List Frame) → Alike (edit_last struck_frame fs) fs
@@ -43,7 +43,7 @@ module _ {G : GoodWorld} {May Acts Pushes : Naming} {Stops : Type 0} {R : StepRe
 
   pub unwind_blocked-keeps : (p : Image) (part : Part) (name : Who) (waiting : Waiting) → Keeps G R (unwind_blocked p part name waiting)
   unfolding unwind_blocked
-  unwind_blocked-keeps p part name (waits_for.Call c) = search (attempt-keeps, changes-keeps, forget_call-alters, then-keeps, wake_and_leave-keeps, nothing-keeps, chains)
+  unwind_blocked-keeps p part name (waits_for.Call c) = search (attempt-keeps, changes-keeps, forget_call-alters, then-keeps, wake_and_leave-keeps, nothing-keeps, chains, plain_steps)
   unwind_blocked-keeps p part name (waits_for.EndOfCall c) = search (nothing-keeps, chains)
   unwind_blocked-keeps p part name waits_for.Activation = search (wake_and_leave-keeps)
   unwind_blocked-keeps p part name waits_for.Moment = search (wake_and_leave-keeps)

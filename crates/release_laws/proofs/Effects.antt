@@ -32,7 +32,8 @@ use Rattle.release_laws.proofs.EventLists.{events_of, Rises}
 use Rattle.release_laws.proofs.TimerLists.{timers_in}
 use Rattle.release_laws.proofs.Tellings.{Tells}
 use Rattle.release_laws.proofs.Untouched.{Sight, sight_of, budget_in, OutsideStays, ClocksStay, outside-then, clocks-then, Untouched, Calmly, calm}
-use Rattle.machine_laws.proofs.Kept.Frames.{raises-keeps}
+use Rattle.machine_laws.proofs.Plain.Frames.{raises-keeps}
+use Rattle.machine_laws.proofs.Kept.Frames.{plain_steps}
 
 -- ---- an effect of a request
 
@@ -114,7 +115,7 @@ unfolding From Keeps
 calm-does w step k said = kept-weaker Calmly (EffectSaid OfNothing) w said (step w said) (λ v xs c. (effect-none w v c.0, c.1)) (k w tt said)
 
 raises-does : (name : Who) (e : Raised) (w : World) → Does OfNothing w (raises Own name e)
-raises-does name e w = calm-does w (raises Own name e) (raises-keeps calm Own name e)
+raises-does name e w = calm-does w (raises Own name e) (raises-keeps (plain_steps calm) Own name e)
 
 pub given-does : {X : Type 0} (name : Who) (w : World) (x : Valued X) (f : X → Valued Request) (g : X → Step) → ((y : X) → x ≡ Ok y → Does (or_nothing (f y)) w (g y)) → Does (or_nothing (x >>= f)) w (given Own name x g)
 given-does name w (Ok y) f g k = k y refl

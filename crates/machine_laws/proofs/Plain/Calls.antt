@@ -1,5 +1,4 @@
 -- Calls, and the queues in which they stand: each step keeps a relation that its parts keep.
-use Rattle.profile_machine.specs.declared.world.tasks.Task.{Task}
 use Rattle.std.proofs.Common.{◌≡◌, List, refl}
 use Rattle.machine_laws.proofs.Moves.{StepRelation}
 use Rattle.machine_laws.proofs.FineMoves.{GoodWorld, Naming}

@@ -11,7 +11,6 @@ use Rattle.profile_machine.specs.declared.world.scopes.Variable.{Variable}
 use Rattle.profile_machine.specs.Program.{declaration_of}
 use Rattle.profile_machine.specs.Operators.{checked}
 use Rattle.profile_machine.specs.CallEnds.{store}
-use Rattle.ann_base.specs.Results.{◌>>=◌}
 use Rattle.profile_machine.specs.Values.{value}
 use Rattle.profile_machine.specs.Statements.{cells_from, copy_cells}
 use Rattle.machine_laws.proofs.Kept.Combinators.{Alters, Gives, bind-gives, ok-gives}

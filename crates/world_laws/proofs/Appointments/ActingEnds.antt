@@ -29,13 +29,14 @@ use Rattle.world_laws.proofs.Appointments.DelayEdits.{put-any, plain-owned, edit
 use Rattle.world_laws.proofs.Appointments.DelayMoves.{nobody_excused, fine, MovedOn, Moved, Lasting, GoodAs, Excuse}
 use Rattle.world_laws.proofs.Appointments.Delays.{idle-later, delayed, Idle, Good, Awaited}
 use Rattle.world_laws.proofs.Appointments.FineMoves.{FineMoves}
-use Rattle.world_laws.proofs.Appointments.Kept.Frames.{raises-keeps}
 use Rattle.world_laws.proofs.Appointments.Led.{to-from, moved-from, looks_to-from, Led}
 use Rattle.world_laws.proofs.Sequences.FineMoves.{Nobody}
 use Rattle.machine_laws.proofs.Kept.Combinators.{From, Kept, Keeps}
 use Rattle.machine_laws.proofs.QueueLemmas.{by_test}
 use Rattle.machine_laws.proofs.FineMoves.{GoodWorld, Naming, AnyWorld}
 use Rattle.line_laws.proofs.Leaving.TaskLemmas.{found-holds, of_other, of_self, own-list, who_path}
+use Rattle.machine_laws.proofs.Plain.Frames.{raises-keeps}
+use Rattle.world_laws.proofs.Appointments.Kept.Frames.{plain_steps}
 
 -- ---- of nobody in particular
 
@@ -75,10 +76,10 @@ module _ (a : Who) where
 
   pub given-ends : {X : Type 0} (result : Result X Raised) (f : X → Step) (w : World) → Acting w → ((x : X) → Ends w (f x)) → Ends w (given Own a result f)
   given-ends (Ok x) f w good k = k x
-  given-ends (Err e) f w good k = plain (raises Own a e) w good (raises-keeps acting Own a e)
+  given-ends (Err e) f w good k = plain (raises Own a e) w good (raises-keeps (plain_steps acting) Own a e)
 
   pub raise_if-ends : (test : Bool) (e : Raised) (step : Step) (w : World) → Acting w → Ends w step → Ends w (raise_if a test e step)
-  raise_if-ends true e step w good k = plain (raises Own a e) w good (raises-keeps acting Own a e)
+  raise_if-ends true e step w good k = plain (raises Own a e) w good (raises-keeps (plain_steps acting) Own a e)
   raise_if-ends false e step w good k = k
 
 -- ---- who is there stays there when it is edited

@@ -4,7 +4,6 @@ pub mod Frames
 pub mod Scopes
 pub mod Inheritance
 pub mod Appointments
-pub mod Calls
 pub mod Unwinding
 pub mod CallEnds
 pub mod Masters
@@ -17,7 +16,6 @@ pub mod Serving
 pub mod Rendezvous
 pub mod EntryCalls
 pub mod Controlled
-pub mod Declarations
 pub mod Tasking
 pub mod Handlers
 pub mod Instant

@@ -5,7 +5,6 @@ pub mod Frames
 pub mod Scopes
 pub mod Inheritance
 pub mod Appointments
-pub mod Calls
 pub mod Unwinding
 pub mod CallEnds
 pub mod Masters
@@ -19,7 +18,6 @@ pub mod Rendezvous
 pub mod EntryCalls
 pub mod Arming
 pub mod Controlled
-pub mod Declarations
 pub mod Tasking
 pub mod Handlers
 pub mod Act

@@ -48,10 +48,9 @@ use Rattle.world_laws.proofs.Scopes.GoodWorlds.{Good, GoodWorld, marks-good, nob
 use Rattle.world_laws.proofs.Scopes.ScopeSteps.{There, there-is, popped-put, put-live, top-there}
 use Rattle.world_laws.proofs.Scopes.ActingMoves.{ActingWorld, Led, acting, acting-lifts, openings}
 use Rattle.world_laws.proofs.Scopes.Lifting.{StepOf, quietly_then-from}
-use Rattle.world_laws.proofs.Scopes.Kept.Frames.{edit_top-alters}
+use Rattle.world_laws.proofs.Scopes.Kept.Frames.{edit_top-alters, plain_steps}
 use Rattle.world_laws.proofs.Scopes.Kept.Inheritance.{lose_running-keeps}
 use Rattle.world_laws.proofs.Scopes.Kept.Priorities.{set_deferred-keeps}
-use Rattle.world_laws.proofs.Scopes.Kept.Calls.{enqueue-keeps}
 use Rattle.world_laws.proofs.Scopes.Kept.CallEnds.{deliver-keeps}
 use Rattle.world_laws.proofs.Scopes.Kept.Protected.{begin_call-keeps, body_opens-keeps, edit_top_protected-alters}
 use Rattle.world_laws.proofs.Scopes.Kept.Sending.{send_on-keeps}
@@ -59,6 +58,7 @@ use Rattle.world_laws.proofs.Scopes.Kept.Serving.{begins_part-keeps, behind_acti
 use Rattle.machine_laws.proofs.FineMoves.{AnyWorld}
 use Rattle.line_laws.proofs.Exits.TaskEdits.{one_of-is}
 use Rattle.machine_laws.proofs.Kept.Combinators.{From, Keeps, changes-keeps, changes_then-from, either-from, keeps-from, looks_at-from, nothing-keeps, then-keeps}
+use Rattle.machine_laws.proofs.Plain.Calls.{enqueue-keeps}
 
 -- ---- the mark of an action above all scopes
 
@@ -206,7 +206,7 @@ module _ (p : Image) (me : Who) where
     well-from c (Some s) w good h =
         step_then (says TheFinish (line.Finish me c.number meeting.Requeue)) _ w good h (says-keeps quiet TheFinish (line.Finish me c.number meeting.Requeue))
         (λ v g k. step_then (send_on c.number s) _ v g k (send_on-keeps quiet c.number s)
-        (λ u g_u l. step_then (enqueue p c.number) _ u g_u l (enqueue-keeps quiet p c.number) (λ x g_x j. serve_calls-from (Some c.number) x g_x j)))
+        (λ u g_u l. step_then (enqueue p c.number) _ u g_u l (enqueue-keeps (plain_steps quiet) p c.number) (λ x g_x j. serve_calls-from (Some c.number) x g_x j)))
 
     finish_call-from : (leaving : Leaving) (c : Call) (w : World) → ActingWorld me w → Shielded me w → From (StepOf (Led me)) w (finish_call p me m leaving c)
     unfolding finish_call

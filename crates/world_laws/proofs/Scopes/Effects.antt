@@ -40,11 +40,9 @@ use Rattle.world_laws.proofs.Scopes.TaskGroups.{groups, leave_region-keeps}
 use Rattle.world_laws.proofs.Scopes.Lifting.{Lifts, MoveOf, StepOf, WorldRelation, joined-from, lifted, quietly-from, quietly_then-from, weaker-from}
 use Rattle.world_laws.proofs.Scopes.Kept.Combinators.{both_then-from}
 use Rattle.world_laws.proofs.Scopes.Kept.Tasks.{edit_task-alters}
-use Rattle.world_laws.proofs.Scopes.Kept.Frames.{open_if_ready-keeps, pass_on-keeps}
+use Rattle.world_laws.proofs.Scopes.Kept.Frames.{open_if_ready-keeps, plain_steps}
 use Rattle.world_laws.proofs.Scopes.Kept.Appointments.{drop_delay-alters}
 use Rattle.world_laws.proofs.Scopes.Kept.Masters.{complete-keeps, end_activation-keeps, wake_master-keeps}
-use Rattle.world_laws.proofs.Scopes.Kept.Subprograms.{end_subprogram-keeps}
-use Rattle.world_laws.proofs.Scopes.Kept.Serving.{end_body_of_entry-keeps}
 use Rattle.world_laws.proofs.Scopes.Kept.Rendezvous.{end_in_accept-from}
 use Rattle.world_laws.proofs.Scopes.Kept.Controlled.{end_in_assign-from, end_in_finalize-from, end_in_initialize-from, finalize-keeps}
 use Rattle.world_laws.proofs.Scopes.Kept.Tasking.{end_body-keeps, end_environment-alters, says_done-keeps, says_left-keeps, take_terminates-keeps, unwind_all-keeps}
@@ -52,6 +50,9 @@ use Rattle.world_laws.proofs.Scopes.Kept.Handlers.{call_handler-keeps}
 use Rattle.world_laws.proofs.Scopes.Kept.Act.{act_statement-keeps, end_handled-from, end_in_abortable-keeps}
 use Rattle.machine_laws.proofs.FineMoves.{Anybody}
 use Rattle.machine_laws.proofs.Kept.Combinators.{From, Keeps, changes-keeps, changes_then-from, for_some-keeps, keeps-from, looks-keeps, looks_at-from, nothing-keeps, then-from, then-keeps, when-keeps}
+use Rattle.machine_laws.proofs.Plain.Frames.{pass_on-keeps}
+use Rattle.machine_laws.proofs.Plain.Subprograms.{end_subprogram-keeps}
+use Rattle.machine_laws.proofs.Plain.Results.{end_body_of_entry-keeps}
 
 -- ---- it leads to a good world
 
@@ -95,9 +96,9 @@ module _ (p : Image) (me : Who) where
 
   behind_scope-from : (purpose : Purpose) (cells : List Value) (leaving : Leaving) (w : World) → GoodWorld w → (is_task_scope purpose ≡ true → NoScopes me w) → From (StepOf ToGood) w (behind_scope p me purpose cells leaving)
   unfolding behind_scope
-  behind_scope-from (opened_for.Block s) cells leaving w g own = keeps-from (chains goodly) _ w g (pass_on-keeps goodly p me leaving)
-  behind_scope-from (opened_for.Subprogram back to) cells leaving w g own = keeps-from (chains goodly) _ w g (end_body-keeps goodly p me leaving _ (end_subprogram-keeps goodly p me cells back to leaving))
-  behind_scope-from (opened_for.EntryBody c) cells leaving w g own = keeps-from (chains goodly) _ w g (end_body-keeps goodly p me leaving _ (end_body_of_entry-keeps goodly p c cells leaving))
+  behind_scope-from (opened_for.Block s) cells leaving w g own = keeps-from (chains goodly) _ w g (pass_on-keeps (plain_steps goodly) p me leaving tt)
+  behind_scope-from (opened_for.Subprogram back to) cells leaving w g own = keeps-from (chains goodly) _ w g (end_body-keeps goodly p me leaving _ (end_subprogram-keeps (plain_steps goodly) p me cells back to leaving))
+  behind_scope-from (opened_for.EntryBody c) cells leaving w g own = keeps-from (chains goodly) _ w g (end_body-keeps goodly p me leaving _ (end_body_of_entry-keeps (plain_steps goodly) p c cells leaving))
   behind_scope-from opened_for.Task cells leaving w g own = end_task-from leaving w g (own refl)
 
   end_of_scope-from : (m : ScopeMark) (leaving : Leaving) (f : Frame) (w : World) → GoodWorld w → top_of w me ≡ Some f → f.mark ≡ Scope m → From (StepOf ToGood) w (end_of_scope p me m leaving)

@@ -5,7 +5,6 @@ pub mod Frames
 pub mod Scopes
 pub mod Inheritance
 pub mod Appointments
-pub mod Calls
 pub mod Unwinding
 pub mod CallEnds
 pub mod Masters
@@ -18,7 +17,6 @@ pub mod Serving
 pub mod Rendezvous
 pub mod EntryCalls
 pub mod Controlled
-pub mod Declarations
 pub mod Tasking
 pub mod Handlers
 pub mod Act

@@ -45,7 +45,7 @@ use Rattle.world_laws.proofs.Scopes.Lifting.{Lifts, MoveOf, StepOf, lifted, join
 use Rattle.world_laws.proofs.Scopes.Kept.Combinators.{four_then-from}
 use Rattle.world_laws.proofs.Scopes.Kept.Tasks.{edit_task-alters}
 use Rattle.world_laws.proofs.Scopes.Kept.Dispatching.{keep_level-alters, to_tail-keeps}
-use Rattle.world_laws.proofs.Scopes.Kept.Frames.{edit_top-alters, given-keeps, goes-keeps, raise_if-keeps}
+use Rattle.world_laws.proofs.Scopes.Kept.Frames.{edit_top-alters, goes-keeps, plain_steps}
 use Rattle.world_laws.proofs.Scopes.Kept.Appointments.{drop_delay-alters}
 use Rattle.world_laws.proofs.Scopes.Kept.Masters.{complete-keeps, wake_master-keeps}
 use Rattle.world_laws.proofs.Scopes.Kept.Unwinding.{strike_outermost-alters}
@@ -56,6 +56,7 @@ use Rattle.machine_laws.proofs.FineMoves.{Anybody}
 use Rattle.machine_laws.proofs.QueueLemmas.{by_test}
 use Rattle.line_laws.proofs.Exits.TaskEdits.{one_of-is, same_who-path}
 use Rattle.machine_laws.proofs.Kept.Combinators.{From, Keeps, changes-keeps, changes_then-from, either-from, for_each-keeps, for_some-keeps, keeps-from, looks-from, looks-keeps, looks_at-from, nothing-keeps, sees-keeps, then-from, then-keeps}
+use Rattle.machine_laws.proofs.Plain.Frames.{given-keeps, raise_if-keeps}
 
 -- ---- what is done with one task of some that were only made in a first world
 
@@ -299,7 +300,7 @@ module _ (p : Image) (me : Who) where
 
   activate-keeps : (s : StatementNo) (part : ℕ) → Keeps (ActingWorld me) (StepOf (Led me)) (activate p me s part)
   unfolding activate
-  activate-keeps s part = looks-keeps (chains (acting me)) _ (λ w. raise_if-keeps (acting me) me (in_protected w me || is_deferred w me) exception.Program (activate_group p me s part) (activate_group-keeps s part))
+  activate-keeps s part = looks-keeps (chains (acting me)) _ (λ w. raise_if-keeps (plain_steps (acting me)) me (in_protected w me || is_deferred w me) exception.Program (activate_group p me s part) (activate_group-keeps s part))
 
   -- ---- abort
 
@@ -329,8 +330,8 @@ module _ (p : Image) (me : Who) where
   abort_statement-keeps : (s : StatementNo) (tasks : List DeclNo) → Keeps (ActingWorld me) (StepOf (Led me)) (abort_statement p me s tasks)
   unfolding abort_statement
   abort_statement-keeps s tasks =
-      sees-keeps (chains (acting me)) p me _ (λ q. raise_if-keeps (acting me) me (in_protected q.world me) exception.Program _
-      (given-keeps (acting me) Own me (named_tasks q tasks) _ (λ aborted. then-keeps (chains (acting me)) (goes me (next_of p s)) _ (goes-keeps (acting me) me (next_of p s)) (abort_named-keeps aborted))))
+      sees-keeps (chains (acting me)) p me _ (λ q. raise_if-keeps (plain_steps (acting me)) me (in_protected q.world me) exception.Program _
+      (given-keeps (plain_steps (acting me)) Own me (named_tasks q tasks) _ (λ aborted. then-keeps (chains (acting me)) (goes me (next_of p s)) _ (goes-keeps (acting me) me (next_of p s)) (abort_named-keeps aborted))))
 
   -- ---- a region begins to be left: tasks that were made there and not activated are gone
 

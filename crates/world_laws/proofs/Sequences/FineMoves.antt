@@ -161,7 +161,7 @@ pub record FineMoves (p : Image) (G : GoodWorld) (May Other : Naming) : Type 0 w
   -- protected objects: no other edit changes the actions that are open
   pub edits_object : (o : ObjectNo) (f : Object → Object) (w : World) → G w → ((x : Object) → (f x).number ≡ x.number) → ((x : Object) → (f x).actions ≡ x.actions) → Behind G w [] (edit_object o f w)
   pub edits_any_object : (o : ObjectNo) (f : Object → Object) (w : World) → G w → Behind G w [] (edit_object o f w)
-  pub adds_object : (l : Located) (u : ProtectedUnitNo) (w : World) → G w → Behind G w [] (record w { objects = new_object p l u (suc w.drawn.objects) ∷ w.objects; drawn = object_drawn w.drawn })
+  pub adds_object : (r : Image) (l : Located) (u : ProtectedUnitNo) (w : World) → G w → Behind G w [] (record w { objects = new_object r l u (suc w.drawn.objects) ∷ w.objects; drawn = object_drawn w.drawn })
   -- protected actions: one begins, one begins and ends at once round other lines and a change, and one may not begin
   pub enters : (name : Who) (o : ObjectNo) (mode : Mode) (w : World) → G w → Behind G w (own (said.Enter name o mode) ∷ []) (open_action name o mode w)
   pub visits : (name : Who) (o : ObjectNo) (mode : Mode) (xs : List Said) (w v : World) → G w → Behind G w [] v → Behind G w (own (said.Enter name o mode) ∷ xs ++ own (said.Exit name o) ∷ []) v

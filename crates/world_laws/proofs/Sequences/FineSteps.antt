@@ -168,7 +168,7 @@ module _ {p : Image} {P : Point} {A : Marking} {C : Calling} where
       forgets_call = λ c w g. fine-call_forgotten callings c w g;
       edits_object = λ o f w g h1 h2. fine-plain w (edit_object o f w) refl refl refl refl refl g;
       edits_any_object = λ o f w g. fine-plain w (edit_object o f w) refl refl refl refl refl g;
-      adds_object = λ l u w g. fine-plain w (record w { objects = new_object p l u (suc w.drawn.objects) ∷ w.objects; drawn = object_drawn w.drawn }) refl refl refl refl refl g;
+      adds_object = λ r l u w g. fine-plain w (record w { objects = new_object r l u (suc w.drawn.objects) ∷ w.objects; drawn = object_drawn w.drawn }) refl refl refl refl refl g;
       enters = λ name o mode w g. fine-plain w (open_action name o mode w) refl refl refl refl refl g;
       visits = λ name o mode xs w v g h. h;
       finds_held = λ name o mode w g. g;

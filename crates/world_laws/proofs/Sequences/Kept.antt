@@ -19,7 +19,6 @@ pub mod Serving
 pub mod Rendezvous
 pub mod EntryCalls
 pub mod Controlled
-pub mod Declarations
 pub mod Handlers
 pub mod Tasking
 pub mod Act

@@ -1,6 +1,5 @@
 -- Opening constructs, leaving them, and going on: each step keeps a relation that its parts keep.
-use Rattle.std.specs.Prelude.{ℕ, Bool, true, false, Option, Some, None, Result, Ok, Err}
-use Rattle.ann_base.specs.declared.exceptions.Raised.{Raised}
+use Rattle.std.specs.Prelude.{true, false, Option, Some, None}
 use Rattle.ann_base.specs.declared.exceptions.Raised.TheVariants as exception
 use Rattle.trace_text.specs.declared.events.Who.{Who}
 use Rattle.profile_machine.specs.declared.image.Image.{Image}
@@ -16,8 +15,7 @@ use Rattle.profile_machine.specs.Program.{form_of, next_of}
 use Rattle.profile_machine.specs.declared.world.lines.Part.{Part}
 use Rattle.profile_machine.specs.declared.world.lines.Part.TheVariants.{Own}
 use Rattle.profile_machine.specs.Steps.{Step, changes, nothing, ◌▷◌}
-use Rattle.profile_machine.specs.Frames.{top_of, new_frame, edit_first, edit_top, goes, push, leaves, raises, has_room, open_handled, open_at, open_sequence, open_if_ready, stands_in, exit_loop, pass_on, given, raise_if, with_room, goes_on}
-use Rattle.profile_machine.specs.Operators.{Valued}
+use Rattle.profile_machine.specs.Frames.{top_of, new_frame, edit_first, edit_top, goes, push, leaves, raises, has_room, open_handled, open_at, open_sequence, open_if_ready, stands_in, exit_loop, pass_on, goes_on}
 use Rattle.machine_laws.proofs.Moves.{StepRelation, MoveRelation}
 use Rattle.line_laws.proofs.Leaving.FineMoves.{FineMoves, nature, Alike, Free, own_call_of, chains, says-keeps}
 use Rattle.ann_base.specs.declared.identities.CallNo.{CallNo}
@@ -27,7 +25,7 @@ use Rattle.std.proofs.Common.{◌≡◌, List, [], ◌∷◌, option_and_then, i
 use Rattle.profile_machine.specs.Masters.{region_of_mark}
 use Rattle.machine_laws.proofs.FineMoves.{GoodWorld, Naming}
 use Rattle.machine_laws.proofs.FinestMoves.{being_left_in}
-use Rattle.machine_laws.proofs.Kept.Combinators.{Alters, From, Gives, Keeps, branch-keeps, changes-from, changes-keeps, changes_then-from, either-from, keeps-from, looks-from, looks-keeps, looks_at-from, nothing-keeps, then-keeps, when-keeps}
+use Rattle.machine_laws.proofs.Kept.Combinators.{Alters, From, Keeps, changes-from, changes-keeps, changes_then-from, either-from, keeps-from, looks-from, looks-keeps, looks_at-from, nothing-keeps, when-keeps}
 use Rattle.profile_machine.specs.Calls.{says_call}
 use Rattle.profile_machine.specs.Appointments.{is_timeout_of}
 use Rattle.profile_machine.specs.declared.world.lines.Line.TheVariants as said

@@ -12,7 +12,6 @@ use Rattle.profile_machine.specs.declared.run_data.Leaving.{Leaving}
 use Rattle.profile_machine.specs.declared.run_data.Leaving.TheVariants as how
 use Rattle.profile_machine.specs.declared.statements.SelectAlternative.{SelectAlternative}
 use Rattle.profile_machine.specs.declared.statements.SelectKind.{SelectKind}
-use Rattle.profile_machine.specs.declared.values.Value.{Value}
 use Rattle.profile_machine.specs.declared.world.World.{World}
 use Rattle.profile_machine.specs.declared.world.marks.Mark.{Mark}
 use Rattle.profile_machine.specs.declared.world.calls.Call.{Call}
@@ -30,9 +29,8 @@ use Rattle.profile_machine.specs.Steps.{Step, changes, ◌▷◌}
 use Rattle.profile_machine.specs.Frames.{new_frame, in_protected}
 use Rattle.profile_machine.specs.Scopes.{begin_scope, next_id, plainly, innermost}
 use Rattle.profile_machine.specs.Appointments.{drop_delay}
-use Rattle.profile_machine.specs.Calls.{formals_count, parameters_of, next_call, place_of_entry}
-use Rattle.profile_machine.specs.Serving.{with_values}
-use Rattle.profile_machine.specs.Rendezvous.{accept_scope, open_accept, has_room_for_accept, begin_accept, finish_without_room, accept_with_room, accept_call, meet_with_room, meet_without_room, meet, accept_or_wait, accept, accept_chosen, wait_at_select, appoint_delay, select_delay, select_wait, select_otherwise, select_by_call, select_open, selective_accept, gone_sent, meet_sent, arrive_at, arrive, finish_accept, finish_rendezvous, behind_accept, finished_call, own_queue, open_alternatives, open_delays}
+use Rattle.profile_machine.specs.Calls.{parameters_of, next_call, place_of_entry}
+use Rattle.profile_machine.specs.Rendezvous.{accept_scope, open_accept, has_room_for_accept, begin_accept, finish_without_room, accept_with_room, accept_call, meet_with_room, meet_without_room, meet, accept_or_wait, accept, accept_chosen, wait_at_select, appoint_delay, select_delay, select_wait, select_otherwise, select_by_call, select_open, selective_accept, gone_sent, meet_sent, arrive_at, arrive, finish_accept, finish_rendezvous, behind_accept, own_queue, open_alternatives, open_delays}
 use Rattle.std.proofs.Common.{◌≡◌, refl}
 use Rattle.profile_machine.specs.declared.world.tasks.Waiting.{Waiting}
 use Rattle.profile_machine.specs.Tasks.{edit_task, with_state, waiting_of}

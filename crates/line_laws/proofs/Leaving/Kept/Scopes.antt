@@ -1,13 +1,11 @@
 -- Scopes that begin and end, and their cells: each step keeps a relation that its parts keep.
-use Rattle.std.specs.Prelude.{ℕ, List}
 use Rattle.trace_text.specs.declared.events.Who.{Who}
 use Rattle.profile_machine.specs.declared.image.Image.{Image}
 use Rattle.profile_machine.specs.declared.numbers.ScopeNo.{ScopeNo}
-use Rattle.profile_machine.specs.declared.values.Value.{Value}
 use Rattle.profile_machine.specs.declared.world.marks.Purpose.{Purpose}
 use Rattle.profile_machine.specs.declared.world.scopes.ScopeId.{ScopeId}
 use Rattle.profile_machine.specs.declared.world.scopes.Beginning.{Beginning}
-use Rattle.profile_machine.specs.Scopes.{edit_cells, write_cell, open_scope, end_scope}
+use Rattle.profile_machine.specs.Scopes.{open_scope, end_scope}
 use Rattle.machine_laws.proofs.Moves.{StepRelation, MoveRelation}
 use Rattle.line_laws.proofs.Leaving.FineMoves.{FineMoves}
 use Rattle.machine_laws.proofs.FineMoves.{GoodWorld, Naming}

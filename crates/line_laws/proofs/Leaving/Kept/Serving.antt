@@ -1,12 +1,9 @@
 -- Queued calls that are served, and objects that are released: each step keeps a relation that its parts keep.
-use Rattle.std.specs.Prelude.{ℕ, Bool, true, false, List, [], ◌∷◌, Option, Some, None}
+use Rattle.std.specs.Prelude.{ℕ, Bool, true, false, [], ◌∷◌, Option, Some, None}
 use Rattle.std.proofs.lemmas.Bool.{eqb-true}
 use Rattle.ann_base.specs.declared.identities.CallNo.{CallNo}
 use Rattle.trace_text.specs.declared.events.Who.{Who}
 use Rattle.profile_machine.specs.declared.image.Image.{Image}
-use Rattle.profile_machine.specs.declared.run_data.Leaving.{Leaving}
-use Rattle.profile_machine.specs.declared.run_data.Leaving.TheVariants as how
-use Rattle.profile_machine.specs.declared.values.Value.{Value}
 use Rattle.profile_machine.specs.declared.world.World.{World}
 use Rattle.profile_machine.specs.declared.world.appointments.Release.{Release}
 use Rattle.profile_machine.specs.declared.world.marks.ProtectedMark.{ProtectedMark}
@@ -19,7 +16,7 @@ use Rattle.trace_text.specs.declared.events.Who.TheVariants as who
 use Rattle.ann_base.specs.Lists.{is_empty}
 use Rattle.profile_machine.specs.Dispatching.{block}
 use Rattle.profile_machine.specs.Steps.{says, changes, looks, when, nothing, ◌▷◌}
-use Rattle.profile_machine.specs.Serving.{serves_nothing, is_served_now, serve_ends, end_release, wait_or_unwind, wait_for_own, resume_own, behind_action, settle_sent, begins_part, keep_values, keeps_sending, end_body_of_entry}
+use Rattle.profile_machine.specs.Serving.{serves_nothing, is_served_now, serve_ends, end_release, wait_or_unwind, wait_for_own, resume_own, behind_action, settle_sent, begins_part}
 use Rattle.std.proofs.Common.{◌≡◌, refl, sym, subst}
 use Rattle.std.proofs.Common.{refl, sym, subst}
 use Rattle.profile_machine.specs.Calls.{call_of}
@@ -96,4 +93,3 @@ module _ {G : GoodWorld} {May Acts Pushes : Naming} {Stops : Type 0} {R : StepRe
   begins_part-keeps p false c = search (nothing-keeps, chains)
 
 -- ---- the scope of an entry body has ended
-

@@ -1,25 +1,17 @@
 -- Simple and compound statements: each step keeps a relation that its parts keep.
 use Rattle.std.proofs.Common.{◌≡◌, refl}
-use Rattle.std.specs.Prelude.{ℕ, ℤ, pos, int_lt, Bool, true, false, List, Option, Some, None, Ok, Err}
-use Rattle.ann_base.specs.Results.{◌>>=◌}
+use Rattle.std.specs.Prelude.{ℕ, ℤ, pos, int_lt, Bool, true, false, List, Ok, Err}
 use Rattle.trace_text.specs.declared.events.Who.{Who}
 use Rattle.trace_text.specs.declared.events.Who.TheVariants as who
 use Rattle.profile_machine.specs.declared.image.Image.{Image}
-use Rattle.profile_machine.specs.declared.numbers.DeclNo.{DeclNo}
-use Rattle.profile_machine.specs.declared.numbers.ExprNo.{ExprNo}
 use Rattle.profile_machine.specs.declared.numbers.ScopeNo.{ScopeNo}
 use Rattle.profile_machine.specs.declared.numbers.StatementNo.{StatementNo}
-use Rattle.profile_machine.specs.declared.expressions.ObjectName.{ObjectName}
-use Rattle.profile_machine.specs.declared.expressions.VariableName.{VariableName}
-use Rattle.profile_machine.specs.declared.statements.CaseAlternative.{CaseAlternative}
 use Rattle.profile_machine.specs.declared.statements.Piece.{Piece}
 use Rattle.profile_machine.specs.declared.statements.StatementForm.TheVariants as form
-use Rattle.profile_machine.specs.declared.values.Value.{Value}
 use Rattle.profile_machine.specs.declared.world.World.{World}
-use Rattle.profile_machine.specs.declared.world.scopes.Variable.{Variable}
 use Rattle.profile_machine.specs.declared.world.appointments.Due.TheVariants as due_for
 use Rattle.profile_machine.specs.declared.world.tasks.Waiting.TheVariants as waits_for
-use Rattle.profile_machine.specs.Program.{declaration_of, form_of, next_of}
+use Rattle.profile_machine.specs.Program.{form_of, next_of}
 use Rattle.profile_machine.specs.declared.world.lines.Line.TheVariants as line
 use Rattle.profile_machine.specs.declared.world.lines.Part.TheVariants.{Own, TheBlock}
 use Rattle.profile_machine.specs.Steps.{changes, says, ◌▷◌}
@@ -27,10 +19,8 @@ use Rattle.profile_machine.specs.Frames.{given, goes}
 use Rattle.profile_machine.specs.Appointments.{appoint}
 use Rattle.profile_machine.specs.Dispatching.{block}
 use Rattle.profile_machine.specs.Operators.{Valued}
-use Rattle.profile_machine.specs.Values.{Seen, seen_by, value, variable, object_cell}
-use Rattle.profile_machine.specs.CallEnds.{store}
-use Rattle.profile_machine.specs.Statements.{null, assign, cells_from, copy_cells, array_copied, assign_array, if_statement, go_to_alternative, case_statement, while_turn, loop_cell, put, first_bound, last_bound, bounds_set, for_bounds, first_turn, advance, later_turn, exit_where, exit_statement, block_statement, raise_again, wait_until, delay_to, delay_until, text_of_pieces, put_line}
-use Rattle.profile_machine.specs.Scopes.{put_cells}
+use Rattle.profile_machine.specs.Values.{seen_by}
+use Rattle.profile_machine.specs.Statements.{block_statement, wait_until, delay_to, delay_until, text_of_pieces, put_line}
 use Rattle.machine_laws.proofs.Moves.{StepRelation, MoveRelation, Puts}
 use Rattle.line_laws.proofs.Leaving.FineMoves.{FineMoves, chains}
 use Rattle.line_laws.proofs.Leaving.Kept.Frames.{goes-keeps, plain_steps}
@@ -38,7 +28,7 @@ use Rattle.line_laws.proofs.Leaving.Kept.Dispatching.{to_tail-keeps, block-keeps
 use Rattle.line_laws.proofs.Leaving.Kept.Scopes.{open_scope-alters}
 use Rattle.line_laws.proofs.Leaving.Kept.Appointments.{appoint-from}
 use Rattle.machine_laws.proofs.FineMoves.{GoodWorld, Naming}
-use Rattle.machine_laws.proofs.Kept.Combinators.{Alters, From, Gives, Keeps, bind-gives, changes-keeps, keeps-from, looks-from, looks-keeps, nothing-keeps, ok-gives, said-keeps, sees-keeps, then-from, then-keeps}
+use Rattle.machine_laws.proofs.Kept.Combinators.{From, Keeps, changes-keeps, keeps-from, looks-from, looks-keeps, nothing-keeps, said-keeps, then-from, then-keeps}
 use Rattle.machine_laws.proofs.Plain.Frames.{raises-keeps, given-keeps, raise_if-keeps, with_room-keeps}
 
 module _ {G : GoodWorld} {May Acts Pushes : Naming} {Stops : Type 0} {R : StepRelation} {Q : MoveRelation} (moves : FineMoves G May Acts Pushes Stops R Q) where

@@ -1,40 +1,21 @@
 -- Calls of subprograms: each step keeps a relation that its parts keep.
-use Rattle.std.specs.Prelude.{List, [], ◌∷◌, Option, Some, None, Ok}
-use Rattle.ann_base.specs.Results.{◌>>=◌}
-use Rattle.ann_base.specs.declared.identities.CallNo.{CallNo}
+use Rattle.std.specs.Prelude.{List}
 use Rattle.trace_text.specs.declared.events.Who.{Who}
 use Rattle.profile_machine.specs.declared.world.scopes.Handed.{Handed}
 use Rattle.profile_machine.specs.declared.image.Image.{Image}
-use Rattle.profile_machine.specs.declared.numbers.ExprNo.{ExprNo}
 use Rattle.profile_machine.specs.declared.numbers.StatementNo.{StatementNo}
 use Rattle.profile_machine.specs.declared.numbers.SubprogramNo.{SubprogramNo}
-use Rattle.profile_machine.specs.declared.run_data.Leaving.{Leaving}
-use Rattle.profile_machine.specs.declared.run_data.Leaving.TheVariants as how
 use Rattle.profile_machine.specs.declared.statements.Actual.{Actual}
 use Rattle.profile_machine.specs.declared.statements.Destination.{Destination}
-use Rattle.profile_machine.specs.declared.values.Value.{Value}
 use Rattle.profile_machine.specs.declared.world.marks.ResultTo.{ResultTo}
-use Rattle.profile_machine.specs.declared.world.marks.CopyBack.{CopyBack}
-use Rattle.profile_machine.specs.declared.world.marks.ResultTo.TheVariants as bound_for
-use Rattle.profile_machine.specs.Program.{subprogram_of}
-use Rattle.profile_machine.specs.Statements.{becomes}
-use Rattle.profile_machine.specs.declared.world.lines.Part.TheVariants.{Own}
-use Rattle.profile_machine.specs.Steps.{Step}
-use Rattle.profile_machine.specs.Frames.{leaves}
 use Rattle.profile_machine.specs.declared.world.scopes.Beginning.{Beginning}
-use Rattle.profile_machine.specs.Scopes.{home, write_cell}
-use Rattle.profile_machine.specs.Operators.{checked}
-use Rattle.profile_machine.specs.Values.{Seen, or_misfit}
-use Rattle.profile_machine.specs.CallEnds.{store}
-use Rattle.profile_machine.specs.Subprograms.{begin_body, handing, call_subprogram, result_place, result_kept, return_result, return_value, drop_sending, return, cell_in, copy_parameters, last_cell, store_result, end_subprogram}
-use Rattle.std.specs.Prelude.{slice_set}
-use Rattle.profile_machine.specs.Values.{seen_by}
+use Rattle.profile_machine.specs.Subprograms.{begin_body, call_subprogram}
 use Rattle.machine_laws.proofs.Moves.{StepRelation, MoveRelation}
 use Rattle.line_laws.proofs.Leaving.FineMoves.{FineMoves, chains}
-use Rattle.line_laws.proofs.Leaving.Kept.Frames.{goes-keeps, leaves-keeps, plain_steps}
+use Rattle.line_laws.proofs.Leaving.Kept.Frames.{goes-keeps, plain_steps}
 use Rattle.line_laws.proofs.Leaving.Kept.Scopes.{open_scope-alters}
 use Rattle.machine_laws.proofs.FineMoves.{GoodWorld, Naming}
-use Rattle.machine_laws.proofs.Kept.Combinators.{Alters, Gives, Keeps, bind-gives, changes-keeps, looks-from, looks-keeps, nothing-keeps, ok-gives, sees-keeps, then-keeps, unchanged-alters}
+use Rattle.machine_laws.proofs.Kept.Combinators.{Keeps, changes-keeps, sees-keeps, then-keeps}
 use Rattle.machine_laws.proofs.Plain.Frames.{with_room-keeps}
 use Rattle.machine_laws.proofs.Plain.Subprograms.{handing-keeps}
 

@@ -51,7 +51,6 @@ use Rattle.profile_machine.specs.declared.world.marks.Frame.{Frame}
 use Rattle.profile_machine.specs.declared.world.lines.Part.TheVariants.{Own, TheFinish}
 use Rattle.world_laws.proofs.Actions.GoodMoves.{free-by_test, good_moves}
 use Rattle.world_laws.proofs.Actions.Kept.Switching.{Only, only-from}
-use Rattle.world_laws.proofs.Appointments.Kept.Rendezvous.{finished_call-caller}
 use Rattle.profile_machine.specs.declared.world.lines.Line.{Line}
 use Rattle.profile_machine.specs.Sending.{begin_abortable, send_on}
 use Rattle.profile_machine.specs.declared.world.calls.Outcome.TheVariants as call_ended
@@ -60,7 +59,7 @@ use Rattle.profile_machine.specs.declared.world.lines.Line.TheVariants as line
 use Rattle.profile_machine.specs.declared.world.lines.MeetingEnd.TheVariants as meeting
 use Rattle.profile_machine.specs.Tasks.{waiting_of}
 use Rattle.machine_laws.proofs.FineMoves.{GoodWorld, Naming}
-use Rattle.line_laws.proofs.Leaving.Kept.Rendezvous.{finished_call-number}
+use Rattle.machine_laws.proofs.Plain.Results.{finished_call-caller, finished_call-number}
 use Rattle.line_laws.proofs.Leaving.Modes.{Nobody}
 
 module _ {G : GoodWorld} {F : Naming} (moves : FineMoves G F) where

@@ -44,7 +44,6 @@ use Rattle.world_tables.specs.Lists.{rest_of}
 use Rattle.machine_laws.proofs.Moves.{own}
 use Rattle.machine_laws.proofs.FineMoves.{GoodWorld, Naming}
 use Rattle.machine_laws.proofs.Kept.Combinators.{world_behind}
-use Rattle.machine_laws.proofs.Kept.Serving.{keeps_sending-number}
 use Rattle.world_laws.proofs.Actions.FineMoves.{FineMoves}
 use Rattle.world_laws.proofs.Actions.Sound.{Sound, Free, Good, MarksSound, ReleaseSound, OwnSound, marks_of}
 use Rattle.world_laws.proofs.Actions.SoundEdits.{others-edited}
@@ -63,8 +62,8 @@ use Rattle.world_laws.proofs.Actions.Kept.Priorities.{set_deferred-keeps}
 use Rattle.world_laws.proofs.Actions.Kept.Sending.{open_abortable-alters, wait_for_call-keeps, send_on-keeps, begin_abortable-keeps, sent_not_begun-keeps}
 use Rattle.profile_machine.specs.declared.world.marks.Mark.TheVariants.{InProtected}
 use Rattle.profile_machine.specs.Tasks.{with_frames}
-use Rattle.line_laws.proofs.Leaving.Kept.Serving.{keeps_sending-caller}
 use Rattle.line_laws.proofs.Leaving.Modes.{Nobody}
+use Rattle.machine_laws.proofs.Plain.Results.{keeps_sending-number, keeps_sending-caller}
 
 -- ---- the agent has served a release
 

@@ -32,22 +32,26 @@ use Rattle.world_laws.proofs.Appointments.Delays.{nature}
 use Rattle.world_laws.proofs.Appointments.FineMoves.{FineMoves, chains}
 use Rattle.world_laws.proofs.Appointments.Kept.Appointments.{drop_appointment-alters}
 use Rattle.world_laws.proofs.Appointments.Kept.CallEnds.{end_found_abortable-keeps, abortable-nature}
-use Rattle.world_laws.proofs.Appointments.Kept.Calls.{with_call-keeps, attempt_with-keeps}
 use Rattle.world_laws.proofs.Appointments.Kept.Controlled.{end_in_initialize-keeps, end_in_finalize-keeps, end_in_assign-keeps, initialize-keeps, assign_controlled-keeps}
-use Rattle.world_laws.proofs.Appointments.Kept.Declarations.{declare-keeps}
 use Rattle.world_laws.proofs.Appointments.Kept.Dispatching.{block-keeps}
 use Rattle.world_laws.proofs.Appointments.Kept.EntryCalls.{entry_call-keeps, asynchronous_select-keeps, requeue-keeps}
-use Rattle.world_laws.proofs.Appointments.Kept.Frames.{pop-alters, edit_top-alters, goes-keeps, raises-keeps, pass_on-keeps, with_room-keeps}
+use Rattle.world_laws.proofs.Appointments.Kept.Frames.{pop-alters, edit_top-alters, goes-keeps, plain_steps}
 use Rattle.world_laws.proofs.Appointments.Kept.Handlers.{call_handler-keeps, set_event-keeps, cancel_event-keeps, set_timer-keeps, cancel_timer-keeps, add_member-keeps, remove_member-keeps, replenish-keeps, add_to_budget-keeps, set_budget-keeps, cancel_budget-keeps}
 use Rattle.world_laws.proofs.Appointments.Kept.Priorities.{set_priority-keeps, set_quantum-keeps, set_deadline_of-keeps}
 use Rattle.world_laws.proofs.Appointments.Kept.Protected.{call_operation-keeps, call_own_operation-keeps}
 use Rattle.world_laws.proofs.Appointments.Kept.Rendezvous.{end_in_accept-keeps, accept-keeps}
 use Rattle.world_laws.proofs.Appointments.Kept.Scopes.{open_scope-alters}
 use Rattle.world_laws.proofs.Appointments.Kept.Serving.{OwnCalled, end_in_protected-keeps}
-use Rattle.world_laws.proofs.Appointments.Kept.Statements.{null-keeps, assign-keeps, assign_array-keeps, if_statement-keeps, case_statement-keeps, while_turn-keeps, for_bounds-keeps, first_turn-keeps, later_turn-keeps, exit_statement-keeps, block_statement-keeps, raise_again-keeps, put_line-keeps}
-use Rattle.world_laws.proofs.Appointments.Kept.Subprograms.{call_subprogram-keeps, return_value-keeps, return-keeps}
+use Rattle.world_laws.proofs.Appointments.Kept.Statements.{block_statement-keeps, put_line-keeps}
+use Rattle.world_laws.proofs.Appointments.Kept.Subprograms.{call_subprogram-keeps}
 use Rattle.world_laws.proofs.Appointments.Kept.Tasking.{end_scope_mark-keeps, create-keeps, activate-keeps, end_own_activation-keeps, abort_statement-keeps}
 use Rattle.machine_laws.proofs.Kept.Combinators.{Alters, Keeps, changes-keeps, cond-keeps, looks-keeps, nothing-keeps, option-keeps, then-keeps, unchanged-alters}
+use Rattle.machine_laws.proofs.Plain.Calls.{with_call-keeps, attempt_with-keeps}
+use Rattle.machine_laws.proofs.Plain.Declarations.{declare-keeps}
+use Rattle.machine_laws.proofs.Plain.Frames.{raises-keeps, pass_on-keeps, with_room-keeps}
+use Rattle.machine_laws.proofs.Plain.Statements.{null-keeps, assign-keeps, assign_array-keeps, if_statement-keeps, case_statement-keeps, while_turn-keeps, for_bounds-keeps, first_turn-keeps, later_turn-keeps, exit_statement-keeps, raise_again-keeps}
+use Rattle.machine_laws.proofs.Plain.Subprograms.{return_value-keeps, return-keeps}
+use Rattle.machine_laws.proofs.Plain.PlainSteps.{anybody}
 
 -- a mark that keeps an exception is what it was
 keeping-nature : (e : Raised) (mark : Mark) → nature (keeping e mark) ≡ nature mark
@@ -74,17 +78,17 @@ is_delay_form _ = false
 module _ {G : GoodWorld} {May : Naming} {R : StepRelation} {Q : MoveRelation} (moves : FineMoves G May R Q) where
   pub handle_or_pass-keeps : (p : Image) (name : Who) (e : Raised) (next : Option StatementNo) → Keeps G R (handle_or_pass p name e next)
   unfolding handle_or_pass
-  handle_or_pass-keeps p name e None = search (pass_on-keeps)
+  handle_or_pass-keeps p name e None = search (pass_on-keeps, plain_steps, anybody)
   handle_or_pass-keeps p name e (Some first) = search (changes-keeps, edit_top-alters, keeping-nature, then-keeps, goes-keeps, chains)
 
   pub behind_handled-keeps : (p : Image) (name : Who) (s : StatementNo) (leaving : Leaving) → Keeps G R (behind_handled p name s leaving)
   unfolding behind_handled
   behind_handled-keeps p name s (how.Exception e) = search (handle_or_pass-keeps)
   behind_handled-keeps p name s how.End = search (nothing-keeps, chains)
-  behind_handled-keeps p name s how.Return = search (pass_on-keeps)
-  behind_handled-keeps p name s (how.Exit loop) = search (pass_on-keeps)
-  behind_handled-keeps p name s how.Abort = search (pass_on-keeps)
-  behind_handled-keeps p name s how.Terminate = search (pass_on-keeps)
+  behind_handled-keeps p name s how.Return = search (pass_on-keeps, plain_steps, anybody)
+  behind_handled-keeps p name s (how.Exit loop) = search (pass_on-keeps, plain_steps, anybody)
+  behind_handled-keeps p name s how.Abort = search (pass_on-keeps, plain_steps, anybody)
+  behind_handled-keeps p name s how.Terminate = search (pass_on-keeps, plain_steps, anybody)
 
   pub end_handled-keeps : (p : Image) (name : Who) (s : StatementNo) (leaving : Leaving) → Keeps G R (end_handled p name s leaving)
   unfolding end_handled
@@ -104,7 +108,7 @@ module _ {G : GoodWorld} {May : Naming} {R : StepRelation} {Q : MoveRelation} (m
 
   pub end_abortable_by-keeps : (p : Image) (name : Who) (m : AbortableMark) (leaving : Leaving) → May name → Keeps G R (end_abortable_by p name m leaving)
   unfolding end_abortable_by
-  end_abortable_by-keeps p name m leaving other = option-keeps (chains moves) m.call (looks (λ w. changes (drop_trigger name (below (frames_of w name)))) ▷ end_top p name) (λ c. with_call c (λ d. attempt_with p Own d (end_top p name) (wait_for_trigger name d leaving))) (search (looks-keeps, changes-keeps, drop_trigger-alters, then-keeps, end_top-keeps, chains)) (λ c. search (with_call-keeps, attempt_with-keeps, end_top-keeps, wait_for_trigger-keeps))
+  end_abortable_by-keeps p name m leaving other = option-keeps (chains moves) m.call (looks (λ w. changes (drop_trigger name (below (frames_of w name)))) ▷ end_top p name) (λ c. with_call c (λ d. attempt_with p Own d (end_top p name) (wait_for_trigger name d leaving))) (search (looks-keeps, changes-keeps, drop_trigger-alters, then-keeps, end_top-keeps, chains)) (λ c. search (with_call-keeps, attempt_with-keeps, end_top-keeps, wait_for_trigger-keeps, plain_steps))
 
   pub end_in_abortable-keeps : (p : Image) (name : Who) (m : AbortableMark) (leaving : Leaving) → May name → Keeps G R (end_in_abortable p name m leaving)
   unfolding end_in_abortable
@@ -112,7 +116,7 @@ module _ {G : GoodWorld} {May : Naming} {R : StepRelation} {Q : MoveRelation} (m
 
   pub call_main-keeps : (p : Image) (name : Who) (s : StatementNo) → Keeps G R (call_main p name s)
   unfolding call_main
-  call_main-keeps p name s = search (with_room-keeps, goes-keeps, then-keeps, looks-keeps, changes-keeps, open_scope-alters, chains)
+  call_main-keeps p name s = search (with_room-keeps, goes-keeps, then-keeps, looks-keeps, changes-keeps, open_scope-alters, chains, plain_steps)
 
   pub call-keeps : (p : Image) (name : Who) (s : StatementNo) (callee : Callee) (actuals : List Actual) (to : Destination) → May name → Keeps G R (call p name s callee actuals to)
   unfolding call
@@ -141,30 +145,30 @@ module _ {G : GoodWorld} {May : Naming} {R : StepRelation} {Q : MoveRelation} (m
   -- a statement that is no delay
   pub act_plain-keeps : (p : Image) (name : Who) (s : StatementNo) (form : StatementForm) → May name → is_delay_form form ≡ false → Keeps G R (act_statement p name s form)
   unfolding act_statement
-  act_plain-keeps p name s (form.Declare object) may plain = search (declare-keeps)
+  act_plain-keeps p name s (form.Declare object) may plain = search (declare-keeps, plain_steps, anybody)
   act_plain-keeps p name s (form.Initialize object) may plain = search (initialize-keeps)
   act_plain-keeps p name s (form.CreateTask object part) may plain = search (create-keeps)
   act_plain-keeps p name s (form.Activate part) may plain = search (activate-keeps)
   act_plain-keeps p name s form.EndActivation may plain = search (end_own_activation-keeps)
   act_plain-keeps p name s form.CallMain may plain = search (call_main-keeps)
   act_plain-keeps p name s (form.Handled handlers first) may plain = search (nothing-keeps, chains)
-  act_plain-keeps p name s form.Null may plain = search (null-keeps)
-  act_plain-keeps p name s (form.Assign target e) may plain = search (assign-keeps)
-  act_plain-keeps p name s (form.AssignArray target source) may plain = search (assign_array-keeps)
+  act_plain-keeps p name s form.Null may plain = search (null-keeps, plain_steps, anybody)
+  act_plain-keeps p name s (form.Assign target e) may plain = search (assign-keeps, plain_steps, anybody)
+  act_plain-keeps p name s (form.AssignArray target source) may plain = search (assign_array-keeps, plain_steps, anybody)
   act_plain-keeps p name s (form.AssignControlled target source) may plain = search (assign_controlled-keeps)
-  act_plain-keeps p name s (form.If condition first otherwise) may plain = search (if_statement-keeps)
-  act_plain-keeps p name s (form.Case selector alternatives) may plain = search (case_statement-keeps)
+  act_plain-keeps p name s (form.If condition first otherwise) may plain = search (if_statement-keeps, plain_steps, anybody)
+  act_plain-keeps p name s (form.Case selector alternatives) may plain = search (case_statement-keeps, plain_steps, anybody)
   act_plain-keeps p name s (form.Loop body within) may plain = search (goes-keeps)
-  act_plain-keeps p name s (form.While condition body within) may plain = search (while_turn-keeps)
-  act_plain-keeps p name s (form.For parameter reverse low high turn within) may plain = search (for_bounds-keeps)
-  act_plain-keeps p name s (form.FirstTurn parameter reverse body) may plain = search (first_turn-keeps)
-  act_plain-keeps p name s (form.LaterTurn parameter reverse body) may plain = search (later_turn-keeps)
-  act_plain-keeps p name s (form.Exit condition of_loop) may plain = search (exit_statement-keeps)
+  act_plain-keeps p name s (form.While condition body within) may plain = search (while_turn-keeps, plain_steps, anybody)
+  act_plain-keeps p name s (form.For parameter reverse low high turn within) may plain = search (for_bounds-keeps, plain_steps, anybody)
+  act_plain-keeps p name s (form.FirstTurn parameter reverse body) may plain = search (first_turn-keeps, plain_steps, anybody)
+  act_plain-keeps p name s (form.LaterTurn parameter reverse body) may plain = search (later_turn-keeps, plain_steps, anybody)
+  act_plain-keeps p name s (form.Exit condition of_loop) may plain = search (exit_statement-keeps, plain_steps, anybody)
   act_plain-keeps p name s (form.Block scope) may plain = search (block_statement-keeps)
-  act_plain-keeps p name s form.Return may plain = search (return-keeps)
-  act_plain-keeps p name s (form.ReturnValue function e) may plain = search (return_value-keeps)
-  act_plain-keeps p name s (form.Raise e) may plain = search (raises-keeps)
-  act_plain-keeps p name s (form.RaiseAgain scope) may plain = search (raise_again-keeps)
+  act_plain-keeps p name s form.Return may plain = search (return-keeps, plain_steps)
+  act_plain-keeps p name s (form.ReturnValue function e) may plain = search (return_value-keeps, plain_steps)
+  act_plain-keeps p name s (form.Raise e) may plain = search (raises-keeps, plain_steps)
+  act_plain-keeps p name s (form.RaiseAgain scope) may plain = search (raise_again-keeps, plain_steps)
   act_plain-keeps p name s (form.Delay e) may plain = absurd cc
   act_plain-keeps p name s (form.DelayUntil e) may plain = absurd cc
   act_plain-keeps p name s (form.Call callee actuals to) may plain = search (call-keeps)

@@ -1,13 +1,12 @@
 -- How calls end: each step keeps a relation that its parts keep.
 use Rattle.std.proofs.Common.{◌≡◌, refl, ap}
-use Rattle.std.specs.Prelude.{ℕ, Bool, List, [], ◌∷◌, Option, Some, None, Ok, Err, not, slice_set, true, false, cond, eqb, length}
+use Rattle.std.specs.Prelude.{ℕ, Bool, List, [], ◌∷◌, Option, Some, None, not, true, false, cond, eqb, length}
 use Rattle.ann_base.specs.declared.identities.CallNo.{CallNo}
 use Rattle.ann_base.specs.declared.identities.TaskNo.{TaskNo}
 use Rattle.trace_text.specs.declared.events.Who.{Who}
 use Rattle.trace_text.specs.declared.events.Who.TheVariants as who
 use Rattle.profile_machine.specs.declared.image.Image.{Image}
 use Rattle.profile_machine.specs.declared.numbers.StatementNo.{StatementNo}
-use Rattle.profile_machine.specs.declared.values.Value.{Value}
 use Rattle.profile_machine.specs.declared.world.World.{World}
 use Rattle.profile_machine.specs.declared.world.calls.Call.{Call}
 use Rattle.profile_machine.specs.declared.world.calls.Outcome.{Outcome}
@@ -17,28 +16,26 @@ use Rattle.profile_machine.specs.declared.world.marks.AbortableMark.{AbortableMa
 use Rattle.profile_machine.specs.declared.world.marks.Frame.{Frame}
 use Rattle.profile_machine.specs.declared.world.marks.Mark.{Mark}
 use Rattle.profile_machine.specs.declared.world.marks.Mark.TheVariants.{Scope, Handled, InProtected, InAccept, Abortable, InInitialize, InFinalize, InAssign}
-use Rattle.profile_machine.specs.declared.world.scopes.Variable.{Variable}
 use Rattle.profile_machine.specs.declared.world.tasks.Waiting.{Waiting}
 use Rattle.profile_machine.specs.declared.world.tasks.Waiting.TheVariants as waits_for
-use Rattle.profile_machine.specs.CallEnds.{waits_for_call, go_by_outcome, resume, store, or_stored, copy_back, with_results, edit_depth, edit_frame, edit_abortable, edit_abortable_at, trigger_at, trigger_outcome, forget_trigger, run_triggered, ended_by_itself, behind_abortable, end_abortable, end_abortable_in, end_top_abortable, end_wait, waits_for_end, end_for_abortable, end_for_caller, end_for, end_with, end_call, deliver, gone, waited_mark, is_cancelled}
+use Rattle.profile_machine.specs.CallEnds.{waits_for_call, resume, with_results, edit_depth, edit_frame, edit_abortable, edit_abortable_at, trigger_at, trigger_outcome, forget_trigger, run_triggered, ended_by_itself, behind_abortable, end_abortable, end_abortable_in, end_top_abortable, end_wait, waits_for_end, end_for_abortable, end_for_caller, end_for, end_with, end_call, deliver, gone, waited_mark, is_cancelled}
 use Rattle.profile_machine.specs.Dispatching.{ready}
 use Rattle.profile_machine.specs.Frames.{open_sequence, frames_of, pass_on, leaving_of, with_mark}
-use Rattle.profile_machine.specs.Operators.{Valued, checked}
-use Rattle.profile_machine.specs.Program.{declaration_of}
-use Rattle.profile_machine.specs.Scopes.{write_cell}
 use Rattle.profile_machine.specs.Steps.{nothing, when, Step, changes, looks, ◌▷◌}
 use Rattle.profile_machine.specs.Tasks.{waiting_of}
 use Rattle.profile_machine.specs.WellFormed.{waits_for_delay}
 use Rattle.machine_laws.proofs.Moves.{StepRelation, MoveRelation}
 use Rattle.world_laws.proofs.Appointments.Delays.{Idle, nature, natures}
 use Rattle.world_laws.proofs.Appointments.FineMoves.{FineMoves, chains, says-keeps}
-use Rattle.world_laws.proofs.Appointments.Kept.Calls.{edit_call-alters, forget_call-alters, with_call-keeps, unqueued-alters}
 use Rattle.world_laws.proofs.Appointments.Kept.Dispatching.{ready-from}
-use Rattle.world_laws.proofs.Appointments.Kept.Frames.{pop-alters, goes-keeps, leaves-keeps, raises-keeps, pass_on-keeps, open_sequence-keeps}
+use Rattle.world_laws.proofs.Appointments.Kept.Frames.{pop-alters, goes-keeps, leaves-keeps, open_sequence-keeps, plain_steps}
 use Rattle.world_laws.proofs.Appointments.Kept.Tasks.{edit_frames-alters}
 use Rattle.world_laws.proofs.Appointments.Kept.Unwinding.{unwind-keeps}
 use Rattle.machine_laws.proofs.FineMoves.{GoodWorld, Naming}
-use Rattle.machine_laws.proofs.Kept.Combinators.{Alters, From, Gives, Keeps, bind-gives, branch-keeps, changes-keeps, changes_then-from, keeps-from, looks-from, looks-keeps, nothing-keeps, ok-gives, then-from, then-keeps, unchanged-alters, when-keeps}
+use Rattle.machine_laws.proofs.Kept.Combinators.{Alters, From, Keeps, branch-keeps, changes-keeps, changes_then-from, keeps-from, looks-from, looks-keeps, nothing-keeps, then-from, then-keeps, unchanged-alters, when-keeps}
+use Rattle.machine_laws.proofs.Plain.Calls.{edit_call-alters, forget_call-alters, with_call-keeps, unqueued-alters}
+use Rattle.machine_laws.proofs.Plain.Frames.{raises-keeps, pass_on-keeps}
+use Rattle.machine_laws.proofs.Plain.Results.{with_results-world, resume-keeps}
 
 -- an edit of a mark somewhere, and of an abortable part
 at_depth-natures : (test : Bool) (f : Frame → Frame) (x : Frame) (xs ys : List Frame) → nature (f x).mark ≡ nature x.mark → natures ys ≡ natures xs → natures (cond test (f x ∷ xs) (x ∷ ys)) ≡ natures (x ∷ xs)
@@ -83,39 +80,6 @@ waits-call c (Some (waits_for.Dependents r)) e = refl
 waits-call c (Some waits_for.Release) e = refl
 
 module _ {G : GoodWorld} {May : Naming} {R : StepRelation} {Q : MoveRelation} (moves : FineMoves G May R Q) where
-  pub go_by_outcome-keeps : (p : Image) (part : Part) (name : Who) (s : StatementNo) (outcome : Outcome) → Keeps G R (go_by_outcome p part name s outcome)
-  unfolding go_by_outcome
-  go_by_outcome-keeps p part name s call_ended.Finished = search (goes-keeps)
-  go_by_outcome-keeps p part name s call_ended.Cancelled = search (goes-keeps)
-  go_by_outcome-keeps p part name s (call_ended.ToRaise e) = search (raises-keeps)
-  go_by_outcome-keeps p part name s (call_ended.WasRaised e) = search (leaves-keeps)
-
-  pub resume-keeps : (p : Image) (part : Part) (c : Call) (outcome : Outcome) → Keeps G R (resume p part c outcome)
-  unfolding resume
-  resume-keeps p part c outcome = search (changes-keeps, forget_call-alters, then-keeps, go_by_outcome-keeps, chains)
-
-  pub store-gives : (p : Image) (v : Variable) (value : Value) (w : World) → G w → Gives R w (store p v value w)
-  store-gives p v value w good = bind-gives (chains moves) (checked (declaration_of p v.declared).constraint value) (λ x. Ok (write_cell v.within v.place x w)) w (λ x. ok-gives (chains moves) w (write_cell v.within v.place x w) (moves.edits_cells v.within (λ cells. slice_set cells v.place x) w good))
-
-  -- the world behind the results that are copied back
-  or_stored-world : (result : Valued World) (again : World → World × Bool) (w : World) → G w → Gives R w result → ((v : World) → G v → R v [] (again v).0) → R w [] (or_stored w result again).0
-  unfolding Gives
-  or_stored-world (Ok next) again w good a b = moves.goes_on w next (again next).0 a (b next (moves.behind w next a))
-  or_stored-world (Err e) again w good a b = moves.stays w good
-
-  copy_back-world : (p : Image) (results : List (Option Variable)) (values : List Value) (w : World) → G w → R w [] (copy_back p results values w).0
-  copy_back-world p [] values w good = moves.stays w good
-  copy_back-world p (None ∷ results) [] w good = moves.stays w good
-  copy_back-world p (None ∷ results) (v ∷ values) w good = copy_back-world p results values w good
-  copy_back-world p (Some target ∷ results) [] w good = moves.stays w good
-  copy_back-world p (Some target ∷ results) (v ∷ values) w good = or_stored-world (store p target v w) (copy_back p results values) w good (store-gives p target v w good) (copy_back-world p results values)
-
-  with_results-world : (p : Image) (c : Call) (outcome : Outcome) (w : World) → G w → R w [] (with_results p c outcome w).0
-  with_results-world p c call_ended.Finished w good = copy_back-world p c.results c.values w good
-  with_results-world p c call_ended.Cancelled w good = moves.stays w good
-  with_results-world p c (call_ended.ToRaise e) w good = moves.stays w good
-  with_results-world p c (call_ended.WasRaised e) w good = moves.stays w good
-
   pub edit_frame-alters : (name : Who) (depth : ℕ) (f : Frame → Frame) → ((x : Frame) → nature (f x).mark ≡ nature x.mark) → Alters G R (edit_frame name depth f)
   edit_frame-alters name depth f same = edit_frames-alters moves name (edit_depth depth f) (λ fs. depth-natures depth f fs same)
 
@@ -128,13 +92,13 @@ module _ {G : GoodWorld} {May : Naming} {R : StepRelation} {Q : MoveRelation} (m
 
   pub forget_trigger-alters : (c : Option CallNo) → Alters G R (forget_trigger c)
   forget_trigger-alters None = search (unchanged-alters, chains)
-  forget_trigger-alters (Some c) = search (forget_call-alters)
+  forget_trigger-alters (Some c) = search (forget_call-alters, plain_steps)
 
   pub run_triggered-keeps : (p : Image) (part : Part) (name : Who) (select : StatementNo) (outcome : Outcome) → Keeps G R (run_triggered p part name select outcome)
   unfolding run_triggered
   run_triggered-keeps p part name select call_ended.Finished = search (goes-keeps)
   run_triggered-keeps p part name select call_ended.Cancelled = search (nothing-keeps, chains)
-  run_triggered-keeps p part name select (call_ended.ToRaise e) = search (raises-keeps)
+  run_triggered-keeps p part name select (call_ended.ToRaise e) = search (raises-keeps, plain_steps)
   run_triggered-keeps p part name select (call_ended.WasRaised e) = search (leaves-keeps)
 
   pub behind_abortable-keeps : (p : Image) (part : Part) (name : Who) (m : AbortableMark) (outcome : Outcome) → Keeps G R (behind_abortable p part name m outcome)
@@ -145,7 +109,7 @@ module _ {G : GoodWorld} {May : Naming} {R : StepRelation} {Q : MoveRelation} (m
   unfolding end_abortable
   end_abortable-keeps p part name m f below =
       looks-keeps (chains moves) _ (λ w. then-keeps (chains moves) _ _ (changes-keeps (chains moves) _ (pop-alters moves name)) (then-keeps (chains moves) _ _ (changes-keeps (chains moves) _ (forget_trigger-alters m.call))
-      (branch-keeps (chains moves) (ended_by_itself f below) (behind_abortable p part name m (trigger_outcome w m.call)) (pass_on p name (leaving_of f)) (behind_abortable-keeps p part name m (trigger_outcome w m.call)) (pass_on-keeps moves p name (leaving_of f)))))
+      (branch-keeps (chains moves) (ended_by_itself f below) (behind_abortable p part name m (trigger_outcome w m.call)) (pass_on p name (leaving_of f)) (behind_abortable-keeps p part name m (trigger_outcome w m.call)) (pass_on-keeps (plain_steps moves) p name (leaving_of f) tt))))
 
   end_abortable_in-keeps : (p : Image) (part : Part) (name : Who) (f : Frame) (below : List Frame) (mark : Mark) → Keeps G R (end_abortable_in p part name f below mark)
   unfolding end_abortable_in
@@ -184,7 +148,7 @@ module _ {G : GoodWorld} {May : Naming} {R : StepRelation} {Q : MoveRelation} (m
   resumes-from p part c outcome w true good is =
       let name = who.Task c.caller in
       then-from (chains moves) (ready p part name) _ w (ready-from moves p part name w good (moves.asleep name w good (waits-call c.number (waiting_of w name) is)))
-      (then-keeps (chains moves) _ _ (resume-keeps p part c outcome) (open_sequence-keeps moves p part name))
+      (then-keeps (chains moves) _ _ (resume-keeps (plain_steps moves) p part c outcome tt) (open_sequence-keeps moves p part name))
   resumes-from p part c outcome w false good is = keeps-from (chains moves) nothing w good (nothing-keeps (chains moves))
 
   pub end_for_caller-keeps : (p : Image) (part : Part) (c : Call) (outcome : Outcome) → Keeps G R (end_for_caller p part c outcome)
@@ -198,19 +162,19 @@ module _ {G : GoodWorld} {May : Naming} {R : StepRelation} {Q : MoveRelation} (m
 
   pub end_with-keeps : (p : Image) (part : Part) (c : Call) (outcome : Outcome) → Keeps G R (end_with p part c outcome)
   unfolding end_with
-  end_with-keeps p part c outcome = search (changes-keeps, edit_call-alters, then-keeps, looks-keeps, end_for-keeps, chains)
+  end_with-keeps p part c outcome = search (changes-keeps, edit_call-alters, then-keeps, looks-keeps, end_for-keeps, chains, plain_steps)
 
   pub end_call-keeps : (p : Image) (part : Part) (c : Call) (outcome : Outcome) → Keeps G R (end_call p part c outcome)
   unfolding end_call
   end_call-keeps p part c outcome =
       looks-from (chains moves) _ (λ w good. let r = with_results p c outcome w in
-      let first = with_results-world p c outcome w good in
+      let first = with_results-world (plain_steps moves) p c outcome w good in
       changes_then-from (chains moves) (λ _. r.0) (end_with p part c r.1) w first (keeps-from (chains moves) (end_with p part c r.1) r.0 (moves.behind w r.0 first) (end_with-keeps p part c r.1)))
 
   pub deliver-keeps : (p : Image) (part : Part) (c : CallNo) (outcome : Outcome) → Keeps G R (deliver p part c outcome)
   unfolding deliver
-  deliver-keeps p part c outcome = search (with_call-keeps, end_call-keeps, then-keeps, unwind-keeps, chains)
+  deliver-keeps p part c outcome = search (with_call-keeps, end_call-keeps, then-keeps, unwind-keeps, chains, plain_steps)
 
   pub gone-keeps : (p : Image) (part : Part) (c : Call) → Keeps G R (gone p part c)
   unfolding gone
-  gone-keeps p part c = search (changes-keeps, unqueued-alters, then-keeps, says-keeps, chains)
+  gone-keeps p part c = search (changes-keeps, unqueued-alters, then-keeps, says-keeps, chains, plain_steps)

@@ -30,9 +30,12 @@ use Rattle.machine_laws.proofs.Moves.{StepRelation, MoveRelation}
 use Rattle.machine_laws.proofs.FineMoves.{GoodWorld, Naming}
 use Rattle.world_laws.proofs.Appointments.Delays.{nature}
 use Rattle.world_laws.proofs.Appointments.FineMoves.{FineMoves, chains, says-keeps}
-use Rattle.world_laws.proofs.Appointments.Kept.Frames.{pop-alters, edit_top-alters, goes-keeps, push-alters, leaves-keeps, raises-keeps, pass_on-keeps, given-keeps, with_room-keeps}
-use Rattle.world_laws.proofs.Appointments.Kept.Scopes.{write_cell-alters, open_scope-alters}
+use Rattle.world_laws.proofs.Appointments.Kept.Frames.{pop-alters, edit_top-alters, goes-keeps, push-alters, leaves-keeps, plain_steps}
+use Rattle.world_laws.proofs.Appointments.Kept.Scopes.{open_scope-alters}
 use Rattle.machine_laws.proofs.Kept.Combinators.{Alters, Keeps, branch-keeps, changes-from, changes-keeps, cond-keeps, looks-from, looks-keeps, nothing-keeps, sees-keeps, then-from, then-keeps, when-keeps}
+use Rattle.machine_laws.proofs.Plain.Frames.{raises-keeps, pass_on-keeps, given-keeps, with_room-keeps}
+use Rattle.machine_laws.proofs.Plain.Cells.{write_cell-alters}
+use Rattle.machine_laws.proofs.Plain.PlainSteps.{anybody}
 
 -- no edit of a scope's mark, or of an assignment's, changes the call of another
 scope-nature : (f : ScopeMark → ScopeMark) (mark : Mark) → nature (edit_scope_mark f mark) ≡ nature mark
@@ -62,7 +65,7 @@ module _ {G : GoodWorld} {May : Naming} {R : StepRelation} {Q : MoveRelation} (m
       looks-from (chains moves) _ (λ w good. let n = suc w.drawn.controlled in
       then-from (chains moves) (changes (registered_as n (top_region w name) l)) (changes (write_cell l.within (first_place p l) (Thing n)) ▷ says Own (line.Init name n (top_region w name) l.declared)) w
       (changes-from (chains moves) (registered_as n (top_region w name) l) w (moves.registers (top_region w name) l w good))
-      (search (then-keeps, changes-keeps, write_cell-alters, says-keeps, chains)))
+      (search (then-keeps, changes-keeps, write_cell-alters, says-keeps, chains, plain_steps)))
 
   pub edit_top_scope-alters : (name : Who) (f : ScopeMark → ScopeMark) → Alters G R (edit_top_scope name f)
   edit_top_scope-alters name f = edit_top-alters moves name (λ x. with_mark (edit_scope_mark f x.mark) x) (λ x. scope-nature f x.mark)
@@ -73,7 +76,7 @@ module _ {G : GoodWorld} {May : Naming} {R : StepRelation} {Q : MoveRelation} (m
 
   pub behind_finalize-keeps : (p : Image) (name : Who) (leaving : Leaving) (test : Bool) → Keeps G R (behind_finalize p name leaving test)
   unfolding behind_finalize
-  behind_finalize-keeps p name (how.Exception e) true = search (pass_on-keeps)
+  behind_finalize-keeps p name (how.Exception e) true = search (pass_on-keeps, plain_steps, anybody)
   behind_finalize-keeps p name (how.Exception e) false = search (changes-keeps, edit_top_scope-alters, chains)
   behind_finalize-keeps p name how.End of_assignment = search (nothing-keeps, chains)
   behind_finalize-keeps p name how.Return of_assignment = search (nothing-keeps, chains)
@@ -84,7 +87,7 @@ module _ {G : GoodWorld} {May : Naming} {R : StepRelation} {Q : MoveRelation} (m
   pub end_in_initialize-keeps : (p : Image) (name : Who) (l : Located) (leaving : Leaving) → Keeps G R (end_in_initialize p name l leaving)
   unfolding end_in_initialize
   end_in_initialize-keeps p name l leaving =
-      then-keeps (chains moves) _ _ (changes-keeps (chains moves) _ (pop-alters moves name)) (cond-keeps (chains moves) (registers leaving) (register p name l) (pass_on p name leaving) (register-keeps p name l) (pass_on-keeps moves p name leaving))
+      then-keeps (chains moves) _ _ (changes-keeps (chains moves) _ (pop-alters moves name)) (cond-keeps (chains moves) (registers leaving) (register p name l) (pass_on p name leaving) (register-keeps p name l) (pass_on-keeps (plain_steps moves) p name leaving tt))
 
   pub end_in_finalize-keeps : (p : Image) (name : Who) (leaving : Leaving) → Keeps G R (end_in_finalize p name leaving)
   unfolding end_in_finalize
@@ -113,11 +116,11 @@ module _ {G : GoodWorld} {May : Naming} {R : StepRelation} {Q : MoveRelation} (m
   pub initialize_by-keeps : (p : Image) (name : Who) (s : StatementNo) (l : Located) (f : Option SubprogramNo) → Keeps G R (initialize_by p name s l f)
   unfolding initialize_by
   initialize_by-keeps p name s l None = search (goes-keeps, then-keeps, register-keeps, chains)
-  initialize_by-keeps p name s l (Some f) = search (with_room-keeps, goes-keeps, then-keeps, changes-keeps, push-alters, open_operation-keeps, chains)
+  initialize_by-keeps p name s l (Some f) = search (with_room-keeps, goes-keeps, then-keeps, changes-keeps, push-alters, open_operation-keeps, chains, plain_steps)
 
   pub initialize-keeps : (p : Image) (name : Who) (s : StatementNo) (d : DeclNo) → Keeps G R (initialize p name s d)
   unfolding initialize
-  initialize-keeps p name s d = search (sees-keeps, given-keeps, initialize_by-keeps, chains) depth 7
+  initialize-keeps p name s d = search (sees-keeps, given-keeps, initialize_by-keeps, chains, plain_steps) depth 8
 
   pub open_finalize-keeps : (p : Image) (name : Who) (n : ℕ) (l : Located) (f : SubprogramNo) → Keeps G R (open_finalize p name n l f)
   unfolding open_finalize
@@ -138,13 +141,13 @@ module _ {G : GoodWorld} {May : Naming} {R : StepRelation} {Q : MoveRelation} (m
 
   pub begin_assignment-keeps : (p : Image) (name : Who) (s : StatementNo) (target source : ℕ) → Keeps G R (begin_assignment p name s target source)
   unfolding begin_assignment
-  begin_assignment-keeps p name s target source = search (with_room-keeps, goes-keeps, then-keeps, says-keeps, changes-keeps, push-alters, chains) depth 7
+  begin_assignment-keeps p name s target source = search (with_room-keeps, goes-keeps, then-keeps, says-keeps, changes-keeps, push-alters, chains, plain_steps) depth 8
 
   pub assign_registered-keeps : (p : Image) (name : Who) (s : StatementNo) (target source : Option Registered) → Keeps G R (assign_registered p name s target source)
   unfolding assign_registered
   assign_registered-keeps p name s (Some target) (Some source) = search (begin_assignment-keeps)
-  assign_registered-keeps p name s (Some target) None = search (raises-keeps)
-  assign_registered-keeps p name s None source = search (raises-keeps)
+  assign_registered-keeps p name s (Some target) None = search (raises-keeps, plain_steps)
+  assign_registered-keeps p name s None source = search (raises-keeps, plain_steps)
 
   pub assign_located-keeps : (p : Image) (name : Who) (s : StatementNo) (target source : Located) → Keeps G R (assign_located p name s target source)
   unfolding assign_located
@@ -152,7 +155,7 @@ module _ {G : GoodWorld} {May : Naming} {R : StepRelation} {Q : MoveRelation} (m
 
   pub assign_controlled-keeps : (p : Image) (name : Who) (s : StatementNo) (target source : DeclNo) → Keeps G R (assign_controlled p name s target source)
   unfolding assign_controlled
-  assign_controlled-keeps p name s target source = search (sees-keeps, given-keeps, assign_located-keeps, chains) depth 7
+  assign_controlled-keeps p name s target source = search (sees-keeps, given-keeps, assign_located-keeps, chains, plain_steps) depth 8
 
   pub finalize_target_by-keeps : (p : Image) (name : Who) (r : Registered) (f : Option SubprogramNo) → Keeps G R (finalize_target_by p name r f)
   unfolding finalize_target_by
@@ -177,5 +180,5 @@ module _ {G : GoodWorld} {May : Naming} {R : StepRelation} {Q : MoveRelation} (m
 
   pub end_in_assign-keeps : (p : Image) (name : Who) (m : AssignMark) (leaving : Option Leaving) → Keeps G R (end_in_assign p name m leaving)
   unfolding end_in_assign
-  end_in_assign-keeps p name m (Some (how.Exception e)) = then-keeps (chains moves) _ _ (changes-keeps (chains moves) _ (pop-alters moves name)) (raises-keeps moves Own name exception.Program)
+  end_in_assign-keeps p name m (Some (how.Exception e)) = then-keeps (chains moves) _ _ (changes-keeps (chains moves) _ (pop-alters moves name)) (raises-keeps (plain_steps moves) Own name exception.Program)
   end_in_assign-keeps p name m _ = looks-keeps (chains moves) _ (λ w. step_with-keeps p name m.step (registered_object w m.target) (registered_object w m.source))

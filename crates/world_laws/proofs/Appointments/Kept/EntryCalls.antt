@@ -42,14 +42,15 @@ use Rattle.ceiling_laws.proofs.Fine.Cores.{Caller}
 use Rattle.world_laws.proofs.Appointments.FineMoves.{FineMoves, chains, says-keeps}
 use Rattle.world_laws.proofs.Appointments.Kept.Appointments.{appoint-alters}
 use Rattle.world_laws.proofs.Appointments.Kept.CallEnds.{gone-keeps}
-use Rattle.world_laws.proofs.Appointments.Kept.Calls.{edit_call-alters, forget_call-alters, says_call-keeps, enqueue-keeps}
 use Rattle.world_laws.proofs.Appointments.Kept.Dispatching.{block-keeps}
-use Rattle.world_laws.proofs.Appointments.Kept.Frames.{goes-keeps, leaves-keeps, raises-keeps, given-keeps, raise_if-keeps, with_room-keeps}
+use Rattle.world_laws.proofs.Appointments.Kept.Frames.{goes-keeps, leaves-keeps, plain_steps}
 use Rattle.world_laws.proofs.Appointments.Kept.Protected.{where_let_inside-keeps, begin_action_on-from, serve_call-keeps}
 use Rattle.world_laws.proofs.Appointments.Kept.Rendezvous.{meet-keeps}
 use Rattle.world_laws.proofs.Appointments.Kept.Sending.{open_abortable-alters, not_accepted-keeps}
 use Rattle.machine_laws.proofs.FineMoves.{GoodWorld, Naming}
 use Rattle.machine_laws.proofs.Kept.Combinators.{Alters, From, Keeps, after-from, changes-keeps, changes_then-from, either-from, keeps-from, looks-from, looks-keeps, looks_at-from, nothing-keeps, sees-keeps, then-from, then-keeps, unchanged-alters}
+use Rattle.machine_laws.proofs.Plain.Calls.{edit_call-alters, forget_call-alters, says_call-keeps, enqueue-keeps}
+use Rattle.machine_laws.proofs.Plain.Frames.{raises-keeps, given-keeps, raise_if-keeps, with_room-keeps}
 
 module _ {G : GoodWorld} {May : Naming} {R : StepRelation} {Q : MoveRelation} (moves : FineMoves G May R Q) where
   add_call-alters : (c : Call) → Alters G R (add_call c)
@@ -59,11 +60,11 @@ module _ {G : GoodWorld} {May : Naming} {R : StepRelation} {Q : MoveRelation} (m
   pub make_call-keeps : (p : Image) (c : Call) (step : Call → Step) → ((n : ℕ) → Keeps G R (step (numbered n c))) → Keeps G R (make_call p c step)
   make_call-keeps p c step kept =
       then-keeps (chains moves) _ _ (goes-keeps moves (who.Task c.caller) (next_of p c.statement))
-      (looks-keeps (chains moves) _ (λ w. then-keeps (chains moves) _ _ (changes-keeps (chains moves) _ (add_call-alters c)) (then-keeps (chains moves) _ _ (says_call-keeps moves TheCall (numbered (suc w.drawn.calls) c)) (kept (suc w.drawn.calls)))))
+      (looks-keeps (chains moves) _ (λ w. then-keeps (chains moves) _ _ (changes-keeps (chains moves) _ (add_call-alters c)) (then-keeps (chains moves) _ _ (says_call-keeps (plain_steps moves) TheCall (numbered (suc w.drawn.calls) c)) (kept (suc w.drawn.calls)))))
 
   pub end_at_once-keeps : (part : Part) (c : Call) (e : Raised) → Keeps G R (end_at_once part c e)
   unfolding end_at_once
-  end_at_once-keeps part c e = search (changes-keeps, forget_call-alters, then-keeps, raises-keeps, chains)
+  end_at_once-keeps part c e = search (changes-keeps, forget_call-alters, then-keeps, raises-keeps, chains, plain_steps)
 
   pub call_gone-keeps : (p : Image) (c : Call) → Keeps G R (call_gone p c)
   unfolding call_gone
@@ -77,12 +78,12 @@ module _ {G : GoodWorld} {May : Naming} {R : StepRelation} {Q : MoveRelation} (m
 
   pub call_queues-keeps : (p : Image) (c : Call) → May (who.Task c.caller) → Keeps G R (call_queues p c)
   unfolding call_queues
-  call_queues-keeps p c may = then-keeps (chains moves) _ _ (enqueue-keeps moves p c.number) (not_accepted-keeps moves p Own c c.kind may)
+  call_queues-keeps p c may = then-keeps (chains moves) _ _ (enqueue-keeps (plain_steps moves) p c.number) (not_accepted-keeps moves p Own c c.kind may)
 
   pub call_not_met-keeps : (p : Image) (c : Call) (test : Bool) → May (who.Task c.caller) → Keeps G R (call_not_met p c test)
   unfolding call_not_met
   call_not_met-keeps p c true may = make_call-keeps p c (λ d. end_at_once Own d exception.Program) (λ n. end_at_once-keeps Own (numbered n c) exception.Program)
-  call_not_met-keeps p c false may = with_room-keeps moves (who.Task c.caller) (marks_if_queued c.kind) 0 _ (make_call-keeps p c (call_queues p) (λ n. call_queues-keeps p (numbered n c) may))
+  call_not_met-keeps p c false may = with_room-keeps (plain_steps moves) (who.Task c.caller) (marks_if_queued c.kind) 0 _ (make_call-keeps p c (call_queues p) (λ n. call_queues-keeps p (numbered n c) may))
 
   pub call_accepted_by-keeps : (p : Image) (t : TaskNo) (c : Call) (next : Option StatementNo) → May (who.Task c.caller) → Keeps G R (call_accepted_by p t c next)
   unfolding call_accepted_by
@@ -121,7 +122,7 @@ module _ {G : GoodWorld} {May : Naming} {R : StepRelation} {Q : MoveRelation} (m
   call_passes-keeps : (p : Image) (o : ObjectNo) (c : Call) → May (who.Task c.caller) → Keeps G R (call_passes p o c)
   unfolding call_passes
   call_passes-keeps p o c may =
-      then-keeps (chains moves) _ _ (says-keeps moves Own (line.Enter (who.Task c.caller) o Write) refl) (then-keeps (chains moves) _ _ (enqueue-keeps moves p c.number)
+      then-keeps (chains moves) _ _ (says-keeps moves Own (line.Enter (who.Task c.caller) o Write) refl) (then-keeps (chains moves) _ _ (enqueue-keeps (plain_steps moves) p c.number)
       (then-keeps (chains moves) _ _ (says-keeps moves Own (line.Exit (who.Task c.caller) o) refl) (not_accepted-keeps moves p Own c c.kind may)))
 
   call_refused-keeps : (o : ObjectNo) (c : Call) → Keeps G R (call_refused o c)
@@ -142,17 +143,17 @@ module _ {G : GoodWorld} {May : Naming} {R : StepRelation} {Q : MoveRelation} (m
       let d = numbered (suc w.drawn.calls) c in
       let added = moves.adds_call c w good in
       changes_then-from (chains moves) (add_call c) _ w added
-      (after-from (chains moves) (says_call TheCall d) (call_runs_if_room p o d) made (keeps-from (chains moves) _ made (moves.behind w made added) (says_call-keeps moves TheCall d))
+      (after-from (chains moves) (says_call TheCall d) (call_runs_if_room p o d) made (keeps-from (chains moves) _ made (moves.behind w made added) (says_call-keeps (plain_steps moves) TheCall d))
       (λ v xs k. call_runs_if_room-from p o d v (moves.behind made v k) may (moves.called_on d.number (who.Task d.caller) made v k (made-caller c w))))))
 
   call_closed-keeps : (p : Image) (o : ObjectNo) (c : Call) (test : Bool) → May (who.Task c.caller) → Keeps G R (call_closed p o c test)
   unfolding call_closed
   call_closed-keeps p o c true may = make_call-keeps p c (call_refused o) (λ n. call_refused-keeps o (numbered n c))
-  call_closed-keeps p o c false may = with_room-keeps moves (who.Task c.caller) (marks_if_queued c.kind) 0 _ (make_call-keeps p c (call_passes p o) (λ n. call_passes-keeps p o (numbered n c) may))
+  call_closed-keeps p o c false may = with_room-keeps (plain_steps moves) (who.Task c.caller) (marks_if_queued c.kind) 0 _ (make_call-keeps p c (call_passes p o) (λ n. call_passes-keeps p o (numbered n c) may))
 
   call_by_barrier-keeps : (p : Image) (o : ObjectNo) (c : Call) (test : Bool) → May (who.Task c.caller) → Keeps G R (call_by_barrier p o c test)
   unfolding call_by_barrier
-  call_by_barrier-keeps p o c true may = with_room-keeps moves (who.Task c.caller) 1 0 _ (make_run-keeps p o c may)
+  call_by_barrier-keeps p o c true may = with_room-keeps (plain_steps moves) (who.Task c.caller) 1 0 _ (make_run-keeps p o c may)
   call_by_barrier-keeps p o c false may = looks-keeps (chains moves) _ (λ w. call_closed-keeps p o c (is_full p w c.owner c.entry) may)
 
   pub call_object-keeps : (p : Image) (o : ObjectNo) (c : Call) → May (who.Task c.caller) → Keeps G R (call_object p o c)
@@ -167,13 +168,13 @@ module _ {G : GoodWorld} {May : Naming} {R : StepRelation} {Q : MoveRelation} (m
   pub call_named-keeps : (p : Image) (t : TaskNo) (kind : CallKind) (s : StatementNo) (n : EntryCallNamed) → May (who.Task t) → Keeps G R (call_named p t kind s n)
   unfolding call_named
   call_named-keeps p t kind s n may =
-      sees-keeps (chains moves) p (who.Task t) _ (λ q. given-keeps moves Own (who.Task t) (owner_of_entry q n.entry n.owner) _ (λ o. given-keeps moves Own (who.Task t) (entry_parameters q (entry_of p n.entry).formals n.actuals) _ (λ parameters.
-      given-keeps moves Own (who.Task t) (timed_moment q (form_of p s)) _ (λ m. call_owner-keeps p (new_call t kind s n o (active_of p q.world (who.Task t)) parameters m) o may))))
+      sees-keeps (chains moves) p (who.Task t) _ (λ q. given-keeps (plain_steps moves) Own (who.Task t) (owner_of_entry q n.entry n.owner) _ (λ o. given-keeps (plain_steps moves) Own (who.Task t) (entry_parameters q (entry_of p n.entry).formals n.actuals) _ (λ parameters.
+      given-keeps (plain_steps moves) Own (who.Task t) (timed_moment q (form_of p s)) _ (λ m. call_owner-keeps p (new_call t kind s n o (active_of p q.world (who.Task t)) parameters m) o may))))
 
   pub entry_call-keeps : (p : Image) (name : Who) (kind : CallKind) (s : StatementNo) → May name → Keeps G R (entry_call p name kind s)
   unfolding entry_call
-  entry_call-keeps p (who.Task t) kind s may = looks-keeps (chains moves) _ (λ w. raise_if-keeps moves (who.Task t) (is_forbidden w (who.Task t) kind) exception.Program _ (call_named-keeps p t kind s (named_call p s) may))
-  entry_call-keeps p who.Agent kind s may = raises-keeps moves Own who.Agent exception.Program
+  entry_call-keeps p (who.Task t) kind s may = looks-keeps (chains moves) _ (λ w. raise_if-keeps (plain_steps moves) (who.Task t) (is_forbidden w (who.Task t) kind) exception.Program _ (call_named-keeps p t kind s (named_call p s) may))
+  entry_call-keeps p who.Agent kind s may = raises-keeps (plain_steps moves) Own who.Agent exception.Program
 
   -- ---- triggers that are delays
 
@@ -185,12 +186,12 @@ module _ {G : GoodWorld} {May : Naming} {R : StepRelation} {Q : MoveRelation} (m
   unfolding trigger_delay
   trigger_delay-keeps p name s trigger m false = goes-keeps moves name (next_of p trigger)
   trigger_delay-keeps p name s trigger m true =
-      with_room-keeps moves name 1 0 _ (then-keeps (chains moves) _ _ (goes-keeps moves name (next_of p s)) (looks-keeps (chains moves) _ (λ w. then-keeps (chains moves) _ _ (changes-keeps (chains moves) _ (open_abortable-alters moves p name s None)) (changes-keeps (chains moves) _ (appoint_trigger-alters name (length (frames_of w name)) m)))))
+      with_room-keeps (plain_steps moves) name 1 0 _ (then-keeps (chains moves) _ _ (goes-keeps moves name (next_of p s)) (looks-keeps (chains moves) _ (λ w. then-keeps (chains moves) _ _ (changes-keeps (chains moves) _ (open_abortable-alters moves p name s None)) (changes-keeps (chains moves) _ (appoint_trigger-alters name (length (frames_of w name)) m)))))
 
   async_delay-keeps : (p : Image) (name : Who) (s trigger : StatementNo) → Keeps G R (async_delay p name s trigger)
   unfolding async_delay
   async_delay-keeps p name s trigger =
-      sees-keeps (chains moves) p name _ (λ q. raise_if-keeps moves name (is_forbidden q.world name call_kind.Triggering) exception.Program _ (given-keeps moves Own name (delay_moment q trigger) _ (λ m. trigger_delay-keeps p name s trigger m (int_lt (pos q.world.time) m))))
+      sees-keeps (chains moves) p name _ (λ q. raise_if-keeps (plain_steps moves) name (is_forbidden q.world name call_kind.Triggering) exception.Program _ (given-keeps (plain_steps moves) Own name (delay_moment q trigger) _ (λ m. trigger_delay-keeps p name s trigger m (int_lt (pos q.world.time) m))))
 
   async_by_trigger-keeps : (p : Image) (name : Who) (s trigger : StatementNo) (form : StatementForm) → May name → Keeps G R (async_by_trigger p name s trigger form)
   unfolding async_by_trigger
@@ -203,8 +204,8 @@ module _ {G : GoodWorld} {May : Naming} {R : StepRelation} {Q : MoveRelation} (m
 
   pub mark_sending-alters : (c : Option CallNo) (o : Owner) (e : EntryNo) (with_abort : Bool) → Alters G R (mark_sending c o e with_abort)
   mark_sending-alters None o e with_abort = search (unchanged-alters, chains)
-  mark_sending-alters (Some c) o e with_abort = search (edit_call-alters)
+  mark_sending-alters (Some c) o e with_abort = search (edit_call-alters, plain_steps)
 
   pub requeue-keeps : (p : Image) (name : Who) (e : EntryNo) (o : EntryOwner) (with_abort : Bool) → Keeps G R (requeue p name e o with_abort)
   unfolding requeue
-  requeue-keeps p name e o with_abort = search (sees-keeps, given-keeps, changes-keeps, mark_sending-alters, then-keeps, leaves-keeps, chains) depth 9
+  requeue-keeps p name e o with_abort = search (sees-keeps, given-keeps, changes-keeps, mark_sending-alters, then-keeps, leaves-keeps, chains, plain_steps) depth 10

@@ -32,14 +32,14 @@ use Rattle.world_laws.proofs.Appointments.Delays.{Idle}
 use Rattle.world_laws.proofs.Appointments.FineMoves.{FineMoves, chains, effect-leads, move_chains, says-keeps}
 use Rattle.world_laws.proofs.Appointments.Kept.Appointments.{drops_then-from, drop_appointment-alters}
 use Rattle.world_laws.proofs.Appointments.Kept.CallEnds.{trigger_at-keeps, deliver-keeps}
-use Rattle.world_laws.proofs.Appointments.Kept.Calls.{with_call-keeps, unqueued-alters}
 use Rattle.world_laws.proofs.Appointments.Kept.Dispatching.{to_tail-from, ready-from, idle_then-from}
-use Rattle.world_laws.proofs.Appointments.Kept.Frames.{goes-keeps, open_sequence-keeps}
+use Rattle.world_laws.proofs.Appointments.Kept.Frames.{goes-keeps, open_sequence-keeps, plain_steps}
 use Rattle.world_laws.proofs.Appointments.Kept.Handlers.{release-keeps, interrupt-keeps, clear_timer-alters}
 use Rattle.world_laws.proofs.Appointments.Kept.Priorities.{runs-idle}
 use Rattle.world_laws.proofs.Appointments.Kept.Unwinding.{unwind-keeps}
 use Rattle.machine_laws.proofs.FineMoves.{GoodWorld, Naming}
 use Rattle.machine_laws.proofs.Kept.Combinators.{Alters, From, Keeps, Leads, changes-keeps, for_each-keeps, for_some-keeps, from-keeps, keeps-from, looks-from, looks-keeps, nothing-keeps, then-from, then-keeps, then-leads}
+use Rattle.machine_laws.proofs.Plain.Calls.{with_call-keeps, unqueued-alters}
 
 first_of_six : (a b c d e f : Bool) → (a && b && c && d && e && f) ≡ true → a ≡ true
 first_of_six true b c d e f h = refl
@@ -108,7 +108,7 @@ module _ {G : GoodWorld} {May : Naming} {R : StepRelation} {Q : MoveRelation} (m
 
   pub time_out-keeps : (p : Image) (c : CallNo) → Keeps G R (time_out p c)
   unfolding time_out
-  time_out-keeps p c = search (with_call-keeps, changes-keeps, unqueued-alters, then-keeps, says-keeps, deliver-keeps, chains) depth 7
+  time_out-keeps p c = search (with_call-keeps, changes-keeps, unqueued-alters, then-keeps, says-keeps, deliver-keeps, chains, plain_steps) depth 8
 
   -- what is due is dropped, and comes about
   due-from : (p : Image) (due : Due) (again : Step) (w : World) → G w → Keeps G R again → From R w (changes (drop_appointment (is_the_same_due due)) ▷ come_due p due ▷ again)

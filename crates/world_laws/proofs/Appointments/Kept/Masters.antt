@@ -28,12 +28,13 @@ use Rattle.world_laws.proofs.Appointments.FineMoves.{FineMoves, chains}
 use Rattle.world_laws.proofs.Appointments.Kept.Appointments.{drops_then-from}
 use Rattle.world_laws.proofs.Appointments.Kept.CallEnds.{end_call-keeps, gone-keeps}
 use Rattle.world_laws.proofs.Appointments.Kept.Dispatching.{ready-from}
-use Rattle.world_laws.proofs.Appointments.Kept.Frames.{leaves-keeps, raises-keeps, open_sequence-keeps}
+use Rattle.world_laws.proofs.Appointments.Kept.Frames.{leaves-keeps, open_sequence-keeps, plain_steps}
 use Rattle.world_laws.proofs.Appointments.Kept.Inheritance.{lose-alters}
 use Rattle.world_laws.proofs.Appointments.Kept.Tasks.{edit_task-alters}
 use Rattle.machine_laws.proofs.FineMoves.{GoodWorld, Naming}
 use Rattle.ceiling_laws.proofs.Runs.Kept.Waking.{found-step}
 use Rattle.machine_laws.proofs.Kept.Combinators.{From, Keeps, changes-from, changes-keeps, for_each-keeps, for_some-keeps, from-keeps, keeps-from, looks-from, looks-keeps, looks_at-from, nothing-keeps, then-from, then-keeps, when-keeps}
+use Rattle.machine_laws.proofs.Plain.Frames.{raises-keeps}
 
 -- who waits for an activation or for dependents waits for no delay
 waits-activation : (waiting : Option Waiting) → waits_for_activation waiting ≡ true → waits_for_delay waiting ≡ false
@@ -74,7 +75,7 @@ module _ {G : GoodWorld} {May : Naming} {R : StepRelation} {Q : MoveRelation} (m
   wake_activator-from p part name w good idle =
       looks_at-from (chains moves) (λ v. ready p part name ▷ when (task_of v name).group_failed (raises part name exception.Tasking) ▷ open_sequence p part name) w
       (then-from (chains moves) (ready p part name) _ w (ready-from moves p part name w good idle)
-      (then-keeps (chains moves) _ _ (when-keeps (chains moves) (task_of w name).group_failed _ (raises-keeps moves part name exception.Tasking)) (open_sequence-keeps moves p part name)))
+      (then-keeps (chains moves) _ _ (when-keeps (chains moves) (task_of w name).group_failed _ (raises-keeps (plain_steps moves) part name exception.Tasking)) (open_sequence-keeps moves p part name)))
 
   end_group_where : (p : Image) (actor activator : Who) (w : World) (test : Bool) → G w → (test ≡ true → Idle activator w) → From R w (when test (wake_activator p (part_of actor activator) activator))
   end_group_where p actor activator w true good idle = wake_activator-from p (part_of actor activator) activator w good (idle refl)

@@ -31,12 +31,13 @@ use Rattle.profile_machine.specs.Words.{edit_at}
 use Rattle.machine_laws.proofs.Moves.{StepRelation, MoveRelation}
 use Rattle.world_laws.proofs.Appointments.Delays.{Idle}
 use Rattle.world_laws.proofs.Appointments.FineMoves.{FineMoves, chains, says-keeps}
-use Rattle.world_laws.proofs.Appointments.Kept.Calls.{edit_call-alters, with_call-keeps, edit_queue-alters}
 use Rattle.world_laws.proofs.Appointments.Kept.Dispatching.{to_tail-from}
-use Rattle.world_laws.proofs.Appointments.Kept.Frames.{goes-keeps, given-keeps, raise_if-keeps}
+use Rattle.world_laws.proofs.Appointments.Kept.Frames.{goes-keeps, plain_steps}
 use Rattle.world_laws.proofs.Appointments.Kept.Tasks.{edit_task-alters}
 use Rattle.machine_laws.proofs.FineMoves.{GoodWorld, Naming}
 use Rattle.machine_laws.proofs.Kept.Combinators.{Alters, From, Keeps, branch-keeps, changes-keeps, for_some-keeps, keeps-from, looks-from, looks-keeps, nothing-keeps, sees-keeps, then-keeps, when-keeps}
+use Rattle.machine_laws.proofs.Plain.Calls.{edit_call-alters, with_call-keeps, edit_queue-alters}
+use Rattle.machine_laws.proofs.Plain.Frames.{given-keeps, raise_if-keeps}
 
 runnable-waits : (state : State) → is_runnable_state state ≡ true → waits_for_delay (waiting_in state) ≡ false
 runnable-waits Made e = refl
@@ -53,15 +54,15 @@ module _ {G : GoodWorld} {May : Naming} {R : StepRelation} {Q : MoveRelation} (m
   unfolding Alters
   placed_anew-alters queuing.Fifo p c level w good = moves.stays w good
   placed_anew-alters queuing.Priority p c level w good =
-      edit_queue-alters moves c.owner (place_of_entry p c.entry) (λ q. put_call queuing.Priority w c.number level (take_call c.number q)) w good
+      edit_queue-alters (plain_steps moves) c.owner (place_of_entry p c.entry) (λ q. put_call queuing.Priority w c.number level (take_call c.number q)) w good
 
   pub reprioritize-keeps : (p : Image) (level : ℕ) (c : Call) → Keeps G R (reprioritize p level c)
   unfolding reprioritize
-  reprioritize-keeps p level c = search (when-keeps, changes-keeps, edit_call-alters, then-keeps, placed_anew-alters, chains) depth 7
+  reprioritize-keeps p level c = search (when-keeps, changes-keeps, edit_call-alters, then-keeps, placed_anew-alters, chains, plain_steps) depth 8
 
   pub reprioritize_own-keeps : (p : Image) (name : Who) (waiting : Waiting) → Keeps G R (reprioritize_own p name waiting)
   unfolding reprioritize_own
-  reprioritize_own-keeps p name waiting = search (looks-keeps, for_some-keeps, with_call-keeps, reprioritize-keeps, chains)
+  reprioritize_own-keeps p name waiting = search (looks-keeps, for_some-keeps, with_call-keeps, reprioritize-keeps, chains, plain_steps)
 
   -- who is ready waits for no delay
   pub runs-idle : (name : Who) (w : World) → G w → is_runnable (task_of w name) ≡ true → Idle name w
@@ -125,12 +126,12 @@ module _ {G : GoodWorld} {May : Naming} {R : StepRelation} {Q : MoveRelation} (m
   unfolding set_base_of
   set_base_of-keeps p actor s level None = search (goes-keeps)
   set_base_of-keeps p actor s level (Some t) =
-      raise_if-keeps moves actor (is_edf_base p t.base || is_edf_base p level) exception.Program _
+      raise_if-keeps (plain_steps moves) actor (is_edf_base p t.base || is_edf_base p level) exception.Program _
       (then-keeps (chains moves) (goes actor (next_of p s)) _ (search (goes-keeps)) (set_or_defer_base-keeps p actor t.who level))
 
   pub set_priority-keeps : (p : Image) (name : Who) (s : StatementNo) (e : ExprNo) (task : Option ExprNo) → Keeps G R (set_priority p name s e task)
   unfolding set_priority
-  set_priority-keeps p name s e task = search (sees-keeps, given-keeps, set_base_of-keeps, chains) depth 8
+  set_priority-keeps p name s e task = search (sees-keeps, given-keeps, set_base_of-keeps, chains, plain_steps) depth 9
 
   set_level-keeps : (level ticks : ℕ) → Keeps G R (changes (λ w. record w { quanta = edit_at level (λ _. ticks) w.quanta }))
   unfolding Alters
@@ -139,8 +140,8 @@ module _ {G : GoodWorld} {May : Naming} {R : StepRelation} {Q : MoveRelation} (m
   pub set_quantum-keeps : (p : Image) (name : Who) (s : StatementNo) (level quantum : ExprNo) → Keeps G R (set_quantum p name s level quantum)
   unfolding set_quantum
   set_quantum-keeps p name s level quantum =
-      sees-keeps (chains moves) p name _ (λ q. given-keeps moves Own name (value q level) _ (λ v. given-keeps moves Own name (moment q quantum) _ (λ n.
-      given-keeps moves Own name (priority_in_range p.policies.last_priority (whole_in v)) _ (λ l. given-keeps moves Own name (quantum_of p l n) _ (λ ticks.
+      sees-keeps (chains moves) p name _ (λ q. given-keeps (plain_steps moves) Own name (value q level) _ (λ v. given-keeps (plain_steps moves) Own name (moment q quantum) _ (λ n.
+      given-keeps (plain_steps moves) Own name (priority_in_range p.policies.last_priority (whole_in v)) _ (λ l. given-keeps (plain_steps moves) Own name (quantum_of p l n) _ (λ ticks.
       then-keeps (chains moves) (goes name (next_of p s)) _ (goes-keeps moves name (next_of p s)) (set_level-keeps l ticks))))))
 
   pub defer_deadline-keeps : (name : Who) (d : ℤ) → Keeps G R (defer_deadline name d)
@@ -153,4 +154,4 @@ module _ {G : GoodWorld} {May : Naming} {R : StepRelation} {Q : MoveRelation} (m
 
   pub set_deadline_of-keeps : (p : Image) (name : Who) (s : StatementNo) (e : ExprNo) (task : Option ExprNo) → Keeps G R (set_deadline_of p name s e task)
   unfolding set_deadline_of
-  set_deadline_of-keeps p name s e task = search (sees-keeps, given-keeps, goes-keeps, then-keeps, set_or_defer_deadline-keeps, chains) depth 8
+  set_deadline_of-keeps p name s e task = search (sees-keeps, given-keeps, goes-keeps, then-keeps, set_or_defer_deadline-keeps, chains, plain_steps) depth 9

@@ -36,14 +36,16 @@ use Rattle.machine_laws.proofs.Moves.{StepRelation, MoveRelation}
 use Rattle.world_laws.proofs.Appointments.Delays.{nature}
 use Rattle.ceiling_laws.proofs.Fine.Cores.{Caller}
 use Rattle.world_laws.proofs.Appointments.FineMoves.{FineMoves, chains, says-keeps}
-use Rattle.world_laws.proofs.Appointments.Kept.Calls.{edit_call-alters, unqueued-alters}
 use Rattle.world_laws.proofs.Appointments.Kept.Dispatching.{to_tail-keeps}
-use Rattle.world_laws.proofs.Appointments.Kept.Frames.{goes-keeps, edit_top-alters, raises-keeps, given-keeps, raise_if-keeps, with_room-keeps}
+use Rattle.world_laws.proofs.Appointments.Kept.Frames.{goes-keeps, edit_top-alters, plain_steps}
 use Rattle.world_laws.proofs.Appointments.Kept.Inheritance.{inherit_running-keeps}
 use Rattle.world_laws.proofs.Appointments.Kept.Scopes.{open_scope-alters}
-use Rattle.world_laws.proofs.Appointments.Kept.Subprograms.{begin_body-keeps, handing-keeps}
+use Rattle.world_laws.proofs.Appointments.Kept.Subprograms.{begin_body-keeps}
 use Rattle.machine_laws.proofs.FineMoves.{GoodWorld, Naming}
 use Rattle.machine_laws.proofs.Kept.Combinators.{Alters, From, Keeps, after-from, branch-keeps, changes-from, changes-keeps, from-keeps, keeps-from, looks-keeps, sees-keeps, then-keeps}
+use Rattle.machine_laws.proofs.Plain.Calls.{edit_call-alters, unqueued-alters}
+use Rattle.machine_laws.proofs.Plain.Frames.{raises-keeps, given-keeps, raise_if-keeps, with_room-keeps}
+use Rattle.machine_laws.proofs.Plain.Subprograms.{handing-keeps}
 
 -- the call of its own of a protected action is not edited
 protected-nature : (f : ProtectedMark → ProtectedMark) → ((m : ProtectedMark) → (f m).own_call ≡ m.own_call) → (mark : Mark) → nature (edit_protected f mark) ≡ nature mark
@@ -62,8 +64,8 @@ module _ {G : GoodWorld} {May : Naming} {R : StepRelation} {Q : MoveRelation} (m
   find_held-keeps p name o mode may = then-keeps (chains moves) _ _ (says-keeps moves Own (line.Held name o mode) refl) (to_tail-keeps moves p ThePlacing name may)
 
   enter_or-keeps : (p : Image) (name : Who) (o : ObjectNo) (mode : Mode) (step : Step) (is : Entering) → May name → Keeps G R step → Keeps G R (enter_or p name o mode step is)
-  enter_or-keeps p name o mode step entering_is.SameObject may kept = raises-keeps moves Own name exception.Program
-  enter_or-keeps p name o mode step entering_is.AboveCeiling may kept = raises-keeps moves Own name exception.Program
+  enter_or-keeps p name o mode step entering_is.SameObject may kept = raises-keeps (plain_steps moves) Own name exception.Program
+  enter_or-keeps p name o mode step entering_is.AboveCeiling may kept = raises-keeps (plain_steps moves) Own name exception.Program
   enter_or-keeps p name o mode step entering_is.Held may kept = find_held-keeps p name o mode may
   enter_or-keeps p name o mode step entering_is.Inside may kept = kept
 
@@ -94,7 +96,7 @@ module _ {G : GoodWorld} {May : Naming} {R : StepRelation} {Q : MoveRelation} (m
 
   pub begin_call-keeps : (p : Image) (part : Part) (name : Who) (c : Call) → Keeps G R (begin_call p part name c)
   unfolding begin_call
-  begin_call-keeps p part name c = search (changes-keeps, unqueued-alters, then-keeps, edit_call-alters, says-keeps, chains) depth 8
+  begin_call-keeps p part name c = search (changes-keeps, unqueued-alters, then-keeps, edit_call-alters, says-keeps, chains, plain_steps) depth 9
 
 module _ {G : GoodWorld} {May : Naming} {R : StepRelation} {Q : MoveRelation} (moves : FineMoves G May R Q) where
   pub begin_operation-keeps : (p : Image) (name : Who) (s : StatementNo) (f : SubprogramNo) (o : ObjectNo) (h : Handed) (to : ResultTo) → May name → Keeps G R (begin_operation p name s f o h to)
@@ -103,20 +105,20 @@ module _ {G : GoodWorld} {May : Naming} {R : StepRelation} {Q : MoveRelation} (m
 
   pub call_operation_of-keeps : (p : Image) (name : Who) (s : StatementNo) (f : SubprogramNo) (actuals : List Actual) (to : Destination) (o : ObjectNo) → May name → Keeps G R (call_operation_of p name s f actuals to o)
   unfolding call_operation_of
-  call_operation_of-keeps p name s f actuals to o may = search (looks-keeps, raise_if-keeps, with_room-keeps, handing-keeps, where_let_inside-keeps, begin_operation-keeps, chains) depth 10
+  call_operation_of-keeps p name s f actuals to o may = search (looks-keeps, raise_if-keeps, with_room-keeps, handing-keeps, where_let_inside-keeps, begin_operation-keeps, chains, plain_steps) depth 11
 
   pub call_operation-keeps : (p : Image) (name : Who) (s : StatementNo) (d : DeclNo) (f : SubprogramNo) (actuals : List Actual) (to : Destination) → May name → Keeps G R (call_operation p name s d f actuals to)
   unfolding call_operation
-  call_operation-keeps p name s d f actuals to may = search (sees-keeps, given-keeps, call_operation_of-keeps, chains) depth 7
+  call_operation-keeps p name s d f actuals to may = search (sees-keeps, given-keeps, call_operation_of-keeps, chains, plain_steps) depth 8
 
   pub begin_own_operation-keeps : (p : Image) (name : Who) (s : StatementNo) (f : SubprogramNo) (o : Option ObjectNo) (h : Handed) (to : ResultTo) → Keeps G R (begin_own_operation p name s f o h to)
   unfolding begin_own_operation
-  begin_own_operation-keeps p name s f None h to = search (raises-keeps)
+  begin_own_operation-keeps p name s f None h to = search (raises-keeps, plain_steps)
   begin_own_operation-keeps p name s f (Some o) h to = search (looks-keeps, begin_body-keeps, chains)
 
   pub call_own_operation-keeps : (p : Image) (name : Who) (s : StatementNo) (f : SubprogramNo) (actuals : List Actual) (to : Destination) → Keeps G R (call_own_operation p name s f actuals to)
   unfolding call_own_operation
-  call_own_operation-keeps p name s f actuals to = search (with_room-keeps, handing-keeps, sees-keeps, begin_own_operation-keeps, chains)
+  call_own_operation-keeps p name s f actuals to = search (with_room-keeps, handing-keeps, sees-keeps, begin_own_operation-keeps, chains, plain_steps)
 
   pub body_opens-keeps : (p : Image) (name : Who) (o : ObjectNo) (c : Call) → Keeps G R (body_opens p name o c)
   unfolding body_opens

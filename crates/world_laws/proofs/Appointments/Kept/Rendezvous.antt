@@ -1,5 +1,5 @@
 -- Accepting calls: each step keeps a relation that its parts keep.
-use Rattle.std.proofs.Common.{◌≡◌, refl}
+use Rattle.std.proofs.Common.{refl}
 use Rattle.std.specs.Prelude.{Bool, true, false, List, Option, Some, None, [], ◌∷◌}
 use Rattle.ann_base.specs.declared.exceptions.Raised.TheVariants as exception
 use Rattle.ann_base.specs.declared.identities.CallNo.{CallNo}
@@ -10,7 +10,6 @@ use Rattle.profile_machine.specs.declared.numbers.EntryNo.{EntryNo}
 use Rattle.profile_machine.specs.declared.numbers.StatementNo.{StatementNo}
 use Rattle.profile_machine.specs.declared.run_data.Leaving.{Leaving}
 use Rattle.profile_machine.specs.declared.run_data.Leaving.TheVariants as how
-use Rattle.profile_machine.specs.declared.values.Value.{Value}
 use Rattle.profile_machine.specs.declared.world.World.{World}
 use Rattle.profile_machine.specs.declared.world.calls.Call.{Call}
 use Rattle.profile_machine.specs.declared.world.calls.Owner.{Owner}
@@ -24,14 +23,13 @@ use Rattle.profile_machine.specs.declared.world.marks.Mark.TheVariants.{InAccept
 use Rattle.profile_machine.specs.declared.world.tasks.Cause.TheVariants as inherited_by
 use Rattle.profile_machine.specs.declared.world.tasks.State.TheVariants.{Blocked}
 use Rattle.profile_machine.specs.declared.world.tasks.Waiting.TheVariants as waits_for
-use Rattle.profile_machine.specs.Calls.{formals_count, parameters_of, next_call, place_of_entry}
+use Rattle.profile_machine.specs.Calls.{parameters_of, next_call, place_of_entry}
 use Rattle.profile_machine.specs.Dispatching.{ready}
 use Rattle.profile_machine.specs.Frames.{new_frame, in_protected}
 use Rattle.profile_machine.specs.Inheritance.{inherit}
 use Rattle.profile_machine.specs.Program.{form_of, scope_of}
 use Rattle.profile_machine.specs.Rendezvous.{accept_scope, open_accept, has_room_for_accept, begin_accept, finish_without_room, accept_with_room, accept_call, meet_with_room, meet_without_room, meet, accept_or_wait, accept, accept_chosen, wait_at_select, gone_sent, meet_sent, arrive_at, arrive, finish_accept, finish_rendezvous, behind_accept, finished_call, end_in_accept, own_queue}
 use Rattle.profile_machine.specs.Scopes.{begin_scope, next_id, plainly, innermost, cells_of, scope_in_use}
-use Rattle.profile_machine.specs.Serving.{with_values}
 use Rattle.profile_machine.specs.Steps.{Step, changes}
 use Rattle.profile_machine.specs.Tasks.{with_state, edit_task}
 use Rattle.machine_laws.proofs.Moves.{StepRelation, MoveRelation}
@@ -39,20 +37,18 @@ use Rattle.world_laws.proofs.Appointments.Delays.{Idle}
 use Rattle.world_laws.proofs.Appointments.FineMoves.{FineMoves, chains, says-keeps}
 use Rattle.world_laws.proofs.Appointments.Kept.Appointments.{drops_then-from}
 use Rattle.world_laws.proofs.Appointments.Kept.CallEnds.{deliver-keeps, gone-keeps}
-use Rattle.world_laws.proofs.Appointments.Kept.Calls.{edit_call-alters, with_call-keeps, enqueue-keeps}
 use Rattle.world_laws.proofs.Appointments.Kept.Dispatching.{ready-from, idle_then-from, block-keeps}
-use Rattle.world_laws.proofs.Appointments.Kept.Frames.{push-alters, pop-alters, goes-keeps, raises-keeps, open_sequence-keeps, pass_on-keeps, raise_if-keeps}
+use Rattle.world_laws.proofs.Appointments.Kept.Frames.{push-alters, pop-alters, goes-keeps, open_sequence-keeps, plain_steps}
 use Rattle.world_laws.proofs.Appointments.Kept.Inheritance.{inherit-alters, inherit_running-keeps, lose_running-keeps}
 use Rattle.world_laws.proofs.Appointments.Kept.Protected.{begin_call-keeps}
 use Rattle.world_laws.proofs.Appointments.Kept.Scopes.{end_scope-alters}
 use Rattle.world_laws.proofs.Appointments.Kept.Sending.{send_on-keeps, begin_abortable-keeps, sent_not_begun-keeps}
 use Rattle.machine_laws.proofs.FineMoves.{GoodWorld, Naming}
-use Rattle.line_laws.proofs.Leaving.Kept.Rendezvous.{finished_call-number}
-use Rattle.line_laws.proofs.Leaving.Kept.Serving.{keeps_sending-caller}
 use Rattle.machine_laws.proofs.Kept.Combinators.{Alters, From, Keeps, changes-from, changes-keeps, either-from, for_some-keeps, from-keeps, looks-keeps, looks_at-from, nothing-keeps, then-from, then-keeps}
-
-pub finished_call-caller : (p : Image) (cells : List Value) (leaving : Leaving) (c : Call) → (finished_call p cells leaving c).caller ≡ c.caller
-finished_call-caller p cells leaving c = keeps_sending-caller leaving (with_values cells (formals_count p c) c)
+use Rattle.machine_laws.proofs.Plain.Calls.{edit_call-alters, with_call-keeps, enqueue-keeps}
+use Rattle.machine_laws.proofs.Plain.Frames.{raises-keeps, pass_on-keeps, raise_if-keeps}
+use Rattle.machine_laws.proofs.Plain.PlainSteps.{anybody}
+use Rattle.machine_laws.proofs.Plain.Results.{finished_call-caller, finished_call-number}
 
 module _ {G : GoodWorld} {May : Naming} {R : StepRelation} {Q : MoveRelation} (moves : FineMoves G May R Q) where
   open_accept-alters : (p : Image) (name : Who) (s : StatementNo) (c : Call) → Alters G R (open_accept p name s c)
@@ -76,11 +72,11 @@ module _ {G : GoodWorld} {May : Naming} {R : StepRelation} {Q : MoveRelation} (m
   accept_with_room-keeps : (p : Image) (name : Who) (s : StatementNo) (c : Call) (has_room : Bool) → May name → Keeps G R (accept_with_room p name s c has_room)
   unfolding accept_with_room
   accept_with_room-keeps p name s c true other = search (changes-keeps, open_accept-alters, then-keeps, inherit_running-keeps, chains)
-  accept_with_room-keeps p name s c false other = search (finish_without_room-keeps, then-keeps, deliver-keeps, raises-keeps, chains)
+  accept_with_room-keeps p name s c false other = search (finish_without_room-keeps, then-keeps, deliver-keeps, raises-keeps, chains, plain_steps)
 
   pub accept_call-keeps : (p : Image) (name : Who) (s : StatementNo) (c : CallNo) → May name → Keeps G R (accept_call p name s c)
   unfolding accept_call
-  accept_call-keeps p name s c other = search (with_call-keeps, begin_accept-keeps, then-keeps, looks-keeps, accept_with_room-keeps, chains) depth 7
+  accept_call-keeps p name s c other = search (with_call-keeps, begin_accept-keeps, then-keeps, looks-keeps, accept_with_room-keeps, chains, plain_steps) depth 8
 
   meet_with_room-from : (p : Image) (part : Part) (name : Who) (s : StatementNo) (c : Call) (then_ : Step) (w : World) → G w → Idle name w → Keeps G R then_ → From R w (meet_with_room p part name s c then_)
   meet_with_room-from p part name s c then_ w good idle kept =
@@ -94,7 +90,7 @@ module _ {G : GoodWorld} {May : Naming} {R : StepRelation} {Q : MoveRelation} (m
       idle_then-from moves name (begin_accept p TheFinish name s c) _ w good idle (begin_accept-keeps p TheFinish name s c) (λ a good_a idle_a.
       idle_then-from moves name (finish_without_room TheFinish name c) _ a good_a idle_a (finish_without_room-keeps TheFinish name c) (λ b good_b idle_b.
       idle_then-from moves name otherwise _ b good_b idle_b kept (λ d good_d idle_d.
-      then-from (chains moves) (ready p part name) _ d (ready-from moves p part name d good_d idle_d) (raises-keeps moves part name exception.Storage))))
+      then-from (chains moves) (ready p part name) _ d (ready-from moves p part name d good_d idle_d) (raises-keeps (plain_steps moves) part name exception.Storage))))
 
   pub meet-keeps : (p : Image) (part : Part) (name : Who) (s : StatementNo) (c : Call) (then_ otherwise : Step) → Keeps G R then_ → Keeps G R otherwise → Keeps G R (meet p part name s c then_ otherwise)
   meet-keeps p part name s c then_ otherwise kept also_kept =
@@ -110,7 +106,7 @@ module _ {G : GoodWorld} {May : Naming} {R : StepRelation} {Q : MoveRelation} (m
 
   pub accept_chosen-keeps : (p : Image) (name : Who) (accepts : List StatementNo) (c : CallNo) → May name → Keeps G R (accept_chosen p name accepts c)
   unfolding accept_chosen
-  accept_chosen-keeps p name accepts c other = search (with_call-keeps, for_some-keeps, accept_call-keeps, chains)
+  accept_chosen-keeps p name accepts c other = search (with_call-keeps, for_some-keeps, accept_call-keeps, chains, plain_steps)
 
   -- no delay is appointed for who waits
   pub wait_at_select-keeps : (name : Who) (accepts : List StatementNo) (delay : Option StatementNo) (terminate : Bool) → May name → Keeps G R (wait_at_select name accepts delay terminate)
@@ -125,7 +121,7 @@ module _ {G : GoodWorld} {May : Naming} {R : StepRelation} {Q : MoveRelation} (m
   pub meet_sent-keeps : (p : Image) (t : TaskNo) (c : Call) (next : Option StatementNo) → Keeps G R (meet_sent p t c next)
   unfolding meet_sent
   meet_sent-keeps p t c (Some s) = search (meet-keeps, begin_abortable-keeps, deliver-keeps)
-  meet_sent-keeps p t c None = search (enqueue-keeps, then-keeps, sent_not_begun-keeps, chains)
+  meet_sent-keeps p t c None = search (enqueue-keeps, then-keeps, sent_not_begun-keeps, chains, plain_steps)
 
   pub arrive_at-keeps : (p : Image) (t : TaskNo) (c : Call) (test : Bool) → Keeps G R (arrive_at p t c test)
   unfolding arrive_at
@@ -140,7 +136,7 @@ module _ {G : GoodWorld} {May : Naming} {R : StepRelation} {Q : MoveRelation} (m
   pub finish_accept-keeps : (p : Image) (name : Who) (c : Call) (sending : Option Sending) → Keeps G R (finish_accept p name c sending)
   unfolding finish_accept
   finish_accept-keeps p name c None = search (says-keeps, then-keeps, deliver-keeps, chains)
-  finish_accept-keeps p name c (Some s) = search (says-keeps, then-keeps, send_on-keeps, with_call-keeps, arrive-keeps, chains)
+  finish_accept-keeps p name c (Some s) = search (says-keeps, then-keeps, send_on-keeps, with_call-keeps, arrive-keeps, chains, plain_steps)
 
   pub finish_rendezvous-keeps : (p : Image) (name : Who) (c : Call) (leaving : Leaving) → Keeps G R (finish_rendezvous p name c leaving)
   unfolding finish_rendezvous
@@ -155,10 +151,10 @@ module _ {G : GoodWorld} {May : Naming} {R : StepRelation} {Q : MoveRelation} (m
   unfolding behind_accept
   behind_accept-keeps p name how.End = search (nothing-keeps, chains)
   behind_accept-keeps p name how.Return = search (nothing-keeps, chains)
-  behind_accept-keeps p name (how.Exit loop) = search (pass_on-keeps)
-  behind_accept-keeps p name (how.Exception e) = search (pass_on-keeps)
-  behind_accept-keeps p name how.Abort = search (pass_on-keeps)
-  behind_accept-keeps p name how.Terminate = search (pass_on-keeps)
+  behind_accept-keeps p name (how.Exit loop) = search (pass_on-keeps, plain_steps, anybody)
+  behind_accept-keeps p name (how.Exception e) = search (pass_on-keeps, plain_steps, anybody)
+  behind_accept-keeps p name how.Abort = search (pass_on-keeps, plain_steps, anybody)
+  behind_accept-keeps p name how.Terminate = search (pass_on-keeps, plain_steps, anybody)
 
   -- the accept on top finishes its call
   pub end_in_accept-keeps : (p : Image) (name : Who) (m : AcceptMark) (leaving : Leaving) → May name → Keeps G R (end_in_accept p name m leaving)
@@ -166,11 +162,11 @@ module _ {G : GoodWorld} {May : Naming} {R : StepRelation} {Q : MoveRelation} (m
   end_in_accept-keeps p name m leaving may =
       then-keeps (chains moves) _ _ (looks-keeps (chains moves) _ (λ w.
       then-keeps (chains moves) _ _ (changes-keeps (chains moves) _ (pop-alters moves name)) (then-keeps (chains moves) _ _ (changes-keeps (chains moves) _ (end_scope-alters moves m.within))
-      (then-keeps (chains moves) _ _ (changes-keeps (chains moves) _ (edit_call-alters moves m.call (finished_call p (cells_of (scope_in_use w m.within)) leaving) (finished_call-number p (cells_of (scope_in_use w m.within)) leaving) (finished_call-caller p (cells_of (scope_in_use w m.within)) leaving)))
-      (with_call-keeps moves m.call _ (λ c. finish_rendezvous-keeps p name c leaving))))))
+      (then-keeps (chains moves) _ _ (changes-keeps (chains moves) _ (edit_call-alters (plain_steps moves) m.call (finished_call p (cells_of (scope_in_use w m.within)) leaving) (finished_call-number p (cells_of (scope_in_use w m.within)) leaving) (finished_call-caller p (cells_of (scope_in_use w m.within)) leaving)))
+      (with_call-keeps (plain_steps moves) m.call _ (λ c. finish_rendezvous-keeps p name c leaving))))))
       (then-keeps (chains moves) _ _ (lose_running-keeps moves p name (inherited_by.Rendezvous m.call) may) (behind_accept-keeps p name leaving))
 
   pub accept-keeps : (p : Image) (name : Who) (s : StatementNo) (e : EntryNo) → May name → Keeps G R (accept p name s e)
   unfolding accept
   accept-keeps p name s e may =
-      looks-keeps (chains moves) _ (λ w. raise_if-keeps moves name (in_protected w name) exception.Program _ (accept_or_wait-keeps p name s (next_call p w (own_queue w name (place_of_entry p e) ∷ [])) may))
+      looks-keeps (chains moves) _ (λ w. raise_if-keeps (plain_steps moves) name (in_protected w name) exception.Program _ (accept_or_wait-keeps p name s (next_call p w (own_queue w name (place_of_entry p e) ∷ [])) may))

@@ -1,16 +1,15 @@
 -- Scopes that begin and end, and their cells: each step keeps a relation that its parts keep.
 use Rattle.std.proofs.Common.{refl}
-use Rattle.std.specs.Prelude.{false, true, Bool, ℕ, List}
+use Rattle.std.specs.Prelude.{false, true, Bool}
 use Rattle.trace_text.specs.declared.events.Who.{Who}
 use Rattle.profile_machine.specs.declared.image.Image.{Image}
 use Rattle.profile_machine.specs.declared.numbers.ScopeNo.{ScopeNo}
-use Rattle.profile_machine.specs.declared.values.Value.{Value}
 use Rattle.profile_machine.specs.declared.world.marks.Purpose.{Purpose}
 use Rattle.profile_machine.specs.declared.world.scopes.Beginning.{Beginning}
 use Rattle.profile_machine.specs.declared.world.scopes.ScopeId.{ScopeId}
 use Rattle.profile_machine.specs.Frames.{push, new_frame}
 use Rattle.profile_machine.specs.Program.{scope_of}
-use Rattle.profile_machine.specs.Scopes.{region_of_next, next_id, new_scope_mark, draw_region, edit_cells, write_cell, begin_scope, open_scope, end_scope}
+use Rattle.profile_machine.specs.Scopes.{region_of_next, next_id, new_scope_mark, draw_region, begin_scope, open_scope, end_scope}
 use Rattle.machine_laws.proofs.Moves.{StepRelation, MoveRelation}
 use Rattle.machine_laws.proofs.FineMoves.{GoodWorld, Naming}
 use Rattle.machine_laws.proofs.Kept.Combinators.{Alters}
@@ -18,13 +17,6 @@ use Rattle.world_laws.proofs.Appointments.FineMoves.{FineMoves}
 use Rattle.world_laws.proofs.Appointments.Kept.Frames.{push-alters}
 
 module _ {G : GoodWorld} {May : Naming} {R : StepRelation} {Q : MoveRelation} (moves : FineMoves G May R Q) where
-  pub edit_cells-alters : (id : ScopeId) (f : List Value → List Value) → Alters G R (edit_cells id f)
-  unfolding Alters
-  edit_cells-alters id f w good = moves.edits_cells id f w good
-
-  pub write_cell-alters : (id : ScopeId) (place : ℕ) (value : Value) → Alters G R (write_cell id place value)
-  write_cell-alters id place value = search (edit_cells-alters)
-
   pub end_scope-alters : (id : ScopeId) → Alters G R (end_scope id)
   unfolding Alters
   end_scope-alters id w good = moves.ends_scope id w good

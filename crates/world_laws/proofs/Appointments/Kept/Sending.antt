@@ -27,12 +27,14 @@ use Rattle.profile_machine.specs.Steps.{◌▷◌, when, nothing, changes}
 use Rattle.profile_machine.specs.Tasks.{waiting_of}
 use Rattle.machine_laws.proofs.Moves.{StepRelation, MoveRelation}
 use Rattle.world_laws.proofs.Appointments.FineMoves.{FineMoves, chains, says-keeps}
-use Rattle.world_laws.proofs.Appointments.Kept.CallEnds.{waits-call, resume-keeps, deliver-keeps}
-use Rattle.world_laws.proofs.Appointments.Kept.Calls.{edit_call-alters, with_call-keeps, says_call-keeps, unqueued-alters, attempt_with-keeps}
+use Rattle.world_laws.proofs.Appointments.Kept.CallEnds.{waits-call, deliver-keeps}
 use Rattle.world_laws.proofs.Appointments.Kept.Dispatching.{ready-from, idle_then-from, block-keeps}
-use Rattle.world_laws.proofs.Appointments.Kept.Frames.{push-alters}
+use Rattle.world_laws.proofs.Appointments.Kept.Frames.{push-alters, plain_steps}
 use Rattle.machine_laws.proofs.FineMoves.{GoodWorld, Naming}
 use Rattle.machine_laws.proofs.Kept.Combinators.{Alters, From, Keeps, changes-keeps, keeps-from, looks-from, looks-keeps, nothing-keeps, then-keeps, unchanged-alters}
+use Rattle.machine_laws.proofs.Plain.Results.{resume-keeps}
+use Rattle.machine_laws.proofs.Plain.Calls.{edit_call-alters, with_call-keeps, says_call-keeps, unqueued-alters, attempt_with-keeps}
+use Rattle.machine_laws.proofs.Plain.PlainSteps.{anybody}
 
 module _ {G : GoodWorld} {May : Naming} {R : StepRelation} {Q : MoveRelation} (moves : FineMoves G May R Q) where
   pub open_abortable-alters : (p : Image) (name : Who) (select : StatementNo) (call : Option CallNo) → Alters G R (open_abortable p name select call)
@@ -40,7 +42,7 @@ module _ {G : GoodWorld} {May : Naming} {R : StepRelation} {Q : MoveRelation} (m
 
   pub cancel_at_once-keeps : (p : Image) (part : Part) (c : Call) → Keeps G R (cancel_at_once p part c)
   unfolding cancel_at_once
-  cancel_at_once-keeps p part c = search (attempt_with-keeps, resume-keeps, nothing-keeps, chains)
+  cancel_at_once-keeps p part c = search (attempt_with-keeps, resume-keeps, nothing-keeps, chains, plain_steps, anybody)
 
   appoint_timeout-alters : (p : Image) (c : CallNo) (moment : Option ℤ) → Alters G R (appoint_timeout p c moment)
   unfolding Alters
@@ -68,11 +70,11 @@ module _ {G : GoodWorld} {May : Naming} {R : StepRelation} {Q : MoveRelation} (m
 
   pub send_on-keeps : (c : CallNo) (s : Sending) → Keeps G R (send_on c s)
   unfolding send_on
-  send_on-keeps c s = search (changes-keeps, edit_call-alters, then-keeps, with_call-keeps, says_call-keeps, chains)
+  send_on-keeps c s = search (changes-keeps, edit_call-alters, then-keeps, with_call-keeps, says_call-keeps, chains, plain_steps)
 
   pub cancel_sent-keeps : (p : Image) (c : Call) → Keeps G R (cancel_sent p c)
   unfolding cancel_sent
-  cancel_sent-keeps p c = search (changes-keeps, unqueued-alters, then-keeps, says-keeps, deliver-keeps, chains) depth 7
+  cancel_sent-keeps p c = search (changes-keeps, unqueued-alters, then-keeps, says-keeps, deliver-keeps, chains, plain_steps) depth 8
 
   -- where it waits for the call its abortable part opens
   opens_where : (p : Image) (d : Call) (w : World) (test : Bool) → G w → may_begin_abortable w d ≡ test → From R w (when test (changes (open_abortable p (who.Task d.caller) d.statement (Some d.number)) ▷ ready p TheFinish (who.Task d.caller)))
@@ -86,7 +88,7 @@ module _ {G : GoodWorld} {May : Naming} {R : StepRelation} {Q : MoveRelation} (m
 
   pub begin_abortable-keeps : (p : Image) (c : CallNo) → Keeps G R (begin_abortable p c)
   unfolding begin_abortable
-  begin_abortable-keeps p c = with_call-keeps moves c _ (λ d. looks-from (chains moves) _ (λ w good. opens_where p d w (may_begin_abortable w d) good refl))
+  begin_abortable-keeps p c = with_call-keeps (plain_steps moves) c _ (λ d. looks-from (chains moves) _ (λ w good. opens_where p d w (may_begin_abortable w d) good refl))
 
   timeout_again-alters : (p : Image) (c : Call) → Alters G R (timeout_again p c)
   timeout_again-alters p c = unless_firm c.firm where
@@ -101,4 +103,4 @@ module _ {G : GoodWorld} {May : Naming} {R : StepRelation} {Q : MoveRelation} (m
 
   pub sent_not_begun-keeps : (p : Image) (c : CallNo) → Keeps G R (sent_not_begun p c)
   unfolding sent_not_begun
-  sent_not_begun-keeps p c = with_call-keeps moves c _ (λ d. looks-keeps (chains moves) _ (λ w. sent_not_begun_by-keeps p d (is_to_be_cancelled w.time d)))
+  sent_not_begun-keeps p c = with_call-keeps (plain_steps moves) c _ (λ d. looks-keeps (chains moves) _ (λ w. sent_not_begun_by-keeps p d (is_to_be_cancelled w.time d)))

@@ -1,6 +1,6 @@
 -- Queued calls that are served, and objects that are released: each step keeps a relation that its parts keep.
 use Rattle.std.proofs.Common.{◌≡◌, refl, sym, subst}
-use Rattle.std.specs.Prelude.{ℕ, zero, suc, Bool, true, false, List, Option, Some, None, length}
+use Rattle.std.specs.Prelude.{ℕ, zero, suc, Bool, true, false, Option, Some, None, length}
 use Rattle.ann_base.specs.declared.exceptions.Raised.{Raised}
 use Rattle.ann_base.specs.declared.exceptions.Raised.TheVariants as exception
 use Rattle.ann_base.specs.declared.identities.CallNo.{CallNo}
@@ -12,7 +12,6 @@ use Rattle.trace_text.specs.declared.events.Who.TheVariants as who
 use Rattle.profile_machine.specs.declared.image.Image.{Image}
 use Rattle.profile_machine.specs.declared.run_data.Leaving.{Leaving}
 use Rattle.profile_machine.specs.declared.run_data.Leaving.TheVariants as how
-use Rattle.profile_machine.specs.declared.values.Value.{Value}
 use Rattle.profile_machine.specs.declared.world.World.{World}
 use Rattle.profile_machine.specs.declared.world.calls.Call.{Call}
 use Rattle.profile_machine.specs.declared.world.calls.Outcome.{Outcome}
@@ -28,7 +27,7 @@ use Rattle.profile_machine.specs.Dispatching.{block}
 use Rattle.profile_machine.specs.Frames.{leaves, frames_of}
 use Rattle.profile_machine.specs.Protected.{served_next}
 use Rattle.profile_machine.specs.Sending.{wait_for_call}
-use Rattle.profile_machine.specs.Serving.{may_open_abortable, serves_nothing, is_served_now, serve_ends, end_release, close_action, wait_or_unwind, wait_for_own, resume_own, behind_action, release_object, settle_sent, begins_part, chosen_is_sent, serve_chosen, serve_next, serve_calls, go_on_by_mode, end_operation, finish_raised, finish_well, finish_call, end_entry_body, end_in_protected_by, end_in_protected, keep_values, keeps_sending, end_body_of_entry, part_of_start}
+use Rattle.profile_machine.specs.Serving.{may_open_abortable, serves_nothing, is_served_now, serve_ends, end_release, close_action, wait_or_unwind, wait_for_own, resume_own, behind_action, release_object, settle_sent, begins_part, chosen_is_sent, serve_chosen, serve_next, serve_calls, go_on_by_mode, end_operation, finish_raised, finish_well, finish_call, end_entry_body, end_in_protected_by, end_in_protected, part_of_start}
 use Rattle.profile_machine.specs.Steps.{for_some, Step, changes, nothing, ◌▷◌}
 use Rattle.profile_machine.specs.Unwinding.{may_unwind}
 use Rattle.profile_machine.specs.Values.{object_of}
@@ -36,18 +35,18 @@ use Rattle.ann_base.specs.Lists.{is_empty}
 use Rattle.machine_laws.proofs.Moves.{StepRelation, MoveRelation, own}
 use Rattle.ceiling_laws.proofs.Fine.Cores.{Caller}
 use Rattle.world_laws.proofs.Appointments.FineMoves.{FineMoves, chains, says-keeps}
-use Rattle.world_laws.proofs.Appointments.Kept.CallEnds.{resume-keeps, deliver-keeps}
-use Rattle.world_laws.proofs.Appointments.Kept.Calls.{edit_call-alters, forget_call-alters, with_call-keeps, enqueue-keeps, attempt_with-keeps}
+use Rattle.world_laws.proofs.Appointments.Kept.CallEnds.{deliver-keeps}
 use Rattle.world_laws.proofs.Appointments.Kept.Dispatching.{block-from}
-use Rattle.world_laws.proofs.Appointments.Kept.Frames.{pop-alters, edit_top-alters, leaves-keeps, pass_on-keeps}
+use Rattle.world_laws.proofs.Appointments.Kept.Frames.{pop-alters, edit_top-alters, leaves-keeps, plain_steps}
 use Rattle.world_laws.proofs.Appointments.Kept.Inheritance.{lose_running-keeps}
 use Rattle.world_laws.proofs.Appointments.Kept.Priorities.{set_deferred-keeps}
 use Rattle.world_laws.proofs.Appointments.Kept.Protected.{edit_top_protected-alters, serve_call-keeps}
 use Rattle.world_laws.proofs.Appointments.Kept.Sending.{open_abortable-alters, wait_for_call-keeps, send_on-keeps, begin_abortable-keeps, sent_not_begun-keeps}
 use Rattle.machine_laws.proofs.FineMoves.{GoodWorld, Naming}
-use Rattle.machine_laws.proofs.Kept.Serving.{keeps_sending-number}
-use Rattle.line_laws.proofs.Leaving.Kept.Serving.{keeps_sending-caller}
 use Rattle.machine_laws.proofs.Kept.Combinators.{Alters, From, Keeps, changes-keeps, from-keeps, keeps-from, looks-from, looks-keeps, nothing-keeps, then-keeps, when-keeps}
+use Rattle.machine_laws.proofs.Plain.Results.{resume-keeps}
+use Rattle.machine_laws.proofs.Plain.Calls.{forget_call-alters, with_call-keeps, enqueue-keeps, attempt_with-keeps}
+use Rattle.machine_laws.proofs.Plain.Frames.{pass_on-keeps}
 
 -- the call of its own with which somebody entered is its own
 abbrev pub OwnCalled : GoodWorld → Who → Option CallNo → Type 0
@@ -79,8 +78,8 @@ module _ {G : GoodWorld} {May : Naming} {R : StepRelation} {Q : MoveRelation} (m
   wait_or_unwind-keeps : (p : Image) (name : Who) (c : Call) (test : Bool) → May (who.Task c.caller) → Keeps G R (wait_or_unwind p name c test)
   unfolding wait_or_unwind
   wait_or_unwind-keeps p name c true may =
-      attempt_with-keeps moves p Own c (changes (forget_call c.number) ▷ leaves name how.Abort) (wait_for_call c)
-      (then-keeps (chains moves) _ _ (changes-keeps (chains moves) _ (forget_call-alters moves c.number)) (leaves-keeps moves name how.Abort)) (wait_for_call-keeps moves c may)
+      attempt_with-keeps (plain_steps moves) p Own c (changes (forget_call c.number) ▷ leaves name how.Abort) (wait_for_call c)
+      (then-keeps (chains moves) _ _ (changes-keeps (chains moves) _ (forget_call-alters (plain_steps moves) c.number)) (leaves-keeps moves name how.Abort)) (wait_for_call-keeps moves c may)
   wait_or_unwind-keeps p name c false may = wait_for_call-keeps moves c may
 
   wait_for_own-keeps : (p : Image) (name : Who) (c : Call) (test : Bool) → May (who.Task c.caller) → Keeps G R (wait_for_own p name c test)
@@ -90,7 +89,7 @@ module _ {G : GoodWorld} {May : Naming} {R : StepRelation} {Q : MoveRelation} (m
 
   resume_own-keeps : (p : Image) (name : Who) (c : Call) (outcome : Option Outcome) → May (who.Task c.caller) → Keeps G R (resume_own p name c outcome)
   unfolding resume_own
-  resume_own-keeps p name c (Some outcome) may = resume-keeps moves p TheBlock c outcome
+  resume_own-keeps p name c (Some outcome) may = resume-keeps (plain_steps moves) p TheBlock c outcome tt
   resume_own-keeps p name c None may = looks-keeps (chains moves) _ (λ w. wait_for_own-keeps p name c (may_open_abortable w name c) may)
 
   resume_found-from : (p : Image) (name : Who) (found : Option Call) (w : World) → G w → May name → ((d : Call) → found ≡ Some d → who.Task d.caller ≡ name) → From R w (for_some found (λ d. resume_own p name d d.outcome))
@@ -100,7 +99,7 @@ module _ {G : GoodWorld} {May : Naming} {R : StepRelation} {Q : MoveRelation} (m
   behind_action-keeps : (p : Image) (name : Who) (m : ProtectedMark) (n : Option ℕ) (c : Option CallNo) → May name → OwnCalled G name c → Keeps G R (behind_action p name m n c)
   unfolding behind_action
   behind_action-keeps p name m (Some release) call may own = end_release-keeps release
-  behind_action-keeps p name m None None may own = pass_on-keeps moves p name m.body_left
+  behind_action-keeps p name m None None may own = pass_on-keeps (plain_steps moves) p name m.body_left tt
   behind_action-keeps p name m None (Some c) may own = looks-from (chains moves) _ (λ w good. resume_found-from p name (call_of w c) w good may (own w good c refl).1)
 
   pub release_object-keeps : (p : Image) (name : Who) (m : ProtectedMark) → May name → OwnCalled G name m.own_call → Keeps G R (release_object p name m)
@@ -126,7 +125,7 @@ module _ {G : GoodWorld} {May : Naming} {R : StepRelation} {Q : MoveRelation} (m
   pub serve_chosen-keeps : (p : Image) (name : Who) (m : ProtectedMark) (is_sent : Bool) (again : Step) (c : Option CallNo) → May name → OwnCalled G name m.own_call → Keeps G R again → Keeps G R (serve_chosen p name m is_sent again c)
   serve_chosen-keeps p name m is_sent again None other own kept = release_object-keeps p name m other own
   serve_chosen-keeps p name m is_sent again (Some c) other own kept =
-      with_call-keeps moves c _ (λ d. serve_call-keeps moves p (part_of_start is_sent) name m.object d (begins_part p is_sent c) _ (begins_part-keeps p is_sent c)
+      with_call-keeps (plain_steps moves) c _ (λ d. serve_call-keeps moves p (part_of_start is_sent) name m.object d (begins_part p is_sent c) _ (begins_part-keeps p is_sent c)
       (then-keeps (chains moves) _ again (deliver-keeps moves p (part_of_start is_sent) c (call_ended.ToRaise exception.Storage)) kept))
 
   pub serve_next-keeps : (fuel : ℕ) (p : Image) (name : Who) (mark : ProtectedMark) (sent : Option CallNo) → May name → OwnCalled G name mark.own_call → Keeps G R (serve_next fuel p name mark sent)
@@ -161,7 +160,7 @@ module _ {G : GoodWorld} {May : Naming} {R : StepRelation} {Q : MoveRelation} (m
   finish_well-keeps p name m c None other own =
       search (says-keeps, then-keeps, deliver-keeps, serve_calls-keeps, chains)
   finish_well-keeps p name m c (Some s) other own =
-      search (says-keeps, then-keeps, send_on-keeps, enqueue-keeps, serve_calls-keeps, chains) depth 7
+      search (says-keeps, then-keeps, send_on-keeps, enqueue-keeps, serve_calls-keeps, chains, plain_steps) depth 8
 
   pub finish_call-keeps : (p : Image) (name : Who) (m : ProtectedMark) (leaving : Leaving) (c : Call) → May name → OwnCalled G name m.own_call → Keeps G R (finish_call p name m leaving c)
   unfolding finish_call
@@ -175,7 +174,7 @@ module _ {G : GoodWorld} {May : Naming} {R : StepRelation} {Q : MoveRelation} (m
   pub end_entry_body-keeps : (p : Image) (name : Who) (m : ProtectedMark) (leaving : Leaving) (c : CallNo) → May name → OwnCalled G name m.own_call → Keeps G R (end_entry_body p name m leaving c)
   unfolding end_entry_body
   end_entry_body-keeps p name m leaving c other own =
-      search (changes-keeps, edit_top_protected-alters, then-keeps, edit_top-alters, with_call-keeps, finish_call-keeps, chains) depth 7
+      search (changes-keeps, edit_top_protected-alters, then-keeps, edit_top-alters, with_call-keeps, finish_call-keeps, chains, plain_steps) depth 8
 
   pub end_in_protected_by-keeps : (p : Image) (name : Who) (m : ProtectedMark) (leaving : Leaving) (c : Option CallNo) → May name → OwnCalled G name m.own_call → Keeps G R (end_in_protected_by p name m leaving c)
   unfolding end_in_protected_by
@@ -187,12 +186,3 @@ module _ {G : GoodWorld} {May : Naming} {R : StepRelation} {Q : MoveRelation} (m
   end_in_protected-keeps p name m leaving other own = end_in_protected_by-keeps p name m leaving m.serves other own
 
 -- ---- the scope of an entry body has ended
-
-module _ {G : GoodWorld} {May : Naming} {R : StepRelation} {Q : MoveRelation} (moves : FineMoves G May R Q) where
-  pub keep_values-keeps : (p : Image) (c : CallNo) (cells : List Value) → Keeps G R (keep_values p c cells)
-  unfolding keep_values
-  keep_values-keeps p c cells = search (with_call-keeps, changes-keeps, edit_call-alters, chains)
-
-  pub end_body_of_entry-keeps : (p : Image) (c : CallNo) (cells : List Value) (leaving : Leaving) → Keeps G R (end_body_of_entry p c cells leaving)
-  unfolding end_body_of_entry
-  end_body_of_entry-keeps p c cells leaving = then-keeps (chains moves) _ _ (changes-keeps (chains moves) _ (edit_call-alters moves c (keeps_sending leaving) (keeps_sending-number leaving) (keeps_sending-caller leaving))) (keep_values-keeps p c cells)

@@ -1,147 +1,30 @@
 -- Simple and compound statements: each step keeps a relation that its parts keep.
 use Rattle.std.proofs.Common.{refl}
-use Rattle.std.specs.Prelude.{Bool, true, false, List, Option, Some, None, Ok}
-use Rattle.ann_base.specs.Results.{◌>>=◌}
+use Rattle.std.specs.Prelude.{List}
 use Rattle.trace_text.specs.declared.events.Who.{Who}
-use Rattle.profile_machine.specs.declared.expressions.ObjectName.{ObjectName}
-use Rattle.profile_machine.specs.declared.expressions.VariableName.{VariableName}
 use Rattle.profile_machine.specs.declared.image.Image.{Image}
-use Rattle.profile_machine.specs.declared.numbers.DeclNo.{DeclNo}
-use Rattle.profile_machine.specs.declared.numbers.ExprNo.{ExprNo}
 use Rattle.profile_machine.specs.declared.numbers.ScopeNo.{ScopeNo}
 use Rattle.profile_machine.specs.declared.numbers.StatementNo.{StatementNo}
-use Rattle.profile_machine.specs.declared.statements.CaseAlternative.{CaseAlternative}
 use Rattle.profile_machine.specs.declared.statements.Piece.{Piece}
-use Rattle.profile_machine.specs.declared.values.Value.{Value}
-use Rattle.profile_machine.specs.declared.world.World.{World}
 use Rattle.profile_machine.specs.declared.world.lines.Line.TheVariants as line
 use Rattle.profile_machine.specs.declared.world.lines.Part.TheVariants.{Own}
-use Rattle.profile_machine.specs.declared.world.scopes.Variable.{Variable}
-use Rattle.profile_machine.specs.CallEnds.{store}
-use Rattle.profile_machine.specs.Frames.{goes}
-use Rattle.profile_machine.specs.Operators.{Valued}
-use Rattle.profile_machine.specs.Program.{declaration_of, next_of}
-use Rattle.profile_machine.specs.Statements.{null, assign, cells_from, copy_cells, array_copied, assign_array, if_statement, go_to_alternative, case_statement, while_turn, loop_cell, put, first_bound, last_bound, bounds_set, for_bounds, first_turn, advance, later_turn, exit_where, exit_statement, block_statement, raise_again, text_of_pieces, put_line}
-use Rattle.profile_machine.specs.Scopes.{put_cells}
-use Rattle.profile_machine.specs.Values.{Seen, seen_by, value, variable, object_cell}
+use Rattle.profile_machine.specs.Program.{next_of}
+use Rattle.profile_machine.specs.Statements.{block_statement, text_of_pieces, put_line}
 use Rattle.machine_laws.proofs.Moves.{StepRelation, MoveRelation}
 use Rattle.world_laws.proofs.Appointments.FineMoves.{FineMoves, chains, says-keeps}
-use Rattle.world_laws.proofs.Appointments.Kept.CallEnds.{store-gives}
-use Rattle.world_laws.proofs.Appointments.Kept.Frames.{given_world-from, goes-keeps, raises-keeps, exit_loop-keeps, given-keeps, with_room-keeps}
-use Rattle.world_laws.proofs.Appointments.Kept.Scopes.{write_cell-alters, open_scope-alters}
+use Rattle.world_laws.proofs.Appointments.Kept.Frames.{goes-keeps, plain_steps}
+use Rattle.world_laws.proofs.Appointments.Kept.Scopes.{open_scope-alters}
 use Rattle.machine_laws.proofs.FineMoves.{GoodWorld, Naming}
-use Rattle.machine_laws.proofs.Kept.Combinators.{Alters, Gives, Keeps, bind-gives, changes-keeps, looks-from, looks-keeps, ok-gives, sees-keeps, then-keeps}
+use Rattle.machine_laws.proofs.Kept.Combinators.{Keeps, changes-keeps, looks-keeps, sees-keeps, then-keeps}
+use Rattle.machine_laws.proofs.Plain.Frames.{given-keeps, with_room-keeps}
 
 module _ {G : GoodWorld} {May : Naming} {R : StepRelation} {Q : MoveRelation} (moves : FineMoves G May R Q) where
-  pub null-keeps : (p : Image) (name : Who) (s : StatementNo) → Keeps G R (null p name s)
-  unfolding null
-  null-keeps p name s = search (goes-keeps)
-
-  pub assign-keeps : (p : Image) (name : Who) (s : StatementNo) (target : VariableName) (e : ExprNo) → Keeps G R (assign p name s target e)
-  unfolding assign
-  assign-keeps p name s target e =
-      looks-from (chains moves) _ (λ w good. let q = seen_by p w name in
-      given_world-from moves Own name (variable q target >>= λ v. value q e >>= λ x. store p v x w) (λ _. goes name (next_of p s)) w good
-      (bind-gives (chains moves) (variable q target) (λ v. value q e >>= λ x. store p v x w) w (λ v. bind-gives (chains moves) (value q e) (λ x. store p v x w) w (λ x. store-gives moves p v x w good)))
-      (λ _. goes-keeps moves name (next_of p s)))
-
-  pub copy_cells-alters : (p : Image) (target source : Variable) → Alters G R (copy_cells p target source)
-  unfolding Alters
-  copy_cells-alters p target source w good = moves.edits_cells target.within (put_cells target.place (cells_from w source (declaration_of p source.declared).cells)) w good
-
-  array_copied-gives : (p : Image) (q : Seen) (target source : ObjectName) → G q.world → Gives R q.world (array_copied p q target source)
-  unfolding Alters
-  array_copied-gives p q target source good =
-      bind-gives (chains moves) (object_cell q target) (λ t. object_cell q source >>= λ f. Ok (copy_cells p t f q.world)) q.world (λ t.
-      bind-gives (chains moves) (object_cell q source) (λ f. Ok (copy_cells p t f q.world)) q.world (λ f.
-      ok-gives (chains moves) q.world (copy_cells p t f q.world) (copy_cells-alters p t f q.world good)))
-
-  pub assign_array-keeps : (p : Image) (name : Who) (s : StatementNo) (target source : ObjectName) → Keeps G R (assign_array p name s target source)
-  unfolding assign_array
-  assign_array-keeps p name s target source =
-      looks-from (chains moves) _ (λ w good.
-      given_world-from moves Own name (array_copied p (seen_by p w name) target source) (λ _. goes name (next_of p s)) w good
-      (array_copied-gives p (seen_by p w name) target source good) (λ _. goes-keeps moves name (next_of p s)))
-
-  pub if_statement-keeps : (p : Image) (name : Who) (e : ExprNo) (first : StatementNo) (otherwise : Option StatementNo) → Keeps G R (if_statement p name e first otherwise)
-  unfolding if_statement
-  if_statement-keeps p name e first otherwise = search (sees-keeps, given-keeps, goes-keeps, chains) depth 7
-
-  go_to_alternative-keeps : (name : Who) (first : Option StatementNo) → Keeps G R (go_to_alternative name first)
-  unfolding go_to_alternative
-  go_to_alternative-keeps name None = search (raises-keeps)
-  go_to_alternative-keeps name (Some s) = search (goes-keeps)
-
-  pub case_statement-keeps : (p : Image) (name : Who) (e : ExprNo) (alternatives : List CaseAlternative) → Keeps G R (case_statement p name e alternatives)
-  unfolding case_statement
-  case_statement-keeps p name e alternatives = search (sees-keeps, given-keeps, go_to_alternative-keeps, chains) depth 7
-
-  pub while_turn-keeps : (p : Image) (name : Who) (s : StatementNo) (e : ExprNo) (body : StatementNo) → Keeps G R (while_turn p name s e body)
-  unfolding while_turn
-  while_turn-keeps p name s e body = search (sees-keeps, given-keeps, goes-keeps, chains) depth 7
-
-  pub put-alters : (v : Variable) (x : Value) → Alters G R (put v x)
-  put-alters v x = search (write_cell-alters)
-
-  bounds_put : Seen → Bool → Value → Value → Variable → Variable → Valued World
-  bounds_put q reverse l h x y = Ok (put y (last_bound reverse l h) (put x (first_bound reverse l h) q.world))
-
-  bounds_put-gives : (q : Seen) (reverse : Bool) (l h : Value) (x y : Variable) → G q.world → Gives R q.world (bounds_put q reverse l h x y)
-  unfolding bounds_put Alters
-  bounds_put-gives q reverse l h x y good =
-      let first = put x (first_bound reverse l h) q.world in
-      let begun = put-alters x (first_bound reverse l h) q.world good in
-      ok-gives (chains moves) q.world (put y (last_bound reverse l h) first)
-      (moves.goes_on q.world first (put y (last_bound reverse l h) first) begun (put-alters y (last_bound reverse l h) first (moves.behind q.world first begun)))
-
-  bounds_set-gives : (q : Seen) (d : DeclNo) (reverse : Bool) (low high : ExprNo) → G q.world → Gives R q.world (bounds_set q d reverse low high)
-  unfolding bounds_put
-  bounds_set-gives q d reverse low high good =
-      bind-gives (chains moves) (value q low) (λ l. value q high >>= λ h. loop_cell q d 0 >>= λ x. loop_cell q d 1 >>= bounds_put q reverse l h x) q.world (λ l.
-      bind-gives (chains moves) (value q high) (λ h. loop_cell q d 0 >>= λ x. loop_cell q d 1 >>= bounds_put q reverse l h x) q.world (λ h.
-      bind-gives (chains moves) (loop_cell q d 0) (λ x. loop_cell q d 1 >>= bounds_put q reverse l h x) q.world (λ x.
-      bind-gives (chains moves) (loop_cell q d 1) (bounds_put q reverse l h x) q.world (λ y. bounds_put-gives q reverse l h x y good))))
-
-  pub for_bounds-keeps : (p : Image) (name : Who) (d : DeclNo) (reverse : Bool) (low high : ExprNo) (turn : StatementNo) → Keeps G R (for_bounds p name d reverse low high turn)
-  unfolding for_bounds
-  for_bounds-keeps p name d reverse low high turn =
-      looks-from (chains moves) _ (λ w good.
-      given_world-from moves Own name (bounds_set (seen_by p w name) d reverse low high) (λ _. goes name (Some turn)) w good
-      (bounds_set-gives (seen_by p w name) d reverse low high good) (λ _. goes-keeps moves name (Some turn)))
-
-  pub first_turn-keeps : (p : Image) (name : Who) (s : StatementNo) (d : DeclNo) (reverse : Bool) (body : StatementNo) → Keeps G R (first_turn p name s d reverse body)
-  unfolding first_turn
-  first_turn-keeps p name s d reverse body = search (sees-keeps, given-keeps, goes-keeps, chains) depth 7
-
-  pub advance-keeps : (name : Who) (x : Variable) (reverse : Bool) (v : Value) (body : StatementNo) (past : Option StatementNo) (test : Bool) → Keeps G R (advance name x reverse v body past test)
-  unfolding advance
-  advance-keeps name x reverse v body past true = search (goes-keeps)
-  advance-keeps name x reverse v body past false = search (changes-keeps, put-alters, then-keeps, goes-keeps, chains)
-
-  pub later_turn-keeps : (p : Image) (name : Who) (s : StatementNo) (d : DeclNo) (reverse : Bool) (body : StatementNo) → Keeps G R (later_turn p name s d reverse body)
-  unfolding later_turn
-  later_turn-keeps p name s d reverse body = search (sees-keeps, given-keeps, advance-keeps, chains) depth 7
-
-  pub exit_where-keeps : (p : Image) (name : Who) (s loop : StatementNo) (test : Bool) → Keeps G R (exit_where p name s loop test)
-  unfolding exit_where
-  exit_where-keeps p name s loop true = search (exit_loop-keeps)
-  exit_where-keeps p name s loop false = search (goes-keeps)
-
-  pub exit_statement-keeps : (p : Image) (name : Who) (s loop : StatementNo) (e : Option ExprNo) → Keeps G R (exit_statement p name s loop e)
-  unfolding exit_statement
-  exit_statement-keeps p name s loop None = search (exit_loop-keeps)
-  exit_statement-keeps p name s loop (Some e) = search (sees-keeps, given-keeps, exit_where-keeps, chains) depth 7
-
-  pub raise_again-keeps : (p : Image) (name : Who) (scope : ScopeNo) → Keeps G R (raise_again p name scope)
-  unfolding raise_again
-  raise_again-keeps p name scope = search (sees-keeps, given-keeps, raises-keeps, chains) depth 7
-
   pub put_line-keeps : (p : Image) (name : Who) (s : StatementNo) (pieces : List Piece) → Keeps G R (put_line p name s pieces)
   unfolding put_line
   put_line-keeps p name s pieces =
-      sees-keeps (chains moves) p name _ (λ q. given-keeps moves Own name (text_of_pieces q pieces) _ (λ text. then-keeps (chains moves) _ _ (goes-keeps moves name (next_of p s)) (says-keeps moves Own (line.Put name text) refl)))
+      sees-keeps (chains moves) p name _ (λ q. given-keeps (plain_steps moves) Own name (text_of_pieces q pieces) _ (λ text. then-keeps (chains moves) _ _ (goes-keeps moves name (next_of p s)) (says-keeps moves Own (line.Put name text) refl)))
 
 module _ {G : GoodWorld} {May : Naming} {R : StepRelation} {Q : MoveRelation} (moves : FineMoves G May R Q) where
   pub block_statement-keeps : (p : Image) (name : Who) (s : StatementNo) (scope : ScopeNo) → Keeps G R (block_statement p name s scope)
   unfolding block_statement
-  block_statement-keeps p name s scope = search (with_room-keeps, goes-keeps, then-keeps, looks-keeps, changes-keeps, open_scope-alters, chains)
+  block_statement-keeps p name s scope = search (with_room-keeps, goes-keeps, then-keeps, looks-keeps, changes-keeps, open_scope-alters, chains, plain_steps)

@@ -48,19 +48,21 @@ use Rattle.machine_laws.proofs.Moves.{StepRelation, MoveRelation}
 use Rattle.world_laws.proofs.Appointments.Delays.{Idle, EachTask}
 use Rattle.world_laws.proofs.Appointments.FineMoves.{FineMoves, chains, says-keeps}
 use Rattle.world_laws.proofs.Appointments.Kept.Controlled.{edit_top_scope-alters, finalize-keeps}
-use Rattle.world_laws.proofs.Appointments.Kept.Declarations.{set_thing-alters}
 use Rattle.world_laws.proofs.Appointments.Kept.Dispatching.{ready-from, idle_then-from, to_head-keeps, block-keeps}
-use Rattle.world_laws.proofs.Appointments.Kept.Frames.{pop-alters, goes_then-from, raise_if-from, given-from, edit_top-alters, goes-keeps, raises-keeps, pass_on-keeps, given-keeps, raise_if-keeps}
+use Rattle.world_laws.proofs.Appointments.Kept.Frames.{pop-alters, goes_then-from, edit_top-alters, goes-keeps, plain_steps}
 use Rattle.world_laws.proofs.Appointments.Kept.Inheritance.{inherit-alters}
 use Rattle.world_laws.proofs.Appointments.Kept.Masters.{end_activation-keeps, complete-keeps, terminate-keeps, leave_by_terminate-keeps}
 use Rattle.world_laws.proofs.Appointments.Kept.Scopes.{open_scope-alters, end_scope-alters}
-use Rattle.world_laws.proofs.Appointments.Kept.Serving.{end_body_of_entry-keeps}
-use Rattle.world_laws.proofs.Appointments.Kept.Subprograms.{end_subprogram-keeps}
 use Rattle.world_laws.proofs.Appointments.Kept.Tasks.{edit_task-alters}
 use Rattle.world_laws.proofs.Appointments.Kept.Unwinding.{strike_outermost-alters, unwind-keeps}
 use Rattle.machine_laws.proofs.FineMoves.{GoodWorld, Naming}
 use Rattle.line_laws.proofs.Leaving.Kept.Tasking.{edit_task-drawn}
 use Rattle.machine_laws.proofs.Kept.Combinators.{Alters, From, Keeps, after-from, branch-keeps, changes-from, changes-keeps, cond-keeps, either-from, for_each-keeps, for_some-keeps, keeps-from, looks-from, looks-keeps, looks_at-from, nothing-keeps, sees-keeps, then-from, then-keeps, when-keeps}
+use Rattle.machine_laws.proofs.Plain.Declarations.{set_thing-alters}
+use Rattle.machine_laws.proofs.Plain.Frames.{raise_if-from, given-from, raises-keeps, pass_on-keeps, given-keeps, raise_if-keeps}
+use Rattle.machine_laws.proofs.Plain.Results.{end_body_of_entry-keeps}
+use Rattle.machine_laws.proofs.Plain.Subprograms.{end_subprogram-keeps}
+use Rattle.machine_laws.proofs.Plain.PlainSteps.{anybody}
 
 made-waits : (state : State) → is_made_state state ≡ true → waits_for_delay (waiting_in state) ≡ false
 made-waits Made e = refl
@@ -88,7 +90,7 @@ module _ {G : GoodWorld} {May : Naming} {R : StepRelation} {Q : MoveRelation} (m
       goes_then-from moves name (next_of p s) _ w good (λ good_onward.
       let onward = edit_top name (goes_on (next_of p s)) w in
       then-from (chains moves) (changes (add_task t)) (for_some id (name_task p d) ▷ says_created d t) onward (changes-from (chains moves) (add_task t) onward (moves.adds_task t onward good_onward (same ∙ ap (λ (k : Drawn). who.Task (record { 0 = k.tasks })) (sym (edit_task-drawn name (λ u. with_frames (edit_first (goes_on (next_of p s)) u.frames) u) w))) none))
-      (search (then-keeps, for_some-keeps, looks-keeps, changes-keeps, set_thing-alters, says_created-keeps, chains) depth 9))
+      (search (then-keeps, for_some-keeps, looks-keeps, changes-keeps, set_thing-alters, says_created-keeps, chains, plain_steps) depth 10))
 
   pub fall_from-keeps : (p : Image) (name : Who) (before : World) → May name → Keeps G R (fall_from p name before)
   unfolding fall_from
@@ -106,7 +108,7 @@ module _ {G : GoodWorld} {May : Naming} {R : StepRelation} {Q : MoveRelation} (m
   pub await_group-keeps : (name : Who) (begins failed : Bool) → May name → Keeps G R (await_group name begins failed)
   unfolding await_group
   await_group-keeps name true failed other = search (block-keeps)
-  await_group-keeps name false true other = search (raises-keeps)
+  await_group-keeps name false true other = search (raises-keeps, plain_steps)
   await_group-keeps name false false other = search (nothing-keeps, chains)
 
   pub end_own_activation-keeps : (p : Image) (name : Who) (s : StatementNo) → May name → Keeps G R (end_own_activation p name s)
@@ -130,13 +132,13 @@ module _ {G : GoodWorld} {May : Naming} {R : StepRelation} {Q : MoveRelation} (m
   end_task-keeps p name leaving = search (says_done-keeps, then-keeps, looks-keeps, end_activation-keeps, terminate-keeps, when-keeps, changes-keeps, end_environment-alters, chains) depth 9
 
   pub end_body-keeps : (p : Image) (name : Who) (leaving : Leaving) (normally : Step) → Keeps G R normally → Keeps G R (end_body p name leaving normally)
-  end_body-keeps p name leaving normally kept = branch-keeps (chains moves) (is_normal leaving) normally (pass_on p name leaving) (search) (search (pass_on-keeps))
+  end_body-keeps p name leaving normally kept = branch-keeps (chains moves) (is_normal leaving) normally (pass_on p name leaving) (search) (search (pass_on-keeps, plain_steps, anybody))
 
   pub behind_scope-keeps : (p : Image) (name : Who) (purpose : Purpose) (cells : List Value) (leaving : Leaving) → Keeps G R (behind_scope p name purpose cells leaving)
   unfolding behind_scope
-  behind_scope-keeps p name (opened_for.Block s) cells leaving = search (pass_on-keeps)
-  behind_scope-keeps p name (opened_for.Subprogram back to) cells leaving = search (end_body-keeps, end_subprogram-keeps)
-  behind_scope-keeps p name (opened_for.EntryBody c) cells leaving = search (end_body-keeps, end_body_of_entry-keeps)
+  behind_scope-keeps p name (opened_for.Block s) cells leaving = search (pass_on-keeps, plain_steps, anybody)
+  behind_scope-keeps p name (opened_for.Subprogram back to) cells leaving = search (end_body-keeps, end_subprogram-keeps, plain_steps)
+  behind_scope-keeps p name (opened_for.EntryBody c) cells leaving = search (end_body-keeps, end_body_of_entry-keeps, plain_steps)
   behind_scope-keeps p name opened_for.Task cells leaving = search (end_task-keeps)
 
   pub says_left-keeps : (name : Who) (m : ScopeMark) (leaving : Leaving) → Keeps G R (says_left name m leaving)
@@ -180,7 +182,7 @@ module _ {G : GoodWorld} {May : Naming} {R : StepRelation} {Q : MoveRelation} (m
   pub abort_statement-keeps : (p : Image) (name : Who) (s : StatementNo) (tasks : List DeclNo) → Keeps G R (abort_statement p name s tasks)
   unfolding abort_statement
   abort_statement-keeps p name s tasks =
-      sees-keeps (chains moves) p name _ (λ q. raise_if-keeps moves name (in_protected q.world name) exception.Program _ (given-keeps moves Own name (named_tasks q tasks) _ (λ aborted.
+      sees-keeps (chains moves) p name _ (λ q. raise_if-keeps (plain_steps moves) name (in_protected q.world name) exception.Program _ (given-keeps (plain_steps moves) Own name (named_tasks q tasks) _ (λ aborted.
       then-keeps (chains moves) (goes name (next_of p s)) _ (goes-keeps moves name (next_of p s)) (abort_named-keeps p name aborted))))
 
   pub all_terminate-keeps : (p : Image) (actor : Who) → Keeps G R (looks (λ w. for_each (filter (may_terminate w) w.tasks) (leave_by_terminate p actor)))
@@ -194,9 +196,9 @@ module _ {G : GoodWorld} {May : Naming} {R : StepRelation} {Q : MoveRelation} (m
   unfolding create
   create-keeps p name s d part =
       looks-from (chains moves) _ (λ w good. let q = seen_by p w name in
-      raise_if-from moves name (in_protected w name || is_deferred w name) exception.Program _ w good (λ allowed.
-      raise_if-from moves name (leb 256 (length w.tasks)) exception.Storage _ w good (λ few.
-      given-from moves Own name (optional_span q (task_unit_of p (unit_of_declaration p d)).relative_deadline) _ w good (λ span.
+      raise_if-from (plain_steps moves) name (in_protected w name || is_deferred w name) exception.Program _ w good (λ allowed.
+      raise_if-from (plain_steps moves) name (leb 256 (length w.tasks)) exception.Storage _ w good (λ few.
+      given-from (plain_steps moves) Own name (optional_span q (task_unit_of p (unit_of_declaration p d)).relative_deadline) _ w good (λ span.
       create_task-from p name s d (home w (declaration_of p d).scope q.within) (created_task q d (unit_of_declaration p d) part span w.drawn.tasks) w good refl refl))))
 
   -- ---- activation: tasks that have been made wait for nothing
@@ -247,7 +249,7 @@ module _ {G : GoodWorld} {May : Naming} {R : StepRelation} {Q : MoveRelation} (m
   pub activate-keeps : (p : Image) (name : Who) (s : StatementNo) (part : ℕ) → May name → Keeps G R (activate p name s part)
   unfolding activate
   activate-keeps p name s part may =
-      looks-keeps (chains moves) _ (λ w. raise_if-keeps moves name (in_protected w name || is_deferred w name) exception.Program _ (activate_group-keeps p name s part may))
+      looks-keeps (chains moves) _ (λ w. raise_if-keeps (plain_steps moves) name (in_protected w name || is_deferred w name) exception.Program _ (activate_group-keeps p name s part may))
 
   wait_for_dependents-keeps : (name : Who) (r : RegionNo) → May name → Keeps G R (wait_for_dependents name r)
   unfolding wait_for_dependents

@@ -15,11 +15,11 @@ use Rattle.machine_laws.proofs.FineMoves.{GoodWorld, Naming}
 use Rattle.world_laws.proofs.Appointments.Delays.{nature, natures}
 use Rattle.world_laws.proofs.Appointments.FineMoves.{FineMoves, chains}
 use Rattle.world_laws.proofs.Appointments.Kept.Appointments.{drops_then-from}
-use Rattle.world_laws.proofs.Appointments.Kept.Calls.{forget_call-alters, attempt-keeps}
 use Rattle.world_laws.proofs.Appointments.Kept.Dispatching.{ready-from}
-use Rattle.world_laws.proofs.Appointments.Kept.Frames.{leaves-keeps}
+use Rattle.world_laws.proofs.Appointments.Kept.Frames.{leaves-keeps, plain_steps}
 use Rattle.world_laws.proofs.Appointments.Kept.Tasks.{edit_task-alters, edit_frames-alters}
 use Rattle.machine_laws.proofs.Kept.Combinators.{Alters, Keeps, changes-keeps, from-keeps, looks-keeps, nothing-keeps, then-keeps, when-keeps}
+use Rattle.machine_laws.proofs.Plain.Calls.{forget_call-alters, attempt-keeps}
 
 -- who is struck has the marks that it had
 last-natures : (fs : List Frame) → natures (edit_last struck_frame fs) ≡ natures fs
@@ -45,7 +45,7 @@ module _ {G : GoodWorld} {May : Naming} {R : StepRelation} {Q : MoveRelation} (m
 
   pub unwind_blocked-keeps : (p : Image) (part : Part) (name : Who) (waiting : Waiting) → Keeps G R (unwind_blocked p part name waiting)
   unfolding unwind_blocked
-  unwind_blocked-keeps p part name (waits_for.Call c) = search (attempt-keeps, changes-keeps, forget_call-alters, then-keeps, wake_and_leave-keeps, nothing-keeps, chains)
+  unwind_blocked-keeps p part name (waits_for.Call c) = search (attempt-keeps, changes-keeps, forget_call-alters, then-keeps, wake_and_leave-keeps, nothing-keeps, chains, plain_steps)
   unwind_blocked-keeps p part name (waits_for.EndOfCall c) = search (nothing-keeps, chains)
   unwind_blocked-keeps p part name waits_for.Activation = search (wake_and_leave-keeps)
   unwind_blocked-keeps p part name waits_for.Moment = search (wake_and_leave-keeps)

@@ -45,13 +45,12 @@ use Rattle.profile_machine.specs.Words.{is_the, same_call}
 use Rattle.world_tables.specs.Lists.{first_of}
 use Rattle.profile_machine.specs.Tasks.{task_of, edit_task, with_state}
 use Rattle.world_laws.proofs.Marks.Kept.Dispatching.{says_block-keeps}
-use Rattle.world_laws.proofs.Marks.Kept.Frames.{goes-keeps, raises-keeps, pass_on-keeps, with_room-keeps, popped}
+use Rattle.world_laws.proofs.Marks.Kept.Frames.{goes-keeps, popped, plain_steps}
 use Rattle.world_laws.proofs.Marks.Kept.Tasks.{edit_top-alters}
 use Rattle.world_laws.proofs.Marks.Kept.Scopes.{open_scope-alters}
 use Rattle.world_laws.proofs.Marks.Kept.Appointments.{drop_appointment-alters}
-use Rattle.world_laws.proofs.Marks.Kept.Calls.{attempt_on-keeps}
-use Rattle.world_laws.proofs.Marks.Kept.Statements.{null-keeps, assign-keeps, assign_array-keeps, if_statement-keeps, case_statement-keeps, while_turn-keeps, for_bounds-keeps, first_turn-keeps, later_turn-keeps, exit_statement-keeps, block_statement-keeps, raise_again-keeps, delay_until-keeps, put_line-keeps}
-use Rattle.world_laws.proofs.Marks.Kept.Subprograms.{call_subprogram-keeps, return_value-keeps, return-keeps}
+use Rattle.world_laws.proofs.Marks.Kept.Statements.{block_statement-keeps, delay_until-keeps, put_line-keeps}
+use Rattle.world_laws.proofs.Marks.Kept.Subprograms.{call_subprogram-keeps}
 use Rattle.world_laws.proofs.Marks.Kept.Protected.{call_operation-keeps, call_own_operation-keeps}
 use Rattle.world_laws.proofs.Marks.Kept.Priorities.{set_priority-keeps, set_quantum-keeps, set_deadline_of-keeps, delay_and_set_deadline-keeps}
 use Rattle.world_laws.proofs.Marks.Kept.Serving.{end_in_protected-from}
@@ -59,7 +58,6 @@ use Rattle.world_laws.proofs.Marks.Kept.Rendezvous.{accept-keeps, selective_acce
 use Rattle.world_laws.proofs.Marks.Kept.EntryCalls.{entry_call-keeps, requeue-keeps}
 use Rattle.world_laws.proofs.Marks.Kept.Arming.{Led, led-from, led_looks-from, asynchronous_select-from}
 use Rattle.world_laws.proofs.Marks.Kept.Controlled.{initialize-keeps, assign_controlled-keeps, end_in_initialize-from, end_in_finalize-from, end_in_assign-from}
-use Rattle.world_laws.proofs.Marks.Kept.Declarations.{declare-keeps}
 use Rattle.world_laws.proofs.Marks.Kept.Tasking.{create-keeps, activate-keeps, end_own_activation-keeps, abort_statement-keeps, end_scope_mark-from}
 use Rattle.world_laws.proofs.Marks.Kept.Handlers.{call_handler-keeps, set_event-keeps, cancel_event-keeps, set_timer-keeps, cancel_timer-keeps, add_member-keeps, remove_member-keeps, replenish-keeps, add_to_budget-keeps, set_budget-keeps, cancel_budget-keeps, releasing}
 use Rattle.ann_base.specs.declared.identities.RegionNo.{RegionNo}
@@ -71,6 +69,12 @@ use Rattle.profile_machine.specs.CallEnds.{edit_abortable, is_abortable_of}
 use Rattle.machine_laws.proofs.FineMoves.{GoodWorld, Naming, is_abortable}
 use Rattle.machine_laws.proofs.Kept.Handlers.{Releasing}
 use Rattle.machine_laws.proofs.Kept.Combinators.{Alters, From, Keeps, Kept, changes-from, changes-keeps, changes_then-from, keeps-from, looks-keeps, looks_at-from, nothing-keeps, sees-keeps, then-from, then-keeps, then-kept, unchanged-alters, world_behind}
+use Rattle.machine_laws.proofs.Plain.Frames.{raises-keeps, pass_on-keeps, with_room-keeps}
+use Rattle.machine_laws.proofs.Plain.Calls.{attempt_on-keeps}
+use Rattle.machine_laws.proofs.Plain.Statements.{null-keeps, assign-keeps, assign_array-keeps, if_statement-keeps, case_statement-keeps, while_turn-keeps, for_bounds-keeps, first_turn-keeps, later_turn-keeps, exit_statement-keeps, raise_again-keeps}
+use Rattle.machine_laws.proofs.Plain.Subprograms.{return_value-keeps, return-keeps}
+use Rattle.machine_laws.proofs.Plain.Declarations.{declare-keeps}
+use Rattle.machine_laws.proofs.Plain.PlainSteps.{anybody}
 
 -- a mark that keeps an exception is what it was
 keeping-nature : (e : Raised) (mark : Mark) → nature (keeping e mark) ≡ nature mark
@@ -99,17 +103,17 @@ waiting-nature x = waiting_mark-nature x.mark
 module _ {G : GoodWorld} {May Other : Naming} {R : StepRelation} {Q : MoveRelation} (moves : FineMoves G May Other R Q) where
   pub handle_or_pass-keeps : (p : Image) (name : Who) (e : Raised) (next : Option StatementNo) → Keeps G R (handle_or_pass p name e next)
   unfolding handle_or_pass
-  handle_or_pass-keeps p name e None = search (pass_on-keeps)
+  handle_or_pass-keeps p name e None = search (pass_on-keeps, plain_steps, anybody)
   handle_or_pass-keeps p name e (Some first) = search (changes-keeps, edit_top-alters, keeping-nature, then-keeps, goes-keeps, chains)
 
   pub behind_handled-keeps : (p : Image) (name : Who) (s : StatementNo) (leaving : Leaving) → Keeps G R (behind_handled p name s leaving)
   unfolding behind_handled
   behind_handled-keeps p name s (how.Exception e) = search (handle_or_pass-keeps)
   behind_handled-keeps p name s how.End = search (nothing-keeps, chains)
-  behind_handled-keeps p name s how.Return = search (pass_on-keeps)
-  behind_handled-keeps p name s (how.Exit loop) = search (pass_on-keeps)
-  behind_handled-keeps p name s how.Abort = search (pass_on-keeps)
-  behind_handled-keeps p name s how.Terminate = search (pass_on-keeps)
+  behind_handled-keeps p name s how.Return = search (pass_on-keeps, plain_steps, anybody)
+  behind_handled-keeps p name s (how.Exit loop) = search (pass_on-keeps, plain_steps, anybody)
+  behind_handled-keeps p name s how.Abort = search (pass_on-keeps, plain_steps, anybody)
+  behind_handled-keeps p name s how.Terminate = search (pass_on-keeps, plain_steps, anybody)
 
   pub end_handled-from : (p : Image) (name : Who) (s : StatementNo) (leaving : Leaving) (f : Frame) (w : World) → G w → May name → top_of w name ≡ Some f → Ends name f w → From R w (end_handled p name s leaving)
   unfolding end_handled
@@ -157,7 +161,7 @@ module _ {G : GoodWorld} {May Other : Naming} {R : StepRelation} {Q : MoveRelati
 
   attempt_then-from : (p : Image) (name : Who) (f : Frame) (d : Call) (g : Step) (w : World) → G w → TopCalm name f w → ((v : World) → G v → TopCalm name f v → From R v g) → From R w (attempt_on p Own d ▷ g)
   unfolding From Keeps
-  attempt_then-from p name f d g w good at next said = attempt_kept p name f g w said (attempt_on p Own d w said) (attempt_on-keeps moves p Own d w good said) (attempt-top_calm p name f d w said at) next
+  attempt_then-from p name f d g w good at next said = attempt_kept p name f g w said (attempt_on p Own d w said) (attempt_on-keeps (plain_steps moves) p Own d w good said) (attempt-top_calm p name f d w said at) next
 
   call_attempted-from : (p : Image) (name : Who) (m : AbortableMark) (c : CallNo) (f : Frame) (leaving : Leaving) (found : Option Call) (w : World) → G w → May name → Other name → TopCalm name f w → f.mark ≡ Abortable m → m.call ≡ Some c → call_of w c ≡ found → m.triggered ≡ false
       → From R w (for_some found (λ d. attempt_with p Own d (end_top p name) (wait_for_trigger name d leaving)))
@@ -193,7 +197,7 @@ module _ {G : GoodWorld} {May Other : Naming} {R : StepRelation} {Q : MoveRelati
 module _ {G : GoodWorld} {May Other : Naming} {Owns : Who → RegionNo → Type 0} {R : StepRelation} {Q : MoveRelation} (moves : FineMoves G May Other R Q) (openings : Openings G May Other Owns R) where
   pub call_main-keeps : (p : Image) (name : Who) (s : StatementNo) → May name → Keeps G R (call_main p name s)
   unfolding call_main
-  call_main-keeps p name s may = search (with_room-keeps, goes-keeps, then-keeps, looks-keeps, changes-keeps, open_scope-alters, chains)
+  call_main-keeps p name s may = search (with_room-keeps, goes-keeps, then-keeps, looks-keeps, changes-keeps, open_scope-alters, chains, plain_steps)
 
   pub call-keeps : (p : Image) (name : Who) (s : StatementNo) (callee : Callee) (actuals : List Actual) (to : Destination) → May name → Keeps G R (call p name s callee actuals to)
   unfolding call
@@ -204,30 +208,30 @@ module _ {G : GoodWorld} {May Other : Naming} {Owns : Who → RegionNo → Type 
 module _ {G : GoodWorld} {May Other : Naming} {Owns : Who → RegionNo → Type 0} {R : StepRelation} {Q : MoveRelation} (moves : FineMoves G May Other R Q) (openings : Openings G May Other Owns R) (releasing : Releasing G R) (arming : Arming G Q) where
   pub act_statement-from : (p : Image) → Puts G R p → (name : Who) (s : StatementNo) (form : StatementForm) → May name → form_of p s ≡ form → (g : Frame) (w : World) → G w → Calm name w → Begun name w → top_of w name ≡ Some g → From (Led G) w (act_statement p name s form)
   unfolding act_statement
-  act_statement-from p puts name s (form.Declare object) may is g w good calm begun top = led-from moves _ w (keeps-from (chains moves) _ w good (search (declare-keeps)))
+  act_statement-from p puts name s (form.Declare object) may is g w good calm begun top = led-from moves _ w (keeps-from (chains moves) _ w good (search (declare-keeps, plain_steps, anybody)))
   act_statement-from p puts name s (form.Initialize object) may is g w good calm begun top = led-from moves _ w (keeps-from (chains moves) _ w good (search (initialize-keeps)))
   act_statement-from p puts name s (form.CreateTask object part) may is g w good calm begun top = led-from moves _ w (keeps-from (chains moves) _ w good (search (create-keeps)))
   act_statement-from p puts name s (form.Activate part) may is g w good calm begun top = led-from moves _ w (keeps-from (chains moves) _ w good (search (activate-keeps)))
   act_statement-from p puts name s form.EndActivation may is g w good calm begun top = led-from moves _ w (keeps-from (chains moves) _ w good (search (end_own_activation-keeps)))
   act_statement-from p puts name s form.CallMain may is g w good calm begun top = led-from moves _ w (keeps-from (chains moves) _ w good (search (call_main-keeps)))
   act_statement-from p puts name s (form.Handled handlers first) may is g w good calm begun top = led-from moves _ w (keeps-from (chains moves) _ w good (search (nothing-keeps, chains)))
-  act_statement-from p puts name s form.Null may is g w good calm begun top = led-from moves _ w (keeps-from (chains moves) _ w good (search (null-keeps)))
-  act_statement-from p puts name s (form.Assign target e) may is g w good calm begun top = led-from moves _ w (keeps-from (chains moves) _ w good (search (assign-keeps)))
-  act_statement-from p puts name s (form.AssignArray target source) may is g w good calm begun top = led-from moves _ w (keeps-from (chains moves) _ w good (search (assign_array-keeps)))
+  act_statement-from p puts name s form.Null may is g w good calm begun top = led-from moves _ w (keeps-from (chains moves) _ w good (search (null-keeps, plain_steps, anybody)))
+  act_statement-from p puts name s (form.Assign target e) may is g w good calm begun top = led-from moves _ w (keeps-from (chains moves) _ w good (search (assign-keeps, plain_steps, anybody)))
+  act_statement-from p puts name s (form.AssignArray target source) may is g w good calm begun top = led-from moves _ w (keeps-from (chains moves) _ w good (search (assign_array-keeps, plain_steps, anybody)))
   act_statement-from p puts name s (form.AssignControlled target source) may is g w good calm begun top = led-from moves _ w (keeps-from (chains moves) _ w good (search (assign_controlled-keeps)))
-  act_statement-from p puts name s (form.If condition first otherwise) may is g w good calm begun top = led-from moves _ w (keeps-from (chains moves) _ w good (search (if_statement-keeps)))
-  act_statement-from p puts name s (form.Case selector alternatives) may is g w good calm begun top = led-from moves _ w (keeps-from (chains moves) _ w good (search (case_statement-keeps)))
+  act_statement-from p puts name s (form.If condition first otherwise) may is g w good calm begun top = led-from moves _ w (keeps-from (chains moves) _ w good (search (if_statement-keeps, plain_steps, anybody)))
+  act_statement-from p puts name s (form.Case selector alternatives) may is g w good calm begun top = led-from moves _ w (keeps-from (chains moves) _ w good (search (case_statement-keeps, plain_steps, anybody)))
   act_statement-from p puts name s (form.Loop body within) may is g w good calm begun top = led-from moves _ w (keeps-from (chains moves) _ w good (search (goes-keeps)))
-  act_statement-from p puts name s (form.While condition body within) may is g w good calm begun top = led-from moves _ w (keeps-from (chains moves) _ w good (search (while_turn-keeps)))
-  act_statement-from p puts name s (form.For parameter reverse low high turn within) may is g w good calm begun top = led-from moves _ w (keeps-from (chains moves) _ w good (search (for_bounds-keeps)))
-  act_statement-from p puts name s (form.FirstTurn parameter reverse body) may is g w good calm begun top = led-from moves _ w (keeps-from (chains moves) _ w good (search (first_turn-keeps)))
-  act_statement-from p puts name s (form.LaterTurn parameter reverse body) may is g w good calm begun top = led-from moves _ w (keeps-from (chains moves) _ w good (search (later_turn-keeps)))
-  act_statement-from p puts name s (form.Exit condition of_loop) may is g w good calm begun top = led-from moves _ w (keeps-from (chains moves) _ w good (search (exit_statement-keeps)))
+  act_statement-from p puts name s (form.While condition body within) may is g w good calm begun top = led-from moves _ w (keeps-from (chains moves) _ w good (search (while_turn-keeps, plain_steps, anybody)))
+  act_statement-from p puts name s (form.For parameter reverse low high turn within) may is g w good calm begun top = led-from moves _ w (keeps-from (chains moves) _ w good (search (for_bounds-keeps, plain_steps, anybody)))
+  act_statement-from p puts name s (form.FirstTurn parameter reverse body) may is g w good calm begun top = led-from moves _ w (keeps-from (chains moves) _ w good (search (first_turn-keeps, plain_steps, anybody)))
+  act_statement-from p puts name s (form.LaterTurn parameter reverse body) may is g w good calm begun top = led-from moves _ w (keeps-from (chains moves) _ w good (search (later_turn-keeps, plain_steps, anybody)))
+  act_statement-from p puts name s (form.Exit condition of_loop) may is g w good calm begun top = led-from moves _ w (keeps-from (chains moves) _ w good (search (exit_statement-keeps, plain_steps, anybody)))
   act_statement-from p puts name s (form.Block scope) may is g w good calm begun top = led-from moves _ w (keeps-from (chains moves) _ w good (search (block_statement-keeps)))
-  act_statement-from p puts name s form.Return may is g w good calm begun top = led-from moves _ w (keeps-from (chains moves) _ w good (search (return-keeps)))
-  act_statement-from p puts name s (form.ReturnValue function e) may is g w good calm begun top = led-from moves _ w (keeps-from (chains moves) _ w good (search (return_value-keeps)))
-  act_statement-from p puts name s (form.Raise e) may is g w good calm begun top = led-from moves _ w (keeps-from (chains moves) _ w good (search (raises-keeps)))
-  act_statement-from p puts name s (form.RaiseAgain scope) may is g w good calm begun top = led-from moves _ w (keeps-from (chains moves) _ w good (search (raise_again-keeps)))
+  act_statement-from p puts name s form.Return may is g w good calm begun top = led-from moves _ w (keeps-from (chains moves) _ w good (search (return-keeps, plain_steps)))
+  act_statement-from p puts name s (form.ReturnValue function e) may is g w good calm begun top = led-from moves _ w (keeps-from (chains moves) _ w good (search (return_value-keeps, plain_steps)))
+  act_statement-from p puts name s (form.Raise e) may is g w good calm begun top = led-from moves _ w (keeps-from (chains moves) _ w good (search (raises-keeps, plain_steps)))
+  act_statement-from p puts name s (form.RaiseAgain scope) may is g w good calm begun top = led-from moves _ w (keeps-from (chains moves) _ w good (search (raise_again-keeps, plain_steps)))
   act_statement-from p puts name s (form.Delay e) may is g w good calm begun top = led-from moves _ w (keeps-from (chains moves) _ w good (search (sees-keeps, delay_until-keeps, chains)))
   act_statement-from p puts name s (form.DelayUntil e) may is g w good calm begun top = led-from moves _ w (keeps-from (chains moves) _ w good (search (sees-keeps, delay_until-keeps, chains)))
   act_statement-from p puts name s (form.Call callee actuals to) may is g w good calm begun top = led-from moves _ w (keeps-from (chains moves) _ w good (search (call-keeps)))

@@ -30,11 +30,12 @@ use Rattle.world_laws.proofs.Marks.MarkFacts.{Calm, Begun, StandsAt}
 use Rattle.world_laws.proofs.Marks.TopLemmas.{frames_pushed, top_edited, calm_edited, begun_edited}
 use Rattle.world_laws.proofs.Marks.StandingLemmas.{stands-top}
 use Rattle.world_laws.proofs.Marks.FineMoves.{FineMoves, Openings, Arming, chains}
-use Rattle.world_laws.proofs.Marks.Kept.Frames.{goes-keeps, raises-keeps}
+use Rattle.world_laws.proofs.Marks.Kept.Frames.{goes-keeps, plain_steps}
 use Rattle.world_laws.proofs.Marks.Kept.Tasks.{edit_top-alters}
 use Rattle.world_laws.proofs.Marks.Kept.EntryCalls.{entry_call-keeps}
 use Rattle.machine_laws.proofs.FineMoves.{GoodWorld, Naming}
 use Rattle.machine_laws.proofs.Kept.Combinators.{Alters, From, Keeps, Kept, keeps-from}
+use Rattle.machine_laws.proofs.Plain.Frames.{raises-keeps}
 
 -- a good world is behind, whatever was done
 abbrev pub Led : GoodWorld → StepRelation
@@ -84,16 +85,16 @@ module _ {G : GoodWorld} {May Other : Naming} {R : StepRelation} {Q : MoveRelati
   led_looks-from f w a said = a said
 
   led_raise_if-from : (name : Who) (test : Bool) (e : Raised) (step : Step) (w : World) → G w → (test ≡ false → From (Led G) w step) → From (Led G) w (raise_if name test e step)
-  led_raise_if-from name true e step w good k = led-from (raises Own name e) w (keeps-from (chains moves) (raises Own name e) w good (raises-keeps moves Own name e))
+  led_raise_if-from name true e step w good k = led-from (raises Own name e) w (keeps-from (chains moves) (raises Own name e) w good (raises-keeps (plain_steps moves) Own name e))
   led_raise_if-from name false e step w good k = k refl
 
   led_given-from : {X : Type 0} (part : Part) (name : Who) (result : Result X Raised) (f : X → Step) (w : World) → G w → ((x : X) → From (Led G) w (f x)) → From (Led G) w (given part name result f)
   led_given-from part name (Ok x) f w good k = k x
-  led_given-from part name (Err e) f w good k = led-from (raises part name e) w (keeps-from (chains moves) (raises part name e) w good (raises-keeps moves part name e))
+  led_given-from part name (Err e) f w good k = led-from (raises part name e) w (keeps-from (chains moves) (raises part name e) w good (raises-keeps (plain_steps moves) part name e))
 
   led_branch-from : (name : Who) (test : Bool) (e : Raised) (step : Step) (w : World) → G w → From (Led G) w step → From (Led G) w (elim test as (λ _. Step) [ true ↦ step | false ↦ raises Own name e ])
   led_branch-from name true e step w good k = k
-  led_branch-from name false e step w good k = led-from (raises Own name e) w (keeps-from (chains moves) (raises Own name e) w good (raises-keeps moves Own name e))
+  led_branch-from name false e step w good k = led-from (raises Own name e) w (keeps-from (chains moves) (raises Own name e) w good (raises-keeps (plain_steps moves) Own name e))
 
   led_with_room-from : (name : Who) (marks cells : ℕ) (step : Step) (w : World) → G w → From (Led G) w step → From (Led G) w (with_room name marks cells step)
   led_with_room-from name marks cells step w good k =

@@ -28,9 +28,9 @@ use Rattle.world_laws.proofs.Marks.TopLemmas.{top_edited}
 use Rattle.world_laws.proofs.Marks.FinalizeLemmas.{unregistered-top, leaving-may_finalize, target-registered}
 use Rattle.world_laws.proofs.Marks.FineMoves.{FineMoves, Openings, chains}
 use Rattle.world_laws.proofs.Marks.Kept.Combinators.{told_then-from}
-use Rattle.world_laws.proofs.Marks.Kept.Frames.{goes-keeps, push-alters, leaves-keeps, raises-keeps, pass_on-keeps, given-keeps, with_room-keeps, with_room-from, goes_then-from, popped}
+use Rattle.world_laws.proofs.Marks.Kept.Frames.{goes-keeps, push-alters, leaves-keeps, goes_then-from, popped, plain_steps}
 use Rattle.world_laws.proofs.Marks.Kept.Tasks.{edit_top-alters}
-use Rattle.world_laws.proofs.Marks.Kept.Scopes.{write_cell-alters, open_scope-alters}
+use Rattle.world_laws.proofs.Marks.Kept.Scopes.{open_scope-alters}
 use Rattle.std.proofs.Common.{◌≡◌, refl, sym, subst, eqb, ap, ◌∙◌, [], ◌∷◌, not}
 use Rattle.std.specs.Prelude.{find, is_some, ◌&&◌}
 use Rattle.profile_machine.specs.Program.{next_of}
@@ -44,6 +44,9 @@ use Rattle.profile_machine.specs.Frames.{top_of, pop, with_mark, pass_on, goes, 
 use Rattle.machine_laws.proofs.FineMoves.{GoodWorld, Naming}
 use Rattle.machine_laws.proofs.Kept.Controlled.{edit_task-registered}
 use Rattle.machine_laws.proofs.Kept.Combinators.{Alters, From, Keeps, Kept, branch-keeps, changes-from, changes-keeps, changes_then-from, cond-keeps, either-from, keeps-from, looks-from, looks-keeps, looks_at-from, nothing-keeps, said_then-from, sees-keeps, then-keeps}
+use Rattle.machine_laws.proofs.Plain.Frames.{raises-keeps, pass_on-keeps, given-keeps, with_room-keeps, with_room-from}
+use Rattle.machine_laws.proofs.Plain.Cells.{write_cell-alters}
+use Rattle.machine_laws.proofs.Plain.PlainSteps.{anybody}
 
 -- the region of a scope's mark is not edited, nor what another mark is
 scope-nature : (f : ScopeMark → ScopeMark) → ((m : ScopeMark) → nature (Scope (f m)) ≡ nature (Scope m)) → (mark : Mark) → nature (edit_scope_mark f mark) ≡ nature mark
@@ -76,7 +79,7 @@ module _ {G : GoodWorld} {May Other : Naming} {R : StepRelation} {Q : MoveRelati
       let v = registered_as n (top_region w name) l w in
       let told = own (line.Init name n (top_region w name) l.declared) ∷ [] in
       let first = moves.registers name l w good in
-      (told, refl, moves.goes_on w v (write_cell l.within (first_place p l) (Thing n) v) {xs = told} {ys = []} first (write_cell-alters moves l.within (first_place p l) (Thing n) v (moves.behind w v first)))
+      (told, refl, moves.goes_on w v (write_cell l.within (first_place p l) (Thing n) v) {xs = told} {ys = []} first (write_cell-alters (plain_steps moves) l.within (first_place p l) (Thing n) v (moves.behind w v first)))
 
   pub register-keeps : (p : Image) (name : Who) (l : Located) → Keeps G R (register p name l)
   unfolding register
@@ -87,7 +90,7 @@ module _ {G : GoodWorld} {May Other : Naming} {R : StepRelation} {Q : MoveRelati
 
   pub behind_finalize-keeps : (p : Image) (name : Who) (leaving : Leaving) (test : Bool) → Keeps G R (behind_finalize p name leaving test)
   unfolding behind_finalize
-  behind_finalize-keeps p name (how.Exception e) true = search (pass_on-keeps)
+  behind_finalize-keeps p name (how.Exception e) true = search (pass_on-keeps, plain_steps, anybody)
   behind_finalize-keeps p name (how.Exception e) false = search (changes-keeps, edit_top_scope-alters, chains)
   behind_finalize-keeps p name how.End of_assignment = search (nothing-keeps, chains)
   behind_finalize-keeps p name how.Return of_assignment = search (nothing-keeps, chains)
@@ -99,7 +102,7 @@ module _ {G : GoodWorld} {May Other : Naming} {R : StepRelation} {Q : MoveRelati
   unfolding end_in_initialize
   end_in_initialize-from p name l leaving f w good may top free =
       let out = popped moves name f w good may top free in
-      changes_then-from (chains moves) (pop name) _ w out (keeps-from (chains moves) (cond (registers leaving) (register p name l) (pass_on p name leaving)) (pop name w) (moves.behind w (pop name w) out) (search (cond-keeps, register-keeps, pass_on-keeps, chains)))
+      changes_then-from (chains moves) (pop name) _ w out (keeps-from (chains moves) (cond (registers leaving) (register p name l) (pass_on p name leaving)) (pop name w) (moves.behind w (pop name w) out) (search (cond-keeps, register-keeps, pass_on-keeps, chains, plain_steps, anybody)))
 
   pub end_in_finalize-from : (p : Image) (name : Who) (leaving : Leaving) (f : Frame) (w : World) → G w → May name → top_of w name ≡ Some f → Ends name f w → From R w (end_in_finalize p name leaving)
   unfolding end_in_finalize
@@ -129,11 +132,11 @@ module _ {G : GoodWorld} {May Other : Naming} {Owns : Who → RegionNo → Type 
   pub initialize_by-keeps : (p : Image) (name : Who) (s : StatementNo) (l : Located) (f : Option SubprogramNo) → May name → Keeps G R (initialize_by p name s l f)
   unfolding initialize_by
   initialize_by-keeps p name s l None may = search (goes-keeps, then-keeps, register-keeps, chains)
-  initialize_by-keeps p name s l (Some f) may = search (with_room-keeps, goes-keeps, then-keeps, changes-keeps, push-alters, open_operation-keeps, chains)
+  initialize_by-keeps p name s l (Some f) may = search (with_room-keeps, goes-keeps, then-keeps, changes-keeps, push-alters, open_operation-keeps, chains, plain_steps)
 
   pub initialize-keeps : (p : Image) (name : Who) (s : StatementNo) (d : DeclNo) → May name → Keeps G R (initialize p name s d)
   unfolding initialize
-  initialize-keeps p name s d may = search (sees-keeps, given-keeps, initialize_by-keeps, chains) depth 7
+  initialize-keeps p name s d may = search (sees-keeps, given-keeps, initialize_by-keeps, chains, plain_steps) depth 8
 
   -- a Finalize is opened on the scope that is being left, or on the assignment
   open_finalize-from : (p : Image) (name : Who) (n : ℕ) (l : Located) (f : SubprogramNo) (g : Frame) (w : World) → G w → May name → top_of w name ≡ Some g → may_finalize w n g.mark ≡ true → From R w (open_finalize p name n l f)
@@ -177,7 +180,7 @@ module _ {G : GoodWorld} {May Other : Naming} {Owns : Who → RegionNo → Type 
   begin_assignment-from : (p : Image) (name : Who) (s : StatementNo) (l : Located) (x : Registered) (source : ℕ) (w : World) → G w → May name → registered_at w l ≡ Some x → From R w (begin_assignment p name s x.object source)
   unfolding begin_assignment
   begin_assignment-from p name s l x source w good may found =
-      with_room-from moves name 1 0 _ w good
+      with_room-from (plain_steps moves) name 1 0 _ w good
       (goes_then-from moves name (next_of p s) _ w good (λ good_onward.
       let gone = edit_top name (goes_on (next_of p s)) w in
       let still : registered_at gone l ≡ Some x = ap (find (is_located l)) (edit_task-registered name (λ t. with_frames (edit_first (goes_on (next_of p s)) t.frames) t) w) ∙ found in
@@ -187,8 +190,8 @@ module _ {G : GoodWorld} {May Other : Naming} {Owns : Who → RegionNo → Type 
   assign_registered-from : (p : Image) (name : Who) (s : StatementNo) (l : Located) (target source : Option Registered) (w : World) → G w → May name → registered_at w l ≡ target → From R w (assign_registered p name s target source)
   unfolding assign_registered
   assign_registered-from p name s l (Some target) (Some source) w good may found = begin_assignment-from p name s l target source.object w good may found
-  assign_registered-from p name s l (Some target) None w good may found = keeps-from (chains moves) _ w good (raises-keeps moves Own name exception.Program)
-  assign_registered-from p name s l None source w good may found = keeps-from (chains moves) _ w good (raises-keeps moves Own name exception.Program)
+  assign_registered-from p name s l (Some target) None w good may found = keeps-from (chains moves) _ w good (raises-keeps (plain_steps moves) Own name exception.Program)
+  assign_registered-from p name s l None source w good may found = keeps-from (chains moves) _ w good (raises-keeps (plain_steps moves) Own name exception.Program)
 
   pub assign_located-keeps : (p : Image) (name : Who) (s : StatementNo) (target source : Located) → May name → Keeps G R (assign_located p name s target source)
   unfolding assign_located
@@ -198,7 +201,7 @@ module _ {G : GoodWorld} {May Other : Naming} {Owns : Who → RegionNo → Type 
 
   pub assign_controlled-keeps : (p : Image) (name : Who) (s : StatementNo) (target source : DeclNo) → May name → Keeps G R (assign_controlled p name s target source)
   unfolding assign_controlled
-  assign_controlled-keeps p name s target source may = search (sees-keeps, given-keeps, assign_located-keeps, chains) depth 7
+  assign_controlled-keeps p name s target source may = search (sees-keeps, given-keeps, assign_located-keeps, chains, plain_steps) depth 8
 
   finalize_target_by-from : (p : Image) (name : Who) (r : Registered) (f : Option SubprogramNo) (g : Frame) (w : World) → G w → May name → top_of w name ≡ Some g → may_finalize w r.object g.mark ≡ true → From R w (finalize_target_by p name r f)
   unfolding finalize_target_by
@@ -242,6 +245,6 @@ module _ {G : GoodWorld} {May Other : Naming} {Owns : Who → RegionNo → Type 
   unfolding end_in_assign
   end_in_assign-from p name m (Some (how.Exception e)) f w good may top is free =
       let out = popped moves name f w good may top free in
-      changes_then-from (chains moves) (pop name) _ w out (keeps-from (chains moves) _ (pop name w) (moves.behind w (pop name w) out) (raises-keeps moves Own name exception.Program))
+      changes_then-from (chains moves) (pop name) _ w out (keeps-from (chains moves) _ (pop name w) (moves.behind w (pop name w) out) (raises-keeps (plain_steps moves) Own name exception.Program))
   end_in_assign-from p name m _ f w good may top is free =
       looks_at-from (chains moves) (λ v. step_with p name m.step (registered_object v m.target) (registered_object v m.source)) w (step_with-from p name m.step m f (registered_object w m.target) (registered_object w m.source) w good may top is refl (popped moves name f w good may top free))

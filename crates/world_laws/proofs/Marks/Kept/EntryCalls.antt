@@ -36,8 +36,7 @@ use Rattle.machine_laws.proofs.Moves.{StepRelation, MoveRelation, LetsIn, own}
 use Rattle.world_laws.proofs.Marks.FineMoves.{FineMoves, Openings, chains}
 use Rattle.machine_laws.proofs.Kept.Entering.{LetsIn-same, edit_task-objects}
 use Rattle.world_laws.proofs.Marks.Kept.Dispatching.{block-keeps}
-use Rattle.world_laws.proofs.Marks.Kept.Frames.{goes-keeps, leaves-keeps, raises-keeps, given-keeps, raise_if-keeps, with_room-from, with_room-keeps, goes_then-from}
-use Rattle.world_laws.proofs.Marks.Kept.Calls.{edit_call-alters, forget_call-alters, says_call-keeps, enqueued-alters, enqueue-keeps}
+use Rattle.world_laws.proofs.Marks.Kept.Frames.{goes-keeps, leaves-keeps, goes_then-from, plain_steps}
 use Rattle.world_laws.proofs.Marks.Kept.CallEnds.{gone-keeps}
 use Rattle.world_laws.proofs.Marks.Kept.Protected.{where_let_inside-keeps, begin_action_on-from, serve_call-keeps}
 use Rattle.world_laws.proofs.Marks.Kept.Sending.{not_accepted-keeps}
@@ -45,6 +44,8 @@ use Rattle.world_laws.proofs.Marks.Kept.Rendezvous.{meet-keeps}
 use Rattle.ann_base.specs.declared.identities.RegionNo.{RegionNo}
 use Rattle.machine_laws.proofs.FineMoves.{GoodWorld, Naming}
 use Rattle.machine_laws.proofs.Kept.Combinators.{Alters, From, Keeps, Kept, changes-keeps, changes_then-from, either-from, looks-keeps, looks_at-from, nothing-keeps, said_then-from, sees-keeps, then-from, then-keeps, unchanged-alters}
+use Rattle.machine_laws.proofs.Plain.Frames.{raises-keeps, given-keeps, raise_if-keeps, with_room-from, with_room-keeps}
+use Rattle.machine_laws.proofs.Plain.Calls.{edit_call-alters, forget_call-alters, says_call-keeps, enqueued-alters, enqueue-keeps}
 
 module _ {G : GoodWorld} {May Other : Naming} {R : StepRelation} {Q : MoveRelation} (moves : FineMoves G May Other R Q) where
   add_call-alters : (c : Call) → Alters G R (add_call c)
@@ -52,11 +53,11 @@ module _ {G : GoodWorld} {May Other : Naming} {R : StepRelation} {Q : MoveRelati
   add_call-alters c w good = moves.adds_call c w good
 
   pub make_call-keeps : (p : Image) (c : Call) (step : Call → Step) → ((x : Call) → Keeps G R (step x)) → Keeps G R (make_call p c step)
-  make_call-keeps p c step kept = search (goes-keeps, then-keeps, looks-keeps, changes-keeps, add_call-alters, says_call-keeps, chains) depth 8
+  make_call-keeps p c step kept = search (goes-keeps, then-keeps, looks-keeps, changes-keeps, add_call-alters, says_call-keeps, chains, plain_steps) depth 9
 
   pub end_at_once-keeps : (part : Part) (c : Call) (e : Raised) → Keeps G R (end_at_once part c e)
   unfolding end_at_once
-  end_at_once-keeps part c e = search (changes-keeps, forget_call-alters, then-keeps, raises-keeps, chains)
+  end_at_once-keeps part c e = search (changes-keeps, forget_call-alters, then-keeps, raises-keeps, chains, plain_steps)
 
   pub call_gone-keeps : (p : Image) (c : Call) → Keeps G R (call_gone p c)
   unfolding call_gone
@@ -68,12 +69,12 @@ module _ {G : GoodWorld} {May Other : Naming} {R : StepRelation} {Q : MoveRelati
 
   pub call_queues-keeps : (p : Image) (c : Call) → Keeps G R (call_queues p c)
   unfolding call_queues
-  call_queues-keeps p c = search (enqueue-keeps, then-keeps, not_accepted-keeps, chains)
+  call_queues-keeps p c = search (enqueue-keeps, then-keeps, not_accepted-keeps, chains, plain_steps)
 
   pub call_not_met-keeps : (p : Image) (c : Call) (test : Bool) → Keeps G R (call_not_met p c test)
   unfolding call_not_met
   call_not_met-keeps p c true = search (make_call-keeps, end_at_once-keeps)
-  call_not_met-keeps p c false = search (with_room-keeps, make_call-keeps, call_queues-keeps)
+  call_not_met-keeps p c false = search (with_room-keeps, make_call-keeps, call_queues-keeps, plain_steps)
 
   pub call_accepted_by-keeps : (p : Image) (t : TaskNo) (c : Call) (next : Option StatementNo) → Keeps G R (call_accepted_by p t c next)
   unfolding call_accepted_by
@@ -137,7 +138,7 @@ module _ {G : GoodWorld} {May Other : Naming} {R : StepRelation} {Q : MoveRelati
   unfolding From Kept Alters
   told_queued-from p o c d w good h said =
       let name = who.Task c.caller in
-      (own (line.Enter name o Write) ∷ own (line.Exit name o) ∷ [], append_assoc said (own (line.Enter name o Write) ∷ []) (own (line.Exit name o) ∷ []), moves.visits name o Write [] w (enqueued p d w) good h tt (enqueued-alters moves p d w good))
+      (own (line.Enter name o Write) ∷ own (line.Exit name o) ∷ [], append_assoc said (own (line.Enter name o Write) ∷ []) (own (line.Exit name o) ∷ []), moves.visits name o Write [] w (enqueued p d w) good h tt (enqueued-alters (plain_steps moves) p d w good))
 
   passes_found-kept : (p : Image) (o : ObjectNo) (c : Call) (w : World) (found : Option Call) (said : List Said) → G w → LetsIn (who.Task c.caller) o Write w
       → Kept R w said (goes_on_with (says Own (line.Exit (who.Task c.caller) o) ▷ not_accepted p Own c c.kind) (for_some found (λ d. changes (enqueued p d)) w (said ++ own (line.Enter (who.Task c.caller) o Write) ∷ [])))
@@ -157,11 +158,11 @@ module _ {G : GoodWorld} {May Other : Naming} {R : StepRelation} {Q : MoveRelati
 
   pub mark_sending-alters : (c : Option CallNo) (o : Owner) (e : EntryNo) (with_abort : Bool) → Alters G R (mark_sending c o e with_abort)
   mark_sending-alters None o e with_abort = search (unchanged-alters, chains)
-  mark_sending-alters (Some c) o e with_abort = search (edit_call-alters)
+  mark_sending-alters (Some c) o e with_abort = search (edit_call-alters, plain_steps)
 
   pub requeue-keeps : (p : Image) (name : Who) (e : EntryNo) (o : EntryOwner) (with_abort : Bool) → Keeps G R (requeue p name e o with_abort)
   unfolding requeue
-  requeue-keeps p name e o with_abort = search (sees-keeps, given-keeps, changes-keeps, mark_sending-alters, then-keeps, leaves-keeps, chains) depth 9
+  requeue-keeps p name e o with_abort = search (sees-keeps, given-keeps, changes-keeps, mark_sending-alters, then-keeps, leaves-keeps, chains, plain_steps) depth 10
 
 module _ {G : GoodWorld} {May Other : Naming} {Owns : Who → RegionNo → Type 0} {R : StepRelation} {Q : MoveRelation} (moves : FineMoves G May Other R Q) (openings : Openings G May Other Owns R) where
   call_runs-from : (p : Image) (o : ObjectNo) (c : Call) (w : World) → G w → LetsIn (who.Task c.caller) o Write w → From R w (call_runs p o c)
@@ -180,12 +181,12 @@ module _ {G : GoodWorld} {May Other : Naming} {Owns : Who → RegionNo → Type 
   unfolding call_closed
   call_closed-from p o c true w good h = make_call-from moves p o c (call_refused o) w good h (λ n v g k. call_refused-from moves o (numbered n c) v g k)
   call_closed-from p o c false w good h =
-      with_room-from moves (who.Task c.caller) (marks_if_queued c.kind) 0 (make_call p c (call_passes p o)) w good (make_call-from moves p o c (call_passes p o) w good h (λ n v g k. call_passes-from moves p o (numbered n c) v g k))
+      with_room-from (plain_steps moves) (who.Task c.caller) (marks_if_queued c.kind) 0 (make_call p c (call_passes p o)) w good (make_call-from moves p o c (call_passes p o) w good h (λ n v g k. call_passes-from moves p o (numbered n c) v g k))
 
   call_by_barrier-from : (p : Image) (o : ObjectNo) (c : Call) (test : Bool) (w : World) → G w → LetsIn (who.Task c.caller) o Write w → From R w (call_by_barrier p o c test)
   unfolding call_by_barrier
   call_by_barrier-from p o c true w good h =
-      with_room-from moves (who.Task c.caller) 1 0 (make_call p c (call_runs_if_room p o)) w good (make_call-from moves p o c (call_runs_if_room p o) w good h (λ n v g k. call_runs_if_room-from p o (numbered n c) v g k))
+      with_room-from (plain_steps moves) (who.Task c.caller) 1 0 (make_call p c (call_runs_if_room p o)) w good (make_call-from moves p o c (call_runs_if_room p o) w good h (λ n v g k. call_runs_if_room-from p o (numbered n c) v g k))
   call_by_barrier-from p o c false w good h = looks_at-from (chains moves) (λ v. call_closed p o c (is_full p v c.owner c.entry)) w (call_closed-from p o c (is_full p w c.owner c.entry) w good h)
 
   pub call_object-keeps : (p : Image) (o : ObjectNo) (c : Call) → Keeps G R (call_object p o c)
@@ -200,9 +201,9 @@ module _ {G : GoodWorld} {May Other : Naming} {Owns : Who → RegionNo → Type 
 
   pub call_named-keeps : (p : Image) (t : TaskNo) (kind : CallKind) (s : StatementNo) (n : EntryCallNamed) → Keeps G R (call_named p t kind s n)
   unfolding call_named
-  call_named-keeps p t kind s n = search (sees-keeps, given-keeps, call_owner-keeps, chains) depth 7
+  call_named-keeps p t kind s n = search (sees-keeps, given-keeps, call_owner-keeps, chains, plain_steps) depth 8
 
   pub entry_call-keeps : (p : Image) (name : Who) (kind : CallKind) (s : StatementNo) → Keeps G R (entry_call p name kind s)
   unfolding entry_call
-  entry_call-keeps p (who.Task t) kind s = search (looks-keeps, raise_if-keeps, call_named-keeps, chains)
-  entry_call-keeps p who.Agent kind s = search (raises-keeps)
+  entry_call-keeps p (who.Task t) kind s = search (looks-keeps, raise_if-keeps, call_named-keeps, chains, plain_steps)
+  entry_call-keeps p who.Agent kind s = search (raises-keeps, plain_steps)

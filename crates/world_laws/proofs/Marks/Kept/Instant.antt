@@ -32,9 +32,8 @@ use Rattle.machine_laws.proofs.Moves.{StepRelation, MoveRelation, Puts}
 use Rattle.world_laws.proofs.Marks.FineMoves.{FineMoves, RegionMoves, chains, effect-leads, move_chains, says-keeps}
 use Rattle.world_laws.proofs.Marks.Kept.Tasks.{edit_task-alters}
 use Rattle.world_laws.proofs.Marks.Kept.Dispatching.{to_tail-keeps, ready-keeps}
-use Rattle.world_laws.proofs.Marks.Kept.Frames.{goes-keeps, open_sequence-keeps, open_if_ready-keeps}
+use Rattle.world_laws.proofs.Marks.Kept.Frames.{goes-keeps, open_sequence-keeps, open_if_ready-keeps, plain_steps}
 use Rattle.world_laws.proofs.Marks.Kept.Appointments.{drop_appointment-alters}
-use Rattle.world_laws.proofs.Marks.Kept.Calls.{with_call-keeps, unqueued-alters}
 use Rattle.world_laws.proofs.Marks.Kept.Unwinding.{unwind-keeps}
 use Rattle.world_laws.proofs.Marks.Kept.CallEnds.{trigger_at-from, deliver-keeps}
 use Rattle.world_laws.proofs.Marks.Kept.Tasking.{take_terminates-keeps, unwind_all-keeps}
@@ -48,6 +47,7 @@ use Rattle.profile_machine.specs.Handlers.{clear_timer}
 use Rattle.machine_laws.proofs.FineMoves.{GoodWorld, Naming}
 use Rattle.machine_laws.proofs.Kept.Handlers.{Releasing}
 use Rattle.machine_laws.proofs.Kept.Combinators.{Alters, From, Keeps, Leads, changes-from, changes-keeps, changes_then-from, for_each-keeps, for_some-keeps, keeps-from, looks-from, looks-keeps, nothing-keeps, then-from, then-keeps, then-leads, when-keeps}
+use Rattle.machine_laws.proofs.Plain.Calls.{with_call-keeps, unqueued-alters}
 
 module _ {G : GoodWorld} {May Other : Naming} {R : StepRelation} {Q : MoveRelation} (moves : FineMoves G May Other R Q) (releasing : Releasing G R) where
   with_port-alters : (n : ℕ) (value : ℤ) → Alters G R (with_port n value)
@@ -109,7 +109,7 @@ module _ {G : GoodWorld} {May Other : Naming} {R : StepRelation} {Q : MoveRelati
 
   pub time_out-keeps : (p : Image) (c : CallNo) → Keeps G R (time_out p c)
   unfolding time_out
-  time_out-keeps p c = search (with_call-keeps, changes-keeps, unqueued-alters, then-keeps, says-keeps, deliver-keeps, chains) depth 7
+  time_out-keeps p c = search (with_call-keeps, changes-keeps, unqueued-alters, then-keeps, says-keeps, deliver-keeps, chains, plain_steps) depth 8
 
   come_due-from : (p : Image) (due : Due) (w : World) → G w → DueRightly w due → From R w (come_due p due)
   unfolding come_due

@@ -28,8 +28,7 @@ use Rattle.machine_laws.proofs.Moves.{StepRelation, MoveRelation}
 use Rattle.world_laws.proofs.Marks.FineMoves.{FineMoves, chains, says-keeps}
 use Rattle.world_laws.proofs.Marks.Kept.Tasks.{edit_task-alters}
 use Rattle.world_laws.proofs.Marks.Kept.Dispatching.{to_tail-keeps}
-use Rattle.world_laws.proofs.Marks.Kept.Frames.{goes-keeps, given-keeps, raise_if-keeps, given-from, given_as-from}
-use Rattle.world_laws.proofs.Marks.Kept.Calls.{edit_call-alters, with_call-keeps, edit_queue-alters}
+use Rattle.world_laws.proofs.Marks.Kept.Frames.{goes-keeps, plain_steps}
 use Rattle.world_laws.proofs.Marks.Kept.Statements.{delay_to-keeps}
 use Rattle.std.proofs.Common.{◌≡◌, refl, subst}
 use Rattle.profile_machine.specs.Operators.{Valued}
@@ -40,21 +39,23 @@ use Rattle.machine_laws.proofs.FineMoves.{GoodWorld, Naming}
 use Rattle.machine_laws.proofs.Kept.Masters.{found-other}
 use Rattle.machine_laws.proofs.Kept.Priorities.{ok-is}
 use Rattle.machine_laws.proofs.Kept.Combinators.{Alters, Keeps, branch-keeps, changes-keeps, for_some-keeps, keeps-from, looks-from, looks-keeps, nothing-keeps, sees-keeps, then-keeps, when-keeps}
+use Rattle.machine_laws.proofs.Plain.Frames.{given-keeps, raise_if-keeps, given-from, given_as-from}
+use Rattle.machine_laws.proofs.Plain.Calls.{edit_call-alters, with_call-keeps, edit_queue-alters}
 
 module _ {G : GoodWorld} {May Other : Naming} {R : StepRelation} {Q : MoveRelation} (moves : FineMoves G May Other R Q) where
   pub placed_anew-alters : (queuing : Queuing) (p : Image) (c : Call) (level : ℕ) → Alters G R (placed_anew queuing p c level)
   unfolding Alters
   placed_anew-alters queuing.Fifo p c level w good = moves.stays w good
   placed_anew-alters queuing.Priority p c level w good =
-      edit_queue-alters moves c.owner (place_of_entry p c.entry) (λ q. put_call queuing.Priority w c.number level (take_call c.number q)) w good
+      edit_queue-alters (plain_steps moves) c.owner (place_of_entry p c.entry) (λ q. put_call queuing.Priority w c.number level (take_call c.number q)) w good
 
   pub reprioritize-keeps : (p : Image) (level : ℕ) (c : Call) → Keeps G R (reprioritize p level c)
   unfolding reprioritize
-  reprioritize-keeps p level c = search (when-keeps, changes-keeps, edit_call-alters, then-keeps, placed_anew-alters, chains) depth 7
+  reprioritize-keeps p level c = search (when-keeps, changes-keeps, edit_call-alters, then-keeps, placed_anew-alters, chains, plain_steps) depth 8
 
   pub reprioritize_own-keeps : (p : Image) (name : Who) (waiting : Waiting) → Keeps G R (reprioritize_own p name waiting)
   unfolding reprioritize_own
-  reprioritize_own-keeps p name waiting = search (looks-keeps, for_some-keeps, with_call-keeps, reprioritize-keeps, chains)
+  reprioritize_own-keeps p name waiting = search (looks-keeps, for_some-keeps, with_call-keeps, reprioritize-keeps, chains, plain_steps)
 
   pub replace_in-keeps : (p : Image) (part : Part) (name : Who) (state : State) → May name → Keeps G R (replace_in p part name state)
   unfolding replace_in
@@ -106,7 +107,7 @@ module _ {G : GoodWorld} {May Other : Naming} {R : StepRelation} {Q : MoveRelati
   unfolding set_base_of
   set_base_of-keeps p actor s level None may = search (goes-keeps)
   set_base_of-keeps p actor s level (Some t) may =
-      raise_if-keeps moves actor (is_edf_base p t.base || is_edf_base p level) exception.Program _
+      raise_if-keeps (plain_steps moves) actor (is_edf_base p t.base || is_edf_base p level) exception.Program _
       (then-keeps (chains moves) (goes actor (next_of p s)) _ (search (goes-keeps)) (set_or_defer_base-keeps p actor t.who level (may t refl)))
 
   -- a task that is live is in the list
@@ -126,8 +127,8 @@ module _ {G : GoodWorld} {May Other : Naming} {R : StepRelation} {Q : MoveRelati
   unfolding set_priority
   set_priority-keeps p name s e task =
       looks-from (chains moves) _ (λ w good. let q = seen_by p w name in
-      given-from moves Own name (optional_task q task >>= must_be_task) _ w good (λ t.
-      given-from moves Own name (value q e >>= λ v. priority_in_range (interrupt_priority p) (whole_in v)) _ w good (λ level.
+      given-from (plain_steps moves) Own name (optional_task q task >>= must_be_task) _ w good (λ t.
+      given-from (plain_steps moves) Own name (value q e >>= λ v. priority_in_range (interrupt_priority p) (whole_in v)) _ w good (λ level.
       keeps-from (chains moves) _ w good
       (set_base_of-keeps p name s level (found_task (who.Task t) w.tasks) (λ u is. moves.other_may u.who (found-other Other (is_who (who.Task t)) w.tasks u (moves.listed w good) is))))))
 
@@ -138,8 +139,8 @@ module _ {G : GoodWorld} {May Other : Naming} {R : StepRelation} {Q : MoveRelati
   pub set_quantum-keeps : (p : Image) (name : Who) (s : StatementNo) (level quantum : ExprNo) → Keeps G R (set_quantum p name s level quantum)
   unfolding set_quantum
   set_quantum-keeps p name s level quantum =
-      sees-keeps (chains moves) p name _ (λ q. given-keeps moves Own name (value q level) _ (λ v. given-keeps moves Own name (moment q quantum) _ (λ n.
-      given-keeps moves Own name (priority_in_range p.policies.last_priority (whole_in v)) _ (λ l. given-keeps moves Own name (quantum_of p l n) _ (λ ticks.
+      sees-keeps (chains moves) p name _ (λ q. given-keeps (plain_steps moves) Own name (value q level) _ (λ v. given-keeps (plain_steps moves) Own name (moment q quantum) _ (λ n.
+      given-keeps (plain_steps moves) Own name (priority_in_range p.policies.last_priority (whole_in v)) _ (λ l. given-keeps (plain_steps moves) Own name (quantum_of p l n) _ (λ ticks.
       then-keeps (chains moves) (goes name (next_of p s)) _ (goes-keeps moves name (next_of p s)) (set_level-keeps l ticks))))))
 
   pub defer_deadline-keeps : (name : Who) (d : ℤ) → Keeps G R (defer_deadline name d)
@@ -154,8 +155,8 @@ module _ {G : GoodWorld} {May Other : Naming} {R : StepRelation} {Q : MoveRelati
   unfolding set_deadline_of
   set_deadline_of-keeps p name s e task =
       looks-from (chains moves) _ (λ w good. let q = seen_by p w name in
-      given_as-from moves Own name (optional_task q task >>= live_task w) _ w good (λ t is.
-      given-from moves Own name (moment q e) _ w good (λ d.
+      given_as-from (plain_steps moves) Own name (optional_task q task >>= live_task w) _ w good (λ t is.
+      given-from (plain_steps moves) Own name (moment q e) _ w good (λ d.
       keeps-from (chains moves) _ w good
       (then-keeps (chains moves) (goes name (next_of p s)) _ (search (goes-keeps)) (set_or_defer_deadline-keeps p name t.who d (moves.other_may t.who (named-other w good (optional_task q task) t is)))))))
 
@@ -165,4 +166,4 @@ module _ {G : GoodWorld} {May Other : Naming} {R : StepRelation} {Q : MoveRelati
 
   pub delay_and_set_deadline-keeps : (p : Image) (name : Who) (s : StatementNo) (until offset : ExprNo) → Keeps G R (delay_and_set_deadline p name s until offset)
   unfolding delay_and_set_deadline
-  delay_and_set_deadline-keeps p name s until offset = search (sees-keeps, raise_if-keeps, given-keeps, delay_with_deadline-keeps, chains) depth 7
+  delay_and_set_deadline-keeps p name s until offset = search (sees-keeps, raise_if-keeps, given-keeps, delay_with_deadline-keeps, chains, plain_steps) depth 8

@@ -38,17 +38,19 @@ use Rattle.machine_laws.proofs.Moves.{StepRelation, MoveRelation, LetsIn, FindsH
 use Rattle.world_laws.proofs.Marks.FineMoves.{FineMoves, Openings, chains, says-keeps}
 use Rattle.machine_laws.proofs.Kept.Entering.{entering-inside, entering-held, LetsIn-same, edit_task-objects}
 use Rattle.world_laws.proofs.Marks.Kept.Dispatching.{to_tail-keeps}
-use Rattle.world_laws.proofs.Marks.Kept.Frames.{goes_then-from, raises-keeps, given-keeps, raise_if-keeps, with_room-keeps}
+use Rattle.world_laws.proofs.Marks.Kept.Frames.{goes_then-from, plain_steps}
 use Rattle.world_laws.proofs.Marks.Kept.Tasks.{edit_top-alters}
 use Rattle.world_laws.proofs.Marks.Kept.Scopes.{open_scope-alters}
 use Rattle.world_laws.proofs.Marks.Kept.Inheritance.{inherit_running-keeps}
-use Rattle.world_laws.proofs.Marks.Kept.Calls.{edit_call-alters, unqueued-alters}
-use Rattle.world_laws.proofs.Marks.Kept.Subprograms.{begin_body-keeps, handing-keeps}
+use Rattle.world_laws.proofs.Marks.Kept.Subprograms.{begin_body-keeps}
 use Rattle.ann_base.specs.declared.identities.RegionNo.{RegionNo}
 use Rattle.profile_machine.specs.declared.world.marks.Mark.{Mark}
 use Rattle.profile_machine.specs.declared.world.marks.Mark.TheVariants.{Scope, Handled, InProtected, InAccept, Abortable, InInitialize, InFinalize, InAssign}
 use Rattle.machine_laws.proofs.FineMoves.{GoodWorld, Naming}
 use Rattle.machine_laws.proofs.Kept.Combinators.{Alters, From, Keeps, Kept, branch-keeps, changes-keeps, keeps-from, looks-from, looks-keeps, said-from, sees-keeps, then-from, then-keeps}
+use Rattle.machine_laws.proofs.Plain.Frames.{raises-keeps, given-keeps, raise_if-keeps, with_room-keeps}
+use Rattle.machine_laws.proofs.Plain.Calls.{edit_call-alters, unqueued-alters}
+use Rattle.machine_laws.proofs.Plain.Subprograms.{handing-keeps}
 
 -- the release and the object of a protected action are not edited, nor what another mark is
 pub protected-nature : (f : ProtectedMark → ProtectedMark) → ((m : ProtectedMark) → (f m).release ≡ m.release) → ((m : ProtectedMark) → (f m).object ≡ m.object) → (mark : Mark) → nature (edit_protected f mark) ≡ nature mark
@@ -68,8 +70,8 @@ module _ {G : GoodWorld} {May Other : Naming} {R : StepRelation} {Q : MoveRelati
       then-from (chains moves) (says Own (line.Held name o mode)) (to_tail p ThePlacing name) w (said-from (chains moves) Own (line.Held name o mode) w (moves.finds_held name o mode w good h)) (to_tail-keeps moves p ThePlacing name may)
 
   enter_or-from : (p : Image) (name : Who) (o : ObjectNo) (mode : Mode) (step : Step) (w : World) (is : Entering) → G w → May name → entering p w name o mode ≡ is → (LetsIn name o mode w → From R w step) → From R w (enter_or p name o mode step is)
-  enter_or-from p name o mode step w entering_is.SameObject good may e kept = keeps-from (chains moves) (raises Own name exception.Program) w good (raises-keeps moves Own name exception.Program)
-  enter_or-from p name o mode step w entering_is.AboveCeiling good may e kept = keeps-from (chains moves) (raises Own name exception.Program) w good (raises-keeps moves Own name exception.Program)
+  enter_or-from p name o mode step w entering_is.SameObject good may e kept = keeps-from (chains moves) (raises Own name exception.Program) w good (raises-keeps (plain_steps moves) Own name exception.Program)
+  enter_or-from p name o mode step w entering_is.AboveCeiling good may e kept = keeps-from (chains moves) (raises Own name exception.Program) w good (raises-keeps (plain_steps moves) Own name exception.Program)
   enter_or-from p name o mode step w entering_is.Held good may e kept = find_held-from p name o mode w good may (entering-held p w name o mode e)
   enter_or-from p name o mode step w entering_is.Inside good may e kept = kept (entering-inside p w name o mode e)
 
@@ -97,7 +99,7 @@ module _ {G : GoodWorld} {May Other : Naming} {R : StepRelation} {Q : MoveRelati
 
   pub begin_call-keeps : (p : Image) (part : Part) (name : Who) (c : Call) → Keeps G R (begin_call p part name c)
   unfolding begin_call
-  begin_call-keeps p part name c = search (changes-keeps, unqueued-alters, then-keeps, edit_call-alters, says-keeps, chains) depth 8
+  begin_call-keeps p part name c = search (changes-keeps, unqueued-alters, then-keeps, edit_call-alters, says-keeps, chains, plain_steps) depth 9
 
 module _ {G : GoodWorld} {May Other : Naming} {Owns : Who → RegionNo → Type 0} {R : StepRelation} {Q : MoveRelation} (moves : FineMoves G May Other R Q) (openings : Openings G May Other Owns R) where
   pub begin_operation-from : (p : Image) (name : Who) (s : StatementNo) (f : SubprogramNo) (o : ObjectNo) (h : Handed) (to : ResultTo) (w : World) → G w → May name → LetsIn name o (mode_of (subprogram_of p f)) w → From R w (begin_operation p name s f o h to)
@@ -112,20 +114,20 @@ module _ {G : GoodWorld} {May Other : Naming} {Owns : Who → RegionNo → Type 
 
   pub call_operation_of-keeps : (p : Image) (name : Who) (s : StatementNo) (f : SubprogramNo) (actuals : List Actual) (to : Destination) (o : ObjectNo) → May name → Keeps G R (call_operation_of p name s f actuals to o)
   unfolding call_operation_of
-  call_operation_of-keeps p name s f actuals to o may = search (looks-keeps, raise_if-keeps, with_room-keeps, handing-keeps, where_let_inside-keeps, begin_operation-from, chains) depth 10
+  call_operation_of-keeps p name s f actuals to o may = search (looks-keeps, raise_if-keeps, with_room-keeps, handing-keeps, where_let_inside-keeps, begin_operation-from, chains, plain_steps) depth 11
 
   pub call_operation-keeps : (p : Image) (name : Who) (s : StatementNo) (d : DeclNo) (f : SubprogramNo) (actuals : List Actual) (to : Destination) → May name → Keeps G R (call_operation p name s d f actuals to)
   unfolding call_operation
-  call_operation-keeps p name s d f actuals to may = search (sees-keeps, given-keeps, call_operation_of-keeps, chains) depth 7
+  call_operation-keeps p name s d f actuals to may = search (sees-keeps, given-keeps, call_operation_of-keeps, chains, plain_steps) depth 8
 
   pub begin_own_operation-keeps : (p : Image) (name : Who) (s : StatementNo) (f : SubprogramNo) (o : Option ObjectNo) (h : Handed) (to : ResultTo) → May name → Keeps G R (begin_own_operation p name s f o h to)
   unfolding begin_own_operation
-  begin_own_operation-keeps p name s f None h to may = search (raises-keeps)
+  begin_own_operation-keeps p name s f None h to may = search (raises-keeps, plain_steps)
   begin_own_operation-keeps p name s f (Some o) h to may = search (looks-keeps, begin_body-keeps, chains)
 
   pub call_own_operation-keeps : (p : Image) (name : Who) (s : StatementNo) (f : SubprogramNo) (actuals : List Actual) (to : Destination) → May name → Keeps G R (call_own_operation p name s f actuals to)
   unfolding call_own_operation
-  call_own_operation-keeps p name s f actuals to may = search (with_room-keeps, handing-keeps, sees-keeps, begin_own_operation-keeps, chains)
+  call_own_operation-keeps p name s f actuals to may = search (with_room-keeps, handing-keeps, sees-keeps, begin_own_operation-keeps, chains, plain_steps)
 
   pub body_opens-keeps : (p : Image) (name : Who) (o : ObjectNo) (c : Call) → May name → Keeps G R (body_opens p name o c)
   unfolding body_opens

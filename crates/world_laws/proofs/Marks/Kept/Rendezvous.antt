@@ -12,7 +12,6 @@ use Rattle.profile_machine.specs.declared.run_data.Leaving.{Leaving}
 use Rattle.profile_machine.specs.declared.run_data.Leaving.TheVariants as how
 use Rattle.profile_machine.specs.declared.statements.SelectAlternative.{SelectAlternative}
 use Rattle.profile_machine.specs.declared.statements.SelectKind.{SelectKind}
-use Rattle.profile_machine.specs.declared.values.Value.{Value}
 use Rattle.profile_machine.specs.declared.world.World.{World}
 use Rattle.profile_machine.specs.declared.world.marks.Mark.{Mark}
 use Rattle.profile_machine.specs.declared.world.marks.AcceptMark.{AcceptMark}
@@ -31,19 +30,17 @@ use Rattle.profile_machine.specs.Steps.{Step, changes, ◌▷◌, looks}
 use Rattle.profile_machine.specs.Frames.{new_frame, pop, top_of, in_protected}
 use Rattle.profile_machine.specs.Scopes.{begin_scope, next_id, plainly, innermost, end_scope, cells_of, scope_in_use}
 use Rattle.profile_machine.specs.Appointments.{drop_delay}
-use Rattle.profile_machine.specs.Calls.{formals_count, parameters_of, edit_call, with_call, next_call, place_of_entry}
-use Rattle.profile_machine.specs.Serving.{with_values}
+use Rattle.profile_machine.specs.Calls.{parameters_of, edit_call, with_call, next_call, place_of_entry}
 use Rattle.profile_machine.specs.Rendezvous.{accept_scope, open_accept, has_room_for_accept, begin_accept, finish_without_room, accept_with_room, accept_call, meet_with_room, meet_without_room, meet, accept_or_wait, accept, accept_chosen, wait_at_select, appoint_delay, select_delay, select_wait, select_otherwise, select_by_call, select_open, selective_accept, gone_sent, meet_sent, arrive_at, arrive, finish_accept, finish_rendezvous, behind_accept, finished_call, end_in_accept, own_queue, open_alternatives, open_delays}
 use Rattle.std.proofs.Common.{◌≡◌, refl}
 use Rattle.machine_laws.proofs.Moves.{StepRelation, MoveRelation}
 use Rattle.world_laws.proofs.Marks.MarkFacts.{Ends}
 use Rattle.world_laws.proofs.Marks.FineMoves.{FineMoves, Openings, chains, says-keeps}
 use Rattle.world_laws.proofs.Marks.Kept.Dispatching.{ready-keeps, block-keeps, blocked-keeps}
-use Rattle.world_laws.proofs.Marks.Kept.Frames.{goes-keeps, raises-keeps, open_sequence-keeps, pass_on-keeps, raise_if-keeps, goes_then-from, popped, given-from, raise_if-from}
+use Rattle.world_laws.proofs.Marks.Kept.Frames.{goes-keeps, open_sequence-keeps, goes_then-from, popped, plain_steps}
 use Rattle.world_laws.proofs.Marks.Kept.Scopes.{end_scope-alters}
 use Rattle.world_laws.proofs.Marks.Kept.Inheritance.{inherit-alters, inherit_running-keeps, lose_running-keeps}
 use Rattle.world_laws.proofs.Marks.Kept.Appointments.{appoint-from, drop_delay-alters}
-use Rattle.world_laws.proofs.Marks.Kept.Calls.{edit_call-alters, with_call-keeps, enqueue-keeps}
 use Rattle.world_laws.proofs.Marks.Kept.CallEnds.{deliver-keeps, gone-keeps}
 use Rattle.world_laws.proofs.Marks.Kept.Protected.{begin_call-keeps}
 use Rattle.world_laws.proofs.Marks.Kept.Sending.{send_on-keeps, begin_abortable-keeps, sent_not_begun-keeps}
@@ -53,8 +50,11 @@ use Rattle.profile_machine.specs.Inheritance.{lose_running}
 use Rattle.profile_machine.specs.declared.world.marks.Frame.{Frame}
 use Rattle.profile_machine.specs.declared.world.lines.Part.TheVariants.{Own}
 use Rattle.machine_laws.proofs.FineMoves.{GoodWorld, Naming}
-use Rattle.machine_laws.proofs.Kept.Serving.{keeps_sending-number}
 use Rattle.machine_laws.proofs.Kept.Combinators.{Alters, From, Keeps, branch-keeps, changes-keeps, changes_then-from, for_some-keeps, keeps-from, looks-from, looks-keeps, looks_at-from, nothing-keeps, then-from, then-keeps, unchanged-alters}
+use Rattle.machine_laws.proofs.Plain.Frames.{raises-keeps, pass_on-keeps, raise_if-keeps, given-from, raise_if-from}
+use Rattle.machine_laws.proofs.Plain.Calls.{edit_call-alters, with_call-keeps, enqueue-keeps}
+use Rattle.machine_laws.proofs.Plain.PlainSteps.{anybody}
+use Rattle.machine_laws.proofs.Plain.Results.{finished_call-number, finished_call-caller}
 
 module _ {G : GoodWorld} {May Other : Naming} {R : StepRelation} {Q : MoveRelation} (moves : FineMoves G May Other R Q) where
   open_accept-alters : (p : Image) (name : Who) (s : StatementNo) (c : Call) → Other name → Alters G R (open_accept p name s c)
@@ -78,17 +78,17 @@ module _ {G : GoodWorld} {May Other : Naming} {R : StepRelation} {Q : MoveRelati
   accept_with_room-keeps : (p : Image) (name : Who) (s : StatementNo) (c : Call) (has_room : Bool) → Other name → Keeps G R (accept_with_room p name s c has_room)
   unfolding accept_with_room
   accept_with_room-keeps p name s c true other = search (changes-keeps, open_accept-alters, then-keeps, inherit_running-keeps, moves.other_may, chains)
-  accept_with_room-keeps p name s c false other = search (finish_without_room-keeps, then-keeps, deliver-keeps, raises-keeps, chains)
+  accept_with_room-keeps p name s c false other = search (finish_without_room-keeps, then-keeps, deliver-keeps, raises-keeps, chains, plain_steps)
 
   pub accept_call-keeps : (p : Image) (name : Who) (s : StatementNo) (c : CallNo) → Other name → Keeps G R (accept_call p name s c)
   unfolding accept_call
-  accept_call-keeps p name s c other = search (with_call-keeps, begin_accept-keeps, then-keeps, looks-keeps, accept_with_room-keeps, chains) depth 7
+  accept_call-keeps p name s c other = search (with_call-keeps, begin_accept-keeps, then-keeps, looks-keeps, accept_with_room-keeps, chains, plain_steps) depth 8
 
   pub meet_with_room-keeps : (p : Image) (part : Part) (name : Who) (s : StatementNo) (c : Call) (then_ : Step) → Other name → Keeps G R then_ → Keeps G R (meet_with_room p part name s c then_)
   meet_with_room-keeps p part name s c then_ other kept = search (begin_accept-keeps, changes-keeps, open_accept-alters, inherit-alters, then-keeps, ready-keeps, open_sequence-keeps, moves.other_may, chains) depth 10
 
   pub meet_without_room-keeps : (p : Image) (part : Part) (name : Who) (s : StatementNo) (c : Call) (otherwise : Step) → Other name → Keeps G R otherwise → Keeps G R (meet_without_room p part name s c otherwise)
-  meet_without_room-keeps p part name s c otherwise other kept = search (begin_accept-keeps, then-keeps, finish_without_room-keeps, ready-keeps, raises-keeps, chains) depth 9
+  meet_without_room-keeps p part name s c otherwise other kept = search (begin_accept-keeps, then-keeps, finish_without_room-keeps, ready-keeps, raises-keeps, chains, plain_steps) depth 10
 
   pub meet-keeps : (p : Image) (part : Part) (name : Who) (s : StatementNo) (c : Call) (then_ otherwise : Step) → Other name → Keeps G R then_ → Keeps G R otherwise → Keeps G R (meet p part name s c then_ otherwise)
   meet-keeps p part name s c then_ otherwise other kept also_kept = then-keeps (chains moves) (changes (drop_delay name)) _ (search (changes-keeps, drop_delay-alters, chains)) (looks-keeps (chains moves) _ (λ w. branch-keeps (chains moves) (has_room_for_accept p w name s) (meet_with_room p part name s c then_) (meet_without_room p part name s c otherwise) (search (meet_with_room-keeps)) (search (meet_without_room-keeps))))
@@ -100,7 +100,7 @@ module _ {G : GoodWorld} {May Other : Naming} {R : StepRelation} {Q : MoveRelati
 
   pub accept_chosen-keeps : (p : Image) (name : Who) (accepts : List StatementNo) (c : CallNo) → Other name → Keeps G R (accept_chosen p name accepts c)
   unfolding accept_chosen
-  accept_chosen-keeps p name accepts c other = search (with_call-keeps, for_some-keeps, accept_call-keeps, chains)
+  accept_chosen-keeps p name accepts c other = search (with_call-keeps, for_some-keeps, accept_call-keeps, chains, plain_steps)
 
   pub wait_at_select-keeps : (name : Who) (accepts : List StatementNo) (delay : Option StatementNo) (test : Bool) → Other name → Keeps G R (wait_at_select name accepts delay test)
   unfolding wait_at_select
@@ -137,7 +137,7 @@ module _ {G : GoodWorld} {May Other : Naming} {R : StepRelation} {Q : MoveRelati
 
   pub select_open-keeps : (p : Image) (name : Who) (s : StatementNo) (otherwise : Option StatementNo) (kinds : List SelectKind) (moments : List DelayMoment) → Other name → Keeps G R (select_open p name s otherwise kinds moments)
   unfolding select_open
-  select_open-keeps p name s otherwise kinds moments other = search (raise_if-keeps, looks-keeps, select_by_call-keeps, chains)
+  select_open-keeps p name s otherwise kinds moments other = search (raise_if-keeps, looks-keeps, select_by_call-keeps, chains, plain_steps)
 
   pub gone_sent-keeps : (p : Image) (c : Call) → Keeps G R (gone_sent p c)
   unfolding gone_sent
@@ -146,7 +146,7 @@ module _ {G : GoodWorld} {May Other : Naming} {R : StepRelation} {Q : MoveRelati
   pub meet_sent-keeps : (p : Image) (t : TaskNo) (c : Call) (next : Option StatementNo) → Keeps G R (meet_sent p t c next)
   unfolding meet_sent
   meet_sent-keeps p t c (Some s) = search (meet-keeps, begin_abortable-keeps, deliver-keeps, moves.task_other)
-  meet_sent-keeps p t c None = search (enqueue-keeps, then-keeps, sent_not_begun-keeps, chains)
+  meet_sent-keeps p t c None = search (enqueue-keeps, then-keeps, sent_not_begun-keeps, chains, plain_steps)
 
   pub arrive_at-keeps : (p : Image) (t : TaskNo) (c : Call) (test : Bool) → Keeps G R (arrive_at p t c test)
   unfolding arrive_at
@@ -161,7 +161,7 @@ module _ {G : GoodWorld} {May Other : Naming} {R : StepRelation} {Q : MoveRelati
   pub finish_accept-keeps : (p : Image) (name : Who) (c : Call) (sending : Option Sending) → Keeps G R (finish_accept p name c sending)
   unfolding finish_accept
   finish_accept-keeps p name c None = search (says-keeps, then-keeps, deliver-keeps, chains)
-  finish_accept-keeps p name c (Some s) = search (says-keeps, then-keeps, send_on-keeps, with_call-keeps, arrive-keeps, chains)
+  finish_accept-keeps p name c (Some s) = search (says-keeps, then-keeps, send_on-keeps, with_call-keeps, arrive-keeps, chains, plain_steps)
 
   pub finish_rendezvous-keeps : (p : Image) (name : Who) (c : Call) (leaving : Leaving) → Keeps G R (finish_rendezvous p name c leaving)
   unfolding finish_rendezvous
@@ -176,20 +176,17 @@ module _ {G : GoodWorld} {May Other : Naming} {R : StepRelation} {Q : MoveRelati
   unfolding behind_accept
   behind_accept-keeps p name how.End = search (nothing-keeps, chains)
   behind_accept-keeps p name how.Return = search (nothing-keeps, chains)
-  behind_accept-keeps p name (how.Exit loop) = search (pass_on-keeps)
-  behind_accept-keeps p name (how.Exception e) = search (pass_on-keeps)
-  behind_accept-keeps p name how.Abort = search (pass_on-keeps)
-  behind_accept-keeps p name how.Terminate = search (pass_on-keeps)
-
-  finished_call-number : (p : Image) (cells : List Value) (leaving : Leaving) (c : Call) → (finished_call p cells leaving c).number ≡ c.number
-  finished_call-number p cells leaving c = keeps_sending-number leaving (with_values cells (formals_count p c) c)
+  behind_accept-keeps p name (how.Exit loop) = search (pass_on-keeps, plain_steps, anybody)
+  behind_accept-keeps p name (how.Exception e) = search (pass_on-keeps, plain_steps, anybody)
+  behind_accept-keeps p name how.Abort = search (pass_on-keeps, plain_steps, anybody)
+  behind_accept-keeps p name how.Terminate = search (pass_on-keeps, plain_steps, anybody)
 
   -- the accept on top finishes its call
   accept_ends-from : (p : Image) (name : Who) (m : AcceptMark) (leaving : Leaving) (f : Frame) (w : World) → G w → May name → top_of w name ≡ Some f → Ends name f w → From R w (looks (λ v. changes (pop name) ▷ changes (end_scope m.within) ▷ changes (edit_call m.call (finished_call p (cells_of (scope_in_use v m.within)) leaving)) ▷ with_call m.call (λ c. finish_rendezvous p name c leaving)))
   accept_ends-from p name m leaving f w good may top free =
       let out = popped moves name f w good may top free in
       looks_at-from (chains moves) (λ v. changes (pop name) ▷ changes (end_scope m.within) ▷ changes (edit_call m.call (finished_call p (cells_of (scope_in_use v m.within)) leaving)) ▷ with_call m.call (λ c. finish_rendezvous p name c leaving)) w (changes_then-from (chains moves) (pop name) _ w out (keeps-from (chains moves) (changes (end_scope m.within) ▷ changes (edit_call m.call (finished_call p (cells_of (scope_in_use w m.within)) leaving)) ▷ with_call m.call (λ c. finish_rendezvous p name c leaving)) (pop name w) (moves.behind w (pop name w) out)
-      (search (changes-keeps, then-keeps, end_scope-alters, edit_call-alters, with_call-keeps, finish_rendezvous-keeps, finished_call-number, chains) depth 9)))
+      (search (changes-keeps, then-keeps, end_scope-alters, edit_call-alters, with_call-keeps, finish_rendezvous-keeps, finished_call-number, finished_call-caller, chains, plain_steps) depth 10)))
 
   pub end_in_accept-from : (p : Image) (name : Who) (m : AcceptMark) (leaving : Leaving) (f : Frame) (w : World) → G w → May name → top_of w name ≡ Some f → Ends name f w → From R w (end_in_accept p name m leaving)
   unfolding end_in_accept
@@ -200,14 +197,14 @@ module _ {G : GoodWorld} {May Other : Naming} {Owns : Who → RegionNo → Type 
   pub accept-keeps : (p : Image) (name : Who) (s : StatementNo) (e : EntryNo) → May name → Keeps G R (accept p name s e)
   unfolding accept
   accept-keeps p name s e may =
-      looks-from (chains moves) _ (λ w good. raise_if-from moves name (in_protected w name) exception.Program _ w good
+      looks-from (chains moves) _ (λ w good. raise_if-from (plain_steps moves) name (in_protected w name) exception.Program _ w good
       (λ free. keeps-from (chains moves) _ w good (accept_or_wait-keeps moves p name s (next_call p w (own_queue w name (place_of_entry p e) ∷ [])) (openings.outside name w good may free))))
 
   pub selective_accept-keeps : (p : Image) (name : Who) (s : StatementNo) (alternatives : List SelectAlternative) (otherwise : Option StatementNo) → May name → Keeps G R (selective_accept p name s alternatives otherwise)
   unfolding selective_accept
   selective_accept-keeps p name s alternatives otherwise may =
-      looks-from (chains moves) _ (λ w good. raise_if-from moves name (in_protected w name) exception.Program _ w good
+      looks-from (chains moves) _ (λ w good. raise_if-from (plain_steps moves) name (in_protected w name) exception.Program _ w good
       (λ free. let other = openings.outside name w good may free in
-      given-from moves Own name (open_alternatives (seen_by p w name) alternatives) _ w good (λ kinds.
-      given-from moves Own name (open_delays (seen_by p w name) kinds) _ w good (λ moments.
+      given-from (plain_steps moves) Own name (open_alternatives (seen_by p w name) alternatives) _ w good (λ kinds.
+      given-from (plain_steps moves) Own name (open_delays (seen_by p w name) kinds) _ w good (λ moments.
       keeps-from (chains moves) _ w good (select_open-keeps moves p name s otherwise kinds moments other)))))

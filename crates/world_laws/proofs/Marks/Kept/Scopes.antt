@@ -1,15 +1,14 @@
 -- Scopes that begin and end, and their cells: each step keeps a relation that its parts keep.
-use Rattle.std.specs.Prelude.{ℕ, List, false}
+use Rattle.std.specs.Prelude.{false}
 use Rattle.std.proofs.Common.{◌≡◌}
 use Rattle.ann_base.specs.declared.identities.RegionNo.{RegionNo}
 use Rattle.trace_text.specs.declared.events.Who.{Who}
 use Rattle.profile_machine.specs.declared.image.Image.{Image}
 use Rattle.profile_machine.specs.declared.numbers.ScopeNo.{ScopeNo}
-use Rattle.profile_machine.specs.declared.values.Value.{Value}
 use Rattle.profile_machine.specs.declared.world.marks.Purpose.{Purpose}
 use Rattle.profile_machine.specs.declared.world.scopes.ScopeId.{ScopeId}
 use Rattle.profile_machine.specs.declared.world.scopes.Beginning.{Beginning}
-use Rattle.profile_machine.specs.Scopes.{edit_cells, write_cell, open_scope, end_scope}
+use Rattle.profile_machine.specs.Scopes.{open_scope, end_scope}
 use Rattle.profile_machine.specs.Tasking.{is_task_scope}
 use Rattle.machine_laws.proofs.Moves.{StepRelation, MoveRelation}
 use Rattle.world_laws.proofs.Marks.FineMoves.{FineMoves, Openings}
@@ -17,13 +16,6 @@ use Rattle.machine_laws.proofs.FineMoves.{GoodWorld, Naming}
 use Rattle.machine_laws.proofs.Kept.Combinators.{Alters}
 
 module _ {G : GoodWorld} {May Other : Naming} {R : StepRelation} {Q : MoveRelation} (moves : FineMoves G May Other R Q) where
-  pub edit_cells-alters : (id : ScopeId) (f : List Value → List Value) → Alters G R (edit_cells id f)
-  unfolding Alters
-  edit_cells-alters id f w good = moves.edits_cells id f w good
-
-  pub write_cell-alters : (id : ScopeId) (place : ℕ) (value : Value) → Alters G R (write_cell id place value)
-  write_cell-alters id place value = search (edit_cells-alters)
-
   pub end_scope-alters : (id : ScopeId) → Alters G R (end_scope id)
   unfolding Alters
   end_scope-alters id w good = moves.ends_scope id w good

@@ -11,7 +11,6 @@ use Rattle.trace_text.specs.declared.events.Who.{Who}
 use Rattle.profile_machine.specs.declared.image.Image.{Image}
 use Rattle.profile_machine.specs.declared.run_data.Leaving.{Leaving}
 use Rattle.profile_machine.specs.declared.run_data.Leaving.TheVariants as how
-use Rattle.profile_machine.specs.declared.values.Value.{Value}
 use Rattle.profile_machine.specs.declared.world.World.{World}
 use Rattle.profile_machine.specs.declared.world.appointments.Release.{Release}
 use Rattle.profile_machine.specs.declared.world.marks.ProtectedMark.{ProtectedMark}
@@ -43,24 +42,25 @@ use Rattle.profile_machine.specs.Dispatching.{block}
 use Rattle.profile_machine.specs.Steps.{Step, Done, done, goes_on_with, says, changes, looks, when, nothing, for_some, ◌▷◌}
 use Rattle.profile_machine.specs.Protected.{served_next, edit_top_protected, begin_call, body_opens, serve_call, has_room_for_body}
 use Rattle.profile_machine.specs.Values.{object_of}
-use Rattle.profile_machine.specs.Serving.{serves_nothing, is_served_now, serve_ends, end_release, close_action, wait_or_unwind, wait_for_own, resume_own, behind_action, release_object, settle_sent, begins_part, chosen_is_sent, serve_chosen, serve_next, serve_calls, go_on_by_mode, end_operation, finish_raised, finish_well, finish_call, end_entry_body, end_in_protected_by, end_in_protected, keep_values, end_body_of_entry, part_of_start, with_body_left, no_longer_serves, not_left, outcome_by, is_own_call, may_open_abortable}
+use Rattle.profile_machine.specs.Serving.{serves_nothing, is_served_now, serve_ends, end_release, close_action, wait_or_unwind, wait_for_own, resume_own, behind_action, release_object, settle_sent, begins_part, chosen_is_sent, serve_chosen, serve_next, serve_calls, go_on_by_mode, end_operation, finish_raised, finish_well, finish_call, end_entry_body, end_in_protected_by, end_in_protected, part_of_start, with_body_left, no_longer_serves, not_left, outcome_by, is_own_call, may_open_abortable}
 use Rattle.std.proofs.Common.{◌≡◌, refl, sym, subst, ap, ◌∙◌}
 use Rattle.machine_laws.proofs.Moves.{StepRelation, MoveRelation, own}
-use Rattle.world_laws.proofs.Marks.FineMoves.{FineMoves, RegionMoves, chains, says-keeps}
+use Rattle.world_laws.proofs.Marks.FineMoves.{RegionMoves, chains, says-keeps}
 use Rattle.machine_laws.proofs.FinestMoves.{natures, action_first}
 use Rattle.line_laws.proofs.Exits.Steady.{FreeIn}
 use Rattle.world_laws.proofs.Marks.Kept.Dispatching.{block-keeps}
-use Rattle.world_laws.proofs.Marks.Kept.Frames.{leaves-keeps, pass_on-keeps}
+use Rattle.world_laws.proofs.Marks.Kept.Frames.{leaves-keeps, plain_steps}
 use Rattle.world_laws.proofs.Marks.Kept.Tasks.{edit_top-alters}
 use Rattle.world_laws.proofs.Marks.Kept.Inheritance.{lose_running-keeps}
-use Rattle.world_laws.proofs.Marks.Kept.Calls.{edit_call-alters, forget_call-alters, with_call-keeps, enqueue-keeps, attempt_with-keeps}
-use Rattle.world_laws.proofs.Marks.Kept.CallEnds.{resume-keeps, deliver-keeps}
+use Rattle.world_laws.proofs.Marks.Kept.CallEnds.{deliver-keeps}
 use Rattle.world_laws.proofs.Marks.Kept.Protected.{edit_top_protected-alters, begin_call-keeps, body_opens-keeps}
 use Rattle.world_laws.proofs.Marks.Kept.Priorities.{set_deferred-keeps}
 use Rattle.world_laws.proofs.Marks.Kept.Sending.{open_abortable-alters, wait_for_call-keeps, send_on-keeps, begin_abortable-keeps, sent_not_begun-keeps}
-use Rattle.machine_laws.proofs.FineMoves.{GoodWorld, Naming}
-use Rattle.machine_laws.proofs.Kept.Serving.{keeps_sending-number}
+use Rattle.machine_laws.proofs.FineMoves.{GoodWorld}
 use Rattle.machine_laws.proofs.Kept.Combinators.{From, Keeps, Kept, changes-keeps, either-from, keeps-from, looks-from, looks-keeps, looks_at-from, nothing-keeps, then-from, then-keeps, then-kept, when-keeps, world_behind}
+use Rattle.machine_laws.proofs.Plain.Frames.{pass_on-keeps}
+use Rattle.machine_laws.proofs.Plain.Calls.{forget_call-alters, with_call-keeps, enqueue-keeps, attempt_with-keeps}
+use Rattle.machine_laws.proofs.Plain.Results.{resume-keeps}
 
 -- ---- the agent has served a release
 
@@ -118,7 +118,7 @@ module _ {G : GoodWorld} {R : StepRelation} {Q : MoveRelation} (moves : RegionMo
   wait_or_unwind-keeps : (p : Image) (name : Who) (c : Call) (test : Bool) → Keeps G R (wait_or_unwind p name c test)
   unfolding wait_or_unwind
   wait_or_unwind-keeps p name c true =
-      attempt_with-keeps moves.fine p Own c _ _ (then-keeps (chains moves.fine) _ _ (changes-keeps (chains moves.fine) _ (forget_call-alters moves.fine c.number)) (leaves-keeps moves.fine name how.Abort)) (wait_for_call-keeps moves.fine c)
+      attempt_with-keeps (plain_steps moves.fine) p Own c _ _ (then-keeps (chains moves.fine) _ _ (changes-keeps (chains moves.fine) _ (forget_call-alters (plain_steps moves.fine) c.number)) (leaves-keeps moves.fine name how.Abort)) (wait_for_call-keeps moves.fine c)
   wait_or_unwind-keeps p name c false = wait_for_call-keeps moves.fine c
 
   wait_for_own-keeps : (p : Image) (name : Who) (c : Call) (test : Bool) → Keeps G R (wait_for_own p name c test)
@@ -128,14 +128,14 @@ module _ {G : GoodWorld} {R : StepRelation} {Q : MoveRelation} (moves : RegionMo
 
   resume_own-keeps : (p : Image) (name : Who) (c : Call) (outcome : Option Outcome) → Keeps G R (resume_own p name c outcome)
   unfolding resume_own
-  resume_own-keeps p name c (Some outcome) = resume-keeps moves.fine p TheBlock c outcome
+  resume_own-keeps p name c (Some outcome) = resume-keeps (plain_steps moves.fine) p TheBlock c outcome tt
   resume_own-keeps p name c None = looks-keeps (chains moves.fine) _ (λ w. wait_for_own-keeps p name c (may_open_abortable w name c))
 
   behind_action-keeps : (p : Image) (name : Who) (m : ProtectedMark) (n : Option ℕ) (c : Option CallNo) → Keeps G R (behind_action p name m n c)
   unfolding behind_action
   behind_action-keeps p name m (Some release) call = end_release-keeps moves release
-  behind_action-keeps p name m None None = pass_on-keeps moves.fine p name m.body_left
-  behind_action-keeps p name m None (Some c) = with_call-keeps moves.fine c _ (λ d. resume_own-keeps p name d d.outcome)
+  behind_action-keeps p name m None None = pass_on-keeps (plain_steps moves.fine) p name m.body_left tt
+  behind_action-keeps p name m None (Some c) = with_call-keeps (plain_steps moves.fine) c _ (λ d. resume_own-keeps p name d d.outcome)
 
   release_object-from : (p : Image) (name : Who) (m : ProtectedMark) (w : World) → Held name m.object w → From R w (release_object p name m)
   unfolding release_object
@@ -209,7 +209,7 @@ module _ {G : GoodWorld} {R : StepRelation} {Q : MoveRelation} (moves : RegionMo
     well-from c (Some s) w h =
         step_then name m.object (says TheFinish (line.Finish name c.number meeting.Requeue)) _ w h (says-keeps moves.fine TheFinish (line.Finish name c.number meeting.Requeue) refl) (says-steady action_on_top name m.object TheFinish _)
         (λ v k. step_then name m.object (send_on c.number s) _ v k (send_on-keeps moves.fine c.number s) (send_on-steady action_on_top name m.object c.number s)
-        (λ u l. step_then name m.object (enqueue p c.number) _ u l (enqueue-keeps moves.fine p c.number) (enqueue-steady action_on_top name m.object p c.number)
+        (λ u l. step_then name m.object (enqueue p c.number) _ u l (enqueue-keeps (plain_steps moves.fine) p c.number) (enqueue-steady action_on_top name m.object p c.number)
         (λ t n. serve_calls-from (Some c.number) t n)))
 
     finish-from : (leaving : Leaving) (c : Call) (w : World) → Held name m.object w → From R w (finish_call p name m leaving c)
@@ -249,12 +249,3 @@ module _ {G : GoodWorld} {R : StepRelation} {Q : MoveRelation} (moves : RegionMo
     end_in_protected-from w good h = by_body-from m.serves w (good, h)
 
 -- ---- the scope of an entry body has ended
-
-module _ {G : GoodWorld} {May Other : Naming} {R : StepRelation} {Q : MoveRelation} (moves : FineMoves G May Other R Q) where
-  pub keep_values-keeps : (p : Image) (c : CallNo) (cells : List Value) → Keeps G R (keep_values p c cells)
-  unfolding keep_values
-  keep_values-keeps p c cells = search (with_call-keeps, changes-keeps, edit_call-alters, chains)
-
-  pub end_body_of_entry-keeps : (p : Image) (c : CallNo) (cells : List Value) (leaving : Leaving) → Keeps G R (end_body_of_entry p c cells leaving)
-  unfolding end_body_of_entry
-  end_body_of_entry-keeps p c cells leaving = search (changes-keeps, edit_call-alters, then-keeps, keep_values-keeps, keeps_sending-number, chains)

@@ -44,17 +44,14 @@ use Rattle.profile_machine.specs.declared.world.lines.Said.{Said}
 use Rattle.world_laws.proofs.Marks.TaskFacts.{KnownAbnormal, becomes-known, all-both, all-filter, all-kept, all-map}
 use Rattle.world_laws.proofs.Marks.FineMoves.{FineMoves, Openings, chains, says-keeps}
 use Rattle.world_laws.proofs.Marks.Kept.Combinators.{for_each_known-from, changes_told_then-from, then_known-from}
-use Rattle.world_laws.proofs.Marks.Kept.Frames.{raise_if-from, given-from, goes-keeps, raises-keeps, pass_on-keeps, given-keeps, raise_if-keeps, popped}
+use Rattle.world_laws.proofs.Marks.Kept.Frames.{goes-keeps, popped, plain_steps}
 use Rattle.world_laws.proofs.Marks.Kept.Tasks.{edit_task-alters}
 use Rattle.world_laws.proofs.Marks.Kept.Dispatching.{to_head-keeps, ready-keeps, says_block-keeps, block-keeps}
 use Rattle.world_laws.proofs.Marks.Kept.Scopes.{end_scope-alters}
 use Rattle.world_laws.proofs.Marks.Kept.Inheritance.{inherit-alters}
 use Rattle.world_laws.proofs.Marks.Kept.Unwinding.{unwind-keeps}
 use Rattle.world_laws.proofs.Marks.Kept.Masters.{end_activation-keeps, complete-keeps, terminate-from, leave_by_terminate-keeps}
-use Rattle.world_laws.proofs.Marks.Kept.Subprograms.{end_subprogram-keeps}
-use Rattle.world_laws.proofs.Marks.Kept.Serving.{end_body_of_entry-keeps}
 use Rattle.world_laws.proofs.Marks.Kept.Controlled.{finalize-from}
-use Rattle.world_laws.proofs.Marks.Kept.Declarations.{set_thing-alters}
 use Rattle.world_laws.proofs.Queues.Listed.{AllTasks}
 use Rattle.ann_base.specs.declared.identities.TaskNo.{TaskNo}
 use Rattle.profile_machine.specs.declared.world.marks.Frame.{Frame}
@@ -67,6 +64,11 @@ use Rattle.profile_machine.specs.Masters.{region_of_mark, has_dependents, termin
 use Rattle.machine_laws.proofs.FineMoves.{EachIs, GoodWorld, Naming, first_is_false}
 use Rattle.machine_laws.proofs.Kept.Tasking.{same_region_in, no_region}
 use Rattle.machine_laws.proofs.Kept.Combinators.{Alters, From, Keeps, branch-keeps, changes-from, changes-keeps, changes_then-from, changes_told-from, either-from, for_each_task-keeps, for_some-keeps, keeps-from, listed-keeps, looks-from, looks-keeps, looks_at-from, nothing-keeps, sees-keeps, some_of-others, then-from, then-keeps, when-keeps, when-keeps-if}
+use Rattle.machine_laws.proofs.Plain.Frames.{raise_if-from, given-from, raises-keeps, pass_on-keeps, given-keeps, raise_if-keeps}
+use Rattle.machine_laws.proofs.Plain.Subprograms.{end_subprogram-keeps}
+use Rattle.machine_laws.proofs.Plain.Results.{end_body_of_entry-keeps}
+use Rattle.machine_laws.proofs.Plain.Declarations.{set_thing-alters}
+use Rattle.machine_laws.proofs.Plain.PlainSteps.{anybody}
 
 -- of those that are made, for none a trigger is appointed
 made_of-unarmed : (w : World) (test : world.Task → Bool) → ((t : world.Task) → test t ≡ true → is_made t ≡ true) → AllTasks (λ t. is_made t ≡ true → Unarmed t.who w) w.tasks → AllTasks (λ t. Unarmed t.who w) (filter test w.tasks)
@@ -93,7 +95,7 @@ module _ {G : GoodWorld} {May Other : Naming} {R : StepRelation} {Q : MoveRelati
   unfolding create_task
   create_task-from p name s d id t w good other same_who none master =
       added_then-from name (next_of p s) t (for_some id (name_task p d) ▷ says_created d t) w (moves.adds_task name (next_of p s) t w good other same_who none master)
-      (search (then-keeps, for_some-keeps, looks-keeps, changes-keeps, set_thing-alters, says_created-keeps, chains) depth 9)
+      (search (then-keeps, for_some-keeps, looks-keeps, changes-keeps, set_thing-alters, says_created-keeps, chains, plain_steps) depth 10)
 
   pub fall_from-keeps : (p : Image) (name : Who) (before : World) → May name → Keeps G R (fall_from p name before)
   unfolding fall_from
@@ -123,7 +125,7 @@ module _ {G : GoodWorld} {May Other : Naming} {R : StepRelation} {Q : MoveRelati
   pub await_group-keeps : (name : Who) (begins failed : Bool) → Other name → Keeps G R (await_group name begins failed)
   unfolding await_group
   await_group-keeps name true failed other = search (block-keeps)
-  await_group-keeps name false true other = search (raises-keeps)
+  await_group-keeps name false true other = search (raises-keeps, plain_steps)
   await_group-keeps name false false other = search (nothing-keeps, chains)
 
   pub end_own_activation-keeps : (p : Image) (name : Who) (s : StatementNo) → May name → Keeps G R (end_own_activation p name s)
@@ -157,7 +159,7 @@ module _ {G : GoodWorld} {May Other : Naming} {R : StepRelation} {Q : MoveRelati
       (search (when-keeps, changes-keeps, end_environment-alters, chains))))
 
   pub end_body-keeps : (p : Image) (name : Who) (leaving : Leaving) (normally : Step) → Keeps G R normally → Keeps G R (end_body p name leaving normally)
-  end_body-keeps p name leaving normally kept = branch-keeps (chains moves) (is_normal leaving) normally (pass_on p name leaving) (search) (search (pass_on-keeps))
+  end_body-keeps p name leaving normally kept = branch-keeps (chains moves) (is_normal leaving) normally (pass_on p name leaving) (search) (search (pass_on-keeps, plain_steps, anybody))
 
   -- behind a task's own scope no trigger is appointed for it
   abbrev Ended : Who → Purpose → World → Type 0
@@ -168,9 +170,9 @@ module _ {G : GoodWorld} {May Other : Naming} {R : StepRelation} {Q : MoveRelati
 
   pub behind_scope-from : (p : Image) (name : Who) (purpose : Purpose) (cells : List Value) (leaving : Leaving) (w : World) → G w → (is_task_scope purpose ≡ true → Unarmed name w) → From R w (behind_scope p name purpose cells leaving)
   unfolding behind_scope
-  behind_scope-from p name (opened_for.Block s) cells leaving w good none = keeps-from (chains moves) _ w good (search (pass_on-keeps))
-  behind_scope-from p name (opened_for.Subprogram back to) cells leaving w good none = keeps-from (chains moves) _ w good (search (end_body-keeps, end_subprogram-keeps))
-  behind_scope-from p name (opened_for.EntryBody c) cells leaving w good none = keeps-from (chains moves) _ w good (search (end_body-keeps, end_body_of_entry-keeps))
+  behind_scope-from p name (opened_for.Block s) cells leaving w good none = keeps-from (chains moves) _ w good (search (pass_on-keeps, plain_steps, anybody))
+  behind_scope-from p name (opened_for.Subprogram back to) cells leaving w good none = keeps-from (chains moves) _ w good (search (end_body-keeps, end_subprogram-keeps, plain_steps))
+  behind_scope-from p name (opened_for.EntryBody c) cells leaving w good none = keeps-from (chains moves) _ w good (search (end_body-keeps, end_body_of_entry-keeps, plain_steps))
   behind_scope-from p name opened_for.Task cells leaving w good none = end_task-from p name leaving w good (none refl)
 
   -- Program_Error, where a Finalize raised
@@ -283,7 +285,7 @@ module _ {G : GoodWorld} {May Other : Naming} {R : StepRelation} {Q : MoveRelati
   pub abort_statement-keeps : (p : Image) (name : Who) (s : StatementNo) (tasks : List DeclNo) → Keeps G R (abort_statement p name s tasks)
   unfolding abort_statement
   abort_statement-keeps p name s tasks =
-      sees-keeps (chains moves) p name _ (λ q. raise_if-keeps moves name (in_protected q.world name) exception.Program _ (given-keeps moves Own name (named_tasks q tasks) _ (λ aborted.
+      sees-keeps (chains moves) p name _ (λ q. raise_if-keeps (plain_steps moves) name (in_protected q.world name) exception.Program _ (given-keeps (plain_steps moves) Own name (named_tasks q tasks) _ (λ aborted.
       then-keeps (chains moves) (goes name (next_of p s)) _ (goes-keeps moves name (next_of p s)) (abort_named-keeps p name aborted))))
 
   pub block_at_terminate-keeps : (name : Who) (waiting : Option Waiting) → Other name → Keeps G R (block_at_terminate name waiting)
@@ -307,9 +309,9 @@ module _ {G : GoodWorld} {May Other : Naming} {Owns : Who → RegionNo → Type 
   unfolding create
   create-keeps p name s d part may =
       looks-from (chains moves) _ (λ w good. let q = seen_by p w name in
-      raise_if-from moves name (in_protected w name || is_deferred w name) exception.Program _ w good (λ allowed.
-      raise_if-from moves name (leb 256 (length w.tasks)) exception.Storage _ w good (λ few.
-      given-from moves Own name (optional_span q (task_unit_of p (unit_of_declaration p d)).relative_deadline) _ w good (λ span.
+      raise_if-from (plain_steps moves) name (in_protected w name || is_deferred w name) exception.Program _ w good (λ allowed.
+      raise_if-from (plain_steps moves) name (leb 256 (length w.tasks)) exception.Storage _ w good (λ few.
+      given-from (plain_steps moves) Own name (optional_span q (task_unit_of p (unit_of_declaration p d)).relative_deadline) _ w good (λ span.
       create_task-from moves p name s d (home w (declaration_of p d).scope q.within) (created_task q d (unit_of_declaration p d) part span w.drawn.tasks) w good (openings.outside name w good may (first_is_false (in_protected w name) (is_deferred w name) allowed)) refl refl refl))))
 
   pub begin_task-from : (p : Image) (activator : Who) (level : ℕ) (t : world.Task) (w : World) → G w → Other t.who → Unarmed t.who w → From R w (begin_task p activator level t)
@@ -360,7 +362,7 @@ module _ {G : GoodWorld} {May Other : Naming} {Owns : Who → RegionNo → Type 
   pub activate-keeps : (p : Image) (name : Who) (s : StatementNo) (part : ℕ) → May name → Keeps G R (activate p name s part)
   unfolding activate
   activate-keeps p name s part may =
-      looks-from (chains moves) _ (λ w good. raise_if-from moves name (in_protected w name || is_deferred w name) exception.Program _ w good
+      looks-from (chains moves) _ (λ w good. raise_if-from (plain_steps moves) name (in_protected w name || is_deferred w name) exception.Program _ w good
       (λ allowed. keeps-from (chains moves) _ w good (activate_group-keeps p name s part (openings.outside name w good may (first_is_false (in_protected w name) (is_deferred w name) allowed)))))
 
   pub wait_for_dependents-keeps : (name : Who) (r : RegionNo) → May name → Owns name r → Keeps G R (wait_for_dependents name r)

@@ -11,11 +11,11 @@ use Rattle.machine_laws.proofs.Moves.{StepRelation, MoveRelation}
 use Rattle.world_laws.proofs.Marks.FineMoves.{FineMoves, chains}
 use Rattle.world_laws.proofs.Marks.Kept.Tasks.{edit_task-alters}
 use Rattle.world_laws.proofs.Marks.Kept.Dispatching.{ready-keeps}
-use Rattle.world_laws.proofs.Marks.Kept.Frames.{leaves-keeps}
+use Rattle.world_laws.proofs.Marks.Kept.Frames.{leaves-keeps, plain_steps}
 use Rattle.world_laws.proofs.Marks.Kept.Appointments.{drop_delay-alters}
-use Rattle.world_laws.proofs.Marks.Kept.Calls.{forget_call-alters, attempt-keeps}
 use Rattle.machine_laws.proofs.FineMoves.{GoodWorld, Naming}
 use Rattle.machine_laws.proofs.Kept.Combinators.{Keeps, changes-keeps, looks-keeps, nothing-keeps, then-keeps, when-keeps}
+use Rattle.machine_laws.proofs.Plain.Calls.{forget_call-alters, attempt-keeps}
 
 module _ {G : GoodWorld} {May Other : Naming} {R : StepRelation} {Q : MoveRelation} (moves : FineMoves G May Other R Q) where
   pub leave_by_abort-keeps : (name : Who) → Keeps G R (leave_by_abort name)
@@ -32,7 +32,7 @@ module _ {G : GoodWorld} {May Other : Naming} {R : StepRelation} {Q : MoveRelati
 
   pub unwind_blocked-keeps : (p : Image) (part : Part) (name : Who) (waiting : Waiting) → Other name → Keeps G R (unwind_blocked p part name waiting)
   unfolding unwind_blocked
-  unwind_blocked-keeps p part name (waits_for.Call c) other = search (attempt-keeps, changes-keeps, forget_call-alters, then-keeps, wake_and_leave-keeps, nothing-keeps, chains)
+  unwind_blocked-keeps p part name (waits_for.Call c) other = search (attempt-keeps, changes-keeps, forget_call-alters, then-keeps, wake_and_leave-keeps, nothing-keeps, chains, plain_steps)
   unwind_blocked-keeps p part name (waits_for.EndOfCall c) other = search (nothing-keeps, chains)
   unwind_blocked-keeps p part name waits_for.Activation other = search (wake_and_leave-keeps)
   unwind_blocked-keeps p part name waits_for.Moment other = search (wake_and_leave-keeps)

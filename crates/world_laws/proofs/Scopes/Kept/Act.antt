@@ -27,18 +27,16 @@ use Rattle.profile_machine.specs.Act.{call_main, call, handle_or_pass, behind_ha
 use Rattle.machine_laws.proofs.Moves.{StepRelation, MoveRelation}
 use Rattle.world_laws.proofs.Scopes.FineMoves.{FineMoves, Openings, nature, chains}
 use Rattle.world_laws.proofs.Scopes.Kept.Dispatching.{block-keeps}
-use Rattle.world_laws.proofs.Scopes.Kept.Frames.{edit_top-alters, goes-keeps, raises-keeps, pass_on-keeps, with_room-keeps, popped}
+use Rattle.world_laws.proofs.Scopes.Kept.Frames.{edit_top-alters, goes-keeps, popped, plain_steps}
 use Rattle.world_laws.proofs.Scopes.Kept.Scopes.{open_scope-alters}
 use Rattle.world_laws.proofs.Scopes.Kept.Appointments.{drop_appointment-alters}
-use Rattle.world_laws.proofs.Scopes.Kept.Calls.{with_call-keeps, attempt_with-keeps}
-use Rattle.world_laws.proofs.Scopes.Kept.Statements.{null-keeps, assign-keeps, assign_array-keeps, if_statement-keeps, case_statement-keeps, while_turn-keeps, for_bounds-keeps, first_turn-keeps, later_turn-keeps, exit_statement-keeps, block_statement-keeps, raise_again-keeps, delay_until-keeps, put_line-keeps}
-use Rattle.world_laws.proofs.Scopes.Kept.Subprograms.{call_subprogram-keeps, return_value-keeps, return-keeps}
+use Rattle.world_laws.proofs.Scopes.Kept.Statements.{block_statement-keeps, delay_until-keeps, put_line-keeps}
+use Rattle.world_laws.proofs.Scopes.Kept.Subprograms.{call_subprogram-keeps}
 use Rattle.world_laws.proofs.Scopes.Kept.Protected.{call_operation-keeps, call_own_operation-keeps}
 use Rattle.world_laws.proofs.Scopes.Kept.Priorities.{set_priority-keeps, set_quantum-keeps, set_deadline_of-keeps, delay_and_set_deadline-keeps}
 use Rattle.world_laws.proofs.Scopes.Kept.Rendezvous.{accept-keeps, selective_accept-keeps}
 use Rattle.world_laws.proofs.Scopes.Kept.EntryCalls.{entry_call-keeps, asynchronous_select-keeps, requeue-keeps}
 use Rattle.world_laws.proofs.Scopes.Kept.Controlled.{initialize-keeps, assign_controlled-keeps}
-use Rattle.world_laws.proofs.Scopes.Kept.Declarations.{declare-keeps}
 use Rattle.world_laws.proofs.Scopes.Kept.Tasking.{create-keeps, end_own_activation-keeps}
 use Rattle.world_laws.proofs.Scopes.Kept.Handlers.{set_event-keeps, cancel_event-keeps, set_timer-keeps, cancel_timer-keeps, add_member-keeps, remove_member-keeps, replenish-keeps, add_to_budget-keeps, set_budget-keeps, cancel_budget-keeps}
 use Rattle.profile_machine.specs.declared.world.World.{World}
@@ -49,6 +47,12 @@ use Rattle.profile_machine.specs.Tasking.{activate, abort_statement}
 use Rattle.profile_machine.specs.declared.numbers.DeclNo.{DeclNo}
 use Rattle.machine_laws.proofs.FineMoves.{Anybody, GoodWorld, Naming}
 use Rattle.machine_laws.proofs.Kept.Combinators.{Alters, From, Keeps, changes-keeps, changes_then-from, cond-keeps, keeps-from, looks-keeps, nothing-keeps, option-keeps, sees-keeps, then-keeps, unchanged-alters}
+use Rattle.machine_laws.proofs.Plain.Frames.{raises-keeps, pass_on-keeps, with_room-keeps}
+use Rattle.machine_laws.proofs.Plain.Calls.{with_call-keeps, attempt_with-keeps}
+use Rattle.machine_laws.proofs.Plain.Statements.{null-keeps, assign-keeps, assign_array-keeps, if_statement-keeps, case_statement-keeps, while_turn-keeps, for_bounds-keeps, first_turn-keeps, later_turn-keeps, exit_statement-keeps, raise_again-keeps}
+use Rattle.machine_laws.proofs.Plain.Subprograms.{return_value-keeps, return-keeps}
+use Rattle.machine_laws.proofs.Plain.Declarations.{declare-keeps}
+use Rattle.machine_laws.proofs.Plain.PlainSteps.{anybody}
 
 -- a mark that keeps an exception is what it was
 keeping-nature : (e : Raised) (mark : Mark) → nature (keeping e mark) ≡ nature mark
@@ -72,17 +76,17 @@ pub record Groups (G : GoodWorld) (Acts : Naming) (R : StepRelation) : Type 0 wh
 module _ {G : GoodWorld} {May Other : Naming} {R : StepRelation} {Q : MoveRelation} (moves : FineMoves G May Other R Q) where
   pub handle_or_pass-keeps : (p : Image) (name : Who) (e : Raised) (next : Option StatementNo) → Keeps G R (handle_or_pass p name e next)
   unfolding handle_or_pass
-  handle_or_pass-keeps p name e None = search (pass_on-keeps)
+  handle_or_pass-keeps p name e None = search (pass_on-keeps, plain_steps, anybody)
   handle_or_pass-keeps p name e (Some first) = search (changes-keeps, edit_top-alters, keeping-nature, then-keeps, goes-keeps, chains)
 
   pub behind_handled-keeps : (p : Image) (name : Who) (s : StatementNo) (leaving : Leaving) → Keeps G R (behind_handled p name s leaving)
   unfolding behind_handled
   behind_handled-keeps p name s (how.Exception e) = search (handle_or_pass-keeps)
   behind_handled-keeps p name s how.End = search (nothing-keeps, chains)
-  behind_handled-keeps p name s how.Return = search (pass_on-keeps)
-  behind_handled-keeps p name s (how.Exit loop) = search (pass_on-keeps)
-  behind_handled-keeps p name s how.Abort = search (pass_on-keeps)
-  behind_handled-keeps p name s how.Terminate = search (pass_on-keeps)
+  behind_handled-keeps p name s how.Return = search (pass_on-keeps, plain_steps, anybody)
+  behind_handled-keeps p name s (how.Exit loop) = search (pass_on-keeps, plain_steps, anybody)
+  behind_handled-keeps p name s how.Abort = search (pass_on-keeps, plain_steps, anybody)
+  behind_handled-keeps p name s how.Terminate = search (pass_on-keeps, plain_steps, anybody)
 
   pub end_handled-from : (p : Image) (name : Who) (s : StatementNo) (leaving : Leaving) (f : Frame) (w : World) → G w → May name → top_of w name ≡ Some f → is_protected f.mark ≡ false → id_in f.mark ≡ None → From R w (end_handled p name s leaving)
   unfolding end_handled
@@ -104,7 +108,7 @@ module _ {G : GoodWorld} {May Other : Naming} {R : StepRelation} {Q : MoveRelati
 
   pub end_abortable_by-keeps : (p : Image) (name : Who) (m : AbortableMark) (leaving : Leaving) → Other name → Keeps G R (end_abortable_by p name m leaving)
   unfolding end_abortable_by
-  end_abortable_by-keeps p name m leaving other = option-keeps (chains moves) m.call (looks (λ w. changes (drop_trigger name (below (frames_of w name)))) ▷ end_top p name) (λ c. with_call c (λ d. attempt_with p Own d (end_top p name) (wait_for_trigger name d leaving))) (search (looks-keeps, changes-keeps, drop_trigger-alters, then-keeps, end_top-keeps, moves.other_may, chains)) (λ c. search (with_call-keeps, attempt_with-keeps, end_top-keeps, wait_for_trigger-keeps, moves.other_may))
+  end_abortable_by-keeps p name m leaving other = option-keeps (chains moves) m.call (looks (λ w. changes (drop_trigger name (below (frames_of w name)))) ▷ end_top p name) (λ c. with_call c (λ d. attempt_with p Own d (end_top p name) (wait_for_trigger name d leaving))) (search (looks-keeps, changes-keeps, drop_trigger-alters, then-keeps, end_top-keeps, moves.other_may, chains)) (λ c. search (with_call-keeps, attempt_with-keeps, end_top-keeps, wait_for_trigger-keeps, moves.other_may, plain_steps))
 
   pub end_in_abortable-keeps : (p : Image) (name : Who) (m : AbortableMark) (leaving : Leaving) → Other name → Keeps G R (end_in_abortable p name m leaving)
   unfolding end_in_abortable
@@ -113,7 +117,7 @@ module _ {G : GoodWorld} {May Other : Naming} {R : StepRelation} {Q : MoveRelati
 module _ {G : GoodWorld} {Acts : Naming} {R : StepRelation} {Q : MoveRelation} (moves : FineMoves G Anybody Anybody R Q) (openings : Openings G Acts R) where
   pub call_main-keeps : (p : Image) (name : Who) (s : StatementNo) → Acts name → Keeps G R (call_main p name s)
   unfolding call_main
-  call_main-keeps p name s acts = search (with_room-keeps, goes-keeps, then-keeps, looks-keeps, changes-keeps, open_scope-alters, chains)
+  call_main-keeps p name s acts = search (with_room-keeps, goes-keeps, then-keeps, looks-keeps, changes-keeps, open_scope-alters, chains, plain_steps)
 
   pub call-keeps : (p : Image) (name : Who) (s : StatementNo) (callee : Callee) (actuals : List Actual) (to : Destination) → Acts name → Keeps G R (call p name s callee actuals to)
   unfolding call
@@ -124,30 +128,30 @@ module _ {G : GoodWorld} {Acts : Naming} {R : StepRelation} {Q : MoveRelation} (
 module _ {G : GoodWorld} {Acts : Naming} {R : StepRelation} {Q : MoveRelation} (moves : FineMoves G Anybody Anybody R Q) (openings : Openings G Acts R) (groups : Groups G Acts R) where
   pub act_statement-keeps : (p : Image) (name : Who) (s : StatementNo) (form : StatementForm) → Acts name → Keeps G R (act_statement p name s form)
   unfolding act_statement
-  act_statement-keeps p name s (form.Declare object) acts = search (declare-keeps)
+  act_statement-keeps p name s (form.Declare object) acts = search (declare-keeps, plain_steps, anybody)
   act_statement-keeps p name s (form.Initialize object) acts = search (initialize-keeps)
   act_statement-keeps p name s (form.CreateTask object part) acts = search (create-keeps)
   act_statement-keeps p name s (form.Activate part) acts = groups.activates p name s part acts
   act_statement-keeps p name s form.EndActivation acts = search (end_own_activation-keeps)
   act_statement-keeps p name s form.CallMain acts = search (call_main-keeps)
   act_statement-keeps p name s (form.Handled handlers first) acts = search (nothing-keeps, chains)
-  act_statement-keeps p name s form.Null acts = search (null-keeps)
-  act_statement-keeps p name s (form.Assign target e) acts = search (assign-keeps)
-  act_statement-keeps p name s (form.AssignArray target source) acts = search (assign_array-keeps)
+  act_statement-keeps p name s form.Null acts = search (null-keeps, plain_steps, anybody)
+  act_statement-keeps p name s (form.Assign target e) acts = search (assign-keeps, plain_steps, anybody)
+  act_statement-keeps p name s (form.AssignArray target source) acts = search (assign_array-keeps, plain_steps, anybody)
   act_statement-keeps p name s (form.AssignControlled target source) acts = search (assign_controlled-keeps)
-  act_statement-keeps p name s (form.If condition first otherwise) acts = search (if_statement-keeps)
-  act_statement-keeps p name s (form.Case selector alternatives) acts = search (case_statement-keeps)
+  act_statement-keeps p name s (form.If condition first otherwise) acts = search (if_statement-keeps, plain_steps, anybody)
+  act_statement-keeps p name s (form.Case selector alternatives) acts = search (case_statement-keeps, plain_steps, anybody)
   act_statement-keeps p name s (form.Loop body within) acts = search (goes-keeps)
-  act_statement-keeps p name s (form.While condition body within) acts = search (while_turn-keeps)
-  act_statement-keeps p name s (form.For parameter reverse low high turn within) acts = search (for_bounds-keeps)
-  act_statement-keeps p name s (form.FirstTurn parameter reverse body) acts = search (first_turn-keeps)
-  act_statement-keeps p name s (form.LaterTurn parameter reverse body) acts = search (later_turn-keeps)
-  act_statement-keeps p name s (form.Exit condition of_loop) acts = search (exit_statement-keeps)
+  act_statement-keeps p name s (form.While condition body within) acts = search (while_turn-keeps, plain_steps, anybody)
+  act_statement-keeps p name s (form.For parameter reverse low high turn within) acts = search (for_bounds-keeps, plain_steps, anybody)
+  act_statement-keeps p name s (form.FirstTurn parameter reverse body) acts = search (first_turn-keeps, plain_steps, anybody)
+  act_statement-keeps p name s (form.LaterTurn parameter reverse body) acts = search (later_turn-keeps, plain_steps, anybody)
+  act_statement-keeps p name s (form.Exit condition of_loop) acts = search (exit_statement-keeps, plain_steps, anybody)
   act_statement-keeps p name s (form.Block scope) acts = search (block_statement-keeps)
-  act_statement-keeps p name s form.Return acts = search (return-keeps)
-  act_statement-keeps p name s (form.ReturnValue function e) acts = search (return_value-keeps)
-  act_statement-keeps p name s (form.Raise e) acts = search (raises-keeps)
-  act_statement-keeps p name s (form.RaiseAgain scope) acts = search (raise_again-keeps)
+  act_statement-keeps p name s form.Return acts = search (return-keeps, plain_steps)
+  act_statement-keeps p name s (form.ReturnValue function e) acts = search (return_value-keeps, plain_steps)
+  act_statement-keeps p name s (form.Raise e) acts = search (raises-keeps, plain_steps)
+  act_statement-keeps p name s (form.RaiseAgain scope) acts = search (raise_again-keeps, plain_steps)
   act_statement-keeps p name s (form.Delay e) acts = search (sees-keeps, delay_until-keeps, chains)
   act_statement-keeps p name s (form.DelayUntil e) acts = search (sees-keeps, delay_until-keeps, chains)
   act_statement-keeps p name s (form.Call callee actuals to) acts = search (call-keeps)

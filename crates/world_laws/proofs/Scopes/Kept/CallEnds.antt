@@ -1,42 +1,41 @@
 -- How calls end: each step keeps a relation that its parts keep.
-use Rattle.std.specs.Prelude.{ℕ, Bool, List, [], ◌∷◌, Option, Some, None, Ok, Err, not}
+use Rattle.std.specs.Prelude.{ℕ, Bool, List, [], ◌∷◌, Option, Some, None, not}
 use Rattle.ann_base.specs.declared.identities.TaskNo.{TaskNo}
 use Rattle.ann_base.specs.declared.identities.CallNo.{CallNo}
 use Rattle.trace_text.specs.declared.events.Who.{Who}
 use Rattle.trace_text.specs.declared.events.Who.TheVariants as who
 use Rattle.profile_machine.specs.declared.image.Image.{Image}
 use Rattle.profile_machine.specs.declared.numbers.StatementNo.{StatementNo}
-use Rattle.profile_machine.specs.declared.values.Value.{Value}
 use Rattle.profile_machine.specs.declared.world.World.{World}
 use Rattle.profile_machine.specs.declared.world.marks.Frame.{Frame}
 use Rattle.profile_machine.specs.declared.world.marks.Mark.{Mark}
 use Rattle.profile_machine.specs.declared.world.marks.AbortableMark.{AbortableMark}
 use Rattle.profile_machine.specs.declared.world.calls.Call.{Call}
 use Rattle.profile_machine.specs.declared.world.calls.Outcome.{Outcome}
-use Rattle.profile_machine.specs.declared.world.scopes.Variable.{Variable}
 use Rattle.profile_machine.specs.declared.world.calls.Outcome.TheVariants as call_ended
 use Rattle.profile_machine.specs.declared.world.marks.Mark.TheVariants.{Scope, Handled, InProtected, InAccept, Abortable, InInitialize, InFinalize, InAssign}
-use Rattle.profile_machine.specs.Program.{declaration_of}
 use Rattle.profile_machine.specs.declared.world.lines.Part.{Part}
 use Rattle.profile_machine.specs.Steps.{Step, changes, looks, ◌▷◌}
 use Rattle.world_tables.specs.Lists.{first_of}
 use Rattle.profile_machine.specs.Tasks.{waiting_of}
 use Rattle.profile_machine.specs.Frames.{frames_of, top_of, pop, pass_on, leaving_of, with_mark, is_protected}
-use Rattle.profile_machine.specs.Scopes.{write_cell, id_in}
-use Rattle.profile_machine.specs.Operators.{Valued, checked}
-use Rattle.profile_machine.specs.CallEnds.{go_by_outcome, resume, store, or_stored, copy_back, with_results, edit_depth, edit_frame, edit_abortable, edit_abortable_at, trigger_at, trigger_outcome, forget_trigger, run_triggered, ended_by_itself, behind_abortable, end_abortable, end_abortable_in, end_top_abortable, end_wait, waits_for_end, end_for_abortable, end_for_caller, end_for, end_with, end_call, deliver, gone, waited_mark, is_cancelled}
-use Rattle.std.specs.Prelude.{slice_set, true, false, cond, eqb, length}
+use Rattle.profile_machine.specs.Scopes.{id_in}
+use Rattle.profile_machine.specs.CallEnds.{with_results, edit_depth, edit_frame, edit_abortable, edit_abortable_at, trigger_at, trigger_outcome, forget_trigger, run_triggered, ended_by_itself, behind_abortable, end_abortable, end_abortable_in, end_top_abortable, end_wait, waits_for_end, end_for_abortable, end_for_caller, end_for, end_with, end_call, deliver, gone, waited_mark, is_cancelled}
+use Rattle.std.specs.Prelude.{true, false, cond, eqb, length}
 use Rattle.std.proofs.Common.{◌≡◌, refl, ap}
 use Rattle.machine_laws.proofs.Moves.{StepRelation, MoveRelation}
 use Rattle.world_laws.proofs.Scopes.FineMoves.{FineMoves, nature, natures, chains, says-keeps}
 use Rattle.world_laws.proofs.Scopes.Kept.Tasks.{edit_frames-alters}
 use Rattle.world_laws.proofs.Scopes.Kept.Dispatching.{ready-keeps}
-use Rattle.world_laws.proofs.Scopes.Kept.Frames.{goes-keeps, popped, leaves-keeps, raises-keeps, pass_on-keeps, open_sequence-keeps}
-use Rattle.world_laws.proofs.Scopes.Kept.Calls.{edit_call-alters, forget_call-alters, with_call-keeps, unqueued-alters}
+use Rattle.world_laws.proofs.Scopes.Kept.Frames.{goes-keeps, popped, leaves-keeps, open_sequence-keeps, plain_steps}
 use Rattle.world_laws.proofs.Scopes.Kept.Unwinding.{unwind-keeps}
 use Rattle.profile_machine.specs.Dispatching.{ready}
 use Rattle.machine_laws.proofs.FineMoves.{GoodWorld, Naming}
-use Rattle.machine_laws.proofs.Kept.Combinators.{Alters, From, Gives, Keeps, bind-gives, branch-keeps, changes-keeps, changes_then-from, keeps-from, looks-from, looks-keeps, looks_at-from, nothing-keeps, ok-gives, then-keeps, unchanged-alters, when-keeps}
+use Rattle.machine_laws.proofs.Kept.Combinators.{Alters, From, Keeps, branch-keeps, changes-keeps, changes_then-from, keeps-from, looks-from, looks-keeps, looks_at-from, nothing-keeps, then-keeps, unchanged-alters, when-keeps}
+use Rattle.machine_laws.proofs.Plain.Frames.{raises-keeps, pass_on-keeps}
+use Rattle.machine_laws.proofs.Plain.Calls.{edit_call-alters, forget_call-alters, with_call-keeps, unqueued-alters}
+use Rattle.machine_laws.proofs.Plain.PlainSteps.{anybody}
+use Rattle.machine_laws.proofs.Plain.Results.{with_results-world, resume-keeps}
 
 -- an edit of a mark somewhere, and of an abortable part
 at_depth-natures : (test : Bool) (f : Frame → Frame) (x : Frame) (xs ys : List Frame) → nature (f x).mark ≡ nature x.mark → natures ys ≡ natures xs → natures (cond test (f x ∷ xs) (x ∷ ys)) ≡ natures (x ∷ xs)
@@ -58,39 +57,6 @@ abortable-nature f (InFinalize o) = refl
 abortable-nature f (InAssign m) = refl
 
 module _ {G : GoodWorld} {May Other : Naming} {R : StepRelation} {Q : MoveRelation} (moves : FineMoves G May Other R Q) where
-  pub go_by_outcome-keeps : (p : Image) (part : Part) (name : Who) (s : StatementNo) (outcome : Outcome) → Keeps G R (go_by_outcome p part name s outcome)
-  unfolding go_by_outcome
-  go_by_outcome-keeps p part name s call_ended.Finished = search (goes-keeps)
-  go_by_outcome-keeps p part name s call_ended.Cancelled = search (goes-keeps)
-  go_by_outcome-keeps p part name s (call_ended.ToRaise e) = search (raises-keeps)
-  go_by_outcome-keeps p part name s (call_ended.WasRaised e) = search (leaves-keeps)
-
-  pub resume-keeps : (p : Image) (part : Part) (c : Call) (outcome : Outcome) → Keeps G R (resume p part c outcome)
-  unfolding resume
-  resume-keeps p part c outcome = search (changes-keeps, forget_call-alters, then-keeps, go_by_outcome-keeps, chains)
-
-  pub store-gives : (p : Image) (v : Variable) (value : Value) (w : World) → G w → Gives R w (store p v value w)
-  store-gives p v value w good = bind-gives (chains moves) (checked (declaration_of p v.declared).constraint value) (λ x. Ok (write_cell v.within v.place x w)) w (λ x. ok-gives (chains moves) w (write_cell v.within v.place x w) (moves.edits_cells v.within (λ cells. slice_set cells v.place x) w good))
-
-  -- the world behind the results that are copied back
-  or_stored-world : (result : Valued World) (again : World → World × Bool) (w : World) → G w → Gives R w result → ((v : World) → G v → R v [] (again v).0) → R w [] (or_stored w result again).0
-  unfolding Gives
-  or_stored-world (Ok next) again w good a b = moves.goes_on w next (again next).0 a (b next (moves.behind w next a))
-  or_stored-world (Err e) again w good a b = moves.stays w good
-
-  copy_back-world : (p : Image) (results : List (Option Variable)) (values : List Value) (w : World) → G w → R w [] (copy_back p results values w).0
-  copy_back-world p [] values w good = moves.stays w good
-  copy_back-world p (None ∷ results) [] w good = moves.stays w good
-  copy_back-world p (None ∷ results) (v ∷ values) w good = copy_back-world p results values w good
-  copy_back-world p (Some target ∷ results) [] w good = moves.stays w good
-  copy_back-world p (Some target ∷ results) (v ∷ values) w good = or_stored-world (store p target v w) (copy_back p results values) w good (store-gives p target v w good) (copy_back-world p results values)
-
-  with_results-world : (p : Image) (c : Call) (outcome : Outcome) (w : World) → G w → R w [] (with_results p c outcome w).0
-  with_results-world p c call_ended.Finished w good = copy_back-world p c.results c.values w good
-  with_results-world p c call_ended.Cancelled w good = moves.stays w good
-  with_results-world p c (call_ended.ToRaise e) w good = moves.stays w good
-  with_results-world p c (call_ended.WasRaised e) w good = moves.stays w good
-
   pub edit_frame-alters : (name : Who) (depth : ℕ) (f : Frame → Frame) → ((x : Frame) → nature (f x).mark ≡ nature x.mark) → Alters G R (edit_frame name depth f)
   edit_frame-alters name depth f same = edit_frames-alters moves name (edit_depth depth f) (λ fs. depth-natures depth f fs same)
 
@@ -103,13 +69,13 @@ module _ {G : GoodWorld} {May Other : Naming} {R : StepRelation} {Q : MoveRelati
 
   pub forget_trigger-alters : (c : Option CallNo) → Alters G R (forget_trigger c)
   forget_trigger-alters None = search (unchanged-alters, chains)
-  forget_trigger-alters (Some c) = search (forget_call-alters)
+  forget_trigger-alters (Some c) = search (forget_call-alters, plain_steps)
 
   pub run_triggered-keeps : (p : Image) (part : Part) (name : Who) (select : StatementNo) (outcome : Outcome) → Keeps G R (run_triggered p part name select outcome)
   unfolding run_triggered
   run_triggered-keeps p part name select call_ended.Finished = search (goes-keeps)
   run_triggered-keeps p part name select call_ended.Cancelled = search (nothing-keeps, chains)
-  run_triggered-keeps p part name select (call_ended.ToRaise e) = search (raises-keeps)
+  run_triggered-keeps p part name select (call_ended.ToRaise e) = search (raises-keeps, plain_steps)
   run_triggered-keeps p part name select (call_ended.WasRaised e) = search (leaves-keeps)
 
   pub behind_abortable-keeps : (p : Image) (part : Part) (name : Who) (m : AbortableMark) (outcome : Outcome) → Keeps G R (behind_abortable p part name m outcome)
@@ -123,7 +89,7 @@ module _ {G : GoodWorld} {May Other : Naming} {R : StepRelation} {Q : MoveRelati
       let out = popped moves name f w good may top free none in
       looks_at-from (chains moves) (λ v. changes (pop name) ▷ changes (forget_trigger m.call) ▷ elim (ended_by_itself f below) as (λ _. Step) [ true ↦ behind_abortable p part name m (trigger_outcome v m.call) | false ↦ pass_on p name (leaving_of f) ]) w
       (changes_then-from (chains moves) (pop name) _ w out (keeps-from (chains moves) _ (pop name w) (moves.behind w (pop name w) out)
-      (then-keeps (chains moves) (changes (forget_trigger m.call)) _ (search (changes-keeps, forget_trigger-alters, chains)) (branch-keeps (chains moves) (ended_by_itself f below) (behind_abortable p part name m (trigger_outcome w m.call)) (pass_on p name (leaving_of f)) (search (behind_abortable-keeps)) (search (pass_on-keeps))))))
+      (then-keeps (chains moves) (changes (forget_trigger m.call)) _ (search (changes-keeps, forget_trigger-alters, chains)) (branch-keeps (chains moves) (ended_by_itself f below) (behind_abortable p part name m (trigger_outcome w m.call)) (pass_on p name (leaving_of f)) (search (behind_abortable-keeps)) (search (pass_on-keeps, plain_steps, anybody))))))
 
   end_abortable_in-from : (p : Image) (part : Part) (name : Who) (f : Frame) (below : List Frame) (mark : Mark) (w : World) → G w → May name → top_of w name ≡ Some f → f.mark ≡ mark → From R w (end_abortable_in p part name f below mark)
   unfolding end_abortable_in
@@ -153,7 +119,7 @@ module _ {G : GoodWorld} {May Other : Naming} {R : StepRelation} {Q : MoveRelati
 
   pub end_for_caller-keeps : (p : Image) (part : Part) (c : Call) (outcome : Outcome) → Keeps G R (end_for_caller p part c outcome)
   unfolding end_for_caller
-  end_for_caller-keeps p part c outcome = search (looks-keeps, when-keeps, ready-keeps, then-keeps, resume-keeps, open_sequence-keeps, moves.other_may, moves.task_other, chains) depth 9
+  end_for_caller-keeps p part c outcome = search (looks-keeps, when-keeps, ready-keeps, then-keeps, resume-keeps, open_sequence-keeps, moves.other_may, moves.task_other, chains, plain_steps, anybody) depth 10
 
   pub end_for-keeps : (p : Image) (part : Part) (c : Call) (outcome : Outcome) (n : Option ℕ) → Keeps G R (end_for p part c outcome n)
   unfolding end_for
@@ -162,19 +128,19 @@ module _ {G : GoodWorld} {May Other : Naming} {R : StepRelation} {Q : MoveRelati
 
   pub end_with-keeps : (p : Image) (part : Part) (c : Call) (outcome : Outcome) → Keeps G R (end_with p part c outcome)
   unfolding end_with
-  end_with-keeps p part c outcome = search (changes-keeps, edit_call-alters, then-keeps, looks-keeps, end_for-keeps, chains)
+  end_with-keeps p part c outcome = search (changes-keeps, edit_call-alters, then-keeps, looks-keeps, end_for-keeps, chains, plain_steps)
 
   pub end_call-keeps : (p : Image) (part : Part) (c : Call) (outcome : Outcome) → Keeps G R (end_call p part c outcome)
   unfolding end_call
   end_call-keeps p part c outcome =
       looks-from (chains moves) _ (λ w good. let r = with_results p c outcome w in
-      let first = with_results-world p c outcome w good in
+      let first = with_results-world (plain_steps moves) p c outcome w good in
       changes_then-from (chains moves) (λ _. r.0) (end_with p part c r.1) w first (keeps-from (chains moves) (end_with p part c r.1) r.0 (moves.behind w r.0 first) (end_with-keeps p part c r.1)))
 
   pub deliver-keeps : (p : Image) (part : Part) (c : CallNo) (outcome : Outcome) → Keeps G R (deliver p part c outcome)
   unfolding deliver
-  deliver-keeps p part c outcome = search (with_call-keeps, end_call-keeps, then-keeps, unwind-keeps, moves.task_other, chains)
+  deliver-keeps p part c outcome = search (with_call-keeps, end_call-keeps, then-keeps, unwind-keeps, moves.task_other, chains, plain_steps)
 
   pub gone-keeps : (p : Image) (part : Part) (c : Call) → Keeps G R (gone p part c)
   unfolding gone
-  gone-keeps p part c = search (changes-keeps, unqueued-alters, then-keeps, says-keeps, chains)
+  gone-keeps p part c = search (changes-keeps, unqueued-alters, then-keeps, says-keeps, chains, plain_steps)

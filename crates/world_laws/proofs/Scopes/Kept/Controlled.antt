@@ -24,8 +24,8 @@ use Rattle.profile_machine.specs.Statements.{cells_from}
 use Rattle.profile_machine.specs.Controlled.{first_place, open_operation, top_region, registered_as, register, initialize_by, initialize, end_in_initialize, edit_top_scope, finalize_has_raised, open_finalize, has_room_to_finalize, finalize_by, no_longer_registered, finalize_now, finalize, behind_finalize, end_in_finalize, begin_assignment, assign_registered, assign_located, assign_controlled, edit_top_assign, leave_without_room, finalize_target_by, has_room_to_adjust, adjust_by, copy_components_of, copy_object, do_step, step_with, end_in_assign, edit_scope_mark, edit_assign, registered_object, registers, is_assignment}
 use Rattle.machine_laws.proofs.Moves.{StepRelation, MoveRelation}
 use Rattle.world_laws.proofs.Scopes.FineMoves.{FineMoves, Openings, nature, chains, says-keeps}
-use Rattle.world_laws.proofs.Scopes.Kept.Frames.{edit_top-alters, goes-keeps, push-alters, leaves-keeps, raises-keeps, pass_on-keeps, given-keeps, with_room-keeps, popped}
-use Rattle.world_laws.proofs.Scopes.Kept.Scopes.{write_cell-alters, open_scope-alters}
+use Rattle.world_laws.proofs.Scopes.Kept.Frames.{edit_top-alters, goes-keeps, push-alters, leaves-keeps, popped, plain_steps}
+use Rattle.world_laws.proofs.Scopes.Kept.Scopes.{open_scope-alters}
 use Rattle.std.proofs.Common.{◌≡◌, refl, []}
 use Rattle.profile_machine.specs.declared.world.World.{World}
 use Rattle.profile_machine.specs.declared.world.marks.Frame.{Frame}
@@ -34,6 +34,9 @@ use Rattle.profile_machine.specs.declared.world.marks.Mark.TheVariants.{Scope, H
 use Rattle.profile_machine.specs.Frames.{top_of, pop, with_mark, is_protected, pass_on}
 use Rattle.machine_laws.proofs.FineMoves.{Anybody, GoodWorld, Naming}
 use Rattle.machine_laws.proofs.Kept.Combinators.{Alters, From, Keeps, branch-keeps, changes-from, changes-keeps, changes_then-from, cond-keeps, keeps-from, looks-from, looks-keeps, looks_at-from, nothing-keeps, sees-keeps, then-from, then-keeps, when-keeps}
+use Rattle.machine_laws.proofs.Plain.Frames.{raises-keeps, pass_on-keeps, given-keeps, with_room-keeps}
+use Rattle.machine_laws.proofs.Plain.Cells.{write_cell-alters}
+use Rattle.machine_laws.proofs.Plain.PlainSteps.{anybody}
 
 -- the scope of a mark and its purpose are not edited, nor what another mark is
 scope-nature : (f : ScopeMark → ScopeMark) → ((m : ScopeMark) → nature (Scope (f m)) ≡ nature (Scope m)) → (mark : Mark) → nature (edit_scope_mark f mark) ≡ nature mark
@@ -63,7 +66,7 @@ module _ {G : GoodWorld} {May Other : Naming} {R : StepRelation} {Q : MoveRelati
       looks-from (chains moves) _ (λ w good. let n = suc w.drawn.controlled in
       then-from (chains moves) (changes (registered_as n (top_region w name) l)) (changes (write_cell l.within (first_place p l) (Thing n)) ▷ says Own (line.Init name n (top_region w name) l.declared)) w
       (changes-from (chains moves) (registered_as n (top_region w name) l) w (moves.registers (top_region w name) l w good))
-      (search (then-keeps, changes-keeps, write_cell-alters, says-keeps, chains)))
+      (search (then-keeps, changes-keeps, write_cell-alters, says-keeps, chains, plain_steps)))
 
   pub edit_top_scope-alters : (name : Who) (f : ScopeMark → ScopeMark) → ((m : ScopeMark) → nature (Scope (f m)) ≡ nature (Scope m)) → Alters G R (edit_top_scope name f)
   edit_top_scope-alters name f same = edit_top-alters moves name (λ x. with_mark (edit_scope_mark f x.mark) x) (λ x. scope-nature f same x.mark)
@@ -74,7 +77,7 @@ module _ {G : GoodWorld} {May Other : Naming} {R : StepRelation} {Q : MoveRelati
 
   pub behind_finalize-keeps : (p : Image) (name : Who) (leaving : Leaving) (test : Bool) → Keeps G R (behind_finalize p name leaving test)
   unfolding behind_finalize
-  behind_finalize-keeps p name (how.Exception e) true = search (pass_on-keeps)
+  behind_finalize-keeps p name (how.Exception e) true = search (pass_on-keeps, plain_steps, anybody)
   behind_finalize-keeps p name (how.Exception e) false = search (changes-keeps, edit_top_scope-alters, chains)
   behind_finalize-keeps p name how.End of_assignment = search (nothing-keeps, chains)
   behind_finalize-keeps p name how.Return of_assignment = search (nothing-keeps, chains)
@@ -86,7 +89,7 @@ module _ {G : GoodWorld} {May Other : Naming} {R : StepRelation} {Q : MoveRelati
   unfolding end_in_initialize
   end_in_initialize-from p name l leaving f w good may top free none =
       let out = popped moves name f w good may top free none in
-      changes_then-from (chains moves) (pop name) _ w out (keeps-from (chains moves) (cond (registers leaving) (register p name l) (pass_on p name leaving)) (pop name w) (moves.behind w (pop name w) out) (search (cond-keeps, register-keeps, pass_on-keeps, chains)))
+      changes_then-from (chains moves) (pop name) _ w out (keeps-from (chains moves) (cond (registers leaving) (register p name l) (pass_on p name leaving)) (pop name w) (moves.behind w (pop name w) out) (search (cond-keeps, register-keeps, pass_on-keeps, chains, plain_steps, anybody)))
 
   pub end_in_finalize-from : (p : Image) (name : Who) (leaving : Leaving) (f : Frame) (w : World) → G w → May name → top_of w name ≡ Some f → is_protected f.mark ≡ false → id_in f.mark ≡ None → From R w (end_in_finalize p name leaving)
   unfolding end_in_finalize
@@ -116,11 +119,11 @@ module _ {G : GoodWorld} {Acts : Naming} {R : StepRelation} {Q : MoveRelation} (
   pub initialize_by-keeps : (p : Image) (name : Who) (s : StatementNo) (l : Located) (f : Option SubprogramNo) → Acts name → Keeps G R (initialize_by p name s l f)
   unfolding initialize_by
   initialize_by-keeps p name s l None acts = search (goes-keeps, then-keeps, register-keeps, chains)
-  initialize_by-keeps p name s l (Some f) acts = search (with_room-keeps, goes-keeps, then-keeps, changes-keeps, push-alters, open_operation-keeps, chains)
+  initialize_by-keeps p name s l (Some f) acts = search (with_room-keeps, goes-keeps, then-keeps, changes-keeps, push-alters, open_operation-keeps, chains, plain_steps)
 
   pub initialize-keeps : (p : Image) (name : Who) (s : StatementNo) (d : DeclNo) → Acts name → Keeps G R (initialize p name s d)
   unfolding initialize
-  initialize-keeps p name s d acts = search (sees-keeps, given-keeps, initialize_by-keeps, chains) depth 7
+  initialize-keeps p name s d acts = search (sees-keeps, given-keeps, initialize_by-keeps, chains, plain_steps) depth 8
 
   pub open_finalize-keeps : (p : Image) (name : Who) (n : ℕ) (l : Located) (f : SubprogramNo) → Acts name → Keeps G R (open_finalize p name n l f)
   unfolding open_finalize
@@ -141,13 +144,13 @@ module _ {G : GoodWorld} {Acts : Naming} {R : StepRelation} {Q : MoveRelation} (
 
   pub begin_assignment-keeps : (p : Image) (name : Who) (s : StatementNo) (target source : ℕ) → Acts name → Keeps G R (begin_assignment p name s target source)
   unfolding begin_assignment
-  begin_assignment-keeps p name s target source acts = search (with_room-keeps, goes-keeps, then-keeps, says-keeps, changes-keeps, push-alters, chains) depth 7
+  begin_assignment-keeps p name s target source acts = search (with_room-keeps, goes-keeps, then-keeps, says-keeps, changes-keeps, push-alters, chains, plain_steps) depth 8
 
   pub assign_registered-keeps : (p : Image) (name : Who) (s : StatementNo) (target source : Option Registered) → Acts name → Keeps G R (assign_registered p name s target source)
   unfolding assign_registered
   assign_registered-keeps p name s (Some target) (Some source) acts = search (begin_assignment-keeps)
-  assign_registered-keeps p name s (Some target) None acts = search (raises-keeps)
-  assign_registered-keeps p name s None source acts = search (raises-keeps)
+  assign_registered-keeps p name s (Some target) None acts = search (raises-keeps, plain_steps)
+  assign_registered-keeps p name s None source acts = search (raises-keeps, plain_steps)
 
   pub assign_located-keeps : (p : Image) (name : Who) (s : StatementNo) (target source : Located) → Acts name → Keeps G R (assign_located p name s target source)
   unfolding assign_located
@@ -155,7 +158,7 @@ module _ {G : GoodWorld} {Acts : Naming} {R : StepRelation} {Q : MoveRelation} (
 
   pub assign_controlled-keeps : (p : Image) (name : Who) (s : StatementNo) (target source : DeclNo) → Acts name → Keeps G R (assign_controlled p name s target source)
   unfolding assign_controlled
-  assign_controlled-keeps p name s target source acts = search (sees-keeps, given-keeps, assign_located-keeps, chains) depth 7
+  assign_controlled-keeps p name s target source acts = search (sees-keeps, given-keeps, assign_located-keeps, chains, plain_steps) depth 8
 
   pub finalize_target_by-keeps : (p : Image) (name : Who) (r : Registered) (f : Option SubprogramNo) → Acts name → Keeps G R (finalize_target_by p name r f)
   unfolding finalize_target_by
@@ -182,6 +185,6 @@ module _ {G : GoodWorld} {Acts : Naming} {R : StepRelation} {Q : MoveRelation} (
   unfolding end_in_assign
   end_in_assign-from p name m (Some (how.Exception e)) f w good acts top free none =
       let out = popped moves name f w good tt top free none in
-      changes_then-from (chains moves) (pop name) _ w out (keeps-from (chains moves) _ (pop name w) (moves.behind w (pop name w) out) (raises-keeps moves Own name exception.Program))
+      changes_then-from (chains moves) (pop name) _ w out (keeps-from (chains moves) _ (pop name w) (moves.behind w (pop name w) out) (raises-keeps (plain_steps moves) Own name exception.Program))
   end_in_assign-from p name m _ f w good acts top free none =
       looks_at-from (chains moves) (λ v. step_with p name m.step (registered_object v m.target) (registered_object v m.source)) w (step_with-from p name m.step (registered_object w m.target) (registered_object w m.source) w good acts (popped moves name f w good tt top free none))

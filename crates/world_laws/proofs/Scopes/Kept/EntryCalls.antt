@@ -37,9 +37,8 @@ use Rattle.profile_machine.specs.EntryCalls.{numbered, add_call, make_call, end_
 use Rattle.machine_laws.proofs.Moves.{StepRelation, MoveRelation}
 use Rattle.world_laws.proofs.Scopes.FineMoves.{FineMoves, Openings, Live, chains, says-keeps}
 use Rattle.world_laws.proofs.Scopes.Kept.Dispatching.{block-keeps}
-use Rattle.world_laws.proofs.Scopes.Kept.Frames.{goes-keeps, leaves-keeps, raises-keeps, given-from, given-keeps, raise_if-from, raise_if-keeps, with_room-from, with_room-keeps, goes_then-from, edit_top-alters, push-alters}
+use Rattle.world_laws.proofs.Scopes.Kept.Frames.{goes-keeps, leaves-keeps, goes_then-from, edit_top-alters, push-alters, plain_steps}
 use Rattle.world_laws.proofs.Scopes.Kept.Appointments.{appoint-from}
-use Rattle.world_laws.proofs.Scopes.Kept.Calls.{edit_call-alters, forget_call-alters, says_call-keeps, enqueue-keeps}
 use Rattle.world_laws.proofs.Scopes.Kept.CallEnds.{gone-keeps}
 use Rattle.world_laws.proofs.Scopes.Kept.Protected.{where_let_inside-keeps, serve_call-keeps, begin_action_on-keeps}
 use Rattle.world_laws.proofs.Scopes.Kept.Sending.{open_abortable-alters, not_accepted-keeps}
@@ -48,6 +47,8 @@ use Rattle.profile_machine.specs.Rendezvous.{delay_moment, accept_for}
 use Rattle.profile_machine.specs.Values.{seen_by}
 use Rattle.machine_laws.proofs.FineMoves.{Anybody, GoodWorld, Naming}
 use Rattle.machine_laws.proofs.Kept.Combinators.{Alters, From, Keeps, branch-keeps, changes-keeps, changes_then-from, keeps-from, looks-from, looks-keeps, looks_at-from, nothing-keeps, said_then-from, sees-keeps, then-keeps, unchanged-alters}
+use Rattle.machine_laws.proofs.Plain.Frames.{raises-keeps, given-from, given-keeps, raise_if-from, raise_if-keeps, with_room-from, with_room-keeps}
+use Rattle.machine_laws.proofs.Plain.Calls.{edit_call-alters, forget_call-alters, says_call-keeps, enqueue-keeps}
 
 module _ {G : GoodWorld} {May Other : Naming} {R : StepRelation} {Q : MoveRelation} (moves : FineMoves G May Other R Q) where
   add_call-alters : (c : Call) → Alters G R (add_call c)
@@ -55,18 +56,18 @@ module _ {G : GoodWorld} {May Other : Naming} {R : StepRelation} {Q : MoveRelati
   add_call-alters c w good = moves.adds_call c w good
 
   pub make_call-keeps : (p : Image) (c : Call) (step : Call → Step) → ((x : Call) → Keeps G R (step x)) → Keeps G R (make_call p c step)
-  make_call-keeps p c step kept = search (goes-keeps, then-keeps, looks-keeps, changes-keeps, add_call-alters, says_call-keeps, chains) depth 8
+  make_call-keeps p c step kept = search (goes-keeps, then-keeps, looks-keeps, changes-keeps, add_call-alters, says_call-keeps, chains, plain_steps) depth 9
 
   -- the same of a step with a call that differs in its number alone
   pub numbered_call-keeps : (p : Image) (c : Call) (step : Call → Step) → ((n : ℕ) → Keeps G R (step (numbered n c))) → Keeps G R (make_call p c step)
   numbered_call-keeps p c step kept =
       then-keeps (chains moves) (goes (who.Task c.caller) (next_of p c.statement)) _ (goes-keeps moves (who.Task c.caller) (next_of p c.statement))
       (looks-keeps (chains moves) _ (λ w. then-keeps (chains moves) (changes (add_call c)) _ (changes-keeps (chains moves) _ (add_call-alters c))
-      (then-keeps (chains moves) (says_call TheCall (numbered (suc w.drawn.calls) c)) _ (says_call-keeps moves TheCall (numbered (suc w.drawn.calls) c)) (kept (suc w.drawn.calls)))))
+      (then-keeps (chains moves) (says_call TheCall (numbered (suc w.drawn.calls) c)) _ (says_call-keeps (plain_steps moves) TheCall (numbered (suc w.drawn.calls) c)) (kept (suc w.drawn.calls)))))
 
   pub end_at_once-keeps : (part : Part) (c : Call) (e : Raised) → Keeps G R (end_at_once part c e)
   unfolding end_at_once
-  end_at_once-keeps part c e = search (changes-keeps, forget_call-alters, then-keeps, raises-keeps, chains)
+  end_at_once-keeps part c e = search (changes-keeps, forget_call-alters, then-keeps, raises-keeps, chains, plain_steps)
 
   pub call_gone-keeps : (p : Image) (c : Call) → Keeps G R (call_gone p c)
   unfolding call_gone
@@ -74,12 +75,12 @@ module _ {G : GoodWorld} {May Other : Naming} {R : StepRelation} {Q : MoveRelati
 
   pub call_queues-keeps : (p : Image) (c : Call) → Keeps G R (call_queues p c)
   unfolding call_queues
-  call_queues-keeps p c = search (enqueue-keeps, then-keeps, not_accepted-keeps, chains)
+  call_queues-keeps p c = search (enqueue-keeps, then-keeps, not_accepted-keeps, chains, plain_steps)
 
   pub call_not_met-keeps : (p : Image) (c : Call) (test : Bool) → Keeps G R (call_not_met p c test)
   unfolding call_not_met
   call_not_met-keeps p c true = search (make_call-keeps, end_at_once-keeps)
-  call_not_met-keeps p c false = search (with_room-keeps, make_call-keeps, call_queues-keeps)
+  call_not_met-keeps p c false = search (with_room-keeps, make_call-keeps, call_queues-keeps, plain_steps)
 
   -- ---- a call of a protected entry
 
@@ -89,7 +90,7 @@ module _ {G : GoodWorld} {May Other : Naming} {R : StepRelation} {Q : MoveRelati
 
   pub call_passes-keeps : (p : Image) (o : ObjectNo) (c : Call) → Keeps G R (call_passes p o c)
   unfolding call_passes
-  call_passes-keeps p o c = search (says-keeps, then-keeps, enqueue-keeps, not_accepted-keeps, chains) depth 8
+  call_passes-keeps p o c = search (says-keeps, then-keeps, enqueue-keeps, not_accepted-keeps, chains, plain_steps) depth 9
 
   pub call_refused-keeps : (o : ObjectNo) (c : Call) → Keeps G R (call_refused o c)
   unfolding call_refused
@@ -98,7 +99,7 @@ module _ {G : GoodWorld} {May Other : Naming} {R : StepRelation} {Q : MoveRelati
   pub call_closed-keeps : (p : Image) (o : ObjectNo) (c : Call) (test : Bool) → Keeps G R (call_closed p o c test)
   unfolding call_closed
   call_closed-keeps p o c true = search (make_call-keeps, call_refused-keeps)
-  call_closed-keeps p o c false = search (with_room-keeps, make_call-keeps, call_passes-keeps)
+  call_closed-keeps p o c false = search (with_room-keeps, make_call-keeps, call_passes-keeps, plain_steps)
 
   appoint_trigger-from : (name : Who) (depth : ℕ) (m : ℤ) (w : World) → G w → From R w (changes (appoint_trigger name depth m))
   appoint_trigger-from (who.Task t) depth m w good = appoint-from moves (due_for.Trigger t depth) m w good
@@ -117,17 +118,17 @@ module _ {G : GoodWorld} {May Other : Naming} {R : StepRelation} {Q : MoveRelati
   unfolding trigger_delay
   trigger_delay-from p name s trigger m false w good other = keeps-from (chains moves) _ w good (search (goes-keeps))
   trigger_delay-from p name s trigger m true w good other =
-      with_room-from moves name 1 0 _ w good
+      with_room-from (plain_steps moves) name 1 0 _ w good
       (goes_then-from moves name (next_of p s) _ w good (λ good_onward.
       opens_until p name s m _ good_onward other))
 
   pub mark_sending-alters : (c : Option CallNo) (o : Owner) (e : EntryNo) (with_abort : Bool) → Alters G R (mark_sending c o e with_abort)
   mark_sending-alters None o e with_abort = search (unchanged-alters, chains)
-  mark_sending-alters (Some c) o e with_abort = search (edit_call-alters)
+  mark_sending-alters (Some c) o e with_abort = search (edit_call-alters, plain_steps)
 
   pub requeue-keeps : (p : Image) (name : Who) (e : EntryNo) (o : EntryOwner) (with_abort : Bool) → Keeps G R (requeue p name e o with_abort)
   unfolding requeue
-  requeue-keeps p name e o with_abort = search (sees-keeps, given-keeps, changes-keeps, mark_sending-alters, then-keeps, leaves-keeps, chains) depth 9
+  requeue-keeps p name e o with_abort = search (sees-keeps, given-keeps, changes-keeps, mark_sending-alters, then-keeps, leaves-keeps, chains, plain_steps) depth 10
 
 module _ {G : GoodWorld} {Acts : Naming} {R : StepRelation} {Q : MoveRelation} (moves : FineMoves G Anybody Anybody R Q) (openings : Openings G Acts R) where
   -- ---- a call of a task's entry: the callee waits for it
@@ -187,7 +188,7 @@ module _ {G : GoodWorld} {Acts : Naming} {R : StepRelation} {Q : MoveRelation} (
 
   call_by_barrier-keeps : (p : Image) (o : ObjectNo) (c : Call) (test : Bool) → Acts (who.Task c.caller) → Keeps G R (call_by_barrier p o c test)
   unfolding call_by_barrier
-  call_by_barrier-keeps p o c true acts = with_room-keeps moves (who.Task c.caller) 1 0 _ (numbered_call-keeps moves p c (call_runs_if_room p o) (λ n. call_runs_if_room-keeps p o (numbered n c) acts))
+  call_by_barrier-keeps p o c true acts = with_room-keeps (plain_steps moves) (who.Task c.caller) 1 0 _ (numbered_call-keeps moves p c (call_runs_if_room p o) (λ n. call_runs_if_room-keeps p o (numbered n c) acts))
   call_by_barrier-keeps p o c false acts = search (looks-keeps, call_closed-keeps, chains)
 
   pub call_object-keeps : (p : Image) (o : ObjectNo) (c : Call) → Acts (who.Task c.caller) → Keeps G R (call_object p o c)
@@ -201,19 +202,19 @@ module _ {G : GoodWorld} {Acts : Naming} {R : StepRelation} {Q : MoveRelation} (
 
   pub call_named-keeps : (p : Image) (t : TaskNo) (kind : CallKind) (s : StatementNo) (n : EntryCallNamed) → Acts (who.Task t) → Keeps G R (call_named p t kind s n)
   unfolding call_named
-  call_named-keeps p t kind s n acts = search (sees-keeps, given-keeps, call_owner-keeps, chains) depth 7
+  call_named-keeps p t kind s n acts = search (sees-keeps, given-keeps, call_owner-keeps, chains, plain_steps) depth 8
 
   pub entry_call-keeps : (p : Image) (name : Who) (kind : CallKind) (s : StatementNo) → Acts name → Keeps G R (entry_call p name kind s)
   unfolding entry_call
-  entry_call-keeps p (who.Task t) kind s acts = search (looks-keeps, raise_if-keeps, call_named-keeps, chains)
-  entry_call-keeps p who.Agent kind s acts = search (raises-keeps)
+  entry_call-keeps p (who.Task t) kind s acts = search (looks-keeps, raise_if-keeps, call_named-keeps, chains, plain_steps)
+  entry_call-keeps p who.Agent kind s acts = search (raises-keeps, plain_steps)
 
   pub async_delay-keeps : (p : Image) (name : Who) (s trigger : StatementNo) → Acts name → Keeps G R (async_delay p name s trigger)
   unfolding async_delay
   async_delay-keeps p name s trigger acts =
       looks-from (chains moves) (λ v. raise_if name (is_forbidden v name call_kind.Triggering) exception.Program (given Own name (delay_moment (seen_by p v name) trigger) (λ m. trigger_delay p name s trigger m (int_lt (pos v.time) m))))
-      (λ w good. raise_if-from moves name (is_forbidden w name call_kind.Triggering) exception.Program _ w good (λ allowed.
-      given-from moves Own name (delay_moment (seen_by p w name) trigger) _ w good (λ m.
+      (λ w good. raise_if-from (plain_steps moves) name (is_forbidden w name call_kind.Triggering) exception.Program _ w good (λ allowed.
+      given-from (plain_steps moves) Own name (delay_moment (seen_by p w name) trigger) _ w good (λ m.
       trigger_delay-from moves p name s trigger m (int_lt (pos w.time) m) w good tt)))
 
   pub async_by_trigger-keeps : (p : Image) (name : Who) (s trigger : StatementNo) (form : StatementForm) → Acts name → Keeps G R (async_by_trigger p name s trigger form)

@@ -20,9 +20,8 @@ use Rattle.profile_machine.specs.Instant.{with_port, with_masked, with_kept_inte
 use Rattle.machine_laws.proofs.Moves.{StepRelation, MoveRelation}
 use Rattle.world_laws.proofs.Scopes.FineMoves.{FineMoves, chains, effect-leads, move_chains, says-keeps}
 use Rattle.world_laws.proofs.Scopes.Kept.Dispatching.{to_tail-keeps, ready-keeps}
-use Rattle.world_laws.proofs.Scopes.Kept.Frames.{goes-keeps, open_sequence-keeps}
+use Rattle.world_laws.proofs.Scopes.Kept.Frames.{goes-keeps, open_sequence-keeps, plain_steps}
 use Rattle.world_laws.proofs.Scopes.Kept.Appointments.{drop_appointment-alters}
-use Rattle.world_laws.proofs.Scopes.Kept.Calls.{with_call-keeps, unqueued-alters}
 use Rattle.world_laws.proofs.Scopes.Kept.Unwinding.{unwind-keeps}
 use Rattle.world_laws.proofs.Scopes.Kept.CallEnds.{trigger_at-keeps, deliver-keeps}
 use Rattle.world_laws.proofs.Scopes.Kept.Handlers.{interrupt-keeps, clear_timer-alters, release-keeps}
@@ -31,6 +30,7 @@ use Rattle.profile_machine.specs.Handlers.{clear_timer}
 use Rattle.profile_machine.specs.declared.world.lines.Part.TheVariants.{Own}
 use Rattle.machine_laws.proofs.FineMoves.{Anybody, GoodWorld}
 use Rattle.machine_laws.proofs.Kept.Combinators.{Alters, From, Keeps, Leads, changes-from, changes-keeps, for_each-keeps, for_some-keeps, keeps-from, looks-from, looks-keeps, nothing-keeps, then-from, then-keeps, then-leads, when-keeps}
+use Rattle.machine_laws.proofs.Plain.Calls.{with_call-keeps, unqueued-alters}
 
 module _ {G : GoodWorld} {R : StepRelation} {Q : MoveRelation} (moves : FineMoves G Anybody Anybody R Q) where
   with_port-alters : (n : ℕ) (value : ℤ) → Alters G R (with_port n value)
@@ -92,7 +92,7 @@ module _ {G : GoodWorld} {R : StepRelation} {Q : MoveRelation} (moves : FineMove
 
   pub time_out-keeps : (p : Image) (c : CallNo) → Keeps G R (time_out p c)
   unfolding time_out
-  time_out-keeps p c = search (with_call-keeps, changes-keeps, unqueued-alters, then-keeps, says-keeps, deliver-keeps, chains) depth 7
+  time_out-keeps p c = search (with_call-keeps, changes-keeps, unqueued-alters, then-keeps, says-keeps, deliver-keeps, chains, plain_steps) depth 8
 
   pub come_due-keeps : (p : Image) (due : Due) → Keeps G R (come_due p due)
   unfolding come_due

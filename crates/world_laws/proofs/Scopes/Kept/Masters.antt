@@ -23,13 +23,14 @@ use Rattle.machine_laws.proofs.Moves.{StepRelation, MoveRelation}
 use Rattle.world_laws.proofs.Scopes.FineMoves.{FineMoves, chains}
 use Rattle.world_laws.proofs.Scopes.Kept.Tasks.{edit_task-alters}
 use Rattle.world_laws.proofs.Scopes.Kept.Dispatching.{runnable-keeps, ready-keeps}
-use Rattle.world_laws.proofs.Scopes.Kept.Frames.{leaves-keeps, raises-keeps, open_sequence-keeps}
+use Rattle.world_laws.proofs.Scopes.Kept.Frames.{leaves-keeps, open_sequence-keeps, plain_steps}
 use Rattle.world_laws.proofs.Scopes.Kept.Inheritance.{lose-alters}
 use Rattle.world_laws.proofs.Scopes.Kept.Appointments.{drop_delay-alters}
 use Rattle.world_laws.proofs.Scopes.Kept.CallEnds.{end_call-keeps, gone-keeps}
 use Rattle.machine_laws.proofs.FineMoves.{GoodWorld, Naming}
 use Rattle.machine_laws.proofs.Kept.Masters.{found-other}
 use Rattle.machine_laws.proofs.Kept.Combinators.{Keeps, changes-keeps, cond-keeps, for_each-keeps, keeps-from, looks-from, looks-keeps, nothing-keeps, then-keeps, when-keeps, when-keeps-if}
+use Rattle.machine_laws.proofs.Plain.Frames.{raises-keeps}
 
 module _ {G : GoodWorld} {May Other : Naming} {R : StepRelation} {Q : MoveRelation} (moves : FineMoves G May Other R Q) where
   pub gone_by_completion-keeps : (p : Image) (actor : Who) (c : Call) → Keeps G R (gone_by_completion p actor c)
@@ -38,7 +39,7 @@ module _ {G : GoodWorld} {May Other : Naming} {R : StepRelation} {Q : MoveRelati
 
   pub wake_activator-keeps : (p : Image) (part : Part) (name : Who) → Other name → Keeps G R (wake_activator p part name)
   unfolding wake_activator
-  wake_activator-keeps p part name other = search (looks-keeps, ready-keeps, then-keeps, when-keeps, raises-keeps, open_sequence-keeps, moves.other_may, chains) depth 8
+  wake_activator-keeps p part name other = search (looks-keeps, ready-keeps, then-keeps, when-keeps, raises-keeps, open_sequence-keeps, moves.other_may, chains, plain_steps) depth 9
 
   pub end_group-keeps : (p : Image) (actor activator : Who) → Keeps G R (end_group p actor activator)
   unfolding end_group

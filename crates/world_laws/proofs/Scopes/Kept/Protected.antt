@@ -28,15 +28,17 @@ use Rattle.profile_machine.specs.Protected.{entering, new_protected_mark, mode_o
 use Rattle.machine_laws.proofs.Moves.{StepRelation, MoveRelation}
 use Rattle.world_laws.proofs.Scopes.FineMoves.{FineMoves, Openings, nature, chains, says-keeps}
 use Rattle.world_laws.proofs.Scopes.Kept.Dispatching.{to_tail-keeps}
-use Rattle.world_laws.proofs.Scopes.Kept.Frames.{edit_top-alters, goes-keeps, push-alters, raises-keeps, given-keeps, raise_if-keeps, with_room-keeps}
+use Rattle.world_laws.proofs.Scopes.Kept.Frames.{edit_top-alters, goes-keeps, push-alters, plain_steps}
 use Rattle.world_laws.proofs.Scopes.Kept.Scopes.{open_scope-alters}
 use Rattle.world_laws.proofs.Scopes.Kept.Inheritance.{inherit_running-keeps}
-use Rattle.world_laws.proofs.Scopes.Kept.Calls.{edit_call-alters, unqueued-alters}
-use Rattle.world_laws.proofs.Scopes.Kept.Subprograms.{begin_body-keeps, handing-keeps}
+use Rattle.world_laws.proofs.Scopes.Kept.Subprograms.{begin_body-keeps}
 use Rattle.profile_machine.specs.declared.world.marks.Mark.{Mark}
 use Rattle.profile_machine.specs.declared.world.marks.Mark.TheVariants.{Scope, Handled, InProtected, InAccept, Abortable, InInitialize, InFinalize, InAssign}
 use Rattle.machine_laws.proofs.FineMoves.{Anybody, GoodWorld, Naming}
 use Rattle.machine_laws.proofs.Kept.Combinators.{Alters, Keeps, branch-keeps, changes-keeps, looks-keeps, sees-keeps, then-keeps}
+use Rattle.machine_laws.proofs.Plain.Frames.{raises-keeps, given-keeps, raise_if-keeps, with_room-keeps}
+use Rattle.machine_laws.proofs.Plain.Calls.{edit_call-alters, unqueued-alters}
+use Rattle.machine_laws.proofs.Plain.Subprograms.{handing-keeps}
 
 -- what a mark is does not change where a protected action is edited
 protected-nature : (f : ProtectedMark → ProtectedMark) (mark : Mark) → nature (edit_protected f mark) ≡ nature mark
@@ -55,8 +57,8 @@ module _ {G : GoodWorld} {May Other : Naming} {R : StepRelation} {Q : MoveRelati
   find_held-keeps p name o mode may = search (says-keeps, then-keeps, to_tail-keeps, chains)
 
   enter_or-keeps : (p : Image) (name : Who) (o : ObjectNo) (mode : Mode) (step : Step) (is : Entering) → May name → Keeps G R step → Keeps G R (enter_or p name o mode step is)
-  enter_or-keeps p name o mode step entering_is.SameObject may kept = search (raises-keeps)
-  enter_or-keeps p name o mode step entering_is.AboveCeiling may kept = search (raises-keeps)
+  enter_or-keeps p name o mode step entering_is.SameObject may kept = search (raises-keeps, plain_steps)
+  enter_or-keeps p name o mode step entering_is.AboveCeiling may kept = search (raises-keeps, plain_steps)
   enter_or-keeps p name o mode step entering_is.Held may kept = search (find_held-keeps)
   enter_or-keeps p name o mode step entering_is.Inside may kept = kept
 
@@ -78,7 +80,7 @@ module _ {G : GoodWorld} {May Other : Naming} {R : StepRelation} {Q : MoveRelati
 
   pub begin_call-keeps : (p : Image) (part : Part) (name : Who) (c : Call) → Keeps G R (begin_call p part name c)
   unfolding begin_call
-  begin_call-keeps p part name c = search (changes-keeps, unqueued-alters, then-keeps, edit_call-alters, says-keeps, chains) depth 8
+  begin_call-keeps p part name c = search (changes-keeps, unqueued-alters, then-keeps, edit_call-alters, says-keeps, chains, plain_steps) depth 9
 
 module _ {G : GoodWorld} {Acts : Naming} {R : StepRelation} {Q : MoveRelation} (moves : FineMoves G Anybody Anybody R Q) (openings : Openings G Acts R) where
   pub begin_operation-keeps : (p : Image) (name : Who) (s : StatementNo) (f : SubprogramNo) (o : ObjectNo) (h : Handed) (to : ResultTo) → Acts name → Keeps G R (begin_operation p name s f o h to)
@@ -91,20 +93,20 @@ module _ {G : GoodWorld} {Acts : Naming} {R : StepRelation} {Q : MoveRelation} (
 
   pub call_operation_of-keeps : (p : Image) (name : Who) (s : StatementNo) (f : SubprogramNo) (actuals : List Actual) (to : Destination) (o : ObjectNo) → Acts name → Keeps G R (call_operation_of p name s f actuals to o)
   unfolding call_operation_of
-  call_operation_of-keeps p name s f actuals to o acts = search (looks-keeps, raise_if-keeps, with_room-keeps, handing-keeps, where_let_inside-keeps, begin_operation-keeps, chains) depth 10
+  call_operation_of-keeps p name s f actuals to o acts = search (looks-keeps, raise_if-keeps, with_room-keeps, handing-keeps, where_let_inside-keeps, begin_operation-keeps, chains, plain_steps) depth 11
 
   pub call_operation-keeps : (p : Image) (name : Who) (s : StatementNo) (d : DeclNo) (f : SubprogramNo) (actuals : List Actual) (to : Destination) → Acts name → Keeps G R (call_operation p name s d f actuals to)
   unfolding call_operation
-  call_operation-keeps p name s d f actuals to acts = search (sees-keeps, given-keeps, call_operation_of-keeps, chains) depth 7
+  call_operation-keeps p name s d f actuals to acts = search (sees-keeps, given-keeps, call_operation_of-keeps, chains, plain_steps) depth 8
 
   pub begin_own_operation-keeps : (p : Image) (name : Who) (s : StatementNo) (f : SubprogramNo) (o : Option ObjectNo) (h : Handed) (to : ResultTo) → Acts name → Keeps G R (begin_own_operation p name s f o h to)
   unfolding begin_own_operation
-  begin_own_operation-keeps p name s f None h to acts = search (raises-keeps)
+  begin_own_operation-keeps p name s f None h to acts = search (raises-keeps, plain_steps)
   begin_own_operation-keeps p name s f (Some o) h to acts = search (looks-keeps, begin_body-keeps, chains)
 
   pub call_own_operation-keeps : (p : Image) (name : Who) (s : StatementNo) (f : SubprogramNo) (actuals : List Actual) (to : Destination) → Acts name → Keeps G R (call_own_operation p name s f actuals to)
   unfolding call_own_operation
-  call_own_operation-keeps p name s f actuals to acts = search (with_room-keeps, handing-keeps, sees-keeps, begin_own_operation-keeps, chains)
+  call_own_operation-keeps p name s f actuals to acts = search (with_room-keeps, handing-keeps, sees-keeps, begin_own_operation-keeps, chains, plain_steps)
 
   pub body_opens-keeps : (p : Image) (name : Who) (o : ObjectNo) (c : Call) → Acts name → Keeps G R (body_opens p name o c)
   unfolding body_opens

@@ -12,7 +12,6 @@ use Rattle.profile_machine.specs.declared.run_data.Leaving.{Leaving}
 use Rattle.profile_machine.specs.declared.run_data.Leaving.TheVariants as how
 use Rattle.profile_machine.specs.declared.statements.SelectAlternative.{SelectAlternative}
 use Rattle.profile_machine.specs.declared.statements.SelectKind.{SelectKind}
-use Rattle.profile_machine.specs.declared.values.Value.{Value}
 use Rattle.profile_machine.specs.declared.world.World.{World}
 use Rattle.profile_machine.specs.declared.world.marks.AcceptMark.{AcceptMark}
 use Rattle.profile_machine.specs.declared.world.calls.Call.{Call}
@@ -28,18 +27,16 @@ use Rattle.profile_machine.specs.Steps.{Step, changes, ◌▷◌}
 use Rattle.profile_machine.specs.Frames.{pop, open_sequence}
 use Rattle.profile_machine.specs.Scopes.{end_scope, cells_of, scope_in_use}
 use Rattle.profile_machine.specs.Appointments.{drop_delay}
-use Rattle.profile_machine.specs.Calls.{formals_count, edit_call, with_call}
-use Rattle.profile_machine.specs.Serving.{with_values}
+use Rattle.profile_machine.specs.Calls.{edit_call, with_call}
 use Rattle.profile_machine.specs.Rendezvous.{open_accept, has_room_for_accept, begin_accept, finish_without_room, accept_with_room, accept_call, meet_with_room, meet_without_room, meet, accept_or_wait, accept, accept_chosen, wait_at_select, appoint_delay, select_delay, select_wait, select_otherwise, select_by_call, select_open, selective_accept, gone_sent, meet_sent, arrive_at, arrive, finish_accept, finish_rendezvous, behind_accept, finished_call, end_in_accept, accept_for}
 use Rattle.std.proofs.Common.{◌≡◌, refl}
 use Rattle.machine_laws.proofs.Moves.{StepRelation, MoveRelation}
 use Rattle.world_laws.proofs.Scopes.FineMoves.{FineMoves, Openings, Live, chains, says-keeps}
 use Rattle.world_laws.proofs.Scopes.Kept.Combinators.{both_then-from}
 use Rattle.world_laws.proofs.Scopes.Kept.Dispatching.{ready-keeps, block-keeps, blocked-keeps}
-use Rattle.world_laws.proofs.Scopes.Kept.Frames.{goes-keeps, raises-keeps, open_sequence-keeps, pass_on-keeps, raise_if-keeps, goes_then-from, given-keeps}
+use Rattle.world_laws.proofs.Scopes.Kept.Frames.{goes-keeps, open_sequence-keeps, goes_then-from, plain_steps}
 use Rattle.world_laws.proofs.Scopes.Kept.Inheritance.{inherit-alters, inherit_running-keeps, lose_running-keeps}
 use Rattle.world_laws.proofs.Scopes.Kept.Appointments.{appoint-from, drop_delay-alters}
-use Rattle.world_laws.proofs.Scopes.Kept.Calls.{edit_call-alters, with_call-keeps, enqueue-keeps}
 use Rattle.world_laws.proofs.Scopes.Kept.CallEnds.{deliver-keeps, gone-keeps}
 use Rattle.world_laws.proofs.Scopes.Kept.Protected.{begin_call-keeps}
 use Rattle.world_laws.proofs.Scopes.Kept.Sending.{send_on-keeps, begin_abortable-keeps, sent_not_begun-keeps}
@@ -50,8 +47,11 @@ use Rattle.profile_machine.specs.declared.world.tasks.State.TheVariants.{Made, R
 use Rattle.profile_machine.specs.Tasks.{waiting_in, waiting_of, is_made_state, task_of}
 use Rattle.profile_machine.specs.Dispatching.{ready}
 use Rattle.machine_laws.proofs.FineMoves.{Anybody, GoodWorld, Naming}
-use Rattle.machine_laws.proofs.Kept.Serving.{keeps_sending-number}
 use Rattle.machine_laws.proofs.Kept.Combinators.{Alters, From, Keeps, after-from, changes-keeps, changes_then-from, either-from, for_some-keeps, keeps-from, looks-from, looks-keeps, looks_at-from, nothing-keeps, sees-keeps, then-from, then-keeps, unchanged-alters}
+use Rattle.machine_laws.proofs.Plain.Frames.{raises-keeps, pass_on-keeps, raise_if-keeps, given-keeps}
+use Rattle.machine_laws.proofs.Plain.Calls.{edit_call-alters, with_call-keeps, enqueue-keeps}
+use Rattle.machine_laws.proofs.Plain.PlainSteps.{anybody}
+use Rattle.machine_laws.proofs.Plain.Results.{finished_call-number, finished_call-caller}
 
 module _ {G : GoodWorld} {May Other : Naming} {R : StepRelation} {Q : MoveRelation} (moves : FineMoves G May Other R Q) where
   begin_accept-keeps : (p : Image) (part : Part) (name : Who) (s : StatementNo) (c : Call) → Keeps G R (begin_accept p part name s c)
@@ -98,13 +98,10 @@ module _ {G : GoodWorld} {May Other : Naming} {R : StepRelation} {Q : MoveRelati
   unfolding behind_accept
   behind_accept-keeps p name how.End = search (nothing-keeps, chains)
   behind_accept-keeps p name how.Return = search (nothing-keeps, chains)
-  behind_accept-keeps p name (how.Exit loop) = search (pass_on-keeps)
-  behind_accept-keeps p name (how.Exception e) = search (pass_on-keeps)
-  behind_accept-keeps p name how.Abort = search (pass_on-keeps)
-  behind_accept-keeps p name how.Terminate = search (pass_on-keeps)
-
-  finished_call-number : (p : Image) (cells : List Value) (leaving : Leaving) (c : Call) → (finished_call p cells leaving c).number ≡ c.number
-  finished_call-number p cells leaving c = keeps_sending-number leaving (with_values cells (formals_count p c) c)
+  behind_accept-keeps p name (how.Exit loop) = search (pass_on-keeps, plain_steps, anybody)
+  behind_accept-keeps p name (how.Exception e) = search (pass_on-keeps, plain_steps, anybody)
+  behind_accept-keeps p name how.Abort = search (pass_on-keeps, plain_steps, anybody)
+  behind_accept-keeps p name how.Terminate = search (pass_on-keeps, plain_steps, anybody)
 
 -- who waits for a meeting is there, and not only made
 waiting-made : (p : Image) (e : EntryNo) (s : StatementNo) (state : State) → accept_for p e (waiting_in state) ≡ Some s → is_made_state state ≡ false
@@ -125,11 +122,11 @@ module _ {G : GoodWorld} {Acts : Naming} {R : StepRelation} {Q : MoveRelation} (
   accept_with_room-keeps : (p : Image) (name : Who) (s : StatementNo) (c : Call) (has_room : Bool) → Acts name → Keeps G R (accept_with_room p name s c has_room)
   unfolding accept_with_room
   accept_with_room-keeps p name s c true acts = then-keeps (chains moves) (changes (open_accept p name s c)) _ (changes-keeps (chains moves) _ (acts_accept-alters p name s c acts)) (inherit_running-keeps moves p name (inherited_by.Rendezvous c.number) c.priority tt)
-  accept_with_room-keeps p name s c false acts = search (finish_without_room-keeps, then-keeps, deliver-keeps, raises-keeps, chains)
+  accept_with_room-keeps p name s c false acts = search (finish_without_room-keeps, then-keeps, deliver-keeps, raises-keeps, chains, plain_steps)
 
   pub accept_call-keeps : (p : Image) (name : Who) (s : StatementNo) (c : CallNo) → Acts name → Keeps G R (accept_call p name s c)
   unfolding accept_call
-  accept_call-keeps p name s c acts = search (with_call-keeps, begin_accept-keeps, then-keeps, looks-keeps, accept_with_room-keeps, chains) depth 7
+  accept_call-keeps p name s c acts = search (with_call-keeps, begin_accept-keeps, then-keeps, looks-keeps, accept_with_room-keeps, chains, plain_steps) depth 8
 
   pub accept_or_wait-keeps : (p : Image) (name : Who) (s : StatementNo) (c : Option CallNo) → Acts name → Keeps G R (accept_or_wait p name s c)
   unfolding accept_or_wait
@@ -138,7 +135,7 @@ module _ {G : GoodWorld} {Acts : Naming} {R : StepRelation} {Q : MoveRelation} (
 
   pub accept_chosen-keeps : (p : Image) (name : Who) (accepts : List StatementNo) (c : CallNo) → Acts name → Keeps G R (accept_chosen p name accepts c)
   unfolding accept_chosen
-  accept_chosen-keeps p name accepts c acts = search (with_call-keeps, for_some-keeps, accept_call-keeps, chains)
+  accept_chosen-keeps p name accepts c acts = search (with_call-keeps, for_some-keeps, accept_call-keeps, chains, plain_steps)
 
   pub select_by_call-keeps : (p : Image) (name : Who) (s : StatementNo) (kinds : List SelectKind) (m : Option DelayMoment) (otherwise : Option StatementNo) (c : Option CallNo) → Acts name → Keeps G R (select_by_call p name s kinds m otherwise c)
   unfolding select_by_call
@@ -147,15 +144,15 @@ module _ {G : GoodWorld} {Acts : Naming} {R : StepRelation} {Q : MoveRelation} (
 
   pub select_open-keeps : (p : Image) (name : Who) (s : StatementNo) (otherwise : Option StatementNo) (kinds : List SelectKind) (moments : List DelayMoment) → Acts name → Keeps G R (select_open p name s otherwise kinds moments)
   unfolding select_open
-  select_open-keeps p name s otherwise kinds moments acts = search (raise_if-keeps, looks-keeps, select_by_call-keeps, chains)
+  select_open-keeps p name s otherwise kinds moments acts = search (raise_if-keeps, looks-keeps, select_by_call-keeps, chains, plain_steps)
 
   pub accept-keeps : (p : Image) (name : Who) (s : StatementNo) (e : EntryNo) → Acts name → Keeps G R (accept p name s e)
   unfolding accept
-  accept-keeps p name s e acts = search (looks-keeps, raise_if-keeps, accept_or_wait-keeps, chains)
+  accept-keeps p name s e acts = search (looks-keeps, raise_if-keeps, accept_or_wait-keeps, chains, plain_steps)
 
   pub selective_accept-keeps : (p : Image) (name : Who) (s : StatementNo) (alternatives : List SelectAlternative) (otherwise : Option StatementNo) → Acts name → Keeps G R (selective_accept p name s alternatives otherwise)
   unfolding selective_accept
-  selective_accept-keeps p name s alternatives otherwise acts = search (sees-keeps, raise_if-keeps, given-keeps, select_open-keeps, chains) depth 7
+  selective_accept-keeps p name s alternatives otherwise acts = search (sees-keeps, raise_if-keeps, given-keeps, select_open-keeps, chains, plain_steps) depth 8
 
   -- ---- the acceptor waited
 
@@ -171,7 +168,7 @@ module _ {G : GoodWorld} {Acts : Naming} {R : StepRelation} {Q : MoveRelation} (
       (then-keeps (chains moves) _ _ (ready-keeps moves p part name tt) (then-keeps (chains moves) _ _ (open_sequence-keeps moves p part name tt) kept)))))
 
   meet_without_room-keeps : (p : Image) (part : Part) (name : Who) (s : StatementNo) (c : Call) (otherwise : Step) → Keeps G R otherwise → Keeps G R (meet_without_room p part name s c otherwise)
-  meet_without_room-keeps p part name s c otherwise kept = search (begin_accept-keeps, then-keeps, finish_without_room-keeps, ready-keeps, raises-keeps, chains) depth 9
+  meet_without_room-keeps p part name s c otherwise kept = search (begin_accept-keeps, then-keeps, finish_without_room-keeps, ready-keeps, raises-keeps, chains, plain_steps) depth 10
 
   pub meet-from : (p : Image) (part : Part) (name : Who) (s : StatementNo) (c : Call) (then_ otherwise : Step) (w : World) → G w → Live name w → Keeps G R then_ → Keeps G R otherwise → From R w (meet p part name s c then_ otherwise)
   unfolding Alters
@@ -188,7 +185,7 @@ module _ {G : GoodWorld} {Acts : Naming} {R : StepRelation} {Q : MoveRelation} (
   meet_sent-from : (p : Image) (t : TaskNo) (c : Call) (next : Option StatementNo) (w : World) → G w → accept_for p c.entry (waiting_of w (who.Task t)) ≡ next → From R w (meet_sent p t c next)
   unfolding meet_sent
   meet_sent-from p t c (Some s) w good is = meet-from p TheFinish (who.Task t) s c _ _ w good (waiting-live p c.entry (who.Task t) s w is) (search (begin_abortable-keeps)) (search (deliver-keeps))
-  meet_sent-from p t c None w good is = keeps-from (chains moves) _ w good (search (enqueue-keeps, then-keeps, sent_not_begun-keeps, chains))
+  meet_sent-from p t c None w good is = keeps-from (chains moves) _ w good (search (enqueue-keeps, then-keeps, sent_not_begun-keeps, chains, plain_steps))
 
   arrive_at-keeps : (p : Image) (t : TaskNo) (c : Call) (test : Bool) → Keeps G R (arrive_at p t c test)
   unfolding arrive_at
@@ -203,7 +200,7 @@ module _ {G : GoodWorld} {Acts : Naming} {R : StepRelation} {Q : MoveRelation} (
   finish_accept-keeps : (p : Image) (name : Who) (c : Call) (sending : Option Sending) → Keeps G R (finish_accept p name c sending)
   unfolding finish_accept
   finish_accept-keeps p name c None = search (says-keeps, then-keeps, deliver-keeps, chains)
-  finish_accept-keeps p name c (Some s) = search (says-keeps, then-keeps, send_on-keeps, with_call-keeps, arrive-keeps, chains)
+  finish_accept-keeps p name c (Some s) = search (says-keeps, then-keeps, send_on-keeps, with_call-keeps, arrive-keeps, chains, plain_steps)
 
   finish_rendezvous-keeps : (p : Image) (name : Who) (c : Call) (leaving : Leaving) → Keeps G R (finish_rendezvous p name c leaving)
   unfolding finish_rendezvous
@@ -223,6 +220,6 @@ module _ {G : GoodWorld} {Acts : Naming} {R : StepRelation} {Q : MoveRelation} (
       (looks_at-from (chains moves) (λ v. changes (pop name) ▷ changes (end_scope m.within) ▷ changes (edit_call m.call (finished_call p (cells_of (scope_in_use v m.within)) leaving)) ▷ with_call m.call (λ c. finish_rendezvous p name c leaving)) w
       (both_then-from moves (pop name) (end_scope m.within) _ w out
       (keeps-from (chains moves) (changes (edit_call m.call (finished_call p cells leaving)) ▷ with_call m.call (λ c. finish_rendezvous p name c leaving)) _ (moves.behind w _ out)
-      (then-keeps (chains moves) (changes (edit_call m.call (finished_call p cells leaving))) _ (changes-keeps (chains moves) _ (edit_call-alters moves m.call (finished_call p cells leaving) (finished_call-number moves p cells leaving)))
-      (with_call-keeps moves m.call _ (λ c. finish_rendezvous-keeps p name c leaving))))))
+      (then-keeps (chains moves) (changes (edit_call m.call (finished_call p cells leaving))) _ (changes-keeps (chains moves) _ (edit_call-alters (plain_steps moves) m.call (finished_call p cells leaving) (finished_call-number p cells leaving) (finished_call-caller p cells leaving)))
+      (with_call-keeps (plain_steps moves) m.call _ (λ c. finish_rendezvous-keeps p name c leaving))))))
       (search (lose_running-keeps, then-keeps, behind_accept-keeps, chains))

@@ -1,26 +1,16 @@
 -- Scopes that begin and end, and their cells: each step keeps a relation that its parts keep.
-use Rattle.std.specs.Prelude.{ℕ, List, ◌≡◌, false}
+use Rattle.std.specs.Prelude.{◌≡◌, false}
 use Rattle.trace_text.specs.declared.events.Who.{Who}
 use Rattle.profile_machine.specs.declared.image.Image.{Image}
 use Rattle.profile_machine.specs.declared.numbers.ScopeNo.{ScopeNo}
-use Rattle.profile_machine.specs.declared.values.Value.{Value}
 use Rattle.profile_machine.specs.declared.world.marks.Purpose.{Purpose}
-use Rattle.profile_machine.specs.declared.world.scopes.ScopeId.{ScopeId}
 use Rattle.profile_machine.specs.declared.world.scopes.Beginning.{Beginning}
-use Rattle.profile_machine.specs.Scopes.{edit_cells, write_cell, open_scope}
-use Rattle.machine_laws.proofs.Moves.{StepRelation, MoveRelation}
-use Rattle.world_laws.proofs.Scopes.FineMoves.{FineMoves, Openings}
+use Rattle.profile_machine.specs.Scopes.{open_scope}
+use Rattle.machine_laws.proofs.Moves.{StepRelation}
+use Rattle.world_laws.proofs.Scopes.FineMoves.{Openings}
 use Rattle.profile_machine.specs.Tasking.{is_task_scope}
 use Rattle.machine_laws.proofs.FineMoves.{GoodWorld, Naming}
 use Rattle.machine_laws.proofs.Kept.Combinators.{Alters}
-
-module _ {G : GoodWorld} {May Other : Naming} {R : StepRelation} {Q : MoveRelation} (moves : FineMoves G May Other R Q) where
-  pub edit_cells-alters : (id : ScopeId) (f : List Value → List Value) → Alters G R (edit_cells id f)
-  unfolding Alters
-  edit_cells-alters id f w good = moves.edits_cells id f w good
-
-  pub write_cell-alters : (id : ScopeId) (place : ℕ) (value : Value) → Alters G R (write_cell id place value)
-  write_cell-alters id place value = search (edit_cells-alters)
 
 module _ {G : GoodWorld} {Acts : Naming} {R : StepRelation} (openings : Openings G Acts R) where
   pub open_scope-alters : (p : Image) (name : Who) (scope : ScopeNo) (b : Beginning) (purpose : Purpose) → Acts name → is_task_scope purpose ≡ false → Alters G R (open_scope p name scope b purpose)

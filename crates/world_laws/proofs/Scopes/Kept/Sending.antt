@@ -18,13 +18,16 @@ use Rattle.profile_machine.specs.Sending.{open_abortable, is_not_future, is_cond
 use Rattle.machine_laws.proofs.Moves.{StepRelation, MoveRelation}
 use Rattle.world_laws.proofs.Scopes.FineMoves.{FineMoves, chains, says-keeps}
 use Rattle.world_laws.proofs.Scopes.Kept.Dispatching.{ready-keeps, block-keeps}
-use Rattle.world_laws.proofs.Scopes.Kept.Calls.{edit_call-alters, with_call-keeps, says_call-keeps, unqueued-alters, attempt_with-keeps}
-use Rattle.world_laws.proofs.Scopes.Kept.CallEnds.{resume-keeps, deliver-keeps}
+use Rattle.world_laws.proofs.Scopes.Kept.CallEnds.{deliver-keeps}
 use Rattle.profile_machine.specs.Program.{form_of}
 use Rattle.profile_machine.specs.Frames.{new_frame}
 use Rattle.machine_laws.proofs.FineMoves.{GoodWorld, Naming}
 use Rattle.machine_laws.proofs.Kept.Sending.{last_is_false}
 use Rattle.machine_laws.proofs.Kept.Combinators.{Alters, From, Keeps, changes-from, changes-keeps, keeps-from, looks-from, looks-keeps, nothing-keeps, then-from, then-keeps, unchanged-alters, when-keeps}
+use Rattle.machine_laws.proofs.Plain.Calls.{edit_call-alters, with_call-keeps, says_call-keeps, unqueued-alters, attempt_with-keeps}
+use Rattle.machine_laws.proofs.Plain.Results.{resume-keeps}
+use Rattle.world_laws.proofs.Scopes.Kept.Frames.{plain_steps}
+use Rattle.machine_laws.proofs.Plain.PlainSteps.{anybody}
 
 -- of a test that fails, unless the first part is why
 
@@ -35,7 +38,7 @@ module _ {G : GoodWorld} {May Other : Naming} {R : StepRelation} {Q : MoveRelati
 
   pub cancel_at_once-keeps : (p : Image) (part : Part) (c : Call) → Keeps G R (cancel_at_once p part c)
   unfolding cancel_at_once
-  cancel_at_once-keeps p part c = search (attempt_with-keeps, resume-keeps, nothing-keeps, chains)
+  cancel_at_once-keeps p part c = search (attempt_with-keeps, resume-keeps, nothing-keeps, chains, plain_steps, anybody)
 
   appoint_timeout-from : (p : Image) (c : CallNo) (moment : Option ℤ) (w : World) → G w → is_not_future w.time moment ≡ false → From R w (changes (appoint_timeout p c moment))
   appoint_timeout-from p c None w good later = keeps-from (chains moves) (changes (λ v. v)) w good (changes-keeps (chains moves) (λ v. v) (unchanged-alters (chains moves)))
@@ -63,15 +66,15 @@ module _ {G : GoodWorld} {May Other : Naming} {R : StepRelation} {Q : MoveRelati
 
   pub send_on-keeps : (c : CallNo) (s : Sending) → Keeps G R (send_on c s)
   unfolding send_on
-  send_on-keeps c s = search (changes-keeps, edit_call-alters, then-keeps, with_call-keeps, says_call-keeps, chains)
+  send_on-keeps c s = search (changes-keeps, edit_call-alters, then-keeps, with_call-keeps, says_call-keeps, chains, plain_steps)
 
   pub cancel_sent-keeps : (p : Image) (c : Call) → Keeps G R (cancel_sent p c)
   unfolding cancel_sent
-  cancel_sent-keeps p c = search (changes-keeps, unqueued-alters, then-keeps, says-keeps, deliver-keeps, chains) depth 7
+  cancel_sent-keeps p c = search (changes-keeps, unqueued-alters, then-keeps, says-keeps, deliver-keeps, chains, plain_steps) depth 8
 
   pub begin_abortable-keeps : (p : Image) (c : CallNo) → Keeps G R (begin_abortable p c)
   unfolding begin_abortable
-  begin_abortable-keeps p c = search (with_call-keeps, looks-keeps, when-keeps, changes-keeps, open_abortable-alters, then-keeps, ready-keeps, moves.task_other, chains) depth 9
+  begin_abortable-keeps p c = search (with_call-keeps, looks-keeps, when-keeps, changes-keeps, open_abortable-alters, then-keeps, ready-keeps, moves.task_other, chains, plain_steps) depth 10
 
   unless_firm-from : (p : Image) (firm : Bool) (c : Call) (w : World) → G w → (firm ≡ false → is_not_future w.time c.moment ≡ false) → From R w (changes (cond firm (λ v. v) (appoint_timeout p c.number c.moment)))
   unless_firm-from p true c w good later = keeps-from (chains moves) (changes (λ v. v)) w good (changes-keeps (chains moves) (λ v. v) (unchanged-alters (chains moves)))
@@ -87,4 +90,4 @@ module _ {G : GoodWorld} {May Other : Naming} {R : StepRelation} {Q : MoveRelati
 
   pub sent_not_begun-keeps : (p : Image) (c : CallNo) → Keeps G R (sent_not_begun p c)
   unfolding sent_not_begun
-  sent_not_begun-keeps p c = with_call-keeps moves c _ (λ d. looks-from (chains moves) _ (λ w good. sent_not_begun_by-from p d (is_to_be_cancelled w.time d) w good refl))
+  sent_not_begun-keeps p c = with_call-keeps (plain_steps moves) c _ (λ d. looks-from (chains moves) _ (λ w good. sent_not_begun_by-from p d (is_to_be_cancelled w.time d) w good refl))

@@ -1,25 +1,24 @@
 -- Queued calls that are served, and objects that are released: each step keeps a relation that its parts keep.
-use Rattle.std.specs.Prelude.{ℕ, Bool, true, false, List, Option, Some, None}
+use Rattle.std.specs.Prelude.{ℕ, Bool, true, false, Option, Some, None}
 use Rattle.ann_base.specs.declared.identities.CallNo.{CallNo}
 use Rattle.trace_text.specs.declared.events.Who.{Who}
 use Rattle.profile_machine.specs.declared.image.Image.{Image}
-use Rattle.profile_machine.specs.declared.run_data.Leaving.{Leaving}
-use Rattle.profile_machine.specs.declared.values.Value.{Value}
 use Rattle.profile_machine.specs.declared.world.marks.ProtectedMark.{ProtectedMark}
 use Rattle.profile_machine.specs.declared.world.calls.Call.{Call}
 use Rattle.profile_machine.specs.declared.world.calls.Outcome.{Outcome}
-use Rattle.profile_machine.specs.Serving.{serves_nothing, serve_ends, end_release, close_action, wait_or_unwind, wait_for_own, resume_own, behind_action, settle_sent, begins_part, keep_values, end_body_of_entry}
+use Rattle.profile_machine.specs.Serving.{serves_nothing, serve_ends, end_release, close_action, wait_or_unwind, wait_for_own, resume_own, behind_action, settle_sent, begins_part}
 use Rattle.machine_laws.proofs.Moves.{StepRelation, MoveRelation}
 use Rattle.world_laws.proofs.Scopes.FineMoves.{FineMoves, chains, says-keeps}
 use Rattle.world_laws.proofs.Scopes.Kept.Dispatching.{block-keeps}
-use Rattle.world_laws.proofs.Scopes.Kept.Frames.{leaves-keeps, pass_on-keeps}
-use Rattle.world_laws.proofs.Scopes.Kept.Calls.{edit_call-alters, forget_call-alters, with_call-keeps, attempt_with-keeps}
-use Rattle.world_laws.proofs.Scopes.Kept.CallEnds.{resume-keeps}
+use Rattle.world_laws.proofs.Scopes.Kept.Frames.{leaves-keeps, plain_steps}
 use Rattle.world_laws.proofs.Scopes.Kept.Sending.{open_abortable-alters, wait_for_call-keeps, begin_abortable-keeps, sent_not_begun-keeps}
 use Rattle.ann_base.specs.declared.identities.ObjectNo.{ObjectNo}
-use Rattle.machine_laws.proofs.FineMoves.{Anybody, GoodWorld, Naming}
-use Rattle.machine_laws.proofs.Kept.Serving.{keeps_sending-number}
+use Rattle.machine_laws.proofs.FineMoves.{Anybody, GoodWorld}
 use Rattle.machine_laws.proofs.Kept.Combinators.{Alters, Keeps, changes-keeps, looks-keeps, nothing-keeps, then-keeps, when-keeps}
+use Rattle.machine_laws.proofs.Plain.Frames.{pass_on-keeps}
+use Rattle.machine_laws.proofs.Plain.Calls.{forget_call-alters, with_call-keeps, attempt_with-keeps}
+use Rattle.machine_laws.proofs.Plain.Results.{resume-keeps}
+use Rattle.machine_laws.proofs.Plain.PlainSteps.{anybody}
 
 module _ {G : GoodWorld} {R : StepRelation} {Q : MoveRelation} (moves : FineMoves G Anybody Anybody R Q) where
   -- ---- the agent has served a release
@@ -40,7 +39,7 @@ module _ {G : GoodWorld} {R : StepRelation} {Q : MoveRelation} (moves : FineMove
 
   pub wait_or_unwind-keeps : (p : Image) (name : Who) (c : Call) (test : Bool) → Keeps G R (wait_or_unwind p name c test)
   unfolding wait_or_unwind
-  wait_or_unwind-keeps p name c true = search (attempt_with-keeps, changes-keeps, forget_call-alters, then-keeps, leaves-keeps, wait_for_call-keeps, chains)
+  wait_or_unwind-keeps p name c true = search (attempt_with-keeps, changes-keeps, forget_call-alters, then-keeps, leaves-keeps, wait_for_call-keeps, chains, plain_steps)
   wait_or_unwind-keeps p name c false = search (wait_for_call-keeps)
 
   pub wait_for_own-keeps : (p : Image) (name : Who) (c : Call) (test : Bool) → Keeps G R (wait_for_own p name c test)
@@ -50,14 +49,14 @@ module _ {G : GoodWorld} {R : StepRelation} {Q : MoveRelation} (moves : FineMove
 
   pub resume_own-keeps : (p : Image) (name : Who) (c : Call) (outcome : Option Outcome) → Keeps G R (resume_own p name c outcome)
   unfolding resume_own
-  resume_own-keeps p name c (Some outcome) = search (resume-keeps)
+  resume_own-keeps p name c (Some outcome) = search (resume-keeps, plain_steps, anybody)
   resume_own-keeps p name c None = search (looks-keeps, wait_for_own-keeps, chains)
 
   pub behind_action-keeps : (p : Image) (name : Who) (m : ProtectedMark) (n : Option ℕ) (c : Option CallNo) → Keeps G R (behind_action p name m n c)
   unfolding behind_action
   behind_action-keeps p name m (Some release) call = search (end_release-keeps)
-  behind_action-keeps p name m None None = search (pass_on-keeps)
-  behind_action-keeps p name m None (Some c) = search (with_call-keeps, resume_own-keeps)
+  behind_action-keeps p name m None None = search (pass_on-keeps, plain_steps, anybody)
+  behind_action-keeps p name m None (Some c) = search (with_call-keeps, resume_own-keeps, plain_steps)
 
   pub close_action-alters : (name : Who) (o : ObjectNo) → Alters G R (close_action name o)
   unfolding Alters
@@ -75,12 +74,3 @@ module _ {G : GoodWorld} {R : StepRelation} {Q : MoveRelation} (moves : FineMove
   begins_part-keeps p false c = search (nothing-keeps, chains)
 
 -- ---- the scope of an entry body has ended
-
-module _ {G : GoodWorld} {May Other : Naming} {R : StepRelation} {Q : MoveRelation} (moves : FineMoves G May Other R Q) where
-  pub keep_values-keeps : (p : Image) (c : CallNo) (cells : List Value) → Keeps G R (keep_values p c cells)
-  unfolding keep_values
-  keep_values-keeps p c cells = search (with_call-keeps, changes-keeps, edit_call-alters, chains)
-
-  pub end_body_of_entry-keeps : (p : Image) (c : CallNo) (cells : List Value) (leaving : Leaving) → Keeps G R (end_body_of_entry p c cells leaving)
-  unfolding end_body_of_entry
-  end_body_of_entry-keeps p c cells leaving = search (changes-keeps, edit_call-alters, then-keeps, keep_values-keeps, keeps_sending-number, chains)

@@ -33,18 +33,16 @@ use Rattle.machine_laws.proofs.FineMoves.{GoodWorld, Naming, nature, is_abortabl
 use Rattle.world_laws.proofs.Sequences.FineMoves.{FineMoves, Openings, Behind, Loosens, Again, Departing, chains}
 use Rattle.world_laws.proofs.Sequences.Kept.Combinators.{wide-from}
 use Rattle.world_laws.proofs.Sequences.Kept.Dispatching.{block-keeps}
-use Rattle.world_laws.proofs.Sequences.Kept.Frames.{edit_top-alters, goes-keeps, raises-keeps, pass_on-keeps, with_room-keeps, popped, edit_mark-alters}
+use Rattle.world_laws.proofs.Sequences.Kept.Frames.{edit_top-alters, goes-keeps, popped, edit_mark-alters, plain_steps}
 use Rattle.world_laws.proofs.Sequences.Kept.Scopes.{open_scope-alters}
 use Rattle.world_laws.proofs.Sequences.Kept.Appointments.{drop_appointment-alters}
-use Rattle.world_laws.proofs.Sequences.Kept.Calls.{with_call-keeps, attempt_with-keeps}
-use Rattle.world_laws.proofs.Sequences.Kept.Statements.{null-keeps, assign-keeps, assign_array-keeps, if_statement-keeps, case_statement-keeps, while_turn-keeps, for_bounds-keeps, first_turn-keeps, later_turn-keeps, exit_statement-keeps, block_statement-keeps, raise_again-keeps, delay_until-keeps, put_line-keeps}
-use Rattle.world_laws.proofs.Sequences.Kept.Subprograms.{call_subprogram-keeps, return_value-keeps, return-keeps}
+use Rattle.world_laws.proofs.Sequences.Kept.Statements.{block_statement-keeps, delay_until-keeps, put_line-keeps}
+use Rattle.world_laws.proofs.Sequences.Kept.Subprograms.{call_subprogram-keeps}
 use Rattle.world_laws.proofs.Sequences.Kept.Protected.{call_operation-keeps, call_own_operation-keeps}
 use Rattle.world_laws.proofs.Sequences.Kept.Priorities.{set_priority-keeps, set_quantum-keeps, set_deadline_of-keeps, delay_and_set_deadline-keeps}
 use Rattle.world_laws.proofs.Sequences.Kept.Rendezvous.{accept-keeps, selective_accept-keeps, end_in_accept-from}
 use Rattle.world_laws.proofs.Sequences.Kept.EntryCalls.{entry_call-keeps, asynchronous_select-keeps, requeue-keeps}
 use Rattle.world_laws.proofs.Sequences.Kept.Controlled.{initialize-keeps, assign_controlled-keeps, end_in_initialize-from, end_in_finalize-from, end_in_assign-from}
-use Rattle.world_laws.proofs.Sequences.Kept.Declarations.{declare-keeps}
 use Rattle.world_laws.proofs.Sequences.Kept.Tasking.{create-keeps, activate-keeps, end_own_activation-keeps, abort_statement-keeps, end_scope_mark-from}
 use Rattle.world_laws.proofs.Sequences.Kept.Handlers.{set_event-keeps, cancel_event-keeps, set_timer-keeps, cancel_timer-keeps, add_member-keeps, remove_member-keeps, replenish-keeps, add_to_budget-keeps, set_budget-keeps, cancel_budget-keeps}
 use Rattle.profile_machine.specs.declared.world.World.{World}
@@ -53,6 +51,11 @@ use Rattle.profile_machine.specs.Serving.{end_in_protected}
 use Rattle.world_laws.proofs.Sequences.Kept.CallEnds.{end_found_abortable-keeps, abortable-nature}
 use Rattle.profile_machine.specs.CallEnds.{edit_abortable}
 use Rattle.machine_laws.proofs.Kept.Combinators.{Alters, From, Keeps, changes-keeps, changes_then-from, cond-keeps, keeps-from, looks-keeps, nothing-keeps, option-keeps, sees-keeps, then-keeps, unchanged-alters}
+use Rattle.machine_laws.proofs.Plain.Frames.{raises-keeps, pass_on-keeps, with_room-keeps}
+use Rattle.machine_laws.proofs.Plain.Calls.{with_call-keeps, attempt_with-keeps}
+use Rattle.machine_laws.proofs.Plain.Statements.{null-keeps, assign-keeps, assign_array-keeps, if_statement-keeps, case_statement-keeps, while_turn-keeps, for_bounds-keeps, first_turn-keeps, later_turn-keeps, exit_statement-keeps, raise_again-keeps}
+use Rattle.machine_laws.proofs.Plain.Subprograms.{return_value-keeps, return-keeps}
+use Rattle.machine_laws.proofs.Plain.Declarations.{declare-keeps}
 
 -- a mark that keeps an exception is what it was
 keeping-nature : (e : Raised) (mark : Mark) → nature (keeping e mark) ≡ nature mark
@@ -68,17 +71,17 @@ keeping-nature e (InAssign m) = refl
 module _ {p : Image} {G : GoodWorld} {May Other : Naming} (moves : FineMoves p G May Other) where
   pub handle_or_pass-keeps : (name : Who) (e : Raised) (next : Option StatementNo) → May name → Keeps G (Behind G) (handle_or_pass p name e next)
   unfolding handle_or_pass
-  handle_or_pass-keeps name e None may = search (pass_on-keeps)
+  handle_or_pass-keeps name e None may = search (pass_on-keeps, plain_steps)
   handle_or_pass-keeps name e (Some first) may = then-keeps (chains moves) (changes (edit_top name (λ f. with_mark (keeping e f.mark) f))) (goes name (Some first)) (changes-keeps (chains moves) _ (edit_mark-alters moves name (keeping e) (λ mark. keeping-nature e mark))) (goes-keeps moves name (Some first) may)
 
   pub behind_handled-keeps : (name : Who) (s : StatementNo) (leaving : Leaving) → May name → Keeps G (Behind G) (behind_handled p name s leaving)
   unfolding behind_handled
   behind_handled-keeps name s (how.Exception e) may = search (handle_or_pass-keeps)
   behind_handled-keeps name s how.End may = search (nothing-keeps, chains)
-  behind_handled-keeps name s how.Return may = search (pass_on-keeps)
-  behind_handled-keeps name s (how.Exit loop) may = search (pass_on-keeps)
-  behind_handled-keeps name s how.Abort may = search (pass_on-keeps)
-  behind_handled-keeps name s how.Terminate may = search (pass_on-keeps)
+  behind_handled-keeps name s how.Return may = search (pass_on-keeps, plain_steps)
+  behind_handled-keeps name s (how.Exit loop) may = search (pass_on-keeps, plain_steps)
+  behind_handled-keeps name s how.Abort may = search (pass_on-keeps, plain_steps)
+  behind_handled-keeps name s how.Terminate may = search (pass_on-keeps, plain_steps)
 
   pub end_handled-from : (name : Who) (s : StatementNo) (leaving : Leaving) (f : Frame) (w : World) → G w → May name → top_of w name ≡ Some f → is_protected f.mark ≡ false → From (Behind G) w (end_handled p name s leaving)
   unfolding end_handled
@@ -102,7 +105,7 @@ module _ {p : Image} {G : GoodWorld} {May Other : Naming} (moves : FineMoves p G
 
   pub end_abortable_by-keeps : (name : Who) (m : AbortableMark) (leaving : Leaving) → Other name → May name → Keeps G (Behind G) (end_abortable_by p name m leaving)
   unfolding end_abortable_by
-  end_abortable_by-keeps name m leaving other may = option-keeps (chains moves) m.call (looks (λ w. changes (drop_trigger name (below (frames_of w name)))) ▷ end_top p name) (λ c. with_call c (λ d. attempt_with p Own d (end_top p name) (wait_for_trigger name d leaving))) (then-keeps (chains moves) _ _ (looks-keeps (chains moves) _ (λ w. changes-keeps (chains moves) _ (drop_trigger-alters moves name (below (frames_of w name))))) (end_top-keeps moves name may)) (λ c. with_call-keeps moves c _ (λ d. attempt_with-keeps moves Own d _ _ (end_top-keeps moves name may) (wait_for_trigger-keeps name d leaving other)))
+  end_abortable_by-keeps name m leaving other may = option-keeps (chains moves) m.call (looks (λ w. changes (drop_trigger name (below (frames_of w name)))) ▷ end_top p name) (λ c. with_call c (λ d. attempt_with p Own d (end_top p name) (wait_for_trigger name d leaving))) (then-keeps (chains moves) _ _ (looks-keeps (chains moves) _ (λ w. changes-keeps (chains moves) _ (drop_trigger-alters moves name (below (frames_of w name))))) (end_top-keeps moves name may)) (λ c. with_call-keeps (plain_steps moves) c _ (λ d. attempt_with-keeps (plain_steps moves) p Own d _ _ (end_top-keeps moves name may) (wait_for_trigger-keeps name d leaving other)))
 
   pub end_in_abortable-keeps : (name : Who) (m : AbortableMark) (leaving : Leaving) → Other name → May name → Keeps G (Behind G) (end_in_abortable p name m leaving)
   unfolding end_in_abortable
@@ -110,7 +113,7 @@ module _ {p : Image} {G : GoodWorld} {May Other : Naming} (moves : FineMoves p G
 
   pub call_main-keeps : (name : Who) (s : StatementNo) → May name → Keeps G (Behind G) (call_main p name s)
   unfolding call_main
-  call_main-keeps name s may = search (with_room-keeps, goes-keeps, then-keeps, looks-keeps, changes-keeps, open_scope-alters, chains)
+  call_main-keeps name s may = search (with_room-keeps, goes-keeps, then-keeps, looks-keeps, changes-keeps, open_scope-alters, chains, plain_steps)
 
   pub call-keeps : (name : Who) (s : StatementNo) (callee : Callee) (actuals : List Actual) (to : Destination) → May name → Keeps G (Behind G) (call p name s callee actuals to)
   unfolding call
@@ -121,30 +124,30 @@ module _ {p : Image} {G : GoodWorld} {May Other : Naming} (moves : FineMoves p G
 module _ {p : Image} {G : GoodWorld} {May Other : Naming} (moves : FineMoves p G May Other) (loose : Loosens p G May Other) (again : Again p G May Other loose) (openings : Openings p G May Other) where
   pub act_statement-keeps : (name : Who) (s : StatementNo) (form : StatementForm) → May name → form_of p s ≡ form → Keeps G (Behind G) (act_statement p name s form)
   unfolding act_statement
-  act_statement-keeps name s (form.Declare object) may is = search (declare-keeps)
+  act_statement-keeps name s (form.Declare object) may is = search (declare-keeps, plain_steps)
   act_statement-keeps name s (form.Initialize object) may is = search (initialize-keeps)
   act_statement-keeps name s (form.CreateTask object part) may is = search (create-keeps)
   act_statement-keeps name s (form.Activate part) may is = search (activate-keeps)
   act_statement-keeps name s form.EndActivation may is = search (end_own_activation-keeps)
   act_statement-keeps name s form.CallMain may is = search (call_main-keeps)
   act_statement-keeps name s (form.Handled handlers first) may is = search (nothing-keeps, chains)
-  act_statement-keeps name s form.Null may is = search (null-keeps)
-  act_statement-keeps name s (form.Assign target e) may is = search (assign-keeps)
-  act_statement-keeps name s (form.AssignArray target source) may is = search (assign_array-keeps)
+  act_statement-keeps name s form.Null may is = search (null-keeps, plain_steps)
+  act_statement-keeps name s (form.Assign target e) may is = search (assign-keeps, plain_steps)
+  act_statement-keeps name s (form.AssignArray target source) may is = search (assign_array-keeps, plain_steps)
   act_statement-keeps name s (form.AssignControlled target source) may is = search (assign_controlled-keeps)
-  act_statement-keeps name s (form.If condition first otherwise) may is = search (if_statement-keeps)
-  act_statement-keeps name s (form.Case selector alternatives) may is = search (case_statement-keeps)
+  act_statement-keeps name s (form.If condition first otherwise) may is = search (if_statement-keeps, plain_steps)
+  act_statement-keeps name s (form.Case selector alternatives) may is = search (case_statement-keeps, plain_steps)
   act_statement-keeps name s (form.Loop body within) may is = search (goes-keeps)
-  act_statement-keeps name s (form.While condition body within) may is = search (while_turn-keeps)
-  act_statement-keeps name s (form.For parameter reverse low high turn within) may is = search (for_bounds-keeps)
-  act_statement-keeps name s (form.FirstTurn parameter reverse body) may is = search (first_turn-keeps)
-  act_statement-keeps name s (form.LaterTurn parameter reverse body) may is = search (later_turn-keeps)
-  act_statement-keeps name s (form.Exit condition of_loop) may is = search (exit_statement-keeps)
+  act_statement-keeps name s (form.While condition body within) may is = search (while_turn-keeps, plain_steps)
+  act_statement-keeps name s (form.For parameter reverse low high turn within) may is = search (for_bounds-keeps, plain_steps)
+  act_statement-keeps name s (form.FirstTurn parameter reverse body) may is = search (first_turn-keeps, plain_steps)
+  act_statement-keeps name s (form.LaterTurn parameter reverse body) may is = search (later_turn-keeps, plain_steps)
+  act_statement-keeps name s (form.Exit condition of_loop) may is = search (exit_statement-keeps, plain_steps)
   act_statement-keeps name s (form.Block scope) may is = search (block_statement-keeps)
-  act_statement-keeps name s form.Return may is = search (return-keeps)
-  act_statement-keeps name s (form.ReturnValue function e) may is = search (return_value-keeps)
-  act_statement-keeps name s (form.Raise e) may is = search (raises-keeps)
-  act_statement-keeps name s (form.RaiseAgain scope) may is = search (raise_again-keeps)
+  act_statement-keeps name s form.Return may is = search (return-keeps, plain_steps)
+  act_statement-keeps name s (form.ReturnValue function e) may is = search (return_value-keeps, plain_steps)
+  act_statement-keeps name s (form.Raise e) may is = search (raises-keeps, plain_steps)
+  act_statement-keeps name s (form.RaiseAgain scope) may is = search (raise_again-keeps, plain_steps)
   act_statement-keeps name s (form.Delay e) may is = search (sees-keeps, delay_until-keeps, chains)
   act_statement-keeps name s (form.DelayUntil e) may is = search (sees-keeps, delay_until-keeps, chains)
   act_statement-keeps name s (form.Call callee actuals to) may is = search (call-keeps)

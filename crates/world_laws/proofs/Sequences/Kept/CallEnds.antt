@@ -1,6 +1,6 @@
 -- How calls end: each step keeps a relation that its parts keep.
 use Rattle.world_laws.proofs.Sequences.Kept.Woken.{woken, opened-turns}
-use Rattle.std.specs.Prelude.{ℕ, Bool, List, [], ◌∷◌, Option, Some, None, Ok, Err, not}
+use Rattle.std.specs.Prelude.{ℕ, Bool, List, [], ◌∷◌, Option, Some, None, Ok, not}
 use Rattle.ann_base.specs.declared.identities.TaskNo.{TaskNo}
 use Rattle.ann_base.specs.declared.identities.CallNo.{CallNo}
 use Rattle.trace_text.specs.declared.events.Who.{Who}
@@ -24,8 +24,8 @@ use Rattle.world_tables.specs.Lists.{first_of}
 use Rattle.profile_machine.specs.Tasks.{waiting_of}
 use Rattle.profile_machine.specs.Frames.{frames_of, top_of, pop, pass_on, leaving_of, with_mark, is_protected}
 use Rattle.profile_machine.specs.Scopes.{write_cell}
-use Rattle.profile_machine.specs.Operators.{Valued, checked}
-use Rattle.profile_machine.specs.CallEnds.{go_by_outcome, resume, store, or_stored, copy_back, with_results, edit_depth, edit_frame, edit_abortable, edit_abortable_at, trigger_at, trigger_outcome, forget_trigger, run_triggered, ended_by_itself, behind_abortable, end_abortable, end_abortable_in, end_top_abortable, end_wait, waits_for_end, end_for_abortable, end_for_caller, end_for, end_with, end_call, deliver, gone, waited_mark, is_cancelled, waits_for_call}
+use Rattle.profile_machine.specs.Operators.{checked}
+use Rattle.profile_machine.specs.CallEnds.{resume, store, with_results, edit_depth, edit_frame, edit_abortable, edit_abortable_at, trigger_at, trigger_outcome, forget_trigger, run_triggered, ended_by_itself, behind_abortable, end_abortable, end_abortable_in, end_top_abortable, end_wait, waits_for_end, end_for_abortable, end_for_caller, end_for, end_with, end_call, deliver, gone, waited_mark, is_cancelled, waits_for_call}
 use Rattle.std.specs.Prelude.{slice_set, true, false, cond, eqb, length}
 use Rattle.std.proofs.Common.{◌≡◌, refl, ap, inr, inl}
 use Rattle.machine_laws.proofs.FineMoves.{GoodWorld, Naming, nature, natures}
@@ -33,11 +33,13 @@ use Rattle.world_laws.proofs.Sequences.FineMoves.{FineMoves, Behind, Loosens, St
 use Rattle.world_laws.proofs.Sequences.Kept.Combinators.{then-turns}
 use Rattle.world_laws.proofs.Sequences.Kept.Tasks.{edit_frames-alters}
 use Rattle.world_laws.proofs.Sequences.Kept.Dispatching.{ready-keeps}
-use Rattle.world_laws.proofs.Sequences.Kept.Frames.{goes-keeps, popped, leaves-keeps, raises-keeps, pass_on-keeps}
-use Rattle.world_laws.proofs.Sequences.Kept.Calls.{edit_call-alters, forget_call-alters, with_call-keeps, unqueued-alters}
+use Rattle.world_laws.proofs.Sequences.Kept.Frames.{goes-keeps, popped, leaves-keeps, plain_steps}
 use Rattle.world_laws.proofs.Sequences.Kept.Unwinding.{unwind-keeps}
 use Rattle.profile_machine.specs.Dispatching.{ready}
 use Rattle.machine_laws.proofs.Kept.Combinators.{Alters, From, Gives, Keeps, bind-gives, branch-keeps, changes-keeps, changes_then-from, keeps-from, looks-from, looks-keeps, looks_at-from, nothing-keeps, ok-gives, then-keeps, unchanged-alters, when-keeps}
+use Rattle.machine_laws.proofs.Plain.Frames.{raises-keeps, pass_on-keeps}
+use Rattle.machine_laws.proofs.Plain.Calls.{edit_call-alters, forget_call-alters, with_call-keeps, unqueued-alters}
+use Rattle.machine_laws.proofs.Plain.Results.{with_results-world, resume-keeps}
 
 -- an edit of a mark somewhere, and of an abortable part
 at_depth-natures : (test : Bool) (f : Frame → Frame) (x : Frame) (xs ys : List Frame) → nature (f x).mark ≡ nature x.mark → natures ys ≡ natures xs → natures (cond test (f x ∷ xs) (x ∷ ys)) ≡ natures (x ∷ xs)
@@ -68,42 +70,9 @@ depth-stays depth f [] same = inl refl
 depth-stays depth f (x ∷ xs) same = inl (depth_first-stays (eqb (length xs) depth) f x xs (edit_depth depth f xs) (same x))
 
 module _ {p : Image} {G : GoodWorld} {May Other : Naming} (moves : FineMoves p G May Other) where
-  pub go_by_outcome-keeps : (part : Part) (name : Who) (s : StatementNo) (outcome : Outcome) → May name → Keeps G (Behind G) (go_by_outcome p part name s outcome)
-  unfolding go_by_outcome
-  go_by_outcome-keeps part name s call_ended.Finished may = search (goes-keeps)
-  go_by_outcome-keeps part name s call_ended.Cancelled may = search (goes-keeps)
-  go_by_outcome-keeps part name s (call_ended.ToRaise e) may = search (raises-keeps)
-  go_by_outcome-keeps part name s (call_ended.WasRaised e) may = search (leaves-keeps)
-
-  pub resume-keeps : (part : Part) (c : Call) (outcome : Outcome) → May (who.Task c.caller) → Keeps G (Behind G) (resume p part c outcome)
-  unfolding resume
-  resume-keeps part c outcome may = search (changes-keeps, forget_call-alters, then-keeps, go_by_outcome-keeps, chains)
-
   -- by any image
   pub store_by-gives : (r : Image) (v : Variable) (value : Value) (w : World) → G w → Gives (Behind G) w (store r v value w)
   store_by-gives r v value w good = bind-gives (chains moves) (checked (declaration_of r v.declared).constraint value) (λ x. Ok (write_cell v.within v.place x w)) w (λ x. ok-gives (chains moves) w (write_cell v.within v.place x w) (moves.edits_cells v.within (λ cells. slice_set cells v.place x) w good))
-
-  pub store-gives : (v : Variable) (value : Value) (w : World) → G w → Gives (Behind G) w (store p v value w)
-  store-gives v value w good = store_by-gives p v value w good
-
-  -- the world behind the results that are copied back
-  or_stored-world : (result : Valued World) (again : World → World × Bool) (w : World) → G w → Gives (Behind G) w result → ((v : World) → G v → Behind G v [] (again v).0) → Behind G w [] (or_stored w result again).0
-  unfolding Gives
-  or_stored-world (Ok next) again w good a b = moves.goes_on w next (again next).0 a (b next (moves.behind w next a))
-  or_stored-world (Err e) again w good a b = moves.stays w good
-
-  copy_back-world : (results : List (Option Variable)) (values : List Value) (w : World) → G w → Behind G w [] (copy_back p results values w).0
-  copy_back-world [] values w good = moves.stays w good
-  copy_back-world (None ∷ results) [] w good = moves.stays w good
-  copy_back-world (None ∷ results) (v ∷ values) w good = copy_back-world results values w good
-  copy_back-world (Some target ∷ results) [] w good = moves.stays w good
-  copy_back-world (Some target ∷ results) (v ∷ values) w good = or_stored-world (store p target v w) (copy_back p results values) w good (store-gives target v w good) (copy_back-world results values)
-
-  with_results-world : (c : Call) (outcome : Outcome) (w : World) → G w → Behind G w [] (with_results p c outcome w).0
-  with_results-world c call_ended.Finished w good = copy_back-world c.results c.values w good
-  with_results-world c call_ended.Cancelled w good = moves.stays w good
-  with_results-world c (call_ended.ToRaise e) w good = moves.stays w good
-  with_results-world c (call_ended.WasRaised e) w good = moves.stays w good
 
   pub edit_frame-alters : (name : Who) (depth : ℕ) (f : Frame → Frame) → ((x : Frame) → nature (f x).mark ≡ nature x.mark) → ((x : Frame) → (f x).onward ≡ x.onward) → Alters G (Behind G) (edit_frame name depth f)
   edit_frame-alters name depth f same stays = edit_frames-alters moves name (edit_depth depth f) (λ fs. depth-natures depth f fs same) (λ fs. depth-stays depth f fs stays)
@@ -117,13 +86,13 @@ module _ {p : Image} {G : GoodWorld} {May Other : Naming} (moves : FineMoves p G
 
   pub forget_trigger-alters : (c : Option CallNo) → Alters G (Behind G) (forget_trigger c)
   forget_trigger-alters None = search (unchanged-alters, chains)
-  forget_trigger-alters (Some c) = search (forget_call-alters)
+  forget_trigger-alters (Some c) = search (forget_call-alters, plain_steps)
 
   pub run_triggered-keeps : (part : Part) (name : Who) (select : StatementNo) (outcome : Outcome) → May name → Keeps G (Behind G) (run_triggered p part name select outcome)
   unfolding run_triggered
   run_triggered-keeps part name select call_ended.Finished may = search (goes-keeps)
   run_triggered-keeps part name select call_ended.Cancelled may = search (nothing-keeps, chains)
-  run_triggered-keeps part name select (call_ended.ToRaise e) may = search (raises-keeps)
+  run_triggered-keeps part name select (call_ended.ToRaise e) may = search (raises-keeps, plain_steps)
   run_triggered-keeps part name select (call_ended.WasRaised e) may = search (leaves-keeps)
 
   pub behind_abortable-keeps : (part : Part) (name : Who) (m : AbortableMark) (outcome : Outcome) → May name → Keeps G (Behind G) (behind_abortable p part name m outcome)
@@ -137,7 +106,7 @@ module _ {p : Image} {G : GoodWorld} {May Other : Naming} (moves : FineMoves p G
       let out = popped moves name f w good may top free in
       looks_at-from (chains moves) (λ v. changes (pop name) ▷ changes (forget_trigger m.call) ▷ elim (ended_by_itself f below) as (λ _. Step) [ true ↦ behind_abortable p part name m (trigger_outcome v m.call) | false ↦ pass_on p name (leaving_of f) ]) w
       (changes_then-from (chains moves) (pop name) _ w out (keeps-from (chains moves) _ (pop name w) (moves.behind w (pop name w) out)
-      (then-keeps (chains moves) (changes (forget_trigger m.call)) _ (search (changes-keeps, forget_trigger-alters, chains)) (branch-keeps (chains moves) (ended_by_itself f below) (behind_abortable p part name m (trigger_outcome w m.call)) (pass_on p name (leaving_of f)) (search (behind_abortable-keeps)) (search (pass_on-keeps))))))
+      (then-keeps (chains moves) (changes (forget_trigger m.call)) _ (search (changes-keeps, forget_trigger-alters, chains)) (branch-keeps (chains moves) (ended_by_itself f below) (behind_abortable p part name m (trigger_outcome w m.call)) (pass_on p name (leaving_of f)) (search (behind_abortable-keeps)) (search (pass_on-keeps, plain_steps))))))
 
   end_abortable_in-from : (part : Part) (name : Who) (f : Frame) (below : List Frame) (mark : Mark) (w : World) → G w → May name → top_of w name ≡ Some f → f.mark ≡ mark → From (Behind G) w (end_abortable_in p part name f below mark)
   unfolding end_abortable_in
@@ -154,7 +123,7 @@ module _ {p : Image} {G : GoodWorld} {May Other : Naming} (moves : FineMoves p G
 
   pub gone-keeps : (part : Part) (c : Call) → Keeps G (Behind G) (gone p part c)
   unfolding gone
-  gone-keeps part c = search (changes-keeps, unqueued-alters, then-keeps, says-keeps, chains)
+  gone-keeps part c = search (changes-keeps, unqueued-alters, then-keeps, says-keeps, chains, plain_steps)
 
 -- ---- where the caller waits it becomes ready
 
@@ -181,7 +150,7 @@ module _ {p : Image} {G : GoodWorld} {May Other : Naming} (moves : FineMoves p G
       let l = loose name other in
       looks-keeps (chains moves) _ (λ w. when-keeps (chains moves) (waits_for_call c.number (waiting_of w name)) _
       (woken moves loose name other (ready p part name) _ (ready-keeps l.moves part name (inr refl))
-      (then-turns l.Loose l.Loose G (resume p part c outcome) _ (resume-keeps l.moves part c outcome (inr refl)) (opened-turns moves loose part name other))))
+      (then-turns l.Loose l.Loose G (resume p part c outcome) _ (resume-keeps (plain_steps l.moves) p part c outcome (inr refl)) (opened-turns moves loose part name other))))
 
   pub end_for-keeps : (part : Part) (c : Call) (outcome : Outcome) (n : Option ℕ) → Keeps G (Behind G) (end_for p part c outcome n)
   unfolding end_for
@@ -190,15 +159,15 @@ module _ {p : Image} {G : GoodWorld} {May Other : Naming} (moves : FineMoves p G
 
   pub end_with-keeps : (part : Part) (c : Call) (outcome : Outcome) → Keeps G (Behind G) (end_with p part c outcome)
   unfolding end_with
-  end_with-keeps part c outcome = search (changes-keeps, edit_call-alters, then-keeps, looks-keeps, end_for-keeps, chains)
+  end_with-keeps part c outcome = search (changes-keeps, edit_call-alters, then-keeps, looks-keeps, end_for-keeps, chains, plain_steps)
 
   pub end_call-keeps : (part : Part) (c : Call) (outcome : Outcome) → Keeps G (Behind G) (end_call p part c outcome)
   unfolding end_call
   end_call-keeps part c outcome =
       looks-from (chains moves) _ (λ w good. let r = with_results p c outcome w in
-      let first = with_results-world moves c outcome w good in
+      let first = with_results-world (plain_steps moves) p c outcome w good in
       changes_then-from (chains moves) (λ _. r.0) (end_with p part c r.1) w first (keeps-from (chains moves) (end_with p part c r.1) r.0 (moves.behind w r.0 first) (end_with-keeps part c r.1)))
 
   pub deliver-keeps : (part : Part) (c : CallNo) (outcome : Outcome) → Keeps G (Behind G) (deliver p part c outcome)
   unfolding deliver
-  deliver-keeps part c outcome = search (with_call-keeps, end_call-keeps, then-keeps, unwind-keeps, moves.task_other, chains)
+  deliver-keeps part c outcome = search (with_call-keeps, end_call-keeps, then-keeps, unwind-keeps, moves.task_other, chains, plain_steps)

@@ -1,36 +1,16 @@
 -- Calls, and the queues in which they stand: each step keeps a relation that its parts keep.
 use Rattle.profile_machine.specs.declared.world.World.{World}
-use Rattle.std.specs.Prelude.{ℕ, true, false, List}
 use Rattle.ann_base.specs.declared.identities.CallNo.{CallNo}
-use Rattle.ann_base.specs.declared.identities.ObjectNo.{ObjectNo}
-use Rattle.profile_machine.specs.declared.world.lines.Line.TheVariants as line
 use Rattle.profile_machine.specs.declared.image.Image.{Image}
-use Rattle.profile_machine.specs.declared.world.objects.Object.{Object}
 use Rattle.profile_machine.specs.declared.world.calls.Call.{Call}
-use Rattle.profile_machine.specs.declared.world.calls.Owner.{Owner}
-use Rattle.profile_machine.specs.declared.world.calls.Owner.TheVariants as owned_by
-use Rattle.profile_machine.specs.declared.world.lines.Part.{Part}
-use Rattle.profile_machine.specs.Steps.{Step, says, changes, ◌▷◌, nothing, for_some}
-use Rattle.profile_machine.specs.Appointments.{is_timeout_of}
-use Rattle.profile_machine.specs.Calls.{edit_call, forget_call, with_call, says_call, edit_object, edit_queue, place_of_entry, put_call, take_call, enqueued, enqueue, unqueued, is_cancellable, attempt_on, attempt_with, attempt, call_of}
+use Rattle.profile_machine.specs.Steps.{Step, nothing, for_some}
+use Rattle.profile_machine.specs.Calls.{with_call, call_of}
 use Rattle.std.proofs.Common.{◌≡◌, refl, None, Some, Option}
 use Rattle.machine_laws.proofs.FineMoves.{GoodWorld, Naming}
-use Rattle.world_laws.proofs.Sequences.FineMoves.{FineMoves, Behind, chains, says-keeps}
-use Rattle.world_laws.proofs.Sequences.Kept.Tasks.{edit_task-alters}
-use Rattle.machine_laws.proofs.Kept.Combinators.{Alters, From, Keeps, branch-keeps, changes-keeps, for_some-keeps, keeps-from, looks-from, looks-keeps, nothing-keeps, then-keeps}
+use Rattle.world_laws.proofs.Sequences.FineMoves.{FineMoves, Behind, chains}
+use Rattle.machine_laws.proofs.Kept.Combinators.{From, Keeps, keeps-from, looks-from, nothing-keeps}
 
 module _ {p : Image} {G : GoodWorld} {May Other : Naming} (moves : FineMoves p G May Other) where
-  pub edit_call-alters : (c : CallNo) (f : Call → Call) → ((d : Call) → (f d).number ≡ d.number) → ((d : Call) → (f d).caller ≡ d.caller) → Alters G (Behind G) (edit_call c f)
-  unfolding Alters
-  edit_call-alters c f a b w good = moves.edits_call c f w good a b
-
-  pub forget_call-alters : (c : CallNo) → Alters G (Behind G) (forget_call c)
-  unfolding Alters
-  forget_call-alters c w good = moves.forgets_call c w good
-
-  pub with_call-keeps : (c : CallNo) (f : Call → Step) → ((x : Call) → Keeps G (Behind G) (f x)) → Keeps G (Behind G) (with_call c f)
-  with_call-keeps c f kept = search (looks-keeps, for_some-keeps, chains)
-
   -- a call that is found
   found-from : (found : Option Call) (f : Call → Step) (w : World) → G w → ((x : Call) → found ≡ Some x → Keeps G (Behind G) (f x)) → From (Behind G) w (for_some found f)
   found-from None f w good kept = keeps-from (chains moves) nothing w good (nothing-keeps (chains moves))
@@ -38,43 +18,3 @@ module _ {p : Image} {G : GoodWorld} {May Other : Naming} (moves : FineMoves p G
 
   pub with_call_known-keeps : (c : CallNo) (f : Call → Step) → ((w : World) → G w → (x : Call) → call_of w c ≡ Some x → Keeps G (Behind G) (f x)) → Keeps G (Behind G) (with_call c f)
   with_call_known-keeps c f kept = looks-from (chains moves) _ (λ w good. found-from (call_of w c) f w good (kept w good))
-
-  pub says_call-keeps : (part : Part) (c : Call) → Keeps G (Behind G) (says_call part c)
-  unfolding says_call
-  says_call-keeps part c = search (says-keeps)
-
-  pub edit_object-alters : (o : ObjectNo) (f : Object → Object) → ((x : Object) → (f x).number ≡ x.number) → ((x : Object) → (f x).actions ≡ x.actions) → Alters G (Behind G) (edit_object o f)
-  unfolding Alters
-  edit_object-alters o f a b w good = moves.edits_object o f w good a b
-
-  pub edit_queue-alters : (owner : Owner) (place : ℕ) (f : List CallNo → List CallNo) → Alters G (Behind G) (edit_queue owner place f)
-  edit_queue-alters (owned_by.Task t) place f = search (edit_task-alters)
-  edit_queue-alters (owned_by.Object o) place f = search (edit_object-alters)
-
-  pub enqueued-alters : (c : Call) → Alters G (Behind G) (enqueued p c)
-  unfolding Alters
-  enqueued-alters c w good =
-      let unbegun = edit_call c.number (λ d. record d { begun = false }) w in
-      let first = moves.edits_call c.number (λ d. record d { begun = false }) w good (λ d. refl) (λ d. refl) in
-      moves.goes_on w unbegun (enqueued p c w) first (edit_queue-alters c.owner (place_of_entry p c.entry) (put_call p.policies.queuing w c.number c.priority) unbegun (moves.behind w unbegun first))
-
-  pub enqueue-keeps : (c : CallNo) → Keeps G (Behind G) (enqueue p c)
-  unfolding enqueue
-  enqueue-keeps c = search (with_call-keeps, changes-keeps, enqueued-alters, chains)
-
-  pub unqueued-alters : (c : Call) → Alters G (Behind G) (unqueued p c)
-  unfolding Alters
-  unqueued-alters c w good =
-      let taken = edit_queue c.owner (place_of_entry p c.entry) (take_call c.number) w in
-      let first = edit_queue-alters c.owner (place_of_entry p c.entry) (take_call c.number) w good in
-      moves.goes_on w taken (unqueued p c w) first (moves.drops_appointment (is_timeout_of c.number) taken (moves.behind w taken first))
-
-  pub attempt_on-keeps : (part : Part) (c : Call) → Keeps G (Behind G) (attempt_on p part c)
-  unfolding attempt_on
-  attempt_on-keeps part c = branch-keeps (chains moves) (is_cancellable c) (changes (unqueued p c) ▷ says part (line.Cancel c.caller c.number)) (changes (edit_call c.number (λ d. record d { attempted = true }))) (search (changes-keeps, unqueued-alters, then-keeps, says-keeps, chains)) (search (changes-keeps, edit_call-alters, chains))
-
-  pub attempt_with-keeps : (part : Part) (c : Call) (cancels stays : Step) → Keeps G (Behind G) cancels → Keeps G (Behind G) stays → Keeps G (Behind G) (attempt_with p part c cancels stays)
-  attempt_with-keeps part c cancels stays kept also_kept = then-keeps (chains moves) (attempt_on p part c) _ (search (attempt_on-keeps)) (branch-keeps (chains moves) (is_cancellable c) cancels stays (search) (search))
-
-  pub attempt-keeps : (part : Part) (c : CallNo) (cancels stays : Step) → Keeps G (Behind G) cancels → Keeps G (Behind G) stays → Keeps G (Behind G) (attempt p part c cancels stays)
-  attempt-keeps part c cancels stays kept also_kept = search (with_call-keeps, attempt_with-keeps)

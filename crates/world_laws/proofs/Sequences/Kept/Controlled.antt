@@ -24,8 +24,8 @@ use Rattle.profile_machine.specs.Statements.{cells_from}
 use Rattle.profile_machine.specs.Controlled.{first_place, open_operation, top_region, registered_as, register, initialize_by, initialize, end_in_initialize, edit_top_scope, finalize_has_raised, open_finalize, has_room_to_finalize, finalize_by, no_longer_registered, finalize_now, finalize, behind_finalize, end_in_finalize, begin_assignment, assign_registered, assign_located, assign_controlled, edit_top_assign, leave_without_room, finalize_target_by, has_room_to_adjust, adjust_by, copy_components_of, copy_object, do_step, step_with, end_in_assign, edit_scope_mark, edit_assign, registered_object, registers, is_assignment}
 use Rattle.machine_laws.proofs.FineMoves.{GoodWorld, Naming, nature}
 use Rattle.world_laws.proofs.Sequences.FineMoves.{FineMoves, Openings, Behind, chains, says-keeps}
-use Rattle.world_laws.proofs.Sequences.Kept.Frames.{goes-keeps, push-alters, leaves-keeps, raises-keeps, pass_on-keeps, given-keeps, with_room-keeps, popped, edit_mark-alters}
-use Rattle.world_laws.proofs.Sequences.Kept.Scopes.{write_cell-alters, open_scope-alters}
+use Rattle.world_laws.proofs.Sequences.Kept.Frames.{goes-keeps, push-alters, leaves-keeps, popped, edit_mark-alters, plain_steps}
+use Rattle.world_laws.proofs.Sequences.Kept.Scopes.{open_scope-alters}
 use Rattle.std.proofs.Common.{◌≡◌, refl, ap, []}
 use Rattle.profile_machine.specs.declared.world.World.{World}
 use Rattle.profile_machine.specs.declared.world.marks.Frame.{Frame}
@@ -33,6 +33,8 @@ use Rattle.profile_machine.specs.declared.world.marks.Mark.{Mark}
 use Rattle.profile_machine.specs.declared.world.marks.Mark.TheVariants.{Scope, Handled, InProtected, InAccept, Abortable, InInitialize, InFinalize, InAssign}
 use Rattle.profile_machine.specs.Frames.{top_of, pop, is_protected, pass_on}
 use Rattle.machine_laws.proofs.Kept.Combinators.{Alters, From, Keeps, branch-keeps, changes-from, changes-keeps, changes_then-from, cond-keeps, keeps-from, looks-from, looks-keeps, looks_at-from, nothing-keeps, sees-keeps, then-from, then-keeps, when-keeps}
+use Rattle.machine_laws.proofs.Plain.Frames.{raises-keeps, pass_on-keeps, given-keeps, with_room-keeps}
+use Rattle.machine_laws.proofs.Plain.Cells.{write_cell-alters}
 
 -- the region of a scope's mark is not edited, nor what another mark is
 scope-nature : (f : ScopeMark → ScopeMark) → ((m : ScopeMark) → (f m).region ≡ m.region) → (mark : Mark) → nature (edit_scope_mark f mark) ≡ nature mark
@@ -62,7 +64,7 @@ module _ {p : Image} {G : GoodWorld} {May Other : Naming} (moves : FineMoves p G
       looks-from (chains moves) _ (λ w good. let n = suc w.drawn.controlled in
       then-from (chains moves) (changes (registered_as n (top_region w name) l)) (changes (write_cell l.within (first_place p l) (Thing n)) ▷ says Own (line.Init name n (top_region w name) l.declared)) w
       (changes-from (chains moves) (registered_as n (top_region w name) l) w (moves.registers (top_region w name) l w good))
-      (search (then-keeps, changes-keeps, write_cell-alters, says-keeps, chains)))
+      (search (then-keeps, changes-keeps, write_cell-alters, says-keeps, chains, plain_steps)))
 
   pub edit_top_scope-alters : (name : Who) (f : ScopeMark → ScopeMark) → ((m : ScopeMark) → (f m).region ≡ m.region) → Alters G (Behind G) (edit_top_scope name f)
   edit_top_scope-alters name f same = edit_mark-alters moves name (edit_scope_mark f) (scope-nature f same)
@@ -73,7 +75,7 @@ module _ {p : Image} {G : GoodWorld} {May Other : Naming} (moves : FineMoves p G
 
   pub behind_finalize-keeps : (name : Who) (leaving : Leaving) (test : Bool) → May name → Keeps G (Behind G) (behind_finalize p name leaving test)
   unfolding behind_finalize
-  behind_finalize-keeps name (how.Exception e) true may = search (pass_on-keeps)
+  behind_finalize-keeps name (how.Exception e) true may = search (pass_on-keeps, plain_steps)
   behind_finalize-keeps name (how.Exception e) false may = search (changes-keeps, edit_top_scope-alters, chains)
   behind_finalize-keeps name how.End of_assignment may = search (nothing-keeps, chains)
   behind_finalize-keeps name how.Return of_assignment may = search (nothing-keeps, chains)
@@ -85,7 +87,7 @@ module _ {p : Image} {G : GoodWorld} {May Other : Naming} (moves : FineMoves p G
   unfolding end_in_initialize
   end_in_initialize-from name l leaving f w good may top free =
       let out = popped moves name f w good may top free in
-      changes_then-from (chains moves) (pop name) _ w out (keeps-from (chains moves) (cond (registers leaving) (register p name l) (pass_on p name leaving)) (pop name w) (moves.behind w (pop name w) out) (search (cond-keeps, register-keeps, pass_on-keeps, chains)))
+      changes_then-from (chains moves) (pop name) _ w out (keeps-from (chains moves) (cond (registers leaving) (register p name l) (pass_on p name leaving)) (pop name w) (moves.behind w (pop name w) out) (search (cond-keeps, register-keeps, pass_on-keeps, chains, plain_steps)))
 
   pub end_in_finalize-from : (name : Who) (leaving : Leaving) (f : Frame) (w : World) → G w → May name → top_of w name ≡ Some f → is_protected f.mark ≡ false → From (Behind G) w (end_in_finalize p name leaving)
   unfolding end_in_finalize
@@ -115,11 +117,11 @@ module _ {p : Image} {G : GoodWorld} {May Other : Naming} (moves : FineMoves p G
   pub initialize_by-keeps : (name : Who) (s : StatementNo) (l : Located) (f : Option SubprogramNo) → May name → Keeps G (Behind G) (initialize_by p name s l f)
   unfolding initialize_by
   initialize_by-keeps name s l None may = search (goes-keeps, then-keeps, register-keeps, chains)
-  initialize_by-keeps name s l (Some f) may = search (with_room-keeps, goes-keeps, then-keeps, changes-keeps, push-alters, open_operation-keeps, chains)
+  initialize_by-keeps name s l (Some f) may = search (with_room-keeps, goes-keeps, then-keeps, changes-keeps, push-alters, open_operation-keeps, chains, plain_steps)
 
   pub initialize-keeps : (name : Who) (s : StatementNo) (d : DeclNo) → May name → Keeps G (Behind G) (initialize p name s d)
   unfolding initialize
-  initialize-keeps name s d may = search (sees-keeps, given-keeps, initialize_by-keeps, chains) depth 7
+  initialize-keeps name s d may = search (sees-keeps, given-keeps, initialize_by-keeps, chains, plain_steps) depth 8
 
   pub open_finalize-keeps : (name : Who) (n : ℕ) (l : Located) (f : SubprogramNo) → May name → Keeps G (Behind G) (open_finalize p name n l f)
   unfolding open_finalize
@@ -140,13 +142,13 @@ module _ {p : Image} {G : GoodWorld} {May Other : Naming} (moves : FineMoves p G
 
   pub begin_assignment-keeps : (name : Who) (s : StatementNo) (target source : ℕ) → May name → Keeps G (Behind G) (begin_assignment p name s target source)
   unfolding begin_assignment
-  begin_assignment-keeps name s target source may = search (with_room-keeps, goes-keeps, then-keeps, says-keeps, changes-keeps, push-alters, chains) depth 7
+  begin_assignment-keeps name s target source may = search (with_room-keeps, goes-keeps, then-keeps, says-keeps, changes-keeps, push-alters, chains, plain_steps) depth 8
 
   pub assign_registered-keeps : (name : Who) (s : StatementNo) (target source : Option Registered) → May name → Keeps G (Behind G) (assign_registered p name s target source)
   unfolding assign_registered
   assign_registered-keeps name s (Some target) (Some source) may = search (begin_assignment-keeps)
-  assign_registered-keeps name s (Some target) None may = search (raises-keeps)
-  assign_registered-keeps name s None source may = search (raises-keeps)
+  assign_registered-keeps name s (Some target) None may = search (raises-keeps, plain_steps)
+  assign_registered-keeps name s None source may = search (raises-keeps, plain_steps)
 
   pub assign_located-keeps : (name : Who) (s : StatementNo) (target source : Located) → May name → Keeps G (Behind G) (assign_located p name s target source)
   unfolding assign_located
@@ -154,7 +156,7 @@ module _ {p : Image} {G : GoodWorld} {May Other : Naming} (moves : FineMoves p G
 
   pub assign_controlled-keeps : (name : Who) (s : StatementNo) (target source : DeclNo) → May name → Keeps G (Behind G) (assign_controlled p name s target source)
   unfolding assign_controlled
-  assign_controlled-keeps name s target source may = search (sees-keeps, given-keeps, assign_located-keeps, chains) depth 7
+  assign_controlled-keeps name s target source may = search (sees-keeps, given-keeps, assign_located-keeps, chains, plain_steps) depth 8
 
   pub finalize_target_by-keeps : (name : Who) (r : Registered) (f : Option SubprogramNo) → May name → Keeps G (Behind G) (finalize_target_by p name r f)
   unfolding finalize_target_by
@@ -181,6 +183,6 @@ module _ {p : Image} {G : GoodWorld} {May Other : Naming} (moves : FineMoves p G
   unfolding end_in_assign
   end_in_assign-from name m (Some (how.Exception e)) f w good may top free =
       let out = popped moves name f w good may top free in
-      changes_then-from (chains moves) (pop name) _ w out (keeps-from (chains moves) _ (pop name w) (moves.behind w (pop name w) out) (raises-keeps moves Own name exception.Program))
+      changes_then-from (chains moves) (pop name) _ w out (keeps-from (chains moves) _ (pop name w) (moves.behind w (pop name w) out) (raises-keeps (plain_steps moves) Own name exception.Program))
   end_in_assign-from name m _ f w good may top free =
       looks_at-from (chains moves) (λ v. step_with p name m.step (registered_object v m.target) (registered_object v m.source)) w (step_with-from name m.step (registered_object w m.target) (registered_object w m.source) w good may (popped moves name f w good may top free))

@@ -39,8 +39,7 @@ use Rattle.profile_machine.specs.EntryCalls.{numbered, marks_if_queued, add_call
 use Rattle.machine_laws.proofs.FineMoves.{GoodWorld, Naming, first_is_false}
 use Rattle.world_laws.proofs.Sequences.FineMoves.{FineMoves, Openings, Behind, Loosens, chains}
 use Rattle.world_laws.proofs.Sequences.Kept.Dispatching.{block-keeps}
-use Rattle.world_laws.proofs.Sequences.Kept.Frames.{goes-keeps, leaves-keeps, raises-keeps, given-from, given-keeps, raise_if-from, raise_if-keeps, with_room-keeps, push-alters}
-use Rattle.world_laws.proofs.Sequences.Kept.Calls.{edit_call-alters, forget_call-alters, says_call-keeps, enqueue-keeps}
+use Rattle.world_laws.proofs.Sequences.Kept.Frames.{goes-keeps, leaves-keeps, push-alters, plain_steps}
 use Rattle.world_laws.proofs.Sequences.Kept.CallEnds.{gone-keeps}
 use Rattle.world_laws.proofs.Sequences.Kept.Protected.{where_let_inside-keeps, serve_call-keeps, begin_action_on-keeps}
 use Rattle.world_laws.proofs.Sequences.Kept.Sending.{open_abortable-alters, not_accepted-keeps}
@@ -48,6 +47,8 @@ use Rattle.world_laws.proofs.Sequences.Kept.Rendezvous.{meet-keeps}
 use Rattle.profile_machine.specs.Rendezvous.{delay_moment, is_callable, accept_for}
 use Rattle.profile_machine.specs.Values.{seen_by}
 use Rattle.machine_laws.proofs.Kept.Combinators.{Alters, Keeps, branch-keeps, changes-keeps, keeps-from, looks-from, looks-keeps, nothing-keeps, said-keeps, sees-keeps, then-keeps, unchanged-alters}
+use Rattle.machine_laws.proofs.Plain.Frames.{raises-keeps, given-from, given-keeps, raise_if-from, raise_if-keeps, with_room-keeps}
+use Rattle.machine_laws.proofs.Plain.Calls.{edit_call-alters, forget_call-alters, says_call-keeps, enqueue-keeps}
 
 module _ {p : Image} {G : GoodWorld} {May Other : Naming} (moves : FineMoves p G May Other) where
   add_call-alters : (c : Call) → Alters G (Behind G) (add_call c)
@@ -59,11 +60,11 @@ module _ {p : Image} {G : GoodWorld} {May Other : Naming} (moves : FineMoves p G
       then-keeps (chains moves) (goes (who.Task c.caller) (next_of p c.statement)) _ (goes-keeps moves (who.Task c.caller) (next_of p c.statement) may)
       (looks-keeps (chains moves) _ (λ w. let d = numbered (suc w.drawn.calls) c in
       then-keeps (chains moves) (changes (add_call c)) _ (changes-keeps (chains moves) _ (add_call-alters c))
-      (then-keeps (chains moves) (says_call TheCall d) (step d) (says_call-keeps moves TheCall d) (kept (suc w.drawn.calls)))))
+      (then-keeps (chains moves) (says_call TheCall d) (step d) (says_call-keeps (plain_steps moves) TheCall d) (kept (suc w.drawn.calls)))))
 
   pub end_at_once-keeps : (part : Part) (c : Call) (e : Raised) → Keeps G (Behind G) (end_at_once part c e)
   unfolding end_at_once
-  end_at_once-keeps part c e = search (changes-keeps, forget_call-alters, then-keeps, raises-keeps, chains)
+  end_at_once-keeps part c e = search (changes-keeps, forget_call-alters, then-keeps, raises-keeps, chains, plain_steps)
 
   pub call_gone-keeps : (c : Call) → Keeps G (Behind G) (call_gone p c)
   unfolding call_gone
@@ -87,11 +88,11 @@ module _ {p : Image} {G : GoodWorld} {May Other : Naming} (moves : FineMoves p G
 
   pub mark_sending-alters : (c : Option CallNo) (o : Owner) (e : EntryNo) (with_abort : Bool) → Alters G (Behind G) (mark_sending c o e with_abort)
   mark_sending-alters None o e with_abort = search (unchanged-alters, chains)
-  mark_sending-alters (Some c) o e with_abort = search (edit_call-alters)
+  mark_sending-alters (Some c) o e with_abort = search (edit_call-alters, plain_steps)
 
   pub requeue-keeps : (name : Who) (e : EntryNo) (o : EntryOwner) (with_abort : Bool) → Keeps G (Behind G) (requeue p name e o with_abort)
   unfolding requeue
-  requeue-keeps name e o with_abort = search (sees-keeps, given-keeps, changes-keeps, mark_sending-alters, then-keeps, leaves-keeps, chains) depth 9
+  requeue-keeps name e o with_abort = search (sees-keeps, given-keeps, changes-keeps, mark_sending-alters, then-keeps, leaves-keeps, chains, plain_steps) depth 10
 
 module _ {p : Image} {G : GoodWorld} {May Other : Naming} (moves : FineMoves p G May Other) (loose : Loosens p G May Other) (openings : Openings p G May Other) where
   call_meets-keeps : (t : TaskNo) (s : StatementNo) (c : Call) → Keeps G (Behind G) (call_meets p t s c)
@@ -103,12 +104,12 @@ module _ {p : Image} {G : GoodWorld} {May Other : Naming} (moves : FineMoves p G
 
   call_queues-keeps : (c : Call) → May (who.Task c.caller) → Keeps G (Behind G) (call_queues p c)
   unfolding call_queues
-  call_queues-keeps c may = then-keeps (chains moves) (enqueue p c.number) _ (enqueue-keeps moves c.number) (not_accepted-keeps moves openings Own c c.kind may)
+  call_queues-keeps c may = then-keeps (chains moves) (enqueue p c.number) _ (enqueue-keeps (plain_steps moves) p c.number) (not_accepted-keeps moves openings Own c c.kind may)
 
   call_not_met-keeps : (c : Call) (test : Bool) → May (who.Task c.caller) → Keeps G (Behind G) (call_not_met p c test)
   unfolding call_not_met
   call_not_met-keeps c true may = make_call-keeps moves c (λ d. end_at_once Own d exception.Program) (λ n. end_at_once-keeps moves Own (numbered n c) exception.Program) may
-  call_not_met-keeps c false may = with_room-keeps moves (who.Task c.caller) (marks_if_queued c.kind) 0 (make_call p c (call_queues p)) (make_call-keeps moves c (call_queues p) (λ n. call_queues-keeps (numbered n c) may) may)
+  call_not_met-keeps c false may = with_room-keeps (plain_steps moves) (who.Task c.caller) (marks_if_queued c.kind) 0 (make_call p c (call_queues p)) (make_call-keeps moves c (call_queues p) (λ n. call_queues-keeps (numbered n c) may) may)
 
   call_accepted_by-keeps : (t : TaskNo) (c : Call) (next : Option StatementNo) → May (who.Task c.caller) → Keeps G (Behind G) (call_accepted_by p t c next)
   unfolding call_accepted_by
@@ -128,7 +129,7 @@ module _ {p : Image} {G : GoodWorld} {May Other : Naming} (moves : FineMoves p G
   unfolding call_passes
   call_passes-keeps o c may =
       then-keeps (chains moves) (says Own (line.Enter (who.Task c.caller) o Write)) _ (told-keeps moves Own (line.Enter (who.Task c.caller) o Write))
-      (then-keeps (chains moves) (enqueue p c.number) _ (enqueue-keeps moves c.number)
+      (then-keeps (chains moves) (enqueue p c.number) _ (enqueue-keeps (plain_steps moves) p c.number)
       (then-keeps (chains moves) (says Own (line.Exit (who.Task c.caller) o)) _ (told-keeps moves Own (line.Exit (who.Task c.caller) o)) (not_accepted-keeps moves openings Own c c.kind may)))
 
   call_runs-keeps : (o : ObjectNo) (c : Call) → May (who.Task c.caller) → Keeps G (Behind G) (call_runs p o c)
@@ -144,11 +145,11 @@ module _ {p : Image} {G : GoodWorld} {May Other : Naming} (moves : FineMoves p G
   call_closed-keeps : (o : ObjectNo) (c : Call) (test : Bool) → May (who.Task c.caller) → Keeps G (Behind G) (call_closed p o c test)
   unfolding call_closed
   call_closed-keeps o c true may = make_call-keeps moves c (call_refused o) (λ n. call_refused-keeps moves o (numbered n c)) may
-  call_closed-keeps o c false may = with_room-keeps moves (who.Task c.caller) (marks_if_queued c.kind) 0 (make_call p c (call_passes p o)) (make_call-keeps moves c (call_passes p o) (λ n. call_passes-keeps o (numbered n c) may) may)
+  call_closed-keeps o c false may = with_room-keeps (plain_steps moves) (who.Task c.caller) (marks_if_queued c.kind) 0 (make_call p c (call_passes p o)) (make_call-keeps moves c (call_passes p o) (λ n. call_passes-keeps o (numbered n c) may) may)
 
   call_by_barrier-keeps : (o : ObjectNo) (c : Call) (test : Bool) → May (who.Task c.caller) → Keeps G (Behind G) (call_by_barrier p o c test)
   unfolding call_by_barrier
-  call_by_barrier-keeps o c true may = with_room-keeps moves (who.Task c.caller) 1 0 (make_call p c (call_runs_if_room p o)) (make_call-keeps moves c (call_runs_if_room p o) (λ n. call_runs_if_room-keeps o (numbered n c) may) may)
+  call_by_barrier-keeps o c true may = with_room-keeps (plain_steps moves) (who.Task c.caller) 1 0 (make_call p c (call_runs_if_room p o)) (make_call-keeps moves c (call_runs_if_room p o) (λ n. call_runs_if_room-keeps o (numbered n c) may) may)
   call_by_barrier-keeps o c false may = looks-keeps (chains moves) _ (λ w. call_closed-keeps o c (is_full p w c.owner c.entry) may)
 
   call_object-keeps : (o : ObjectNo) (c : Call) → May (who.Task c.caller) → Keeps G (Behind G) (call_object p o c)
@@ -164,21 +165,21 @@ module _ {p : Image} {G : GoodWorld} {May Other : Naming} (moves : FineMoves p G
   pub call_named-keeps : (t : TaskNo) (kind : CallKind) (s : StatementNo) (n : EntryCallNamed) → May (who.Task t) → Keeps G (Behind G) (call_named p t kind s n)
   unfolding call_named
   call_named-keeps t kind s n may =
-      sees-keeps (chains moves) p (who.Task t) _ (λ q. given-keeps moves Own (who.Task t) (owner_of_entry q n.entry n.owner) _ (λ o.
-      given-keeps moves Own (who.Task t) (entry_parameters q (entry_of p n.entry).formals n.actuals) _ (λ parameters.
-      given-keeps moves Own (who.Task t) (timed_moment q (form_of p s)) _ (λ m.
+      sees-keeps (chains moves) p (who.Task t) _ (λ q. given-keeps (plain_steps moves) Own (who.Task t) (owner_of_entry q n.entry n.owner) _ (λ o.
+      given-keeps (plain_steps moves) Own (who.Task t) (entry_parameters q (entry_of p n.entry).formals n.actuals) _ (λ parameters.
+      given-keeps (plain_steps moves) Own (who.Task t) (timed_moment q (form_of p s)) _ (λ m.
       call_owner-keeps (new_call t kind s n o (active_of p q.world (who.Task t)) parameters m) o may))))
 
   pub entry_call-keeps : (name : Who) (kind : CallKind) (s : StatementNo) → May name → Keeps G (Behind G) (entry_call p name kind s)
   unfolding entry_call
-  entry_call-keeps (who.Task t) kind s may = looks-keeps (chains moves) _ (λ w. raise_if-keeps moves (who.Task t) (is_forbidden w (who.Task t) kind) exception.Program _ (call_named-keeps t kind s (named_call p s) may))
-  entry_call-keeps who.Agent kind s may = raises-keeps moves Own who.Agent exception.Program
+  entry_call-keeps (who.Task t) kind s may = looks-keeps (chains moves) _ (λ w. raise_if-keeps (plain_steps moves) (who.Task t) (is_forbidden w (who.Task t) kind) exception.Program _ (call_named-keeps t kind s (named_call p s) may))
+  entry_call-keeps who.Agent kind s may = raises-keeps (plain_steps moves) Own who.Agent exception.Program
 
   trigger_delay-keeps : (name : Who) (s trigger : StatementNo) (m : ℤ) (test : Bool) → Other name → May name → Keeps G (Behind G) (trigger_delay p name s trigger m test)
   unfolding trigger_delay
   trigger_delay-keeps name s trigger m false other may = goes-keeps moves name (next_of p trigger) may
   trigger_delay-keeps name s trigger m true other may =
-      with_room-keeps moves name 1 0 _
+      with_room-keeps (plain_steps moves) name 1 0 _
       (then-keeps (chains moves) (goes name (next_of p s)) _ (goes-keeps moves name (next_of p s) may)
       (looks-keeps (chains moves) _ (λ w. then-keeps (chains moves) (changes (open_abortable p name s None)) _ (changes-keeps (chains moves) _ (open_abortable-alters moves name s None other))
       (changes-keeps (chains moves) _ (appoint_trigger-alters moves name (length (frames_of w name)) m)))))
@@ -187,8 +188,8 @@ module _ {p : Image} {G : GoodWorld} {May Other : Naming} (moves : FineMoves p G
   unfolding async_delay
   async_delay-keeps name s trigger may =
       looks-from (chains moves) (λ v. raise_if name (is_forbidden v name call_kind.Triggering) exception.Program (given Own name (delay_moment (seen_by p v name) trigger) (λ m. trigger_delay p name s trigger m (int_lt (pos v.time) m))))
-      (λ w good. raise_if-from moves name (is_forbidden w name call_kind.Triggering) exception.Program _ w good (λ allowed.
-      given-from moves Own name (delay_moment (seen_by p w name) trigger) _ w good (λ m.
+      (λ w good. raise_if-from (plain_steps moves) name (is_forbidden w name call_kind.Triggering) exception.Program _ w good (λ allowed.
+      given-from (plain_steps moves) Own name (delay_moment (seen_by p w name) trigger) _ w good (λ m.
       keeps-from (chains moves) _ w good (trigger_delay-keeps name s trigger m (int_lt (pos w.time) m) (openings.outside name w good may (first_is_false (in_protected w name) (is_triggering call_kind.Triggering && is_deferred w name) allowed)) may))))
 
   pub async_by_trigger-keeps : (name : Who) (s trigger : StatementNo) (form : StatementForm) → May name → Keeps G (Behind G) (async_by_trigger p name s trigger form)

@@ -1,26 +1,25 @@
 -- Opening constructs, leaving them, and going on: each step keeps a relation that its parts keep.
 use Rattle.profile_machine.specs.declared.world.marks.Mark.{Mark}
-use Rattle.std.specs.Prelude.{ℕ, Bool, true, false, Option, Some, None, Result, Ok, Err}
-use Rattle.ann_base.specs.declared.exceptions.Raised.{Raised}
-use Rattle.ann_base.specs.declared.exceptions.Raised.TheVariants as exception
+use Rattle.std.specs.Prelude.{false, Option, Some, None}
 use Rattle.trace_text.specs.declared.events.Who.{Who}
 use Rattle.profile_machine.specs.declared.image.Image.{Image}
 use Rattle.profile_machine.specs.declared.numbers.StatementNo.{StatementNo}
 use Rattle.profile_machine.specs.declared.run_data.Leaving.{Leaving}
-use Rattle.profile_machine.specs.declared.run_data.Leaving.TheVariants as how
 use Rattle.profile_machine.specs.declared.world.World.{World}
 use Rattle.profile_machine.specs.declared.world.marks.Frame.{Frame}
-use Rattle.profile_machine.specs.Program.{next_of}
-use Rattle.profile_machine.specs.declared.world.lines.Part.{Part}
 use Rattle.profile_machine.specs.declared.world.lines.Part.TheVariants.{Own}
-use Rattle.profile_machine.specs.Steps.{Step, changes, ◌▷◌}
-use Rattle.profile_machine.specs.Frames.{top_of, edit_first, edit_top, goes, push, pop, leaves, raises, has_room, stands_in, exit_loop, pass_on, is_protected, given, raise_if, with_room, goes_on, with_mark, left_so}
-use Rattle.profile_machine.specs.Operators.{Valued}
+use Rattle.profile_machine.specs.Steps.{Step, ◌▷◌}
+use Rattle.profile_machine.specs.Frames.{top_of, edit_first, edit_top, goes, push, pop, leaves, is_protected, goes_on, with_mark, left_so}
 use Rattle.machine_laws.proofs.FineMoves.{GoodWorld, Naming, nature, natures}
 use Rattle.world_laws.proofs.Sequences.FineMoves.{FineMoves, Openings, Behind, StaysOn, onward_in, chains, says-keeps}
 use Rattle.world_laws.proofs.Sequences.Kept.Tasks.{edit_frames-alters}
 use Rattle.std.proofs.Common.{◌≡◌, List, [], ◌∷◌, refl, ap, inl, inr}
-use Rattle.machine_laws.proofs.Kept.Combinators.{Alters, From, Gives, Keeps, branch-keeps, changes-from, changes-keeps, changes_then-from, keeps-from, looks-keeps, nothing-keeps, then-keeps}
+use Rattle.machine_laws.proofs.Kept.Combinators.{Alters, From, Keeps, changes-keeps, changes_then-from}
+use Rattle.profile_machine.specs.Calls.{says_call}
+use Rattle.profile_machine.specs.Appointments.{is_timeout_of}
+use Rattle.profile_machine.specs.declared.world.lines.Line.TheVariants as said
+use Rattle.trace_text.specs.declared.events.Created.TheVariants as created
+use Rattle.machine_laws.proofs.Plain.PlainSteps.{PlainSteps}
 
 -- an edit of a mark on top
 first-natures : (f : Frame → Frame) (fs : List Frame) → ((x : Frame) → nature (f x).mark ≡ nature x.mark) → natures (edit_first f fs) ≡ natures fs
@@ -54,40 +53,29 @@ module _ {p : Image} {G : GoodWorld} {May Other : Naming} (moves : FineMoves p G
   unfolding leaves
   leaves-keeps name leaving = changes-keeps (chains moves) (edit_top name (left_so leaving)) (edit_top-alters name (left_so leaving) (λ x. refl) (λ x. inr refl))
 
-  pub raises-keeps : (part : Part) (name : Who) (e : Raised) → Keeps G (Behind G) (raises part name e)
-  unfolding raises
-  raises-keeps part name e = search (says-keeps, then-keeps, leaves-keeps, chains)
-
-  pub exit_loop-keeps : (name : Who) (loop : StatementNo) → May name → Keeps G (Behind G) (exit_loop p name loop)
-  unfolding exit_loop
-  exit_loop-keeps name loop may = looks-keeps (chains moves) _ (λ w. branch-keeps (chains moves) (stands_in p loop (top_of w name)) (goes name (next_of p loop)) (leaves name (how.Exit loop)) (search (goes-keeps)) (search (leaves-keeps)))
-
-  pub pass_on-keeps : (name : Who) (leaving : Leaving) → May name → Keeps G (Behind G) (pass_on p name leaving)
-  unfolding pass_on
-  pass_on-keeps name how.End may = search (nothing-keeps, chains)
-  pass_on-keeps name how.Return may = search (leaves-keeps)
-  pass_on-keeps name (how.Exit loop) may = search (exit_loop-keeps)
-  pass_on-keeps name (how.Exception e) may = search (leaves-keeps)
-  pass_on-keeps name how.Abort may = search (leaves-keeps)
-  pass_on-keeps name how.Terminate may = search (leaves-keeps)
-
-  pub given-keeps : {X : Type 0} (part : Part) (name : Who) (result : Result X Raised) (f : X → Step) → ((x : X) → Keeps G (Behind G) (f x)) → Keeps G (Behind G) (given part name result f)
-  given-keeps part name (Ok x) f k = k x
-  given-keeps part name (Err e) f k = raises-keeps part name e
+  pub plain_steps : PlainSteps G May (Behind G)
+  unfolding says_call
+  plain_steps = record {
+    chains = chains moves;
+    goes = goes-keeps;
+    leaves = leaves-keeps;
+    says_raise = λ part name e. says-keeps moves part (said.Raise name e) refl;
+    says_object = λ o d ceiling. says-keeps moves Own (said.New (created.Object o) (Some d) ceiling) refl;
+    says_call = λ part c. says-keeps moves part (said.Call c.caller c.number c.owner c.entry c.priority) refl;
+    says_cancel = λ part t c. says-keeps moves part (said.Cancel t c) refl;
+    edits_task = λ name f w g same_who same_frames same_state same_master same_clock same_abnormal same_unit. moves.edits_task name f w g same_who same_frames same_state same_unit;
+    edits_cells = moves.edits_cells;
+    edits_call = moves.edits_call;
+    forgets_call = moves.forgets_call;
+    edits_object = λ o f w g number actions ceiling. moves.edits_object o f w g number actions;
+    drops_timeout = λ c w g. moves.drops_appointment (is_timeout_of c) w g;
+    adds_object = moves.adds_object;
+    draws_event = moves.draws_event;
+    adds_timer = moves.adds_timer;
+    adds_budget = moves.adds_budget;
+  }
 
   -- ---- from one world
-
-  pub given-from : {X : Type 0} (part : Part) (name : Who) (result : Result X Raised) (f : X → Step) (w : World) → G w → ((x : X) → From (Behind G) w (f x)) → From (Behind G) w (given part name result f)
-  given-from part name (Ok x) f w good k = k x
-  given-from part name (Err e) f w good k = keeps-from (chains moves) (raises part name e) w good (raises-keeps part name e)
-
-  pub given_as-from : {X : Type 0} (part : Part) (name : Who) (result : Result X Raised) (f : X → Step) (w : World) → G w → ((x : X) → result ≡ Ok x → From (Behind G) w (f x)) → From (Behind G) w (given part name result f)
-  given_as-from part name (Ok x) f w good k = k x refl
-  given_as-from part name (Err e) f w good k = keeps-from (chains moves) (raises part name e) w good (raises-keeps part name e)
-
-  pub raise_if-from : (name : Who) (test : Bool) (e : Raised) (step : Step) (w : World) → G w → (test ≡ false → From (Behind G) w step) → From (Behind G) w (raise_if name test e step)
-  raise_if-from name true e step w good k = keeps-from (chains moves) (raises Own name e) w good (raises-keeps Own name e)
-  raise_if-from name false e step w good k = k refl
 
   -- a step behind the going on
   pub goes_then-from : (name : Who) (onward : Option StatementNo) (g : Step) (w : World) → G w → (G (edit_top name (goes_on onward) w) → From (Behind G) (edit_top name (goes_on onward) w) g) → May name → From (Behind G) w (goes name onward ▷ g)
@@ -95,24 +83,6 @@ module _ {p : Image} {G : GoodWorld} {May Other : Naming} (moves : FineMoves p G
   goes_then-from name onward g w good k may =
       let gone = goes_on-alters name onward may w good in
       changes_then-from (chains moves) (edit_top name (goes_on onward)) g w gone (k (moves.behind w (edit_top name (goes_on onward) w) gone))
-
-  -- the world that a value gives becomes the world
-  pub given_world-from : (part : Part) (name : Who) (result : Valued World) (f : World → Step) (w : World) → G w → Gives (Behind G) w result → ((next : World) → Keeps G (Behind G) (f next)) → From (Behind G) w (given part name result (λ next. changes (λ _. next) ▷ f next))
-  unfolding Gives
-  given_world-from part name (Ok next) f w good a k = changes_then-from (chains moves) (λ _. next) (f next) w a (keeps-from (chains moves) (f next) next (moves.behind w next a) (k next))
-  given_world-from part name (Err e) f w good a k = keeps-from (chains moves) (raises part name e) w good (raises-keeps part name e)
-
-  pub becomes-from : (part : Part) (name : Who) (result : Valued World) (w : World) → G w → Gives (Behind G) w result → From (Behind G) w (given part name result (λ next. changes (λ _. next)))
-  unfolding Gives
-  becomes-from part name (Ok next) w good a = changes-from (chains moves) (λ _. next) w a
-  becomes-from part name (Err e) w good a = keeps-from (chains moves) (raises part name e) w good (raises-keeps part name e)
-
-  pub raise_if-keeps : (name : Who) (test : Bool) (e : Raised) (step : Step) → Keeps G (Behind G) step → Keeps G (Behind G) (raise_if name test e step)
-  raise_if-keeps name true e step kept = search (raises-keeps)
-  raise_if-keeps name false e step kept = search
-
-  pub with_room-keeps : (name : Who) (marks cells : ℕ) (step : Step) → Keeps G (Behind G) step → Keeps G (Behind G) (with_room name marks cells step)
-  with_room-keeps name marks cells step kept = looks-keeps (chains moves) _ (λ w. branch-keeps (chains moves) (has_room w name marks cells) step (raises Own name exception.Storage) (search) (search (raises-keeps)))
 
   -- ---- who acts opens a mark
 

@@ -32,13 +32,14 @@ use Rattle.std.proofs.Common.{◌≡◌, refl}
 use Rattle.std.specs.Prelude.{Bool}
 use Rattle.machine_laws.proofs.FineMoves.{GoodWorld, Naming}
 use Rattle.world_laws.proofs.Sequences.FineMoves.{FineMoves, Behind, chains, says-keeps}
-use Rattle.world_laws.proofs.Sequences.Kept.Frames.{becomes-from, goes-keeps, given-keeps, raise_if-keeps}
+use Rattle.world_laws.proofs.Sequences.Kept.Frames.{goes-keeps, plain_steps}
 use Rattle.world_laws.proofs.Sequences.Kept.Tasks.{edit_task-alters}
 use Rattle.world_laws.proofs.Sequences.Kept.Dispatching.{ready-from}
 use Rattle.world_laws.proofs.Sequences.Kept.Appointments.{appoint-from, drop_appointment-alters}
-use Rattle.world_laws.proofs.Sequences.Kept.CallEnds.{store-gives}
 use Rattle.machine_laws.proofs.Kept.Handlers.{spent-frames, spent-state, spent-who}
 use Rattle.machine_laws.proofs.Kept.Combinators.{Alters, From, Keeps, changes-keeps, for_some-keeps, from-keeps, keeps-from, looks-from, looks-keeps, nothing-keeps, said-keeps, sees-keeps, then-keeps, unchanged-alters}
+use Rattle.machine_laws.proofs.Plain.Frames.{becomes-from, given-keeps, raise_if-keeps}
+use Rattle.machine_laws.proofs.Plain.Cells.{store-gives}
 
 spent-unit : (robin : Bool) (t : world.Task) → (cond robin (record t { quantum = t.quantum - 1 }) t).unit ≡ t.unit
 spent-unit true t = refl
@@ -71,21 +72,21 @@ module _ {p : Image} {G : GoodWorld} {May Other : Naming} (moves : FineMoves p G
 
 module _ {p : Image} {G : GoodWorld} {May Other : Naming} (moves : FineMoves p G May Other) where
   pub with_room_for_release-keeps : (name : Who) (needed : Bool) (step : Step) → Keeps G (Behind G) step → Keeps G (Behind G) (with_room_for_release name needed step)
-  with_room_for_release-keeps name needed step kept = search (looks-keeps, raise_if-keeps, chains)
+  with_room_for_release-keeps name needed step kept = search (looks-keeps, raise_if-keeps, chains, plain_steps)
 
   pub setting_of-keeps : (name : Who) (q : Seen) (base : ℤ) (set : Setting) (named : Option HandlerName) (step : Option HandlerOf → ℤ → Step) → ((x : Option HandlerOf) (y : ℤ) → Keeps G (Behind G) (step x y)) → Keeps G (Behind G) (setting_of p name q base set named step)
-  setting_of-keeps name q base set named step kept = search (given-keeps, with_room_for_release-keeps, raise_if-keeps)
+  setting_of-keeps name q base set named step kept = search (given-keeps, with_room_for_release-keeps, raise_if-keeps, plain_steps)
 
   pub answer-keeps : (name : Who) (v : Variable) (b : Bool) → Keeps G (Behind G) (answer p name v b)
   unfolding answer
-  answer-keeps name v b = looks-from (chains moves) _ (λ w good. becomes-from moves Own name (store p v (Truth b) w) w good (store-gives moves v (Truth b) w good))
+  answer-keeps name v b = looks-from (chains moves) _ (λ w good. becomes-from (plain_steps moves) Own name (store p v (Truth b) w) w good (store-gives (plain_steps moves) p v (Truth b) w good))
 
   pub cancel_event_setting-alters : (e : ℕ) → Alters G (Behind G) (cancel_event_setting e)
   cancel_event_setting-alters e = search (drop_appointment-alters)
 
   pub cancel_event-keeps : (name : Who) (s : StatementNo) (d : DeclNo) (target : VariableName) → May name → Keeps G (Behind G) (cancel_event p name s d target)
   unfolding cancel_event
-  cancel_event-keeps name s d target may = search (sees-keeps, given-keeps, goes-keeps, then-keeps, changes-keeps, cancel_event_setting-alters, answer-keeps, chains) depth 10
+  cancel_event-keeps name s d target may = search (sees-keeps, given-keeps, goes-keeps, then-keeps, changes-keeps, cancel_event_setting-alters, answer-keeps, chains, plain_steps) depth 11
 
   pub clear_timer-alters : (k : ℕ) → Alters G (Behind G) (clear_timer k)
   unfolding Alters
@@ -97,7 +98,7 @@ module _ {p : Image} {G : GoodWorld} {May Other : Naming} (moves : FineMoves p G
 
   pub cancel_timer-keeps : (name : Who) (s : StatementNo) (d : DeclNo) (target : VariableName) → May name → Keeps G (Behind G) (cancel_timer p name s d target)
   unfolding cancel_timer
-  cancel_timer-keeps name s d target may = search (sees-keeps, given-keeps, goes-keeps, then-keeps, changes-keeps, clear_timer-alters, answer-keeps, chains) depth 10
+  cancel_timer-keeps name s d target may = search (sees-keeps, given-keeps, goes-keeps, then-keeps, changes-keeps, clear_timer-alters, answer-keeps, chains, plain_steps) depth 11
 
   edit_budget-alters : (b : ℕ) (f : Budget → Budget) → Alters G (Behind G) (edit_budget b f)
   unfolding Alters
@@ -105,19 +106,19 @@ module _ {p : Image} {G : GoodWorld} {May Other : Naming} (moves : FineMoves p G
 
   pub change_member-keeps : (name : Who) (s : StatementNo) (t : world.Task) (is_right : Bool) (b : Option ℕ) → May name → Keeps G (Behind G) (change_member p name s t is_right b)
   unfolding change_member
-  change_member-keeps name s t is_right b may = search (raise_if-keeps, goes-keeps, then-keeps, changes-keeps, edit_task-alters, chains)
+  change_member-keeps name s t is_right b may = search (raise_if-keeps, goes-keeps, then-keeps, changes-keeps, edit_task-alters, chains, plain_steps)
 
   pub add_member-keeps : (name : Who) (s : StatementNo) (d : DeclNo) (e : ExprNo) → May name → Keeps G (Behind G) (add_member p name s d e)
   unfolding add_member
-  add_member-keeps name s d e may = search (sees-keeps, given-keeps, change_member-keeps, chains) depth 7
+  add_member-keeps name s d e may = search (sees-keeps, given-keeps, change_member-keeps, chains, plain_steps) depth 8
 
   pub remove_member-keeps : (name : Who) (s : StatementNo) (d : DeclNo) (e : ExprNo) → May name → Keeps G (Behind G) (remove_member p name s d e)
   unfolding remove_member
-  remove_member-keeps name s d e may = search (sees-keeps, given-keeps, change_member-keeps, chains) depth 7
+  remove_member-keeps name s d e may = search (sees-keeps, given-keeps, change_member-keeps, chains, plain_steps) depth 8
 
   pub fill_budget-keeps : (name : Who) (s : StatementNo) (d : DeclNo) (e : ExprNo) (f : ℤ → Budget → Budget) → May name → Keeps G (Behind G) (fill_budget p name s d e f)
   unfolding fill_budget
-  fill_budget-keeps name s d e f may = search (sees-keeps, given-keeps, with_room_for_release-keeps, raise_if-keeps, goes-keeps, then-keeps, changes-keeps, edit_budget-alters, chains) depth 9
+  fill_budget-keeps name s d e f may = search (sees-keeps, given-keeps, with_room_for_release-keeps, raise_if-keeps, goes-keeps, then-keeps, changes-keeps, edit_budget-alters, chains, plain_steps) depth 10
 
   pub replenish-keeps : (name : Who) (s : StatementNo) (d : DeclNo) (e : ExprNo) → May name → Keeps G (Behind G) (replenish p name s d e)
   unfolding replenish
@@ -129,11 +130,11 @@ module _ {p : Image} {G : GoodWorld} {May Other : Naming} (moves : FineMoves p G
 
   pub set_budget-keeps : (name : Who) (s : StatementNo) (d : DeclNo) (named : Option HandlerName) → May name → Keeps G (Behind G) (set_budget p name s d named)
   unfolding set_budget
-  set_budget-keeps name s d named may = search (sees-keeps, given-keeps, with_room_for_release-keeps, raise_if-keeps, goes-keeps, then-keeps, changes-keeps, edit_budget-alters, chains) depth 9
+  set_budget-keeps name s d named may = search (sees-keeps, given-keeps, with_room_for_release-keeps, raise_if-keeps, goes-keeps, then-keeps, changes-keeps, edit_budget-alters, chains, plain_steps) depth 10
 
   pub cancel_budget-keeps : (name : Who) (s : StatementNo) (d : DeclNo) (target : VariableName) → May name → Keeps G (Behind G) (cancel_budget p name s d target)
   unfolding cancel_budget
-  cancel_budget-keeps name s d target may = search (sees-keeps, given-keeps, goes-keeps, then-keeps, changes-keeps, edit_budget-alters, answer-keeps, chains) depth 10
+  cancel_budget-keeps name s d target may = search (sees-keeps, given-keeps, goes-keeps, then-keeps, changes-keeps, edit_budget-alters, answer-keeps, chains, plain_steps) depth 11
 
   pub charge_budget-alters : (n : Option ℕ) → Alters G (Behind G) (charge_budget n)
   charge_budget-alters None = search (unchanged-alters, chains)
@@ -193,7 +194,7 @@ module _ {p : Image} {G : GoodWorld} {May Other : Naming} (moves : FineMoves p G
 
   pub set_event-keeps : (name : Who) (s : StatementNo) (d : DeclNo) (set : Setting) (named : Option HandlerName) → May name → Keeps G (Behind G) (set_event p name s d set named)
   unfolding set_event
-  set_event-keeps name s d set named may = search (sees-keeps, given-keeps, setting_of-keeps, goes-keeps, then-keeps, changes-keeps, cancel_event_setting-alters, event_set_to-keeps, chains) depth 10
+  set_event-keeps name s d set named may = search (sees-keeps, given-keeps, setting_of-keeps, goes-keeps, then-keeps, changes-keeps, cancel_event_setting-alters, event_set_to-keeps, chains, plain_steps) depth 11
 
   pub timer_set_beyond-keeps : (k : ℕ) (h : HandlerOf) (v : ℤ) (test : Bool) → Keeps G (Behind G) (timer_set_beyond p k h v test)
   unfolding timer_set_beyond
@@ -207,4 +208,4 @@ module _ {p : Image} {G : GoodWorld} {May Other : Naming} (moves : FineMoves p G
 
   pub set_timer-keeps : (name : Who) (s : StatementNo) (d : DeclNo) (set : Setting) (named : Option HandlerName) → May name → Keeps G (Behind G) (set_timer p name s d set named)
   unfolding set_timer
-  set_timer-keeps name s d set named may = search (sees-keeps, given-keeps, setting_of-keeps, goes-keeps, then-keeps, changes-keeps, clear_timer-alters, timer_set_to-keeps, chains) depth 10
+  set_timer-keeps name s d set named may = search (sees-keeps, given-keeps, setting_of-keeps, goes-keeps, then-keeps, changes-keeps, clear_timer-alters, timer_set_to-keeps, chains, plain_steps) depth 11

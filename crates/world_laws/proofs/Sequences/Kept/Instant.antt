@@ -26,15 +26,15 @@ use Rattle.machine_laws.proofs.FineMoves.{GoodWorld, Naming}
 use Rattle.world_laws.proofs.Sequences.FineMoves.{FineMoves, Behind, Loosens, BehindMove, chains, effect-leads, move_chains, says-keeps}
 use Rattle.world_laws.proofs.Sequences.Kept.Combinators.{then-turns, narrow-turns}
 use Rattle.world_laws.proofs.Sequences.Kept.Dispatching.{to_tail-keeps, ready-keeps}
-use Rattle.world_laws.proofs.Sequences.Kept.Frames.{goes-keeps}
+use Rattle.world_laws.proofs.Sequences.Kept.Frames.{goes-keeps, plain_steps}
 use Rattle.world_laws.proofs.Sequences.Kept.Appointments.{drop_appointment-alters}
-use Rattle.world_laws.proofs.Sequences.Kept.Calls.{with_call-keeps, unqueued-alters}
 use Rattle.world_laws.proofs.Sequences.Kept.Unwinding.{unwind-keeps}
 use Rattle.world_laws.proofs.Sequences.Kept.CallEnds.{trigger_at-keeps, deliver-keeps}
 use Rattle.world_laws.proofs.Sequences.Kept.Handlers.{interrupt-keeps, clear_timer-alters, release-keeps}
 use Rattle.profile_machine.specs.Values.{budget_of}
 use Rattle.profile_machine.specs.Handlers.{clear_timer}
 use Rattle.machine_laws.proofs.Kept.Combinators.{Alters, From, Keeps, Leads, changes-from, changes-keeps, for_each-keeps, for_some-keeps, keeps-from, looks-from, looks-keeps, nothing-keeps, then-from, then-keeps, then-leads, when-keeps}
+use Rattle.machine_laws.proofs.Plain.Calls.{with_call-keeps, unqueued-alters}
 
 module _ {p : Image} {G : GoodWorld} {May Other : Naming} (moves : FineMoves p G May Other) where
   pub goes_delay-keeps : (name : Who) (waiting : Option Waiting) → May name → Keeps G (Behind G) (take_delay p name waiting)
@@ -100,7 +100,7 @@ module _ {p : Image} {G : GoodWorld} {May Other : Naming} (moves : FineMoves p G
 
   pub time_out-keeps : (c : CallNo) → Keeps G (Behind G) (time_out p c)
   unfolding time_out
-  time_out-keeps c = search (with_call-keeps, changes-keeps, unqueued-alters, then-keeps, says-keeps, deliver-keeps, chains) depth 7
+  time_out-keeps c = search (with_call-keeps, changes-keeps, unqueued-alters, then-keeps, says-keeps, deliver-keeps, chains, plain_steps) depth 8
 
   pub come_due-keeps : (due : Due) → Keeps G (Behind G) (come_due p due)
   unfolding come_due

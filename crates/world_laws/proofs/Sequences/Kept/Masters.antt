@@ -26,11 +26,12 @@ use Rattle.world_laws.proofs.Sequences.FineMoves.{FineMoves, Behind, Loosens, ch
 use Rattle.world_laws.proofs.Sequences.Kept.Combinators.{then-turns}
 use Rattle.world_laws.proofs.Sequences.Kept.Tasks.{edit_task-alters}
 use Rattle.world_laws.proofs.Sequences.Kept.Dispatching.{runnable-keeps, ready-keeps, ready-from}
-use Rattle.world_laws.proofs.Sequences.Kept.Frames.{raises-keeps}
 use Rattle.world_laws.proofs.Sequences.Kept.Inheritance.{lose-alters}
 use Rattle.world_laws.proofs.Sequences.Kept.Appointments.{drop_delay-alters}
 use Rattle.world_laws.proofs.Sequences.Kept.CallEnds.{end_call-keeps, gone-keeps}
 use Rattle.machine_laws.proofs.Kept.Combinators.{Alters, From, Keeps, changes-keeps, cond-keeps, for_each-keeps, for_some-keeps, keeps-from, looks-from, looks-keeps, nothing-keeps, then-keeps, when-keeps, when-keeps-if}
+use Rattle.machine_laws.proofs.Plain.Frames.{raises-keeps}
+use Rattle.world_laws.proofs.Sequences.Kept.Frames.{plain_steps}
 
 module _ {p : Image} {G : GoodWorld} {May Other : Naming} (moves : FineMoves p G May Other) where
   pub forget_task-alters : (name : Who) → Alters G (Behind G) (forget_task name)
@@ -47,7 +48,7 @@ module _ {p : Image} {G : GoodWorld} {May Other : Naming} (moves : FineMoves p G
   wake_activator-keeps part name other =
       let l = loose name other in
       looks-keeps (chains moves) _ (λ w. woken moves loose name other (ready p part name) _ (ready-keeps l.moves part name (inr refl))
-      (then-turns l.Loose l.Loose G (when (task_of w name).group_failed (raises part name exception.Tasking)) _ (when-keeps (chains l.moves) (task_of w name).group_failed _ (raises-keeps l.moves part name exception.Tasking)) (opened-turns moves loose part name other)))
+      (then-turns l.Loose l.Loose G (when (task_of w name).group_failed (raises part name exception.Tasking)) _ (when-keeps (chains l.moves) (task_of w name).group_failed _ (raises-keeps (plain_steps l.moves) part name exception.Tasking)) (opened-turns moves loose part name other)))
 
   pub end_group-keeps : (actor activator : Who) → Keeps G (Behind G) (end_group p actor activator)
   unfolding end_group

@@ -28,26 +28,27 @@ use Rattle.machine_laws.proofs.FineMoves.{GoodWorld, Naming}
 use Rattle.world_laws.proofs.Sequences.FineMoves.{FineMoves, Behind, Openings, chains, says-keeps}
 use Rattle.world_laws.proofs.Sequences.Kept.Tasks.{edit_task-alters}
 use Rattle.world_laws.proofs.Sequences.Kept.Dispatching.{to_tail-keeps}
-use Rattle.world_laws.proofs.Sequences.Kept.Frames.{goes-keeps, given-keeps, raise_if-keeps, given-from, given_as-from}
-use Rattle.world_laws.proofs.Sequences.Kept.Calls.{edit_call-alters, with_call-keeps, edit_queue-alters}
+use Rattle.world_laws.proofs.Sequences.Kept.Frames.{goes-keeps, plain_steps}
 use Rattle.world_laws.proofs.Sequences.Kept.Statements.{delay_to-keeps}
 use Rattle.profile_machine.specs.Tasks.{found_task}
 use Rattle.machine_laws.proofs.Kept.Combinators.{Alters, Keeps, branch-keeps, changes-keeps, for_some-keeps, keeps-from, looks-from, looks-keeps, nothing-keeps, sees-keeps, then-keeps, when-keeps}
+use Rattle.machine_laws.proofs.Plain.Frames.{given-keeps, raise_if-keeps, given-from, given_as-from}
+use Rattle.machine_laws.proofs.Plain.Calls.{edit_call-alters, with_call-keeps, edit_queue-alters}
 
 module _ {p : Image} {G : GoodWorld} {May Other : Naming} (moves : FineMoves p G May Other) where
   pub placed_anew-alters : (queuing : Queuing) (c : Call) (level : ℕ) → Alters G (Behind G) (placed_anew queuing p c level)
   unfolding Alters
   placed_anew-alters queuing.Fifo c level w good = moves.stays w good
   placed_anew-alters queuing.Priority c level w good =
-      edit_queue-alters moves c.owner (place_of_entry p c.entry) (λ q. put_call queuing.Priority w c.number level (take_call c.number q)) w good
+      edit_queue-alters (plain_steps moves) c.owner (place_of_entry p c.entry) (λ q. put_call queuing.Priority w c.number level (take_call c.number q)) w good
 
   pub reprioritize-keeps : (level : ℕ) (c : Call) → Keeps G (Behind G) (reprioritize p level c)
   unfolding reprioritize
-  reprioritize-keeps level c = search (when-keeps, changes-keeps, edit_call-alters, then-keeps, placed_anew-alters, chains) depth 7
+  reprioritize-keeps level c = search (when-keeps, changes-keeps, edit_call-alters, then-keeps, placed_anew-alters, chains, plain_steps) depth 8
 
   pub reprioritize_own-keeps : (name : Who) (waiting : Waiting) → Keeps G (Behind G) (reprioritize_own p name waiting)
   unfolding reprioritize_own
-  reprioritize_own-keeps name waiting = search (looks-keeps, for_some-keeps, with_call-keeps, reprioritize-keeps, chains)
+  reprioritize_own-keeps name waiting = search (looks-keeps, for_some-keeps, with_call-keeps, reprioritize-keeps, chains, plain_steps)
 
   pub replace_in-keeps : (part : Part) (name : Who) (state : State) → Keeps G (Behind G) (replace_in p part name state)
   unfolding replace_in
@@ -99,15 +100,15 @@ module _ {p : Image} {G : GoodWorld} {May Other : Naming} (moves : FineMoves p G
   unfolding set_base_of
   set_base_of-keeps actor s level None may = search (goes-keeps)
   set_base_of-keeps actor s level (Some t) may =
-      raise_if-keeps moves actor (is_edf_base p t.base || is_edf_base p level) exception.Program _
+      raise_if-keeps (plain_steps moves) actor (is_edf_base p t.base || is_edf_base p level) exception.Program _
       (then-keeps (chains moves) (goes actor (next_of p s)) _ (search (goes-keeps)) (set_or_defer_base-keeps actor t.who level))
 
   pub set_priority-keeps : (name : Who) (s : StatementNo) (e : ExprNo) (task : Option ExprNo) → May name → Keeps G (Behind G) (set_priority p name s e task)
   unfolding set_priority
   set_priority-keeps name s e task may =
       looks-from (chains moves) _ (λ w good. let q = seen_by p w name in
-      given-from moves Own name (optional_task q task >>= must_be_task) _ w good (λ t.
-      given-from moves Own name (value q e >>= λ v. priority_in_range (interrupt_priority p) (whole_in v)) _ w good (λ level.
+      given-from (plain_steps moves) Own name (optional_task q task >>= must_be_task) _ w good (λ t.
+      given-from (plain_steps moves) Own name (value q e >>= λ v. priority_in_range (interrupt_priority p) (whole_in v)) _ w good (λ level.
       keeps-from (chains moves) _ w good
       (set_base_of-keeps name s level (found_task (who.Task t) w.tasks) may))))
 
@@ -118,8 +119,8 @@ module _ {p : Image} {G : GoodWorld} {May Other : Naming} (moves : FineMoves p G
   pub set_quantum-keeps : (name : Who) (s : StatementNo) (level quantum : ExprNo) → May name → Keeps G (Behind G) (set_quantum p name s level quantum)
   unfolding set_quantum
   set_quantum-keeps name s level quantum may =
-      sees-keeps (chains moves) p name _ (λ q. given-keeps moves Own name (value q level) _ (λ v. given-keeps moves Own name (moment q quantum) _ (λ n.
-      given-keeps moves Own name (priority_in_range p.policies.last_priority (whole_in v)) _ (λ l. given-keeps moves Own name (quantum_of p l n) _ (λ ticks.
+      sees-keeps (chains moves) p name _ (λ q. given-keeps (plain_steps moves) Own name (value q level) _ (λ v. given-keeps (plain_steps moves) Own name (moment q quantum) _ (λ n.
+      given-keeps (plain_steps moves) Own name (priority_in_range p.policies.last_priority (whole_in v)) _ (λ l. given-keeps (plain_steps moves) Own name (quantum_of p l n) _ (λ ticks.
       then-keeps (chains moves) (goes name (next_of p s)) _ (goes-keeps moves name (next_of p s) may) (set_level-keeps l ticks))))))
 
   pub defer_deadline-keeps : (name : Who) (d : ℤ) → Keeps G (Behind G) (defer_deadline name d)
@@ -134,8 +135,8 @@ module _ {p : Image} {G : GoodWorld} {May Other : Naming} (moves : FineMoves p G
   unfolding set_deadline_of
   set_deadline_of-keeps name s e task may =
       looks-from (chains moves) _ (λ w good. let q = seen_by p w name in
-      given_as-from moves Own name (optional_task q task >>= live_task w) _ w good (λ t is.
-      given-from moves Own name (moment q e) _ w good (λ d.
+      given_as-from (plain_steps moves) Own name (optional_task q task >>= live_task w) _ w good (λ t is.
+      given-from (plain_steps moves) Own name (moment q e) _ w good (λ d.
       keeps-from (chains moves) _ w good
       (then-keeps (chains moves) (goes name (next_of p s)) _ (search (goes-keeps)) (set_or_defer_deadline-keeps name t.who d)))))
 
@@ -146,4 +147,4 @@ module _ {p : Image} {G : GoodWorld} {May Other : Naming} (moves : FineMoves p G
 
   pub delay_and_set_deadline-keeps : (name : Who) (s : StatementNo) (until offset : ExprNo) → May name → Keeps G (Behind G) (delay_and_set_deadline p name s until offset)
   unfolding delay_and_set_deadline
-  delay_and_set_deadline-keeps name s until offset may = search (sees-keeps, raise_if-keeps, given-keeps, delay_with_deadline-keeps, chains) depth 7
+  delay_and_set_deadline-keeps name s until offset may = search (sees-keeps, raise_if-keeps, given-keeps, delay_with_deadline-keeps, chains, plain_steps) depth 8

@@ -37,14 +37,16 @@ use Rattle.machine_laws.proofs.FineMoves.{GoodWorld, Naming, nature}
 use Rattle.world_laws.proofs.Sequences.FineMoves.{FineMoves, Openings, Behind, chains, says-keeps}
 use Rattle.machine_laws.proofs.Kept.Entering.{entering-inside, entering-held, LetsIn-same, edit_task-objects}
 use Rattle.world_laws.proofs.Sequences.Kept.Dispatching.{to_tail-keeps}
-use Rattle.world_laws.proofs.Sequences.Kept.Frames.{goes_then-from, push-alters, raises-keeps, given-keeps, raise_if-keeps, with_room-keeps, edit_mark-alters}
+use Rattle.world_laws.proofs.Sequences.Kept.Frames.{goes_then-from, push-alters, edit_mark-alters, plain_steps}
 use Rattle.world_laws.proofs.Sequences.Kept.Scopes.{open_scope-alters}
 use Rattle.world_laws.proofs.Sequences.Kept.Inheritance.{inherit_running-keeps}
-use Rattle.world_laws.proofs.Sequences.Kept.Calls.{edit_call-alters, unqueued-alters}
-use Rattle.world_laws.proofs.Sequences.Kept.Subprograms.{begin_body-keeps, handing-keeps}
+use Rattle.world_laws.proofs.Sequences.Kept.Subprograms.{begin_body-keeps}
 use Rattle.profile_machine.specs.declared.world.marks.Mark.{Mark}
 use Rattle.profile_machine.specs.declared.world.marks.Mark.TheVariants.{Scope, Handled, InProtected, InAccept, Abortable, InInitialize, InFinalize, InAssign}
 use Rattle.machine_laws.proofs.Kept.Combinators.{Alters, From, Keeps, Kept, branch-keeps, changes-keeps, keeps-from, looks-from, looks-keeps, said-from, said-keeps, sees-keeps, then-from, then-keeps}
+use Rattle.machine_laws.proofs.Plain.Frames.{raises-keeps, given-keeps, raise_if-keeps, with_room-keeps}
+use Rattle.machine_laws.proofs.Plain.Calls.{edit_call-alters, unqueued-alters}
+use Rattle.machine_laws.proofs.Plain.Subprograms.{handing-keeps}
 
 -- the release of a protected action is not edited, nor what another mark is
 protected-nature : (f : ProtectedMark → ProtectedMark) → ((m : ProtectedMark) → (f m).release ≡ m.release) → (mark : Mark) → nature (edit_protected f mark) ≡ nature mark
@@ -64,8 +66,8 @@ module _ {p : Image} {G : GoodWorld} {May Other : Naming} (moves : FineMoves p G
       then-from (chains moves) (says Own (line.Held name o mode)) (to_tail p ThePlacing name) w (said-from (chains moves) Own (line.Held name o mode) w (moves.finds_held name o mode w good)) (to_tail-keeps moves ThePlacing name)
 
   enter_or-from : (name : Who) (o : ObjectNo) (mode : Mode) (step : Step) (w : World) (is : Entering) → G w → entering p w name o mode ≡ is → (LetsIn name o mode w → From (Behind G) w step) → From (Behind G) w (enter_or p name o mode step is)
-  enter_or-from name o mode step w entering_is.SameObject good e kept = keeps-from (chains moves) (raises Own name exception.Program) w good (raises-keeps moves Own name exception.Program)
-  enter_or-from name o mode step w entering_is.AboveCeiling good e kept = keeps-from (chains moves) (raises Own name exception.Program) w good (raises-keeps moves Own name exception.Program)
+  enter_or-from name o mode step w entering_is.SameObject good e kept = keeps-from (chains moves) (raises Own name exception.Program) w good (raises-keeps (plain_steps moves) Own name exception.Program)
+  enter_or-from name o mode step w entering_is.AboveCeiling good e kept = keeps-from (chains moves) (raises Own name exception.Program) w good (raises-keeps (plain_steps moves) Own name exception.Program)
   enter_or-from name o mode step w entering_is.Held good e kept = find_held-from name o mode w good (entering-held p w name o mode e)
   enter_or-from name o mode step w entering_is.Inside good e kept = kept (entering-inside p w name o mode e)
 
@@ -102,7 +104,7 @@ module _ {p : Image} {G : GoodWorld} {May Other : Naming} (moves : FineMoves p G
 
   pub begin_call-keeps : (part : Part) (name : Who) (c : Call) → Keeps G (Behind G) (begin_call p part name c)
   unfolding begin_call
-  begin_call-keeps part name c = search (changes-keeps, unqueued-alters, then-keeps, edit_call-alters, says-keeps, chains) depth 8
+  begin_call-keeps part name c = search (changes-keeps, unqueued-alters, then-keeps, edit_call-alters, says-keeps, chains, plain_steps) depth 9
 
 module _ {p : Image} {G : GoodWorld} {May Other : Naming} (moves : FineMoves p G May Other) (openings : Openings p G May Other) where
   pub begin_operation-from : (name : Who) (s : StatementNo) (f : SubprogramNo) (o : ObjectNo) (h : Handed) (to : ResultTo) (w : World) → G w → May name → LetsIn name o (mode_of (subprogram_of p f)) w → From (Behind G) w (begin_operation p name s f o h to)
@@ -117,20 +119,20 @@ module _ {p : Image} {G : GoodWorld} {May Other : Naming} (moves : FineMoves p G
 
   pub call_operation_of-keeps : (name : Who) (s : StatementNo) (f : SubprogramNo) (actuals : List Actual) (to : Destination) (o : ObjectNo) → May name → Keeps G (Behind G) (call_operation_of p name s f actuals to o)
   unfolding call_operation_of
-  call_operation_of-keeps name s f actuals to o may = search (looks-keeps, raise_if-keeps, with_room-keeps, handing-keeps, where_let_inside-keeps, begin_operation-from, chains) depth 10
+  call_operation_of-keeps name s f actuals to o may = search (looks-keeps, raise_if-keeps, with_room-keeps, handing-keeps, where_let_inside-keeps, begin_operation-from, chains, plain_steps) depth 11
 
   pub call_operation-keeps : (name : Who) (s : StatementNo) (d : DeclNo) (f : SubprogramNo) (actuals : List Actual) (to : Destination) → May name → Keeps G (Behind G) (call_operation p name s d f actuals to)
   unfolding call_operation
-  call_operation-keeps name s d f actuals to may = search (sees-keeps, given-keeps, call_operation_of-keeps, chains) depth 7
+  call_operation-keeps name s d f actuals to may = search (sees-keeps, given-keeps, call_operation_of-keeps, chains, plain_steps) depth 8
 
   pub begin_own_operation-keeps : (name : Who) (s : StatementNo) (f : SubprogramNo) (o : Option ObjectNo) (h : Handed) (to : ResultTo) → May name → Keeps G (Behind G) (begin_own_operation p name s f o h to)
   unfolding begin_own_operation
-  begin_own_operation-keeps name s f None h to may = search (raises-keeps)
+  begin_own_operation-keeps name s f None h to may = search (raises-keeps, plain_steps)
   begin_own_operation-keeps name s f (Some o) h to may = search (looks-keeps, begin_body-keeps, chains)
 
   pub call_own_operation-keeps : (name : Who) (s : StatementNo) (f : SubprogramNo) (actuals : List Actual) (to : Destination) → May name → Keeps G (Behind G) (call_own_operation p name s f actuals to)
   unfolding call_own_operation
-  call_own_operation-keeps name s f actuals to may = search (with_room-keeps, handing-keeps, sees-keeps, begin_own_operation-keeps, chains)
+  call_own_operation-keeps name s f actuals to may = search (with_room-keeps, handing-keeps, sees-keeps, begin_own_operation-keeps, chains, plain_steps)
 
   pub body_opens-keeps : (name : Who) (o : ObjectNo) (c : Call) → May name → Keeps G (Behind G) (body_opens p name o c)
   unfolding body_opens

@@ -17,7 +17,6 @@ use Rattle.profile_machine.specs.declared.run_data.Leaving.{Leaving}
 use Rattle.profile_machine.specs.declared.run_data.Leaving.TheVariants as how
 use Rattle.profile_machine.specs.declared.statements.SelectAlternative.{SelectAlternative}
 use Rattle.profile_machine.specs.declared.statements.SelectKind.{SelectKind}
-use Rattle.profile_machine.specs.declared.values.Value.{Value}
 use Rattle.profile_machine.specs.declared.world.World.{World}
 use Rattle.profile_machine.specs.declared.world.marks.Mark.{Mark}
 use Rattle.profile_machine.specs.declared.world.marks.AcceptMark.{AcceptMark}
@@ -36,19 +35,17 @@ use Rattle.profile_machine.specs.Steps.{Step, changes, ◌▷◌, looks}
 use Rattle.profile_machine.specs.Frames.{new_frame, pop, top_of, is_protected, in_protected, open_sequence, raises}
 use Rattle.profile_machine.specs.Scopes.{begin_scope, next_id, plainly, innermost, end_scope, cells_of, scope_in_use}
 use Rattle.profile_machine.specs.Appointments.{drop_delay}
-use Rattle.profile_machine.specs.Calls.{formals_count, parameters_of, edit_call, with_call, next_call, place_of_entry, enqueue}
-use Rattle.profile_machine.specs.Serving.{with_values}
+use Rattle.profile_machine.specs.Calls.{parameters_of, edit_call, with_call, next_call, place_of_entry, enqueue}
 use Rattle.profile_machine.specs.Rendezvous.{accept_scope, open_accept, has_room_for_accept, begin_accept, finish_without_room, accept_with_room, accept_call, meet_with_room, meet_without_room, meet, accept_or_wait, accept, accept_chosen, wait_at_select, appoint_delay, select_delay, select_wait, select_otherwise, select_by_call, select_open, selective_accept, gone_sent, meet_sent, arrive_at, arrive, finish_accept, finish_rendezvous, behind_accept, finished_call, end_in_accept, own_queue, open_alternatives, open_delays}
 use Rattle.std.proofs.Common.{◌≡◌, refl, inr}
 use Rattle.machine_laws.proofs.FineMoves.{GoodWorld, Naming}
 use Rattle.world_laws.proofs.Sequences.FineMoves.{FineMoves, Openings, Behind, Loosens, Again, chains, says-keeps}
 use Rattle.world_laws.proofs.Sequences.Kept.Combinators.{narrow-turns, then-turns}
 use Rattle.world_laws.proofs.Sequences.Kept.Dispatching.{ready-keeps, block-keeps, blocked-keeps}
-use Rattle.world_laws.proofs.Sequences.Kept.Frames.{goes-keeps, raises-keeps, pass_on-keeps, raise_if-keeps, goes_then-from, popped, given-from, raise_if-from}
+use Rattle.world_laws.proofs.Sequences.Kept.Frames.{goes-keeps, goes_then-from, popped, plain_steps}
 use Rattle.world_laws.proofs.Sequences.Kept.Scopes.{end_scope-alters}
 use Rattle.world_laws.proofs.Sequences.Kept.Inheritance.{inherit-alters, inherit_running-keeps, lose_running-keeps}
 use Rattle.world_laws.proofs.Sequences.Kept.Appointments.{appoint-from, drop_delay-alters}
-use Rattle.world_laws.proofs.Sequences.Kept.Calls.{edit_call-alters, with_call-keeps, enqueue-keeps}
 use Rattle.world_laws.proofs.Sequences.Kept.CallEnds.{deliver-keeps, gone-keeps}
 use Rattle.world_laws.proofs.Sequences.Kept.Protected.{begin_call-keeps}
 use Rattle.world_laws.proofs.Sequences.Kept.Sending.{send_on-keeps, begin_abortable-keeps, sent_not_begun-keeps}
@@ -56,9 +53,10 @@ use Rattle.profile_machine.specs.Values.{seen_by}
 use Rattle.profile_machine.specs.Inheritance.{lose_running, inherit}
 use Rattle.profile_machine.specs.declared.world.marks.Frame.{Frame}
 use Rattle.profile_machine.specs.declared.world.lines.Part.TheVariants.{Own, TheFinish}
-use Rattle.machine_laws.proofs.Kept.Serving.{keeps_sending-number}
-use Rattle.line_laws.proofs.Leaving.Kept.Serving.{keeps_sending-caller}
 use Rattle.machine_laws.proofs.Kept.Combinators.{Alters, From, Keeps, branch-keeps, changes-keeps, changes_then-from, for_some-keeps, keeps-from, looks-from, looks-keeps, looks_at-from, nothing-keeps, then-from, then-keeps, unchanged-alters}
+use Rattle.machine_laws.proofs.Plain.Frames.{raises-keeps, pass_on-keeps, raise_if-keeps, given-from, raise_if-from}
+use Rattle.machine_laws.proofs.Plain.Calls.{edit_call-alters, with_call-keeps, enqueue-keeps}
+use Rattle.machine_laws.proofs.Plain.Results.{finished_call-number, finished_call-caller}
 
 module _ {p : Image} {G : GoodWorld} {May Other : Naming} (moves : FineMoves p G May Other) where
   open_accept-alters : (name : Who) (s : StatementNo) (c : Call) → Other name → May name → Alters G (Behind G) (open_accept p name s c)
@@ -87,16 +85,10 @@ module _ {p : Image} {G : GoodWorld} {May Other : Naming} (moves : FineMoves p G
   unfolding behind_accept
   behind_accept-keeps name how.End may = search (nothing-keeps, chains)
   behind_accept-keeps name how.Return may = search (nothing-keeps, chains)
-  behind_accept-keeps name (how.Exit loop) may = search (pass_on-keeps)
-  behind_accept-keeps name (how.Exception e) may = search (pass_on-keeps)
-  behind_accept-keeps name how.Abort may = search (pass_on-keeps)
-  behind_accept-keeps name how.Terminate may = search (pass_on-keeps)
-
-  finished_call-number : (cells : List Value) (leaving : Leaving) (c : Call) → (finished_call p cells leaving c).number ≡ c.number
-  finished_call-number cells leaving c = keeps_sending-number leaving (with_values cells (formals_count p c) c)
-
-  finished_call-caller : (cells : List Value) (leaving : Leaving) (c : Call) → (finished_call p cells leaving c).caller ≡ c.caller
-  finished_call-caller cells leaving c = keeps_sending-caller leaving (with_values cells (formals_count p c) c)
+  behind_accept-keeps name (how.Exit loop) may = search (pass_on-keeps, plain_steps)
+  behind_accept-keeps name (how.Exception e) may = search (pass_on-keeps, plain_steps)
+  behind_accept-keeps name how.Abort may = search (pass_on-keeps, plain_steps)
+  behind_accept-keeps name how.Terminate may = search (pass_on-keeps, plain_steps)
 
 module _ {p : Image} {G : GoodWorld} {May Other : Naming} (moves : FineMoves p G May Other) (loose : Loosens p G May Other) where
   pub meet_with_room-keeps : (part : Part) (name : Who) (s : StatementNo) (c : Call) (then_ : Step) → Other name → Keeps G (Behind G) then_ → Keeps G (Behind G) (meet_with_room p part name s c then_)
@@ -133,7 +125,7 @@ module _ {p : Image} {G : GoodWorld} {May Other : Naming} (moves : FineMoves p G
       let other = moves.task_other t in
       meet-keeps moves loose TheFinish (who.Task t) s c (begin_abortable p c.number) (deliver p TheFinish c.number (call_ended.ToRaise exception.Storage)) other
       (begin_abortable-keeps moves loose c.number) (deliver-keeps (loose (who.Task t) other).moves (again (who.Task t) other) TheFinish c.number (call_ended.ToRaise exception.Storage))
-  meet_sent-keeps t c None = then-keeps (chains moves) (enqueue p c.number) (sent_not_begun p c.number) (enqueue-keeps moves c.number) (sent_not_begun-keeps moves loose c.number)
+  meet_sent-keeps t c None = then-keeps (chains moves) (enqueue p c.number) (sent_not_begun p c.number) (enqueue-keeps (plain_steps moves) p c.number) (sent_not_begun-keeps moves loose c.number)
 
   pub arrive_at-keeps : (t : TaskNo) (c : Call) (test : Bool) → Keeps G (Behind G) (arrive_at p t c test)
   unfolding arrive_at
@@ -148,7 +140,7 @@ module _ {p : Image} {G : GoodWorld} {May Other : Naming} (moves : FineMoves p G
   pub finish_accept-keeps : (name : Who) (c : Call) (sending : Option Sending) → Keeps G (Behind G) (finish_accept p name c sending)
   unfolding finish_accept
   finish_accept-keeps name c None = search (says-keeps, then-keeps, deliver-keeps, chains)
-  finish_accept-keeps name c (Some s) = search (says-keeps, then-keeps, send_on-keeps, with_call-keeps, arrive-keeps, chains)
+  finish_accept-keeps name c (Some s) = search (says-keeps, then-keeps, send_on-keeps, with_call-keeps, arrive-keeps, chains, plain_steps)
 
   pub finish_rendezvous-keeps : (name : Who) (c : Call) (leaving : Leaving) → Keeps G (Behind G) (finish_rendezvous p name c leaving)
   unfolding finish_rendezvous
@@ -164,7 +156,7 @@ module _ {p : Image} {G : GoodWorld} {May Other : Naming} (moves : FineMoves p G
   accept_ends-from name m leaving f w good may top free =
       let out = popped moves name f w good may top free in
       looks_at-from (chains moves) (λ v. changes (pop name) ▷ changes (end_scope m.within) ▷ changes (edit_call m.call (finished_call p (cells_of (scope_in_use v m.within)) leaving)) ▷ with_call m.call (λ c. finish_rendezvous p name c leaving)) w (changes_then-from (chains moves) (pop name) _ w out (keeps-from (chains moves) (changes (end_scope m.within) ▷ changes (edit_call m.call (finished_call p (cells_of (scope_in_use w m.within)) leaving)) ▷ with_call m.call (λ c. finish_rendezvous p name c leaving)) (pop name w) (moves.behind w (pop name w) out)
-      (search (changes-keeps, then-keeps, end_scope-alters, edit_call-alters, with_call-keeps, finish_rendezvous-keeps, finished_call-number, finished_call-caller, chains) depth 9)))
+      (search (changes-keeps, then-keeps, end_scope-alters, edit_call-alters, with_call-keeps, finish_rendezvous-keeps, finished_call-number, finished_call-caller, chains, plain_steps) depth 10)))
 
   pub end_in_accept-from : (name : Who) (m : AcceptMark) (leaving : Leaving) (f : Frame) (w : World) → G w → May name → top_of w name ≡ Some f → is_protected f.mark ≡ false → From (Behind G) w (end_in_accept p name m leaving)
   unfolding end_in_accept
@@ -175,11 +167,11 @@ module _ {p : Image} {G : GoodWorld} {May Other : Naming} (moves : FineMoves p G
   accept_with_room-keeps : (name : Who) (s : StatementNo) (c : Call) (has_room : Bool) → Other name → May name → Keeps G (Behind G) (accept_with_room p name s c has_room)
   unfolding accept_with_room
   accept_with_room-keeps name s c true other may = search (changes-keeps, open_accept-alters, then-keeps, inherit_running-keeps, chains)
-  accept_with_room-keeps name s c false other may = search (finish_without_room-keeps, then-keeps, deliver-keeps, raises-keeps, chains)
+  accept_with_room-keeps name s c false other may = search (finish_without_room-keeps, then-keeps, deliver-keeps, raises-keeps, chains, plain_steps)
 
   pub accept_call-keeps : (name : Who) (s : StatementNo) (c : CallNo) → Other name → May name → Keeps G (Behind G) (accept_call p name s c)
   unfolding accept_call
-  accept_call-keeps name s c other may = search (with_call-keeps, begin_accept-keeps, then-keeps, looks-keeps, accept_with_room-keeps, chains) depth 7
+  accept_call-keeps name s c other may = search (with_call-keeps, begin_accept-keeps, then-keeps, looks-keeps, accept_with_room-keeps, chains, plain_steps) depth 8
 
   pub accept_or_wait-keeps : (name : Who) (s : StatementNo) (c : Option CallNo) → Other name → May name → Keeps G (Behind G) (accept_or_wait p name s c)
   unfolding accept_or_wait
@@ -188,7 +180,7 @@ module _ {p : Image} {G : GoodWorld} {May Other : Naming} (moves : FineMoves p G
 
   pub accept_chosen-keeps : (name : Who) (accepts : List StatementNo) (c : CallNo) → Other name → May name → Keeps G (Behind G) (accept_chosen p name accepts c)
   unfolding accept_chosen
-  accept_chosen-keeps name accepts c other may = search (with_call-keeps, for_some-keeps, accept_call-keeps, chains)
+  accept_chosen-keeps name accepts c other may = search (with_call-keeps, for_some-keeps, accept_call-keeps, chains, plain_steps)
 
   pub wait_at_select-keeps : (name : Who) (accepts : List StatementNo) (delay : Option StatementNo) (test : Bool) → Other name → Keeps G (Behind G) (wait_at_select name accepts delay test)
   unfolding wait_at_select
@@ -221,19 +213,19 @@ module _ {p : Image} {G : GoodWorld} {May Other : Naming} (moves : FineMoves p G
 
   pub select_open-keeps : (name : Who) (s : StatementNo) (otherwise : Option StatementNo) (kinds : List SelectKind) (moments : List DelayMoment) → Other name → May name → Keeps G (Behind G) (select_open p name s otherwise kinds moments)
   unfolding select_open
-  select_open-keeps name s otherwise kinds moments other may = search (raise_if-keeps, looks-keeps, select_by_call-keeps, chains)
+  select_open-keeps name s otherwise kinds moments other may = search (raise_if-keeps, looks-keeps, select_by_call-keeps, chains, plain_steps)
 
   pub accept-keeps : (name : Who) (s : StatementNo) (e : EntryNo) → May name → Keeps G (Behind G) (accept p name s e)
   unfolding accept
   accept-keeps name s e may =
-      looks-from (chains moves) _ (λ w good. raise_if-from moves name (in_protected w name) exception.Program _ w good
+      looks-from (chains moves) _ (λ w good. raise_if-from (plain_steps moves) name (in_protected w name) exception.Program _ w good
       (λ free. keeps-from (chains moves) _ w good (accept_or_wait-keeps name s (next_call p w (own_queue w name (place_of_entry p e) ∷ [])) (openings.outside name w good may free) may)))
 
   pub selective_accept-keeps : (name : Who) (s : StatementNo) (alternatives : List SelectAlternative) (otherwise : Option StatementNo) → May name → Keeps G (Behind G) (selective_accept p name s alternatives otherwise)
   unfolding selective_accept
   selective_accept-keeps name s alternatives otherwise may =
-      looks-from (chains moves) _ (λ w good. raise_if-from moves name (in_protected w name) exception.Program _ w good
+      looks-from (chains moves) _ (λ w good. raise_if-from (plain_steps moves) name (in_protected w name) exception.Program _ w good
       (λ free. let other = openings.outside name w good may free in
-      given-from moves Own name (open_alternatives (seen_by p w name) alternatives) _ w good (λ kinds.
-      given-from moves Own name (open_delays (seen_by p w name) kinds) _ w good (λ moments.
+      given-from (plain_steps moves) Own name (open_alternatives (seen_by p w name) alternatives) _ w good (λ kinds.
+      given-from (plain_steps moves) Own name (open_delays (seen_by p w name) kinds) _ w good (λ moments.
       keeps-from (chains moves) _ w good (select_open-keeps name s otherwise kinds moments other may)))))

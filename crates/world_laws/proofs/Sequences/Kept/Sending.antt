@@ -23,12 +23,14 @@ use Rattle.profile_machine.specs.Sending.{open_abortable, is_not_future, is_cond
 use Rattle.machine_laws.proofs.FineMoves.{GoodWorld, Naming}
 use Rattle.world_laws.proofs.Sequences.FineMoves.{FineMoves, Behind, Openings, Loosens, chains, says-keeps}
 use Rattle.world_laws.proofs.Sequences.Kept.Dispatching.{block-keeps, ready-from}
-use Rattle.world_laws.proofs.Sequences.Kept.Calls.{edit_call-alters, with_call-keeps, says_call-keeps, unqueued-alters, attempt_with-keeps}
-use Rattle.world_laws.proofs.Sequences.Kept.CallEnds.{resume-keeps, deliver-keeps}
+use Rattle.world_laws.proofs.Sequences.Kept.CallEnds.{deliver-keeps}
 use Rattle.profile_machine.specs.Program.{form_of}
 use Rattle.profile_machine.specs.Frames.{new_frame, push}
 use Rattle.machine_laws.proofs.Kept.Sending.{last_is_false}
 use Rattle.machine_laws.proofs.Kept.Combinators.{Alters, From, Keeps, changes-from, changes-keeps, changes_then-from, from-keeps, keeps-from, looks-from, looks-keeps, nothing-keeps, then-from, then-keeps, unchanged-alters, when-keeps}
+use Rattle.machine_laws.proofs.Plain.Calls.{edit_call-alters, with_call-keeps, says_call-keeps, unqueued-alters, attempt_with-keeps}
+use Rattle.machine_laws.proofs.Plain.Results.{resume-keeps}
+use Rattle.world_laws.proofs.Sequences.Kept.Frames.{plain_steps}
 
 -- of a test that fails, unless the first part is why
 
@@ -39,7 +41,7 @@ module _ {p : Image} {G : GoodWorld} {May Other : Naming} (moves : FineMoves p G
 
   pub cancel_at_once-keeps : (part : Part) (c : Call) → May (who.Task c.caller) → Keeps G (Behind G) (cancel_at_once p part c)
   unfolding cancel_at_once
-  cancel_at_once-keeps part c may = search (attempt_with-keeps, resume-keeps, nothing-keeps, chains)
+  cancel_at_once-keeps part c may = search (attempt_with-keeps, resume-keeps, nothing-keeps, chains, plain_steps)
 
   appoint_timeout-from : (p : Image) (c : CallNo) (moment : Option ℤ) (w : World) → G w → is_not_future w.time moment ≡ false → From (Behind G) w (changes (appoint_timeout p c moment))
   appoint_timeout-from p c None w good later = keeps-from (chains moves) (changes (λ v. v)) w good (changes-keeps (chains moves) (λ v. v) (unchanged-alters (chains moves)))
@@ -50,7 +52,7 @@ module _ {p : Image} {G : GoodWorld} {May Other : Naming} (moves : FineMoves p G
 
   pub send_on-keeps : (c : CallNo) (s : Sending) → Keeps G (Behind G) (send_on c s)
   unfolding send_on
-  send_on-keeps c s = search (changes-keeps, edit_call-alters, then-keeps, with_call-keeps, says_call-keeps, chains)
+  send_on-keeps c s = search (changes-keeps, edit_call-alters, then-keeps, with_call-keeps, says_call-keeps, chains, plain_steps)
 
 module _ {p : Image} {G : GoodWorld} {May Other : Naming} (moves : FineMoves p G May Other) (openings : Openings p G May Other) where
   pub wait_for_call-keeps : (c : Call) → Keeps G (Behind G) (wait_for_call c)
@@ -73,7 +75,7 @@ module _ {p : Image} {G : GoodWorld} {May Other : Naming} (moves : FineMoves p G
 module _ {p : Image} {G : GoodWorld} {May Other : Naming} (moves : FineMoves p G May Other) (loose : Loosens p G May Other) where
   pub cancel_sent-keeps : (c : Call) → Keeps G (Behind G) (cancel_sent p c)
   unfolding cancel_sent
-  cancel_sent-keeps c = search (changes-keeps, unqueued-alters, then-keeps, says-keeps, deliver-keeps, chains) depth 7
+  cancel_sent-keeps c = search (changes-keeps, unqueued-alters, then-keeps, says-keeps, deliver-keeps, chains, plain_steps) depth 8
 
   -- its abortable part begins plainly, so the caller may be ready
   part_begins-keeps : (d : Call) → Keeps G (Behind G) (changes (open_abortable p (who.Task d.caller) d.statement (Some d.number)) ▷ ready p TheFinish (who.Task d.caller))
@@ -88,7 +90,7 @@ module _ {p : Image} {G : GoodWorld} {May Other : Naming} (moves : FineMoves p G
 
   pub begin_abortable-keeps : (c : CallNo) → Keeps G (Behind G) (begin_abortable p c)
   unfolding begin_abortable
-  begin_abortable-keeps c = with_call-keeps moves c _ (λ d. looks-keeps (chains moves) _ (λ w. when-keeps (chains moves) (may_begin_abortable w d) _ (part_begins-keeps d)))
+  begin_abortable-keeps c = with_call-keeps (plain_steps moves) c _ (λ d. looks-keeps (chains moves) _ (λ w. when-keeps (chains moves) (may_begin_abortable w d) _ (part_begins-keeps d)))
 
   unless_firm-from : (p : Image) (firm : Bool) (c : Call) (w : World) → G w → (firm ≡ false → is_not_future w.time c.moment ≡ false) → From (Behind G) w (changes (cond firm (λ v. v) (appoint_timeout p c.number c.moment)))
   unless_firm-from p true c w good later = keeps-from (chains moves) (changes (λ v. v)) w good (changes-keeps (chains moves) (λ v. v) (unchanged-alters (chains moves)))
@@ -104,4 +106,4 @@ module _ {p : Image} {G : GoodWorld} {May Other : Naming} (moves : FineMoves p G
 
   pub sent_not_begun-keeps : (c : CallNo) → Keeps G (Behind G) (sent_not_begun p c)
   unfolding sent_not_begun
-  sent_not_begun-keeps c = with_call-keeps moves c _ (λ d. looks-from (chains moves) _ (λ w good. sent_not_begun_by-from d (is_to_be_cancelled w.time d) w good refl))
+  sent_not_begun-keeps c = with_call-keeps (plain_steps moves) c _ (λ d. looks-from (chains moves) _ (λ w good. sent_not_begun_by-from d (is_to_be_cancelled w.time d) w good refl))

@@ -9,7 +9,7 @@ use Rattle.profile_machine.specs.Unwinding.{may_unwind}
 use Rattle.profile_machine.specs.Calls.{parameters_of, enqueue, forget_call, call_of}
 use Rattle.profile_machine.specs.declared.world.tasks.State.TheVariants.{Blocked}
 use Rattle.profile_machine.specs.Tasks.{edit_task, with_state}
-use Rattle.std.specs.Prelude.{ℕ, zero, suc, Bool, true, false, List, Option, Some, None, length}
+use Rattle.std.specs.Prelude.{ℕ, zero, suc, Bool, true, false, Option, Some, None, length}
 use Rattle.ann_base.specs.declared.identities.CallNo.{CallNo}
 use Rattle.ann_base.specs.declared.exceptions.Raised.{Raised}
 use Rattle.ann_base.specs.declared.exceptions.Raised.TheVariants as exception
@@ -19,7 +19,6 @@ use Rattle.trace_text.specs.declared.events.Who.{Who}
 use Rattle.profile_machine.specs.declared.image.Image.{Image}
 use Rattle.profile_machine.specs.declared.run_data.Leaving.{Leaving}
 use Rattle.profile_machine.specs.declared.run_data.Leaving.TheVariants as how
-use Rattle.profile_machine.specs.declared.values.Value.{Value}
 use Rattle.profile_machine.specs.declared.world.World.{World}
 use Rattle.profile_machine.specs.declared.world.marks.ProtectedMark.{ProtectedMark}
 use Rattle.profile_machine.specs.declared.world.calls.Call.{Call}
@@ -40,22 +39,23 @@ use Rattle.profile_machine.specs.Dispatching.{block, says_block, word_of, withou
 use Rattle.profile_machine.specs.Steps.{Step, says, changes, ◌▷◌}
 use Rattle.profile_machine.specs.Protected.{served_next, is_action_of, body_scope_of, body_of_object, has_room_for_body, begin_call, edit_top_protected, body_opens, serve_call}
 use Rattle.profile_machine.specs.Values.{object_of}
-use Rattle.profile_machine.specs.Serving.{serves_nothing, is_served_now, serve_ends, end_release, close_action, wait_or_unwind, wait_for_own, resume_own, behind_action, release_object, settle_sent, begins_part, chosen_is_sent, serve_chosen, serve_next, serve_calls, go_on_by_mode, end_operation, finish_raised, finish_well, finish_call, end_entry_body, end_in_protected_by, end_in_protected, keep_values, end_body_of_entry, part_of_start, not_left, outcome_by, is_own_call, may_open_abortable, with_body_left, no_longer_serves}
+use Rattle.profile_machine.specs.Serving.{serves_nothing, is_served_now, serve_ends, end_release, close_action, wait_or_unwind, wait_for_own, resume_own, behind_action, release_object, settle_sent, begins_part, chosen_is_sent, serve_chosen, serve_next, serve_calls, go_on_by_mode, end_operation, finish_raised, finish_well, finish_call, end_entry_body, end_in_protected_by, end_in_protected, part_of_start, not_left, outcome_by, is_own_call, may_open_abortable, with_body_left, no_longer_serves}
 use Rattle.std.proofs.Common.{◌≡◌, refl, sym, inl, ◌∙◌}
 use Rattle.machine_laws.proofs.Moves.{own}
 use Rattle.machine_laws.proofs.FineMoves.{GoodWorld, Naming}
 use Rattle.world_laws.proofs.Sequences.FineMoves.{FineMoves, Openings, Behind, Loosens, Ending, chains, says-keeps}
 use Rattle.world_laws.proofs.Sequences.Kept.Combinators.{Turns, then-turns, wide-turns, changes-turns, looks-turns, turns-from, when-turns, says-turns, with_call-turns, branch-turns}
-use Rattle.world_laws.proofs.Sequences.Kept.Frames.{edit_top-alters, leaves-keeps, pass_on-keeps}
+use Rattle.world_laws.proofs.Sequences.Kept.Frames.{edit_top-alters, leaves-keeps, plain_steps}
 use Rattle.world_laws.proofs.Sequences.Kept.Inheritance.{lose_running-keeps}
-use Rattle.world_laws.proofs.Sequences.Kept.Calls.{edit_call-alters, forget_call-alters, with_call-keeps, enqueue-keeps, attempt_with-keeps, with_call_known-keeps}
-use Rattle.world_laws.proofs.Sequences.Kept.CallEnds.{resume-keeps, deliver-keeps, resume-keeps}
+use Rattle.world_laws.proofs.Sequences.Kept.Calls.{with_call_known-keeps}
+use Rattle.world_laws.proofs.Sequences.Kept.CallEnds.{deliver-keeps}
 use Rattle.world_laws.proofs.Sequences.Kept.Protected.{edit_top_protected-alters, begin_call-keeps}
 use Rattle.world_laws.proofs.Sequences.Kept.Priorities.{set_deferred-keeps}
 use Rattle.world_laws.proofs.Sequences.Kept.Sending.{open_abortable-alters, wait_for_call-keeps, send_on-keeps, begin_abortable-keeps, sent_not_begun-keeps}
-use Rattle.machine_laws.proofs.Kept.Serving.{keeps_sending-number}
-use Rattle.line_laws.proofs.Leaving.Kept.Serving.{keeps_sending-caller}
 use Rattle.machine_laws.proofs.Kept.Combinators.{Alters, Keeps, changes-keeps, looks-keeps, nothing-keeps, said-keeps, then-keeps}
+use Rattle.machine_laws.proofs.Plain.Frames.{pass_on-keeps}
+use Rattle.machine_laws.proofs.Plain.Calls.{forget_call-alters, enqueue-keeps, attempt_with-keeps}
+use Rattle.machine_laws.proofs.Plain.Results.{resume-keeps}
 
 -- ---- where nothing else is served
 
@@ -63,7 +63,7 @@ module _ {p : Image} {G : GoodWorld} {May Other : Naming} (moves : FineMoves p G
   wait_or_unwind-keeps : (name : Who) (c : Call) (test : Bool) → Keeps G (Behind G) (wait_or_unwind p name c test)
   unfolding wait_or_unwind
   wait_or_unwind-keeps name c true =
-      attempt_with-keeps moves Own c _ (wait_for_call c) (then-keeps (chains moves) (changes (forget_call c.number)) (leaves name how.Abort) (changes-keeps (chains moves) _ (forget_call-alters moves c.number)) (leaves-keeps moves name how.Abort)) (wait_for_call-keeps moves openings c)
+      attempt_with-keeps (plain_steps moves) p Own c _ (wait_for_call c) (then-keeps (chains moves) (changes (forget_call c.number)) (leaves name how.Abort) (changes-keeps (chains moves) _ (forget_call-alters (plain_steps moves) c.number)) (leaves-keeps moves name how.Abort)) (wait_for_call-keeps moves openings c)
   wait_or_unwind-keeps name c false = wait_for_call-keeps moves openings c
 
   wait_for_own-keeps : (name : Who) (c : Call) (test : Bool) → Keeps G (Behind G) (wait_for_own p name c test)
@@ -73,12 +73,12 @@ module _ {p : Image} {G : GoodWorld} {May Other : Naming} (moves : FineMoves p G
 
   resume_own-keeps : (name : Who) (c : Call) (outcome : Option Outcome) → May (who.Task c.caller) → Keeps G (Behind G) (resume_own p name c outcome)
   unfolding resume_own
-  resume_own-keeps name c (Some outcome) may = resume-keeps moves TheBlock c outcome may
+  resume_own-keeps name c (Some outcome) may = resume-keeps (plain_steps moves) p TheBlock c outcome may
   resume_own-keeps name c None may = looks-keeps (chains moves) _ (λ w. wait_for_own-keeps name c (may_open_abortable w name c))
 
   pub behind_task_action-keeps : (name : Who) (m : ProtectedMark) (own_call : Option CallNo) → May name → ((c : CallNo) → own_call ≡ Some c → (w : World) → G w → (d : Call) → call_of w c ≡ Some d → May (who.Task d.caller)) → Keeps G (Behind G) (behind_action p name m None own_call)
   unfolding behind_action
-  behind_task_action-keeps name m None may knows = pass_on-keeps moves name m.body_left may
+  behind_task_action-keeps name m None may knows = pass_on-keeps (plain_steps moves) p name m.body_left may
   behind_task_action-keeps name m (Some c) may knows = with_call_known-keeps moves c _ (λ w good d is. resume_own-keeps name d d.outcome (knows c refl w good d is))
 
 module _ {p : Image} {G : GoodWorld} {May Other : Naming} (moves : FineMoves p G May Other) where
@@ -201,7 +201,7 @@ module _ {p : Image} {Other : Naming} {name : Who} {release : Option ℕ} {own_c
   finish_well-turns m c (Some s) is =
       then-turns e.S e.S e.Y (says TheFinish (line.Finish name c.number meeting.Requeue)) _ (says-keeps e.serving TheFinish (line.Finish name c.number meeting.Requeue) refl)
       (then-turns e.S e.S e.Y (send_on c.number s) _ (send_on-keeps e.serving c.number s)
-      (then-turns e.S e.S e.Y (enqueue p c.number) _ (enqueue-keeps e.serving c.number) (serve_calls-turns m (Some c.number) is)))
+      (then-turns e.S e.S e.Y (enqueue p c.number) _ (enqueue-keeps (plain_steps e.serving) p c.number) (serve_calls-turns m (Some c.number) is)))
 
   finish_call-turns : (m : ProtectedMark) (leaving : Leaving) (c : Call) → (m.release ≡ release) × (m.own_call ≡ own_call) → Turns e.S e.Y (finish_call p name m leaving c)
   unfolding finish_call
@@ -228,12 +228,3 @@ module _ {p : Image} {Other : Naming} {name : Who} {release : Option ℕ} {own_c
   end_in_protected-turns m leaving is = end_in_protected_by-turns m leaving m.serves is
 
 -- ---- the scope of an entry body has ended
-
-module _ {p : Image} {G : GoodWorld} {May Other : Naming} (moves : FineMoves p G May Other) where
-  pub keep_values-keeps : (c : CallNo) (cells : List Value) → Keeps G (Behind G) (keep_values p c cells)
-  unfolding keep_values
-  keep_values-keeps c cells = search (with_call-keeps, changes-keeps, edit_call-alters, chains)
-
-  pub end_body_of_entry-keeps : (c : CallNo) (cells : List Value) (leaving : Leaving) → Keeps G (Behind G) (end_body_of_entry p c cells leaving)
-  unfolding end_body_of_entry
-  end_body_of_entry-keeps c cells leaving = search (changes-keeps, edit_call-alters, then-keeps, keep_values-keeps, keeps_sending-number, keeps_sending-caller, chains)

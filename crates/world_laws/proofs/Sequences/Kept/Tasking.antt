@@ -43,16 +43,13 @@ use Rattle.profile_machine.specs.Values.{seen_by}
 use Rattle.machine_laws.proofs.FineMoves.{GoodWorld, Naming, EachIs, first_is_false, edit_task-drawn}
 use Rattle.world_laws.proofs.Sequences.FineMoves.{FineMoves, Openings, Behind, Loosens, Departing, Fitting, AllFitting, chains, says-keeps}
 use Rattle.world_laws.proofs.Sequences.Kept.Combinators.{then-turns, changes-turns, looks-turns, turns-from, when-turns, says-turns, wide-from, Turns}
-use Rattle.world_laws.proofs.Sequences.Kept.Frames.{raise_if-from, given-from, edit_top-alters, goes-keeps, raises-keeps, pass_on-keeps, given-keeps, raise_if-keeps, popped, goes_then-from}
+use Rattle.world_laws.proofs.Sequences.Kept.Frames.{edit_top-alters, goes-keeps, popped, goes_then-from, plain_steps}
 use Rattle.world_laws.proofs.Sequences.Kept.Tasks.{edit_task-alters}
 use Rattle.world_laws.proofs.Sequences.Kept.Dispatching.{to_head-keeps, says_block-keeps, block-keeps, ready-from}
 use Rattle.world_laws.proofs.Sequences.Kept.Scopes.{end_scope-alters}
 use Rattle.world_laws.proofs.Sequences.Kept.Unwinding.{strike_outermost-alters, unwind-keeps}
 use Rattle.world_laws.proofs.Sequences.Kept.Masters.{end_activation-keeps, complete-keeps, terminate-keeps, leave_by_terminate-keeps}
-use Rattle.world_laws.proofs.Sequences.Kept.Subprograms.{end_subprogram-keeps}
-use Rattle.world_laws.proofs.Sequences.Kept.Serving.{end_body_of_entry-keeps}
 use Rattle.world_laws.proofs.Sequences.Kept.Controlled.{edit_top_scope-alters, finalize-keeps}
-use Rattle.world_laws.proofs.Sequences.Kept.Declarations.{set_thing-alters}
 use Rattle.ann_base.specs.declared.identities.TaskNo.{TaskNo}
 use Rattle.profile_machine.specs.declared.world.marks.Frame.{Frame}
 use Rattle.profile_machine.specs.declared.world.marks.Mark.TheVariants.{Scope}
@@ -62,6 +59,10 @@ use Rattle.profile_machine.specs.Dispatching.{active_of, block, says_block, word
 use Rattle.profile_machine.specs.Unwinding.{any_struck}
 use Rattle.profile_machine.specs.Masters.{has_dependents, may_terminate, leave_by_terminate, has_activating}
 use Rattle.machine_laws.proofs.Kept.Combinators.{Alters, From, Keeps, branch-keeps, changes-keeps, changes_then-from, cond-keeps, for_each-keeps, for_each_task-keeps, for_some-keeps, keeps-from, listed-keeps, looks-from, looks-keeps, looks_at-from, nothing-keeps, sees-keeps, some_of-others, then-keeps, when-keeps}
+use Rattle.machine_laws.proofs.Plain.Frames.{raise_if-from, given-from, raises-keeps, pass_on-keeps, given-keeps, raise_if-keeps}
+use Rattle.machine_laws.proofs.Plain.Subprograms.{end_subprogram-keeps}
+use Rattle.machine_laws.proofs.Plain.Results.{end_body_of_entry-keeps}
+use Rattle.machine_laws.proofs.Plain.Declarations.{set_thing-alters}
 
 made-so : (s : State) (b : Bool) → is_made_state s ≡ b → b ≡ true → s ≡ Made
 made-so Made b is e = refl
@@ -88,7 +89,7 @@ module _ {p : Image} {G : GoodWorld} {May Other : Naming} (moves : FineMoves p G
       goes_then-from moves name (next_of p s) _ w good (λ good_onward.
       let added = moves.adds_task t gone good_onward (same_who ∙ ap (λ d. who.Task (record { 0 = d.tasks })) (sym (edit_task-drawn name (λ u. with_frames (edit_first (goes_on (next_of p s)) u.frames) u) w))) none made fit in
       changes_then-from (chains moves) (add_task t) _ gone added (keeps-from (chains moves) (for_some id (name_task p d) ▷ says_created d t) (add_task t gone) added
-      (search (then-keeps, for_some-keeps, looks-keeps, changes-keeps, set_thing-alters, says_created-keeps, chains) depth 9))) may
+      (search (then-keeps, for_some-keeps, looks-keeps, changes-keeps, set_thing-alters, says_created-keeps, chains, plain_steps) depth 10))) may
 
   pub fall_from-keeps : (name : Who) (before : World) → Keeps G (Behind G) (fall_from p name before)
   unfolding fall_from
@@ -104,7 +105,7 @@ module _ {p : Image} {G : GoodWorld} {May Other : Naming} (moves : FineMoves p G
   end_environment-alters leaving w good = moves.ends_environment leaving w good
 
   pub end_body-keeps : (name : Who) (leaving : Leaving) (normally : Step) → Keeps G (Behind G) normally → May name → Keeps G (Behind G) (end_body p name leaving normally)
-  end_body-keeps name leaving normally kept may = branch-keeps (chains moves) (is_normal leaving) normally (pass_on p name leaving) (search) (search (pass_on-keeps))
+  end_body-keeps name leaving normally kept may = branch-keeps (chains moves) (is_normal leaving) normally (pass_on p name leaving) (search) (search (pass_on-keeps, plain_steps))
 
   pub says_left-keeps : (name : Who) (m : ScopeMark) (leaving : Leaving) → Keeps G (Behind G) (says_left name m leaving)
   unfolding says_left
@@ -144,9 +145,9 @@ module _ {p : Image} {G : GoodWorld} {May Other : Naming} (moves : FineMoves p G
 
   pub behind_scope-keeps : (name : Who) (purpose : Purpose) (cells : List Value) (leaving : Leaving) → May name → Keeps G (Behind G) (behind_scope p name purpose cells leaving)
   unfolding behind_scope
-  behind_scope-keeps name (opened_for.Block s) cells leaving may = search (pass_on-keeps)
-  behind_scope-keeps name (opened_for.Subprogram back to) cells leaving may = search (end_body-keeps, end_subprogram-keeps)
-  behind_scope-keeps name (opened_for.EntryBody c) cells leaving may = search (end_body-keeps, end_body_of_entry-keeps)
+  behind_scope-keeps name (opened_for.Block s) cells leaving may = search (pass_on-keeps, plain_steps)
+  behind_scope-keeps name (opened_for.Subprogram back to) cells leaving may = search (end_body-keeps, end_subprogram-keeps, plain_steps)
+  behind_scope-keeps name (opened_for.EntryBody c) cells leaving may = search (end_body-keeps, end_body_of_entry-keeps, plain_steps)
   behind_scope-keeps name opened_for.Task cells leaving may = search (end_task-keeps)
 
   pub end_of_scope-from : (name : Who) (m : ScopeMark) (leaving : Leaving) (f : Frame) (w : World) → G w → May name → top_of w name ≡ Some f → is_protected f.mark ≡ false → From (Behind G) w (end_of_scope p name m leaving)
@@ -182,7 +183,7 @@ module _ {p : Image} {G : GoodWorld} {May Other : Naming} (moves : FineMoves p G
   pub abort_statement-keeps : (name : Who) (s : StatementNo) (tasks : List DeclNo) → May name → Keeps G (Behind G) (abort_statement p name s tasks)
   unfolding abort_statement
   abort_statement-keeps name s tasks may =
-      sees-keeps (chains moves) p name _ (λ q. raise_if-keeps moves name (in_protected q.world name) exception.Program _ (given-keeps moves Own name (named_tasks q tasks) _ (λ aborted.
+      sees-keeps (chains moves) p name _ (λ q. raise_if-keeps (plain_steps moves) name (in_protected q.world name) exception.Program _ (given-keeps (plain_steps moves) Own name (named_tasks q tasks) _ (λ aborted.
       then-keeps (chains moves) (goes name (next_of p s)) _ (goes-keeps moves name (next_of p s) may) (abort_named-keeps name aborted))))
 
   pub all_terminate-keeps : (actor : Who) → Keeps G (Behind G) (looks (λ w. for_each (filter (may_terminate w) w.tasks) (leave_by_terminate p actor)))
@@ -240,16 +241,16 @@ module _ {p : Image} {G : GoodWorld} {May Other : Naming} (moves : FineMoves p G
   pub await_group-keeps : (name : Who) (begins failed : Bool) → Other name → Keeps G (Behind G) (await_group name begins failed)
   unfolding await_group
   await_group-keeps name true failed other = block-keeps moves openings TheBlock name waits_for.Activation other refl
-  await_group-keeps name false true other = search (raises-keeps)
+  await_group-keeps name false true other = search (raises-keeps, plain_steps)
   await_group-keeps name false false other = search (nothing-keeps, chains)
 
   pub create-keeps : (name : Who) (s : StatementNo) (d : DeclNo) (part : ℕ) → May name → form_of p s ≡ form.CreateTask d part → Keeps G (Behind G) (create p name s d part)
   unfolding create
   create-keeps name s d part may is =
       looks-from (chains moves) _ (λ w good. let q = seen_by p w name in
-      raise_if-from moves name (in_protected w name || is_deferred w name) exception.Program _ w good (λ allowed.
-      raise_if-from moves name (leb 256 (length w.tasks)) exception.Storage _ w good (λ few.
-      given-from moves Own name (optional_span q (task_unit_of p (unit_of_declaration p d)).relative_deadline) _ w good (λ span.
+      raise_if-from (plain_steps moves) name (in_protected w name || is_deferred w name) exception.Program _ w good (λ allowed.
+      raise_if-from (plain_steps moves) name (leb 256 (length w.tasks)) exception.Storage _ w good (λ few.
+      given-from (plain_steps moves) Own name (optional_span q (task_unit_of p (unit_of_declaration p d)).relative_deadline) _ w good (λ span.
       create_task-from moves name s d (home w (declaration_of p d).scope q.within) (created_task q d (unit_of_declaration p d) part span w.drawn.tasks) w good may refl refl refl (λ e. moves.fits.created s d part is)))))
 
   activate_group-keeps : (name : Who) (s : StatementNo) (part : ℕ) → Other name → May name → Keeps G (Behind G) (activate_group p name s part)
@@ -260,7 +261,7 @@ module _ {p : Image} {G : GoodWorld} {May Other : Naming} (moves : FineMoves p G
   pub activate-keeps : (name : Who) (s : StatementNo) (part : ℕ) → May name → Keeps G (Behind G) (activate p name s part)
   unfolding activate
   activate-keeps name s part may =
-      looks-from (chains moves) _ (λ w good. raise_if-from moves name (in_protected w name || is_deferred w name) exception.Program _ w good
+      looks-from (chains moves) _ (λ w good. raise_if-from (plain_steps moves) name (in_protected w name || is_deferred w name) exception.Program _ w good
       (λ allowed. keeps-from (chains moves) _ w good (activate_group-keeps name s part (openings.outside name w good may (first_is_false (in_protected w name) (is_deferred w name) allowed)) may)))
 
   -- an object of the region is finalized, or the scope has ended

@@ -19,7 +19,7 @@ use Rattle.profile_machine.specs.Inheritance.{inherit, same_cause}
 use Rattle.profile_machine.specs.Instant.{budgets_due, events_due, moments_due, quantum_spent, script_items, timers_due}
 use Rattle.profile_machine.specs.Program.{edf_low, is_robin_level}
 use Rattle.profile_machine.specs.Scopes.{end_scope}
-use Rattle.profile_machine.specs.Steps.{is_part_before, placed_by, says, ◌▶◌}
+use Rattle.profile_machine.specs.Steps.{is_part_before, placed_by, ◌▶◌}
 use Rattle.profile_machine.specs.Tasks.{edit_task, task_of, with_state}
 use Rattle.profile_machine.specs.Words.{same_who}
 use Rattle.profile_machine.specs.declared.image.Image.{Image}

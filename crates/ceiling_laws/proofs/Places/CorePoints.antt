@@ -255,9 +255,6 @@ module _ (p : Image) where
     Between : Point
     Between d n c l = (same_who n name ≡ false → Q d n c l) × (same_who n name ≡ true → readies.between d c l)
 
-    own-between : {A B : Type 0} → (same_who name name ≡ false → A) × (same_who name name ≡ true → B) → B
-    own-between h = h.1 (same_self name)
-
     first-turn : Turns P Between name (with_state Runnable)
     unfolding Between
     first-turn = record {

@@ -49,7 +49,7 @@ use Rattle.profile_machine.specs.declared.world.scopes.ScopeId.{ScopeId}
 use Rattle.profile_machine.specs.declared.world.tasks.Task.{Task}
 use Rattle.std.proofs.Common.{ap, map, refl, subst, sym, ◌∙◌, ◌≡◌}
 use Rattle.std.specs.Bool.{then_some}
-use Rattle.std.specs.Prelude.{Bool, List, None, Option, Some, [], cond, false, if◌then◌else◌, true, ℕ, ℤ, ◌++◌, ◌+◌, ◌-◌, ◌∷◌}
+use Rattle.std.specs.Prelude.{Bool, List, None, Option, Some, [], cond, false, if◌then◌else◌, true, ℕ, ℤ, ◌++◌, ◌-◌, ◌∷◌}
 use Rattle.line_laws.proofs.Ticks.LineByLine.{Follow}
 use Rattle.trace_text.specs.Laws.{Levels, base_of, no_levels, see_levels}
 use Rattle.trace_text.specs.Queue.{entry_of, placed, queue_after, who_eq, without}

@@ -20,7 +20,6 @@ use Rattle.trace_text.specs.Queue.{entry_of, who_eq}
 use Rattle.trace_text.specs.declared.events.Entry.{Entry}
 use Rattle.trace_text.specs.declared.events.Event.{Event}
 use Rattle.trace_text.specs.declared.events.Who.{Who}
-use Rattle.trace_text.specs.declared.events.Who.TheVariants as who
 use Rattle.line_laws.proofs.Exclusion.ActionLists.{who_eq-self}
 
 -- ---- the ready queues are what the lines show

@@ -1,4 +1,4 @@
--- Scopes that begin and end, and their cells: each step keeps a relation that its parts keep.
+-- Scopes that begin and end: each step keeps a relation that its parts keep.
 use Rattle.trace_text.specs.declared.events.Who.{Who}
 use Rattle.profile_machine.specs.declared.image.Image.{Image}
 use Rattle.profile_machine.specs.declared.numbers.ScopeNo.{ScopeNo}

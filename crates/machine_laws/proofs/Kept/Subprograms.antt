@@ -1,4 +1,4 @@
--- Calls of subprograms: each step keeps a relation that its parts keep.
+-- Bodies of subprograms that begin: each step keeps a relation that its parts keep.
 use Rattle.std.specs.Prelude.{List}
 use Rattle.trace_text.specs.declared.events.Who.{Who}
 use Rattle.profile_machine.specs.declared.world.scopes.Handed.{Handed}

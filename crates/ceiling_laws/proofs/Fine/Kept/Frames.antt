@@ -24,7 +24,7 @@ use Rattle.profile_machine.specs.declared.world.lines.Part.TheVariants.{Own}
 use Rattle.profile_machine.specs.declared.world.lines.Said.{Said}
 use Rattle.profile_machine.specs.declared.world.marks.Frame.{Frame}
 use Rattle.profile_machine.specs.declared.world.marks.Mark.TheVariants.{Handled}
-use Rattle.std.proofs.Common.{refl, subst, sym, ◌≡◌}
+use Rattle.std.proofs.Common.{refl, subst, sym}
 use Rattle.std.specs.Prelude.{Bool, Err, List, None, Ok, Option, Result, Some, false, true, ℕ, ◌∷◌}
 use Rattle.trace_text.specs.declared.events.Who.{Who}
 use Rattle.world_tables.specs.Lists.{rest_of}
@@ -135,10 +135,6 @@ module _ {X : State} (quiet : Silences X) where
     pub given-through : {A : Type 0} (part : Part) (name : Who) (result : Result A Raised) (f : A → Step) → ((x : A) → Leads Z Y (f x)) → Leads Z Y (given part name result f)
     given-through part name (Ok x) f k = k x
     given-through part name (Err e) f k = raises-through part name e
-
-    pub given_as-through : {A : Type 0} (part : Part) (name : Who) (result : Result A Raised) (f : A → Step) → ((x : A) → result ≡ Ok x → Leads Z Y (f x)) → Leads Z Y (given part name result f)
-    given_as-through part name (Ok x) f k = k x refl
-    given_as-through part name (Err e) f k = raises-through part name e
 
     pub raise_if-through : (name : Who) (test : Bool) (e : Raised) (step : Step) → Leads Z Y step → Leads Z Y (raise_if name test e step)
     raise_if-through name true e step kept = raises-through Own name e

@@ -1,4 +1,4 @@
--- Scopes that begin and end, and their cells: each step keeps a relation that its parts keep.
+-- Scopes that begin and end: each step keeps a relation that its parts keep.
 use Rattle.std.specs.Prelude.{false}
 use Rattle.std.proofs.Common.{◌≡◌}
 use Rattle.ann_base.specs.declared.identities.RegionNo.{RegionNo}

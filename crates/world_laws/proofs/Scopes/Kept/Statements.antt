@@ -1,4 +1,4 @@
--- Simple and compound statements: each step keeps a relation that its parts keep.
+-- Delays, Put_Line and blocks: each step keeps a relation that its parts keep.
 use Rattle.std.proofs.Common.{◌≡◌, refl}
 use Rattle.std.specs.Prelude.{ℤ, pos, int_lt, Bool, true, false, List}
 use Rattle.trace_text.specs.declared.events.Who.{Who}

@@ -1,32 +1,27 @@
 -- How calls end: each step keeps a relation that its parts keep.
 use Rattle.world_laws.proofs.Sequences.Kept.Woken.{woken, opened-turns}
-use Rattle.std.specs.Prelude.{ℕ, Bool, List, [], ◌∷◌, Option, Some, None, Ok, not}
+use Rattle.std.specs.Prelude.{ℕ, Bool, List, [], ◌∷◌, Option, Some, None, not}
 use Rattle.ann_base.specs.declared.identities.TaskNo.{TaskNo}
 use Rattle.ann_base.specs.declared.identities.CallNo.{CallNo}
 use Rattle.trace_text.specs.declared.events.Who.{Who}
 use Rattle.trace_text.specs.declared.events.Who.TheVariants as who
 use Rattle.profile_machine.specs.declared.image.Image.{Image}
 use Rattle.profile_machine.specs.declared.numbers.StatementNo.{StatementNo}
-use Rattle.profile_machine.specs.declared.values.Value.{Value}
 use Rattle.profile_machine.specs.declared.world.World.{World}
 use Rattle.profile_machine.specs.declared.world.marks.Frame.{Frame}
 use Rattle.profile_machine.specs.declared.world.marks.Mark.{Mark}
 use Rattle.profile_machine.specs.declared.world.marks.AbortableMark.{AbortableMark}
 use Rattle.profile_machine.specs.declared.world.calls.Call.{Call}
 use Rattle.profile_machine.specs.declared.world.calls.Outcome.{Outcome}
-use Rattle.profile_machine.specs.declared.world.scopes.Variable.{Variable}
 use Rattle.profile_machine.specs.declared.world.calls.Outcome.TheVariants as call_ended
 use Rattle.profile_machine.specs.declared.world.marks.Mark.TheVariants.{Scope, Handled, InProtected, InAccept, Abortable, InInitialize, InFinalize, InAssign}
-use Rattle.profile_machine.specs.Program.{declaration_of}
 use Rattle.profile_machine.specs.declared.world.lines.Part.{Part}
 use Rattle.profile_machine.specs.Steps.{Step, changes, looks, ◌▷◌}
 use Rattle.world_tables.specs.Lists.{first_of}
 use Rattle.profile_machine.specs.Tasks.{waiting_of}
 use Rattle.profile_machine.specs.Frames.{frames_of, top_of, pop, pass_on, leaving_of, with_mark, is_protected}
-use Rattle.profile_machine.specs.Scopes.{write_cell}
-use Rattle.profile_machine.specs.Operators.{checked}
-use Rattle.profile_machine.specs.CallEnds.{resume, store, with_results, edit_depth, edit_frame, edit_abortable, edit_abortable_at, trigger_at, trigger_outcome, forget_trigger, run_triggered, ended_by_itself, behind_abortable, end_abortable, end_abortable_in, end_top_abortable, end_wait, waits_for_end, end_for_abortable, end_for_caller, end_for, end_with, end_call, deliver, gone, waited_mark, is_cancelled, waits_for_call}
-use Rattle.std.specs.Prelude.{slice_set, true, false, cond, eqb, length}
+use Rattle.profile_machine.specs.CallEnds.{resume, with_results, edit_depth, edit_frame, edit_abortable, edit_abortable_at, trigger_at, trigger_outcome, forget_trigger, run_triggered, ended_by_itself, behind_abortable, end_abortable, end_abortable_in, end_top_abortable, end_wait, waits_for_end, end_for_abortable, end_for_caller, end_for, end_with, end_call, deliver, gone, waited_mark, is_cancelled, waits_for_call}
+use Rattle.std.specs.Prelude.{true, false, cond, eqb, length}
 use Rattle.std.proofs.Common.{◌≡◌, refl, ap, inr, inl}
 use Rattle.machine_laws.proofs.FineMoves.{GoodWorld, Naming, nature, natures}
 use Rattle.world_laws.proofs.Sequences.FineMoves.{FineMoves, Behind, Loosens, StaysOn, onward_in, chains, says-keeps}
@@ -36,7 +31,7 @@ use Rattle.world_laws.proofs.Sequences.Kept.Dispatching.{ready-keeps}
 use Rattle.world_laws.proofs.Sequences.Kept.Frames.{goes-keeps, popped, leaves-keeps, plain_steps}
 use Rattle.world_laws.proofs.Sequences.Kept.Unwinding.{unwind-keeps}
 use Rattle.profile_machine.specs.Dispatching.{ready}
-use Rattle.machine_laws.proofs.Kept.Combinators.{Alters, From, Gives, Keeps, bind-gives, branch-keeps, changes-keeps, changes_then-from, keeps-from, looks-from, looks-keeps, looks_at-from, nothing-keeps, ok-gives, then-keeps, unchanged-alters, when-keeps}
+use Rattle.machine_laws.proofs.Kept.Combinators.{Alters, From, Keeps, branch-keeps, changes-keeps, changes_then-from, keeps-from, looks-from, looks-keeps, looks_at-from, nothing-keeps, then-keeps, unchanged-alters, when-keeps}
 use Rattle.machine_laws.proofs.Plain.Frames.{raises-keeps, pass_on-keeps}
 use Rattle.machine_laws.proofs.Plain.Calls.{edit_call-alters, forget_call-alters, with_call-keeps, unqueued-alters}
 use Rattle.machine_laws.proofs.Plain.Results.{with_results-world, resume-keeps}
@@ -70,10 +65,6 @@ depth-stays depth f [] same = inl refl
 depth-stays depth f (x ∷ xs) same = inl (depth_first-stays (eqb (length xs) depth) f x xs (edit_depth depth f xs) (same x))
 
 module _ {p : Image} {G : GoodWorld} {May Other : Naming} (moves : FineMoves p G May Other) where
-  -- by any image
-  pub store_by-gives : (r : Image) (v : Variable) (value : Value) (w : World) → G w → Gives (Behind G) w (store r v value w)
-  store_by-gives r v value w good = bind-gives (chains moves) (checked (declaration_of r v.declared).constraint value) (λ x. Ok (write_cell v.within v.place x w)) w (λ x. ok-gives (chains moves) w (write_cell v.within v.place x w) (moves.edits_cells v.within (λ cells. slice_set cells v.place x) w good))
-
   pub edit_frame-alters : (name : Who) (depth : ℕ) (f : Frame → Frame) → ((x : Frame) → nature (f x).mark ≡ nature x.mark) → ((x : Frame) → (f x).onward ≡ x.onward) → Alters G (Behind G) (edit_frame name depth f)
   edit_frame-alters name depth f same stays = edit_frames-alters moves name (edit_depth depth f) (λ fs. depth-natures depth f fs same) (λ fs. depth-stays depth f fs stays)
 

@@ -1,4 +1,4 @@
--- Calls, and the queues in which they stand: each step keeps a relation that its parts keep.
+-- Calls that are looked up: each step keeps a relation that its parts keep.
 use Rattle.profile_machine.specs.declared.world.World.{World}
 use Rattle.ann_base.specs.declared.identities.CallNo.{CallNo}
 use Rattle.profile_machine.specs.declared.image.Image.{Image}

@@ -1,4 +1,4 @@
--- Steps and moves that are put together of those that keep a relation keep it.
+-- Steps that lead from what holds before them to what holds behind them.
 use Rattle.profile_machine.specs.Calls.{call_of, with_call}
 use Rattle.ann_base.specs.declared.identities.CallNo.{CallNo}
 use Rattle.std.proofs.Common.{◌≡◌, Bool, true, false, List, [], ◌∷◌, ◌++◌, Option, Some, None, refl, sym, ap, ◌∙◌, append_assoc, append-nil}

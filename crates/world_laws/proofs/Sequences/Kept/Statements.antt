@@ -1,4 +1,4 @@
--- Simple and compound statements: each step keeps a relation that its parts keep.
+-- Delays, Put_Line and blocks: each step keeps a relation that its parts keep.
 use Rattle.std.proofs.Common.{◌≡◌, refl}
 use Rattle.std.specs.Prelude.{ℕ, ℤ, pos, int_lt, Bool, true, false, List, Ok, Err}
 use Rattle.trace_text.specs.declared.events.Who.{Who}
@@ -9,10 +9,9 @@ use Rattle.profile_machine.specs.declared.numbers.StatementNo.{StatementNo}
 use Rattle.profile_machine.specs.declared.statements.Piece.{Piece}
 use Rattle.profile_machine.specs.declared.statements.StatementForm.TheVariants as form
 use Rattle.profile_machine.specs.declared.world.World.{World}
-use Rattle.profile_machine.specs.declared.world.scopes.Variable.{Variable}
 use Rattle.profile_machine.specs.declared.world.appointments.Due.TheVariants as due_for
 use Rattle.profile_machine.specs.declared.world.tasks.Waiting.TheVariants as waits_for
-use Rattle.profile_machine.specs.Program.{declaration_of, form_of, next_of}
+use Rattle.profile_machine.specs.Program.{form_of, next_of}
 use Rattle.profile_machine.specs.declared.world.lines.Line.TheVariants as line
 use Rattle.profile_machine.specs.declared.world.lines.Part.TheVariants.{Own, TheBlock, ThePlacing}
 use Rattle.profile_machine.specs.Steps.{changes, says, ◌▷◌}
@@ -21,22 +20,17 @@ use Rattle.profile_machine.specs.Appointments.{appoint}
 use Rattle.profile_machine.specs.Dispatching.{block}
 use Rattle.profile_machine.specs.Operators.{Valued}
 use Rattle.profile_machine.specs.Values.{seen_by}
-use Rattle.profile_machine.specs.Statements.{cells_from, copy_cells, block_statement, wait_until, delay_to, delay_until, text_of_pieces, put_line}
-use Rattle.profile_machine.specs.Scopes.{put_cells}
+use Rattle.profile_machine.specs.Statements.{block_statement, wait_until, delay_to, delay_until, text_of_pieces, put_line}
 use Rattle.machine_laws.proofs.FineMoves.{GoodWorld, Naming}
 use Rattle.world_laws.proofs.Sequences.FineMoves.{FineMoves, Openings, Behind, chains}
 use Rattle.world_laws.proofs.Sequences.Kept.Frames.{goes-keeps, plain_steps}
 use Rattle.world_laws.proofs.Sequences.Kept.Dispatching.{to_tail-keeps, block-keeps}
 use Rattle.world_laws.proofs.Sequences.Kept.Scopes.{open_scope-alters}
 use Rattle.world_laws.proofs.Sequences.Kept.Appointments.{appoint-from}
-use Rattle.machine_laws.proofs.Kept.Combinators.{Alters, From, Keeps, changes-keeps, keeps-from, looks-from, looks-keeps, nothing-keeps, said-keeps, then-from, then-keeps}
+use Rattle.machine_laws.proofs.Kept.Combinators.{From, Keeps, changes-keeps, keeps-from, looks-from, looks-keeps, nothing-keeps, said-keeps, then-from, then-keeps}
 use Rattle.machine_laws.proofs.Plain.Frames.{raises-keeps, given-keeps, raise_if-keeps, with_room-keeps}
 
 module _ {p : Image} {G : GoodWorld} {May Other : Naming} (moves : FineMoves p G May Other) where
-  pub copy_cells_by-alters : (r : Image) (target source : Variable) → Alters G (Behind G) (copy_cells r target source)
-  unfolding Alters
-  copy_cells_by-alters r target source w good = moves.edits_cells target.within (put_cells target.place (cells_from w source (declaration_of r source.declared).cells)) w good
-
   put_text-keeps : (name : Who) (s : StatementNo) (pieces : List Piece) (v : World) (text : Valued (List ℕ)) → form_of p s ≡ form.PutLine pieces → text_of_pieces (seen_by p v name) pieces ≡ text → May name → Keeps G (Behind G) (given Own name text (λ text. goes name (next_of p s) ▷ says Own (line.Put name text)))
   put_text-keeps name s pieces v (Ok text) is e may =
       then-keeps (chains moves) (goes name (next_of p s)) (says Own (line.Put name text)) (goes-keeps moves name (next_of p s) may)

@@ -1,3 +1,4 @@
+mod Behind
 pub mod Counts
 pub mod Appointments
 pub mod Places

@@ -45,6 +45,12 @@ use Rattle.world_laws.proofs.Actions.Natures.{nature, natures, plain}
 use Rattle.world_laws.proofs.Actions.SoundMarks.{bare}
 use Rattle.world_laws.proofs.Actions.SoundActions.{is_ceiling}
 use Rattle.machine_laws.proofs.FineMoves.{GoodWorld, Naming}
+use Rattle.world_laws.proofs.Behind.{Behind, BehindMove}
+use Rattle.machine_laws.proofs.Chains.{Chains, MoveChains}
+use Rattle.machine_laws.proofs.Kept.Combinators.{Keeps, said-keeps}
+use Rattle.profile_machine.specs.declared.world.lines.Line.{Line}
+use Rattle.profile_machine.specs.declared.world.lines.Part.{Part}
+use Rattle.profile_machine.specs.Steps.{says}
 
 -- somebody goes on
 
@@ -99,3 +105,14 @@ pub record FineMoves (G : GoodWorld) (F : Naming) : Type 0 where
   pub masks : (n : ℕ) (flag : Bool) (w : World) → G w → G (with_masked n flag w)
   pub keeps_interrupt : (n : ℕ) (flag : Bool) (w : World) → G w → G (with_kept_interrupt n flag w)
   pub cuts_script : (rest : List (ℤ × Item)) (w : World) → G w → G (with_script rest w)
+
+-- steps and moves are put together, a line tells no change, and an effect is over
+module _ {G : GoodWorld} {F : Naming} (moves : FineMoves G F) where
+  pub chains : Chains G (Behind G)
+  chains = record { behind = λ a b h. h; stays = λ w good. good; goes_on = λ a b c h k. k }
+
+  pub move_chains : MoveChains G (BehindMove G)
+  move_chains = record { moved = λ a b h. h; leads_on = λ a b c h k. k }
+
+  pub says-keeps : (part : Part) (line : Line) → Keeps G (Behind G) (says part line)
+  says-keeps part line = said-keeps chains part line (λ w good. good)

@@ -23,7 +23,7 @@ use Rattle.machine_laws.proofs.FinestMoves.{AllMoves, TockChanges, Anyhow, fines
 use Rattle.machine_laws.proofs.ReachedLemmas.{Lasts, reached-lasts}
 use Rattle.machine_laws.proofs.Kept.Instant.{instant-leads}
 use Rattle.machine_laws.proofs.Kept.Run.{before_tick, tock-parts, opens-keeps, before_tick-leads}
-use Rattle.world_laws.proofs.Sequences.FineMoves.{Behind, BehindMove}
+use Rattle.world_laws.proofs.Behind.{Behind, BehindMove}
 use Rattle.machine_laws.proofs.Kept.Combinators.{Leads}
 
 -- the fact holds of the world behind

@@ -42,7 +42,8 @@ use Rattle.profile_machine.specs.Act.{act_without, act_top, act}
 use Rattle.profile_machine.specs.Instant.{effect, is_over, effect_of_runner, finish_action, instant}
 use Rattle.profile_machine.specs.WellFormed.{begins_sequence}
 use Rattle.machine_laws.proofs.FineMoves.{GoodWorld, Nature, nature, natures, edit_task-drawn}
-use Rattle.world_laws.proofs.Sequences.FineMoves.{Fits, FineMoves, Nobody, Behind, BehindMove, Loosens, Again, chains}
+use Rattle.world_laws.proofs.Sequences.FineMoves.{Fits, FineMoves, Nobody, Loosens, Again, chains}
+use Rattle.world_laws.proofs.Behind.{Behind, BehindMove, Turns, then-turns, then_turn-from, turns-from, looks-turns, look-from, wide-from, wide-turns, nothing-turns, changes-turns, branch-turns, says-turns, narrow-turns, changes_turn-from}
 use Rattle.world_laws.proofs.Sequences.TaskEdits.{by_bool, who-same, edited-own}
 use Rattle.world_laws.proofs.Sequences.Points.{Marking, IsTask, Fine, begins, fine-edited, edited_found-calls}
 use Rattle.world_laws.proofs.Sequences.FineSteps.{fine_moves}
@@ -50,7 +51,6 @@ use Rattle.world_laws.proofs.Sequences.Loosened.{fine_loosens, fine_again, loose
 use Rattle.world_laws.proofs.Sequences.Turned.{fine-turned}
 use Rattle.world_laws.proofs.Sequences.Actors.{Rests, rests_points, nobody_free, nobody_stacks, Rooted, Standing, rooted_stacks, rooted-last, Apart, acting_points, Acts, HasActed, acts_points, Is, acts_free, task_stacks, fine-wide, acts-over, of_agent, Any, any_callings}
 use Rattle.world_laws.proofs.Sequences.ActingRuns.{KnowingWorld, ActingWorld, PlainWorld, ActedWorld, JustSo, acting_moves, quiet_moves, task_openings, agent_openings, departing, task_ending, last_ending, inner_ending, acting_loose, still, plain-begins, no-natures}
-use Rattle.world_laws.proofs.Sequences.Kept.Combinators.{Turns, then-turns, then_turn-from, turns-from, looks-turns, look-from, wide-from, wide-turns, nothing-turns, changes-turns, branch-turns, says-turns, narrow-turns, changes_turn-from}
 use Rattle.world_laws.proofs.Sequences.Kept.Woken.{opened-turns, opened_by-turns}
 use Rattle.world_laws.proofs.Sequences.Kept.Inheritance.{inherit_running-keeps}
 use Rattle.world_laws.proofs.Sequences.Kept.Protected.{opens_action-alters}

@@ -53,7 +53,7 @@ use Rattle.profile_machine.specs.Tasking.{add_task, end_environment, unit_of_dec
 use Rattle.profile_machine.specs.Serving.{serves_nothing}
 use Rattle.profile_machine.specs.Handlers.{add_release, clear_timer, with_timer_set, edit_budget}
 use Rattle.profile_machine.specs.Instant.{with_port, with_masked, with_kept_interrupt, with_script}
-use Rattle.machine_laws.proofs.Moves.{StepRelation, MoveRelation, own, lines_of}
+use Rattle.machine_laws.proofs.Moves.{own, lines_of}
 use Rattle.profile_machine.specs.declared.numbers.DeclNo.{DeclNo}
 use Rattle.profile_machine.specs.declared.declarations.Handler.{Handler}
 use Rattle.profile_machine.specs.declared.statements.StatementForm.TheVariants as form
@@ -64,6 +64,7 @@ use Rattle.profile_machine.specs.WellFormed.{begins_sequence}
 use Rattle.machine_laws.proofs.FineMoves.{GoodWorld, Naming, nature, natures, is_abortable, is_apart, EachIs, ready_line, gone_on}
 use Rattle.machine_laws.proofs.Chains.{Chains, MoveChains}
 use Rattle.machine_laws.proofs.Kept.Combinators.{Keeps, Leads, said-keeps, settles-leads}
+use Rattle.world_laws.proofs.Behind.{Behind, BehindMove}
 
 -- ---- what an image lets begin
 
@@ -81,13 +82,6 @@ AllFitting p [] = Unit {0}
 AllFitting p (t ∷ ts) = Fitting p t × AllFitting p ts
 
 -- ---- what is done
-
--- the world behind is good
-abbrev pub Behind : GoodWorld → StepRelation
-Behind G before lines after = G after
-
-abbrev pub BehindMove : GoodWorld → MoveRelation
-BehindMove G before lines after = G after
 
 -- what the top of a rest goes on with
 abbrev pub onward_in : List Frame → Option StatementNo

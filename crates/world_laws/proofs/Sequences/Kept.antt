@@ -1,4 +1,3 @@
-pub mod Combinators
 pub mod Tasks
 pub mod Dispatching
 pub mod Scopes

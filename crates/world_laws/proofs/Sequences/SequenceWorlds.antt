@@ -50,14 +50,14 @@ use Rattle.world_laws.proofs.Sequences.OwnCalls.{Knows}
 use Rattle.ceiling_laws.specs.RunLaws.{Tells, told_first, told_on}
 use Rattle.ceiling_laws.proofs.Places.StandingRuns.{runs_show_who_is_ready}
 use Rattle.world_laws.specs.SequenceWorlds.{form_fits, statement_fits, sequences_fit, ReachedSequencesAreOpen}
-use Rattle.world_laws.proofs.Sequences.FineMoves.{BehindMove, Fits, onward_in}
+use Rattle.world_laws.proofs.Sequences.FineMoves.{Fits, onward_in}
+use Rattle.world_laws.proofs.Behind.{BehindMove, Turns, then-turns, changes-turns, says-turns, turns-from}
 use Rattle.world_laws.proofs.Sequences.TaskNames.{Listed}
 use Rattle.world_laws.proofs.Sequences.Points.{Fine, begins, fine-plain, fine-edited}
 use Rattle.world_laws.proofs.Sequences.FineSteps.{fine_opens, listed_is}
 use Rattle.world_laws.proofs.Sequences.Loosened.{points-loosened, free-loosened, stacks-loosened, loosened, loosening, fine_loosens}
 use Rattle.world_laws.proofs.Sequences.Actors.{Rests, rests_points, nobody_free, nobody_stacks, Standing, must, Any, any_callings}
 use Rattle.world_laws.proofs.Sequences.Effects.{RestingWorld, resting_moves, resting_loose, RunnerReady, OwnKnown, instant-rests}
-use Rattle.world_laws.proofs.Sequences.Kept.Combinators.{Turns, then-turns, changes-turns, says-turns, turns-from}
 use Rattle.world_laws.proofs.Sequences.Kept.Dispatching.{to_tail-keeps}
 use Rattle.world_laws.proofs.Sequences.Kept.Handlers.{charge-alters}
 use Rattle.world_laws.proofs.Sequences.Kept.Woken.{opened-turns}

@@ -6,18 +6,19 @@ use Rattle.profile_machine.specs.declared.world.World.{World}
 use Rattle.profile_machine.specs.declared.world.appointments.Due.{Due}
 use Rattle.profile_machine.specs.Steps.{changes}
 use Rattle.profile_machine.specs.Appointments.{appoint, drop_appointment, drop_delay}
-use Rattle.world_laws.proofs.Actions.FineMoves.{FineMoves}
-use Rattle.world_laws.proofs.Actions.Kept.Combinators.{Alters, From, changes-from, unchanged-alters}
+use Rattle.world_laws.proofs.Actions.FineMoves.{FineMoves, chains}
 use Rattle.machine_laws.proofs.FineMoves.{GoodWorld, Naming}
+use Rattle.machine_laws.proofs.Kept.Combinators.{Alters, From, changes-from, unchanged-alters}
+use Rattle.world_laws.proofs.Behind.{Behind}
 
 module _ {G : GoodWorld} {F : Naming} (moves : FineMoves G F) where
-  pub appoint-from : (due : Due) (moment : ℤ) (w : World) → G w → From G w (changes (appoint due moment))
-  appoint-from due moment w good = changes-from moves (appoint due moment) w (moves.appoints due moment w good)
+  pub appoint-from : (due : Due) (moment : ℤ) (w : World) → G w → From (Behind G) w (changes (appoint due moment))
+  appoint-from due moment w good = changes-from (chains moves) (appoint due moment) w (moves.appoints due moment w good)
 
-  pub drop_appointment-alters : (test : Due → Bool) → Alters G (drop_appointment test)
+  pub drop_appointment-alters : (test : Due → Bool) → Alters G (Behind G) (drop_appointment test)
   unfolding Alters
   drop_appointment-alters test w good = moves.drops_appointment test w good
 
-  pub drop_delay-alters : (name : Who) → Alters G (drop_delay name)
+  pub drop_delay-alters : (name : Who) → Alters G (Behind G) (drop_delay name)
   drop_delay-alters (who.Task t) = search (drop_appointment-alters)
-  drop_delay-alters who.Agent = search (unchanged-alters)
+  drop_delay-alters who.Agent = search (unchanged-alters, chains)

@@ -26,9 +26,9 @@ use Rattle.profile_machine.specs.Scopes.{write_cell}
 use Rattle.profile_machine.specs.Operators.{Valued, checked}
 use Rattle.profile_machine.specs.CallEnds.{go_by_outcome, resume, store, or_stored, copy_back, with_results, edit_depth, edit_frame, edit_abortable, edit_abortable_at, trigger_at, trigger_outcome, forget_trigger, run_triggered, ended_by_itself, behind_abortable, end_abortable, end_abortable_in, end_top_abortable, end_wait, waits_for_end, end_for_abortable, end_for_caller, end_for, end_with, end_call, deliver, gone, waited_mark, is_cancelled}
 use Rattle.std.proofs.Common.{◌≡◌, refl, ap}
-use Rattle.world_laws.proofs.Actions.FineMoves.{FineMoves}
+use Rattle.world_laws.proofs.Actions.FineMoves.{FineMoves, chains, says-keeps}
 use Rattle.world_laws.proofs.Actions.Natures.{nature, natures}
-use Rattle.world_laws.proofs.Actions.Kept.Combinators.{Keeps, Alters, Gives, bind-gives, branch-keeps, changes-keeps, looks-keeps, nothing-keeps, ok-gives, says-keeps, then-keeps, unchanged-alters, when-keeps, changes_then-from, keeps-from, looks-from, looks_at-from, From}
+use Rattle.world_laws.proofs.Actions.Kept.Combinators.{changes_then-from}
 use Rattle.world_laws.proofs.Actions.Kept.Tasks.{edit_frames-alters}
 use Rattle.world_laws.proofs.Actions.Kept.Dispatching.{ready-keeps}
 use Rattle.world_laws.proofs.Actions.Kept.Frames.{goes-keeps, popped, leaves-keeps, raises-keeps, pass_on-keeps, open_sequence-keeps}
@@ -36,6 +36,8 @@ use Rattle.world_laws.proofs.Actions.Kept.Calls.{edit_call-alters, forget_call-a
 use Rattle.world_laws.proofs.Actions.Kept.Unwinding.{unwind-keeps}
 use Rattle.profile_machine.specs.Dispatching.{ready}
 use Rattle.machine_laws.proofs.FineMoves.{GoodWorld, Naming}
+use Rattle.machine_laws.proofs.Kept.Combinators.{Alters, From, Gives, Keeps, bind-gives, branch-keeps, changes-keeps, keeps-from, looks-from, looks-keeps, looks_at-from, nothing-keeps, ok-gives, then-keeps, unchanged-alters, when-keeps}
+use Rattle.world_laws.proofs.Behind.{Behind}
 
 -- an edit of a mark somewhere, and of an abortable part
 at_depth-natures : (test : Bool) (f : Frame → Frame) (x : Frame) (xs ys : List Frame) → nature (f x).mark ≡ nature x.mark → natures ys ≡ natures xs → natures (cond test (f x ∷ xs) (x ∷ ys)) ≡ natures (x ∷ xs)
@@ -57,22 +59,22 @@ abortable-nature f (InFinalize o) = refl
 abortable-nature f (InAssign m) = refl
 
 module _ {G : GoodWorld} {F : Naming} (moves : FineMoves G F) where
-  pub go_by_outcome-keeps : (p : Image) (part : Part) (name : Who) (s : StatementNo) (outcome : Outcome) → Keeps G (go_by_outcome p part name s outcome)
+  pub go_by_outcome-keeps : (p : Image) (part : Part) (name : Who) (s : StatementNo) (outcome : Outcome) → Keeps G (Behind G) (go_by_outcome p part name s outcome)
   unfolding go_by_outcome
   go_by_outcome-keeps p part name s call_ended.Finished = search (goes-keeps)
   go_by_outcome-keeps p part name s call_ended.Cancelled = search (goes-keeps)
   go_by_outcome-keeps p part name s (call_ended.ToRaise e) = search (raises-keeps)
   go_by_outcome-keeps p part name s (call_ended.WasRaised e) = search (leaves-keeps)
 
-  pub resume-keeps : (p : Image) (part : Part) (c : Call) (outcome : Outcome) → Keeps G (resume p part c outcome)
+  pub resume-keeps : (p : Image) (part : Part) (c : Call) (outcome : Outcome) → Keeps G (Behind G) (resume p part c outcome)
   unfolding resume
-  resume-keeps p part c outcome = search (changes-keeps, forget_call-alters, then-keeps, go_by_outcome-keeps)
+  resume-keeps p part c outcome = search (changes-keeps, forget_call-alters, then-keeps, go_by_outcome-keeps, chains)
 
-  pub store-gives : (p : Image) (v : Variable) (value : Value) (w : World) → G w → Gives G (store p v value w)
-  store-gives p v value w good = bind-gives moves (checked (declaration_of p v.declared).constraint value) (λ x. Ok (write_cell v.within v.place x w)) w (λ x. ok-gives moves w (write_cell v.within v.place x w) (moves.edits_cells v.within (λ cells. slice_set cells v.place x) w good))
+  pub store-gives : (p : Image) (v : Variable) (value : Value) (w : World) → G w → Gives (Behind G) w (store p v value w)
+  store-gives p v value w good = bind-gives (chains moves) (checked (declaration_of p v.declared).constraint value) (λ x. Ok (write_cell v.within v.place x w)) w (λ x. ok-gives (chains moves) w (write_cell v.within v.place x w) (moves.edits_cells v.within (λ cells. slice_set cells v.place x) w good))
 
   -- the world behind the results that are copied back
-  or_stored-world : (result : Valued World) (again : World → World × Bool) (w : World) → G w → Gives G result → ((v : World) → G v → G (again v).0) → G (or_stored w result again).0
+  or_stored-world : (result : Valued World) (again : World → World × Bool) (w : World) → G w → Gives (Behind G) w result → ((v : World) → G v → G (again v).0) → G (or_stored w result again).0
   unfolding Gives
   or_stored-world (Ok next) again w good a b = b next a
   or_stored-world (Err e) again w good a b = good
@@ -90,89 +92,89 @@ module _ {G : GoodWorld} {F : Naming} (moves : FineMoves G F) where
   with_results-world p c (call_ended.ToRaise e) w good = good
   with_results-world p c (call_ended.WasRaised e) w good = good
 
-  pub edit_frame-alters : (name : Who) (depth : ℕ) (f : Frame → Frame) → ((x : Frame) → nature (f x).mark ≡ nature x.mark) → Alters G (edit_frame name depth f)
+  pub edit_frame-alters : (name : Who) (depth : ℕ) (f : Frame → Frame) → ((x : Frame) → nature (f x).mark ≡ nature x.mark) → Alters G (Behind G) (edit_frame name depth f)
   edit_frame-alters name depth f same = edit_frames-alters moves name (edit_depth depth f) (λ fs. depth-natures depth f fs same)
 
-  pub edit_abortable_at-alters : (name : Who) (depth : ℕ) (f : AbortableMark → AbortableMark) → Alters G (edit_abortable_at name depth f)
+  pub edit_abortable_at-alters : (name : Who) (depth : ℕ) (f : AbortableMark → AbortableMark) → Alters G (Behind G) (edit_abortable_at name depth f)
   edit_abortable_at-alters name depth f = edit_frame-alters name depth (λ x. with_mark (edit_abortable f x.mark) x) (λ x. abortable-nature f x.mark)
 
-  pub trigger_at-keeps : (part : Part) (t : TaskNo) (depth : ℕ) → Keeps G (trigger_at part t depth)
+  pub trigger_at-keeps : (part : Part) (t : TaskNo) (depth : ℕ) → Keeps G (Behind G) (trigger_at part t depth)
   unfolding trigger_at
-  trigger_at-keeps part t depth = search (changes-keeps, edit_abortable_at-alters, then-keeps, says-keeps, edit_frame-alters) depth 7
+  trigger_at-keeps part t depth = search (changes-keeps, edit_abortable_at-alters, then-keeps, says-keeps, edit_frame-alters, chains) depth 8
 
-  pub forget_trigger-alters : (c : Option CallNo) → Alters G (forget_trigger c)
-  forget_trigger-alters None = search (unchanged-alters)
+  pub forget_trigger-alters : (c : Option CallNo) → Alters G (Behind G) (forget_trigger c)
+  forget_trigger-alters None = search (unchanged-alters, chains)
   forget_trigger-alters (Some c) = search (forget_call-alters)
 
-  pub run_triggered-keeps : (p : Image) (part : Part) (name : Who) (select : StatementNo) (outcome : Outcome) → Keeps G (run_triggered p part name select outcome)
+  pub run_triggered-keeps : (p : Image) (part : Part) (name : Who) (select : StatementNo) (outcome : Outcome) → Keeps G (Behind G) (run_triggered p part name select outcome)
   unfolding run_triggered
   run_triggered-keeps p part name select call_ended.Finished = search (goes-keeps)
-  run_triggered-keeps p part name select call_ended.Cancelled = search (nothing-keeps)
+  run_triggered-keeps p part name select call_ended.Cancelled = search (nothing-keeps, chains)
   run_triggered-keeps p part name select (call_ended.ToRaise e) = search (raises-keeps)
   run_triggered-keeps p part name select (call_ended.WasRaised e) = search (leaves-keeps)
 
-  pub behind_abortable-keeps : (p : Image) (part : Part) (name : Who) (m : AbortableMark) (outcome : Outcome) → Keeps G (behind_abortable p part name m outcome)
+  pub behind_abortable-keeps : (p : Image) (part : Part) (name : Who) (m : AbortableMark) (outcome : Outcome) → Keeps G (Behind G) (behind_abortable p part name m outcome)
   unfolding behind_abortable
-  behind_abortable-keeps p part name m outcome = search (when-keeps, run_triggered-keeps)
+  behind_abortable-keeps p part name m outcome = search (when-keeps, run_triggered-keeps, chains)
 
   -- it ends where it is on top
-  end_abortable-from : (p : Image) (part : Part) (name : Who) (m : AbortableMark) (f : Frame) (below : List Frame) (w : World) → G w → top_of w name ≡ Some f → is_protected f.mark ≡ false → From G w (end_abortable p part name m f below)
+  end_abortable-from : (p : Image) (part : Part) (name : Who) (m : AbortableMark) (f : Frame) (below : List Frame) (w : World) → G w → top_of w name ≡ Some f → is_protected f.mark ≡ false → From (Behind G) w (end_abortable p part name m f below)
   unfolding end_abortable
   end_abortable-from p part name m f below w good top free =
       let out = popped moves name f w good top free in
-      looks_at-from moves (λ v. changes (pop name) ▷ changes (forget_trigger m.call) ▷ elim (ended_by_itself f below) as (λ _. Step) [ true ↦ behind_abortable p part name m (trigger_outcome v m.call) | false ↦ pass_on p name (leaving_of f) ]) w
-      (changes_then-from moves (pop name) _ w (keeps-from moves _ (pop name w) out
-      (then-keeps moves (changes (forget_trigger m.call)) _ (search (changes-keeps, forget_trigger-alters)) (branch-keeps moves (ended_by_itself f below) (behind_abortable p part name m (trigger_outcome w m.call)) (pass_on p name (leaving_of f)) (search (behind_abortable-keeps)) (search (pass_on-keeps))))))
+      looks_at-from (chains moves) (λ v. changes (pop name) ▷ changes (forget_trigger m.call) ▷ elim (ended_by_itself f below) as (λ _. Step) [ true ↦ behind_abortable p part name m (trigger_outcome v m.call) | false ↦ pass_on p name (leaving_of f) ]) w
+      (changes_then-from moves (pop name) _ w (keeps-from (chains moves) _ (pop name w) out
+      (then-keeps (chains moves) (changes (forget_trigger m.call)) _ (search (changes-keeps, forget_trigger-alters, chains)) (branch-keeps (chains moves) (ended_by_itself f below) (behind_abortable p part name m (trigger_outcome w m.call)) (pass_on p name (leaving_of f)) (search (behind_abortable-keeps)) (search (pass_on-keeps))))))
 
-  end_abortable_in-from : (p : Image) (part : Part) (name : Who) (f : Frame) (below : List Frame) (mark : Mark) (w : World) → G w → top_of w name ≡ Some f → f.mark ≡ mark → From G w (end_abortable_in p part name f below mark)
+  end_abortable_in-from : (p : Image) (part : Part) (name : Who) (f : Frame) (below : List Frame) (mark : Mark) (w : World) → G w → top_of w name ≡ Some f → f.mark ≡ mark → From (Behind G) w (end_abortable_in p part name f below mark)
   unfolding end_abortable_in
   end_abortable_in-from p part name f below (Abortable m) w good top is = end_abortable-from p part name m f below w good top (ap is_protected is)
-  end_abortable_in-from p part name f below _ w good top is = keeps-from moves _ w good (nothing-keeps moves)
+  end_abortable_in-from p part name f below _ w good top is = keeps-from (chains moves) _ w good (nothing-keeps (chains moves))
 
-  end_top_abortable-from : (p : Image) (part : Part) (name : Who) (frames : List Frame) (w : World) → G w → frames_of w name ≡ frames → From G w (end_top_abortable p part name frames)
+  end_top_abortable-from : (p : Image) (part : Part) (name : Who) (frames : List Frame) (w : World) → G w → frames_of w name ≡ frames → From (Behind G) w (end_top_abortable p part name frames)
   unfolding end_top_abortable
-  end_top_abortable-from p part name [] w good is = keeps-from moves _ w good (nothing-keeps moves)
+  end_top_abortable-from p part name [] w good is = keeps-from (chains moves) _ w good (nothing-keeps (chains moves))
   end_top_abortable-from p part name (f ∷ below) w good is = end_abortable_in-from p part name f below f.mark w good (ap first_of is) refl
 
-  pub end_found_abortable-keeps : (p : Image) (part : Part) (name : Who) → Keeps G (looks (λ w. end_top_abortable p part name (frames_of w name)))
-  end_found_abortable-keeps p part name = looks-from moves _ (λ w good. end_top_abortable-from p part name (frames_of w name) w good refl)
+  pub end_found_abortable-keeps : (p : Image) (part : Part) (name : Who) → Keeps G (Behind G) (looks (λ w. end_top_abortable p part name (frames_of w name)))
+  end_found_abortable-keeps p part name = looks-from (chains moves) _ (λ w good. end_top_abortable-from p part name (frames_of w name) w good refl)
 
-  pub end_wait-keeps : (p : Image) (part : Part) (c : Call) (depth : ℕ) (outcome : Outcome) → Keeps G (end_wait p part c depth outcome)
+  pub end_wait-keeps : (p : Image) (part : Part) (c : Call) (depth : ℕ) (outcome : Outcome) → Keeps G (Behind G) (end_wait p part c depth outcome)
   unfolding end_wait
   end_wait-keeps p part c depth outcome =
       let name = who.Task c.caller in
-      then-keeps moves (ready p part name) _ (ready-keeps moves p part name)
-      (then-keeps moves (changes (edit_abortable_at name depth (waited_mark (not (is_cancelled outcome))))) _ (changes-keeps moves _ (edit_abortable_at-alters name depth (waited_mark (not (is_cancelled outcome)))))
-      (then-keeps moves (looks (λ w. end_top_abortable p part name (frames_of w name))) _ (end_found_abortable-keeps p part name) (open_sequence-keeps moves p part name)))
+      then-keeps (chains moves) (ready p part name) _ (ready-keeps moves p part name)
+      (then-keeps (chains moves) (changes (edit_abortable_at name depth (waited_mark (not (is_cancelled outcome))))) _ (changes-keeps (chains moves) _ (edit_abortable_at-alters name depth (waited_mark (not (is_cancelled outcome)))))
+      (then-keeps (chains moves) (looks (λ w. end_top_abortable p part name (frames_of w name))) _ (end_found_abortable-keeps p part name) (open_sequence-keeps moves p part name)))
 
-  pub end_for_abortable-keeps : (p : Image) (part : Part) (c : Call) (depth : ℕ) (outcome : Outcome) → Keeps G (end_for_abortable p part c depth outcome)
+  pub end_for_abortable-keeps : (p : Image) (part : Part) (c : Call) (depth : ℕ) (outcome : Outcome) → Keeps G (Behind G) (end_for_abortable p part c depth outcome)
   unfolding end_for_abortable
-  end_for_abortable-keeps p part c depth outcome = looks-keeps moves _ (λ w. branch-keeps moves (waits_for_end c.number (waiting_of w (who.Task c.caller))) (end_wait p part c depth outcome) (trigger_at part c.caller depth) (search (end_wait-keeps)) (search (trigger_at-keeps)))
+  end_for_abortable-keeps p part c depth outcome = looks-keeps (chains moves) _ (λ w. branch-keeps (chains moves) (waits_for_end c.number (waiting_of w (who.Task c.caller))) (end_wait p part c depth outcome) (trigger_at part c.caller depth) (search (end_wait-keeps)) (search (trigger_at-keeps)))
 
-  pub end_for_caller-keeps : (p : Image) (part : Part) (c : Call) (outcome : Outcome) → Keeps G (end_for_caller p part c outcome)
+  pub end_for_caller-keeps : (p : Image) (part : Part) (c : Call) (outcome : Outcome) → Keeps G (Behind G) (end_for_caller p part c outcome)
   unfolding end_for_caller
-  end_for_caller-keeps p part c outcome = search (looks-keeps, when-keeps, ready-keeps, then-keeps, resume-keeps, open_sequence-keeps) depth 8
+  end_for_caller-keeps p part c outcome = search (looks-keeps, when-keeps, ready-keeps, then-keeps, resume-keeps, open_sequence-keeps, chains) depth 9
 
-  pub end_for-keeps : (p : Image) (part : Part) (c : Call) (outcome : Outcome) (n : Option ℕ) → Keeps G (end_for p part c outcome n)
+  pub end_for-keeps : (p : Image) (part : Part) (c : Call) (outcome : Outcome) (n : Option ℕ) → Keeps G (Behind G) (end_for p part c outcome n)
   unfolding end_for
   end_for-keeps p part c outcome (Some depth) = search (end_for_abortable-keeps)
   end_for-keeps p part c outcome None = search (end_for_caller-keeps)
 
-  pub end_with-keeps : (p : Image) (part : Part) (c : Call) (outcome : Outcome) → Keeps G (end_with p part c outcome)
+  pub end_with-keeps : (p : Image) (part : Part) (c : Call) (outcome : Outcome) → Keeps G (Behind G) (end_with p part c outcome)
   unfolding end_with
-  end_with-keeps p part c outcome = search (changes-keeps, edit_call-alters, then-keeps, looks-keeps, end_for-keeps)
+  end_with-keeps p part c outcome = search (changes-keeps, edit_call-alters, then-keeps, looks-keeps, end_for-keeps, chains)
 
-  pub end_call-keeps : (p : Image) (part : Part) (c : Call) (outcome : Outcome) → Keeps G (end_call p part c outcome)
+  pub end_call-keeps : (p : Image) (part : Part) (c : Call) (outcome : Outcome) → Keeps G (Behind G) (end_call p part c outcome)
   unfolding end_call
   end_call-keeps p part c outcome =
-      looks-from moves _ (λ w good. let r = with_results p c outcome w in
+      looks-from (chains moves) _ (λ w good. let r = with_results p c outcome w in
       let first = with_results-world p c outcome w good in
-      changes_then-from moves (λ _. r.0) (end_with p part c r.1) w (keeps-from moves (end_with p part c r.1) r.0 first (end_with-keeps p part c r.1)))
+      changes_then-from moves (λ _. r.0) (end_with p part c r.1) w (keeps-from (chains moves) (end_with p part c r.1) r.0 first (end_with-keeps p part c r.1)))
 
-  pub deliver-keeps : (p : Image) (part : Part) (c : CallNo) (outcome : Outcome) → Keeps G (deliver p part c outcome)
+  pub deliver-keeps : (p : Image) (part : Part) (c : CallNo) (outcome : Outcome) → Keeps G (Behind G) (deliver p part c outcome)
   unfolding deliver
-  deliver-keeps p part c outcome = search (with_call-keeps, end_call-keeps, then-keeps, unwind-keeps)
+  deliver-keeps p part c outcome = search (with_call-keeps, end_call-keeps, then-keeps, unwind-keeps, chains)
 
-  pub gone-keeps : (p : Image) (part : Part) (c : Call) → Keeps G (gone p part c)
+  pub gone-keeps : (p : Image) (part : Part) (c : Call) → Keeps G (Behind G) (gone p part c)
   unfolding gone
-  gone-keeps p part c = search (changes-keeps, unqueued-alters, then-keeps, says-keeps)
+  gone-keeps p part c = search (changes-keeps, unqueued-alters, then-keeps, says-keeps, chains)

@@ -13,59 +13,60 @@ use Rattle.profile_machine.specs.Steps.{Step, says, changes, ◌▷◌}
 use Rattle.profile_machine.specs.Appointments.{is_timeout_of}
 use Rattle.profile_machine.specs.Calls.{edit_call, forget_call, with_call, says_call, edit_object, edit_queue, place_of_entry, put_call, take_call, enqueued, enqueue, unqueued, is_cancellable, attempt_on, attempt_with, attempt}
 use Rattle.std.proofs.Common.{◌≡◌, refl}
-use Rattle.world_laws.proofs.Actions.FineMoves.{FineMoves}
-use Rattle.world_laws.proofs.Actions.Kept.Combinators.{Keeps, Alters, branch-keeps, changes-keeps, for_some-keeps, looks-keeps, says-keeps, then-keeps}
+use Rattle.world_laws.proofs.Actions.FineMoves.{FineMoves, chains, says-keeps}
 use Rattle.world_laws.proofs.Actions.Kept.Tasks.{edit_task-alters}
 use Rattle.machine_laws.proofs.FineMoves.{GoodWorld, Naming}
+use Rattle.machine_laws.proofs.Kept.Combinators.{Alters, Keeps, branch-keeps, changes-keeps, for_some-keeps, looks-keeps, then-keeps}
+use Rattle.world_laws.proofs.Behind.{Behind}
 
 module _ {G : GoodWorld} {F : Naming} (moves : FineMoves G F) where
-  pub edit_call-alters : (c : CallNo) (f : Call → Call) → ((d : Call) → (f d).number ≡ d.number) → ((d : Call) → (f d).caller ≡ d.caller) → Alters G (edit_call c f)
+  pub edit_call-alters : (c : CallNo) (f : Call → Call) → ((d : Call) → (f d).number ≡ d.number) → ((d : Call) → (f d).caller ≡ d.caller) → Alters G (Behind G) (edit_call c f)
   unfolding Alters
   edit_call-alters c f a b w good = moves.edits_call c f w good a b
 
-  pub forget_call-alters : (c : CallNo) → Alters G (forget_call c)
+  pub forget_call-alters : (c : CallNo) → Alters G (Behind G) (forget_call c)
   unfolding Alters
   forget_call-alters c w good = moves.forgets_call c w good
 
-  pub with_call-keeps : (c : CallNo) (f : Call → Step) → ((x : Call) → Keeps G (f x)) → Keeps G (with_call c f)
-  with_call-keeps c f kept = search (looks-keeps, for_some-keeps)
+  pub with_call-keeps : (c : CallNo) (f : Call → Step) → ((x : Call) → Keeps G (Behind G) (f x)) → Keeps G (Behind G) (with_call c f)
+  with_call-keeps c f kept = search (looks-keeps, for_some-keeps, chains)
 
-  pub says_call-keeps : (part : Part) (c : Call) → Keeps G (says_call part c)
+  pub says_call-keeps : (part : Part) (c : Call) → Keeps G (Behind G) (says_call part c)
   unfolding says_call
   says_call-keeps part c = search (says-keeps)
 
-  pub edit_object-alters : (o : ObjectNo) (f : Object → Object) → ((x : Object) → (f x).number ≡ x.number) → ((x : Object) → (f x).actions ≡ x.actions) → ((x : Object) → (f x).ceiling ≡ x.ceiling) → Alters G (edit_object o f)
+  pub edit_object-alters : (o : ObjectNo) (f : Object → Object) → ((x : Object) → (f x).number ≡ x.number) → ((x : Object) → (f x).actions ≡ x.actions) → ((x : Object) → (f x).ceiling ≡ x.ceiling) → Alters G (Behind G) (edit_object o f)
   unfolding Alters
   edit_object-alters o f a b c w good = moves.edits_object o f w good a b c
 
-  pub edit_queue-alters : (owner : Owner) (place : ℕ) (f : List CallNo → List CallNo) → Alters G (edit_queue owner place f)
+  pub edit_queue-alters : (owner : Owner) (place : ℕ) (f : List CallNo → List CallNo) → Alters G (Behind G) (edit_queue owner place f)
   edit_queue-alters (owned_by.Task t) place f = search (edit_task-alters)
   edit_queue-alters (owned_by.Object o) place f = search (edit_object-alters)
 
-  pub enqueued-alters : (p : Image) (c : Call) → Alters G (enqueued p c)
+  pub enqueued-alters : (p : Image) (c : Call) → Alters G (Behind G) (enqueued p c)
   unfolding Alters
   enqueued-alters p c w good =
       let unbegun = edit_call c.number (λ d. record d { begun = false }) w in
       let first = moves.edits_call c.number (λ d. record d { begun = false }) w good (λ d. refl) (λ d. refl) in
       edit_queue-alters c.owner (place_of_entry p c.entry) (put_call p.policies.queuing w c.number c.priority) unbegun first
 
-  pub enqueue-keeps : (p : Image) (c : CallNo) → Keeps G (enqueue p c)
+  pub enqueue-keeps : (p : Image) (c : CallNo) → Keeps G (Behind G) (enqueue p c)
   unfolding enqueue
-  enqueue-keeps p c = search (with_call-keeps, changes-keeps, enqueued-alters)
+  enqueue-keeps p c = search (with_call-keeps, changes-keeps, enqueued-alters, chains)
 
-  pub unqueued-alters : (p : Image) (c : Call) → Alters G (unqueued p c)
+  pub unqueued-alters : (p : Image) (c : Call) → Alters G (Behind G) (unqueued p c)
   unfolding Alters
   unqueued-alters p c w good =
       let taken = edit_queue c.owner (place_of_entry p c.entry) (take_call c.number) w in
       let first = edit_queue-alters c.owner (place_of_entry p c.entry) (take_call c.number) w good in
       moves.drops_appointment (is_timeout_of c.number) taken first
 
-  pub attempt_on-keeps : (p : Image) (part : Part) (c : Call) → Keeps G (attempt_on p part c)
+  pub attempt_on-keeps : (p : Image) (part : Part) (c : Call) → Keeps G (Behind G) (attempt_on p part c)
   unfolding attempt_on
-  attempt_on-keeps p part c = branch-keeps moves (is_cancellable c) (changes (unqueued p c) ▷ says part (line.Cancel c.caller c.number)) (changes (edit_call c.number (λ d. record d { attempted = true }))) (search (changes-keeps, unqueued-alters, then-keeps, says-keeps)) (search (changes-keeps, edit_call-alters))
+  attempt_on-keeps p part c = branch-keeps (chains moves) (is_cancellable c) (changes (unqueued p c) ▷ says part (line.Cancel c.caller c.number)) (changes (edit_call c.number (λ d. record d { attempted = true }))) (search (changes-keeps, unqueued-alters, then-keeps, says-keeps, chains)) (search (changes-keeps, edit_call-alters, chains))
 
-  pub attempt_with-keeps : (p : Image) (part : Part) (c : Call) (cancels stays : Step) → Keeps G cancels → Keeps G stays → Keeps G (attempt_with p part c cancels stays)
-  attempt_with-keeps p part c cancels stays kept also_kept = then-keeps moves (attempt_on p part c) _ (search (attempt_on-keeps)) (branch-keeps moves (is_cancellable c) cancels stays (search) (search))
+  pub attempt_with-keeps : (p : Image) (part : Part) (c : Call) (cancels stays : Step) → Keeps G (Behind G) cancels → Keeps G (Behind G) stays → Keeps G (Behind G) (attempt_with p part c cancels stays)
+  attempt_with-keeps p part c cancels stays kept also_kept = then-keeps (chains moves) (attempt_on p part c) _ (search (attempt_on-keeps)) (branch-keeps (chains moves) (is_cancellable c) cancels stays (search) (search))
 
-  pub attempt-keeps : (p : Image) (part : Part) (c : CallNo) (cancels stays : Step) → Keeps G cancels → Keeps G stays → Keeps G (attempt p part c cancels stays)
+  pub attempt-keeps : (p : Image) (part : Part) (c : CallNo) (cancels stays : Step) → Keeps G (Behind G) cancels → Keeps G (Behind G) stays → Keeps G (Behind G) (attempt p part c cancels stays)
   attempt-keeps p part c cancels stays kept also_kept = search (with_call-keeps, attempt_with-keeps)

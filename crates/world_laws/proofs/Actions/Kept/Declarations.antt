@@ -31,41 +31,42 @@ use Rattle.profile_machine.specs.Statements.{copy_cells}
 use Rattle.profile_machine.specs.Scopes.{put_cells}
 use Rattle.profile_machine.specs.CallEnds.{store}
 use Rattle.profile_machine.specs.Declarations.{default_cells, set_defaults, initialized, initial_of, components_initialized, located_here, set_thing, object_declared, object_drawn, new_object, with_object, says_object, declare_protected, controlled_declared, event_drawn, event_declared, with_budget, budget_declared, timed_task, with_timer, timer_declared, declared, declare_quietly, declare_by, declare}
-use Rattle.world_laws.proofs.Actions.FineMoves.{FineMoves}
-use Rattle.world_laws.proofs.Actions.Kept.Combinators.{Keeps, Alters, Gives, bind-gives, changes-keeps, looks-from, next-gives, ok-gives, then-keeps, looks-keeps, says-keeps}
+use Rattle.world_laws.proofs.Actions.FineMoves.{FineMoves, chains, says-keeps}
 use Rattle.world_laws.proofs.Actions.Kept.Frames.{given-from, given_world-from, goes-keeps}
 use Rattle.world_laws.proofs.Actions.Kept.Scopes.{write_cell-alters}
 use Rattle.world_laws.proofs.Actions.Kept.CallEnds.{store-gives}
 use Rattle.world_laws.proofs.Actions.Kept.Statements.{copy_cells-alters}
 use Rattle.machine_laws.proofs.FineMoves.{GoodWorld, Naming}
+use Rattle.machine_laws.proofs.Kept.Combinators.{Alters, Gives, Keeps, bind-gives, changes-keeps, looks-from, looks-keeps, next-gives, ok-gives, then-keeps}
+use Rattle.world_laws.proofs.Behind.{Behind}
 
 module _ {G : GoodWorld} {F : Naming} (moves : FineMoves G F) where
-  set_defaults-alters : (p : Image) (v : Variable) → Alters G (set_defaults p v)
+  set_defaults-alters : (p : Image) (v : Variable) → Alters G (Behind G) (set_defaults p v)
   unfolding Alters
   set_defaults-alters p v w good = moves.edits_cells v.within (put_cells v.place (default_cells p w v)) w good
 
-  initialized-gives : (q : Seen) (v : Variable) (i : Initial) (w : World) → G w → Gives G (initialized q v i w)
+  initialized-gives : (q : Seen) (v : Variable) (i : Initial) (w : World) → G w → Gives (Behind G) w (initialized q v i w)
   unfolding Alters
-  initialized-gives q v initial.Default w good = ok-gives moves w (set_defaults q.program v w) (set_defaults-alters q.program v w good)
-  initialized-gives q v (initial.Scalar e) w good = bind-gives moves (value q e) (λ x. store q.program v x w) w (λ x. store-gives moves q.program v x w good)
+  initialized-gives q v initial.Default w good = ok-gives (chains moves) w (set_defaults q.program v w) (set_defaults-alters q.program v w good)
+  initialized-gives q v (initial.Scalar e) w good = bind-gives (chains moves) (value q e) (λ x. store q.program v x w) w (λ x. store-gives moves q.program v x w good)
   initialized-gives q v (initial.Array source) w good =
-      bind-gives moves (object_cell q source) (λ f. Ok (copy_cells q.program v f w)) w (λ f. ok-gives moves w (copy_cells q.program v f w) (copy_cells-alters moves q.program v f w good))
+      bind-gives (chains moves) (object_cell q source) (λ f. Ok (copy_cells q.program v f w)) w (λ f. ok-gives (chains moves) w (copy_cells q.program v f w) (copy_cells-alters moves q.program v f w good))
 
-  components_initialized-gives : (q : Seen) (own_cells : ℕ) (l : Located) (cs : List DeclNo) (w : World) → G w → Gives G (components_initialized q own_cells l cs w)
-  components_initialized-gives q own_cells l [] w good = ok-gives moves w w (good)
+  components_initialized-gives : (q : Seen) (own_cells : ℕ) (l : Located) (cs : List DeclNo) (w : World) → G w → Gives (Behind G) w (components_initialized q own_cells l cs w)
+  components_initialized-gives q own_cells l [] w good = ok-gives (chains moves) w w (good)
   components_initialized-gives q own_cells l (c ∷ cs) w good =
       let v = component_at q.program own_cells l c in
       let i = initial_of (declaration_of q.program c).kind in
-      next-gives moves (initialized q v i w) (components_initialized q own_cells l cs) w (initialized-gives q v i w good) (components_initialized-gives q own_cells l cs)
+      next-gives (chains moves) (initialized q v i w) (components_initialized q own_cells l cs) w (initialized-gives q v i w good) (components_initialized-gives q own_cells l cs)
 
-  pub set_thing-alters : (p : Image) (l : Located) (v : Value) → Alters G (set_thing p l v)
+  pub set_thing-alters : (p : Image) (l : Located) (v : Value) → Alters G (Behind G) (set_thing p l v)
   set_thing-alters p l v = search (write_cell-alters)
 
-  object_declared-gives : (q : Seen) (d : DeclNo) (i : Initial) → G q.world → Gives G (object_declared q d i)
+  object_declared-gives : (q : Seen) (d : DeclNo) (i : Initial) → G q.world → Gives (Behind G) q.world (object_declared q d i)
   object_declared-gives q d i good =
-      bind-gives moves (object_cell q (Declared d)) (λ v. initialized q v i q.world) q.world (λ v. initialized-gives q v i q.world good)
+      bind-gives (chains moves) (object_cell q (Declared d)) (λ v. initialized q v i q.world) q.world (λ v. initialized-gives q v i q.world good)
 
-  with_object-alters : (p : Image) (l : Located) (u : ProtectedUnitNo) → Alters G (with_object p l u)
+  with_object-alters : (p : Image) (l : Located) (u : ProtectedUnitNo) → Alters G (Behind G) (with_object p l u)
   unfolding Alters
   with_object-alters p l u w good =
       let n = suc w.drawn.objects in
@@ -73,67 +74,67 @@ module _ {G : GoodWorld} {F : Naming} (moves : FineMoves G F) where
       let first = moves.adds_object p l u w good in
       set_thing-alters p l (Thing n) added first
 
-  says_object-keeps : (p : Image) (l : Located) (u : ProtectedUnitNo) → Keeps G (says_object p l u)
+  says_object-keeps : (p : Image) (l : Located) (u : ProtectedUnitNo) → Keeps G (Behind G) (says_object p l u)
   unfolding says_object
-  says_object-keeps p l u = looks-keeps moves _ (λ w. says-keeps moves Own (line.New (created.Object (record { 0 = w.drawn.objects })) (Some l.declared) (protected_unit_of p u).ceiling))
+  says_object-keeps p l u = looks-keeps (chains moves) _ (λ w. says-keeps moves Own (line.New (created.Object (record { 0 = w.drawn.objects })) (Some l.declared) (protected_unit_of p u).ceiling))
 
-  pub declare_protected-keeps : (p : Image) (name : Who) (s : StatementNo) (d : DeclNo) (u : ProtectedUnitNo) → Keeps G (declare_protected p name s d u)
+  pub declare_protected-keeps : (p : Image) (name : Who) (s : StatementNo) (d : DeclNo) (u : ProtectedUnitNo) → Keeps G (Behind G) (declare_protected p name s d u)
   unfolding declare_protected
   declare_protected-keeps p name s d u =
-      looks-from moves _ (λ w good. let q = seen_by p w name in
+      looks-from (chains moves) _ (λ w good. let q = seen_by p w name in
       given-from moves Own name (located_here q d) _ w good (λ l.
       given_world-from moves Own name (components_initialized q PROTECTED_CELLS l (protected_unit_of p u).components w) (λ _. goes name (next_of p s) ▷ changes (with_object p l u) ▷ says_object p l u) w good
       (components_initialized-gives q PROTECTED_CELLS l (protected_unit_of p u).components w good)
-      (λ _. search (then-keeps, goes-keeps, changes-keeps, with_object-alters, says_object-keeps))))
+      (λ _. search (then-keeps, goes-keeps, changes-keeps, with_object-alters, says_object-keeps, chains))))
 
-  controlled_declared-gives : (q : Seen) (d : DeclNo) (c : ControlledNo) → G q.world → Gives G (controlled_declared q d c)
+  controlled_declared-gives : (q : Seen) (d : DeclNo) (c : ControlledNo) → G q.world → Gives (Behind G) q.world (controlled_declared q d c)
   unfolding Alters
   controlled_declared-gives q d c good =
       let components = (controlled_of q.program c).components in
-      bind-gives moves (located_here q d) (λ l. components_initialized q CONTROLLED_CELLS l components q.world >>= λ next. Ok (set_thing q.program l (Thing 0) next)) q.world (λ l.
-      next-gives moves (components_initialized q CONTROLLED_CELLS l components q.world) (λ next. Ok (set_thing q.program l (Thing 0) next)) q.world
+      bind-gives (chains moves) (located_here q d) (λ l. components_initialized q CONTROLLED_CELLS l components q.world >>= λ next. Ok (set_thing q.program l (Thing 0) next)) q.world (λ l.
+      next-gives (chains moves) (components_initialized q CONTROLLED_CELLS l components q.world) (λ next. Ok (set_thing q.program l (Thing 0) next)) q.world
       (components_initialized-gives q CONTROLLED_CELLS l components q.world good)
-      (λ next good_next. ok-gives moves next (set_thing q.program l (Thing 0) next) (set_thing-alters q.program l (Thing 0) next good_next)))
+      (λ next good_next. ok-gives (chains moves) next (set_thing q.program l (Thing 0) next) (set_thing-alters q.program l (Thing 0) next good_next)))
 
   -- an object is located, and its first cell names it in a world that stands rightly to the one before
-  thing_declared-gives : (q : Seen) (d : DeclNo) (v : Value) (next : World) → G next → Gives G (located_here q d >>= λ l. Ok (set_thing q.program l v next))
+  thing_declared-gives : (q : Seen) (d : DeclNo) (v : Value) (next : World) → G next → Gives (Behind G) q.world (located_here q d >>= λ l. Ok (set_thing q.program l v next))
   unfolding Alters
   thing_declared-gives q d v next a =
-      bind-gives moves (located_here q d) (λ l. Ok (set_thing q.program l v next)) q.world (λ l.
-      ok-gives moves q.world (set_thing q.program l v next) ((set_thing-alters q.program l v next a)))
+      bind-gives (chains moves) (located_here q d) (λ l. Ok (set_thing q.program l v next)) q.world (λ l.
+      ok-gives (chains moves) q.world (set_thing q.program l v next) ((set_thing-alters q.program l v next a)))
 
-  event_declared-gives : (q : Seen) (d : DeclNo) → G q.world → Gives G (event_declared q d)
+  event_declared-gives : (q : Seen) (d : DeclNo) → G q.world → Gives (Behind G) q.world (event_declared q d)
   event_declared-gives q d good = thing_declared-gives q d (Thing q.world.drawn.events) (record q.world { drawn = event_drawn q.world.drawn }) (moves.draws_event q.world good)
 
-  budget_declared-gives : (q : Seen) (d : DeclNo) → G q.world → Gives G (budget_declared q d)
+  budget_declared-gives : (q : Seen) (d : DeclNo) → G q.world → Gives (Behind G) q.world (budget_declared q d)
   budget_declared-gives q d good = thing_declared-gives q d (Thing (length q.world.budgets)) (with_budget q.world) (moves.adds_budget q.world good)
 
-  timer_declared-gives : (q : Seen) (d task : DeclNo) → G q.world → Gives G (timer_declared q d task)
+  timer_declared-gives : (q : Seen) (d task : DeclNo) → G q.world → Gives (Behind G) q.world (timer_declared q d task)
   timer_declared-gives q d task good =
       let number = Thing (length q.world.timers) in
-      bind-gives moves (timed_task q task) (λ t. unless (not (leb 256 (length q.world.timers))) exception.TimerResource t >>= λ u. located_here q d >>= λ l. Ok (set_thing q.program l number (with_timer u q.world))) q.world (λ t.
-      bind-gives moves (unless (not (leb 256 (length q.world.timers))) exception.TimerResource t) (λ u. located_here q d >>= λ l. Ok (set_thing q.program l number (with_timer u q.world))) q.world (λ u.
+      bind-gives (chains moves) (timed_task q task) (λ t. unless (not (leb 256 (length q.world.timers))) exception.TimerResource t >>= λ u. located_here q d >>= λ l. Ok (set_thing q.program l number (with_timer u q.world))) q.world (λ t.
+      bind-gives (chains moves) (unless (not (leb 256 (length q.world.timers))) exception.TimerResource t) (λ u. located_here q d >>= λ l. Ok (set_thing q.program l number (with_timer u q.world))) q.world (λ u.
       thing_declared-gives q d number (with_timer u q.world) (moves.adds_timer u q.world good)))
 
-  declared-gives : (q : Seen) (d : DeclNo) (kind : DeclarationKind) → G q.world → Gives G (declared q d kind)
+  declared-gives : (q : Seen) (d : DeclNo) (kind : DeclarationKind) → G q.world → Gives (Behind G) q.world (declared q d kind)
   declared-gives q d (kind.Object i) good = object_declared-gives q d i good
-  declared-gives q d (kind.Task u) good = ok-gives moves q.world q.world good
-  declared-gives q d (kind.Protected u) good = ok-gives moves q.world q.world good
+  declared-gives q d (kind.Task u) good = ok-gives (chains moves) q.world q.world good
+  declared-gives q d (kind.Protected u) good = ok-gives (chains moves) q.world q.world good
   declared-gives q d (kind.Controlled c) good = controlled_declared-gives q d c good
   declared-gives q d kind.Event good = event_declared-gives q d good
   declared-gives q d (kind.Timer task) good = timer_declared-gives q d task good
   declared-gives q d kind.Budget good = budget_declared-gives q d good
-  declared-gives q d kind.Parameter good = ok-gives moves q.world q.world good
-  declared-gives q d kind.Other good = ok-gives moves q.world q.world good
+  declared-gives q d kind.Parameter good = ok-gives (chains moves) q.world q.world good
+  declared-gives q d kind.Other good = ok-gives (chains moves) q.world q.world good
 
-  pub declare_quietly-keeps : (p : Image) (name : Who) (s : StatementNo) (d : DeclNo) → Keeps G (declare_quietly p name s d)
+  pub declare_quietly-keeps : (p : Image) (name : Who) (s : StatementNo) (d : DeclNo) → Keeps G (Behind G) (declare_quietly p name s d)
   unfolding declare_quietly
   declare_quietly-keeps p name s d =
-      looks-from moves _ (λ w good.
+      looks-from (chains moves) _ (λ w good.
       given_world-from moves Own name (declared (seen_by p w name) d (declaration_of p d).kind) (λ _. goes name (next_of p s)) w good
       (declared-gives (seen_by p w name) d (declaration_of p d).kind good) (λ _. goes-keeps moves name (next_of p s)))
 
-  pub declare_by-keeps : (p : Image) (name : Who) (s : StatementNo) (d : DeclNo) (kind : DeclarationKind) → Keeps G (declare_by p name s d kind)
+  pub declare_by-keeps : (p : Image) (name : Who) (s : StatementNo) (d : DeclNo) (kind : DeclarationKind) → Keeps G (Behind G) (declare_by p name s d kind)
   unfolding declare_by
   declare_by-keeps p name s d (kind.Protected u) = search (declare_protected-keeps)
   declare_by-keeps p name s d (kind.Object i) = search (declare_quietly-keeps)
@@ -145,6 +146,6 @@ module _ {G : GoodWorld} {F : Naming} (moves : FineMoves G F) where
   declare_by-keeps p name s d kind.Parameter = search (declare_quietly-keeps)
   declare_by-keeps p name s d kind.Other = search (declare_quietly-keeps)
 
-  pub declare-keeps : (p : Image) (name : Who) (s : StatementNo) (d : DeclNo) → Keeps G (declare p name s d)
+  pub declare-keeps : (p : Image) (name : Who) (s : StatementNo) (d : DeclNo) → Keeps G (Behind G) (declare p name s d)
   unfolding declare
   declare-keeps p name s d = search (declare_by-keeps)

@@ -39,11 +39,10 @@ use Rattle.profile_machine.specs.declared.world.marks.ResultTo.TheVariants as bo
 use Rattle.profile_machine.specs.Handlers.{add_release, says_release, wake_agent, release, with_room_for_release, begin_handler, begin_handler_if_room, enter_handler, call_handler, interrupt, setting_of, answer, cancel_event_setting, appoint_event, event_set_to, set_event, cancel_event, clear_timer, with_timer_set, timer_set_beyond, timer_set_to, set_timer, cancel_timer, edit_budget, change_member, add_member, remove_member, fill_budget, replenish, add_to_budget, set_budget, cancel_budget, clock_risen, due_by_tick, charge_budget, timers_reached, quantum_spent_by, charge_clock, charge_group, charge_task, charge, handler_attached, argument_values}
 use Rattle.std.proofs.Common.{◌≡◌, refl, []}
 use Rattle.machine_laws.proofs.Moves.{LetsIn}
-use Rattle.world_laws.proofs.Actions.FineMoves.{FineMoves}
+use Rattle.world_laws.proofs.Actions.FineMoves.{FineMoves, chains, says-keeps}
 use Rattle.world_laws.proofs.Actions.Sound.{Free, Good}
 use Rattle.world_laws.proofs.Actions.Kept.Protected.{begin_action_on-from, find_held-keeps, beside}
 use Rattle.world_laws.proofs.Actions.Kept.Serving.{end_release-keeps}
-use Rattle.world_laws.proofs.Actions.Kept.Combinators.{Keeps, From, Alters, either-from, looks_at-from, then-from, changes-keeps, for_some-keeps, keeps-from, looks-from, looks-keeps, nothing-keeps, says-keeps, sees-keeps, then-keeps, unchanged-alters}
 use Rattle.world_laws.proofs.Actions.Kept.Frames.{becomes-from, goes-keeps, given-keeps, raise_if-keeps}
 use Rattle.world_laws.proofs.Actions.Kept.Tasks.{edit_task-alters}
 use Rattle.world_laws.proofs.Actions.Kept.Dispatching.{ready-keeps}
@@ -57,6 +56,8 @@ use Rattle.profile_machine.specs.Appointments.{appoint}
 use Rattle.machine_laws.proofs.Kept.Handlers.{spent-frames, spent-master, spent-state, spent-who}
 use Rattle.machine_laws.proofs.FineMoves.{GoodWorld, Naming}
 use Rattle.line_laws.proofs.Leaving.Modes.{Nobody}
+use Rattle.machine_laws.proofs.Kept.Combinators.{Alters, From, Keeps, changes-keeps, either-from, for_some-keeps, keeps-from, looks-from, looks-keeps, looks_at-from, nothing-keeps, sees-keeps, then-from, then-keeps, unchanged-alters}
+use Rattle.world_laws.proofs.Behind.{Behind}
 
 spent-inherited : (robin : Bool) (t : world.Task) → (cond robin (record t { quantum = t.quantum - 1 }) t).inherited ≡ t.inherited
 spent-inherited true t = refl
@@ -65,92 +66,92 @@ spent-inherited false t = refl
 -- ---- settings, and the charge of a tick
 
 module _ {G : GoodWorld} {F : Naming} (moves : FineMoves G F) where
-  pub with_room_for_release-keeps : (name : Who) (needed : Bool) (step : Step) → Keeps G step → Keeps G (with_room_for_release name needed step)
-  with_room_for_release-keeps name needed step kept = search (looks-keeps, raise_if-keeps)
+  pub with_room_for_release-keeps : (name : Who) (needed : Bool) (step : Step) → Keeps G (Behind G) step → Keeps G (Behind G) (with_room_for_release name needed step)
+  with_room_for_release-keeps name needed step kept = search (looks-keeps, raise_if-keeps, chains)
 
-  pub setting_of-keeps : (p : Image) (name : Who) (q : Seen) (base : ℤ) (set : Setting) (named : Option HandlerName) (step : Option HandlerOf → ℤ → Step) → ((x : Option HandlerOf) (y : ℤ) → Keeps G (step x y)) → Keeps G (setting_of p name q base set named step)
+  pub setting_of-keeps : (p : Image) (name : Who) (q : Seen) (base : ℤ) (set : Setting) (named : Option HandlerName) (step : Option HandlerOf → ℤ → Step) → ((x : Option HandlerOf) (y : ℤ) → Keeps G (Behind G) (step x y)) → Keeps G (Behind G) (setting_of p name q base set named step)
   setting_of-keeps p name q base set named step kept = search (given-keeps, with_room_for_release-keeps, raise_if-keeps)
 
-  pub answer-keeps : (p : Image) (name : Who) (v : Variable) (b : Bool) → Keeps G (answer p name v b)
+  pub answer-keeps : (p : Image) (name : Who) (v : Variable) (b : Bool) → Keeps G (Behind G) (answer p name v b)
   unfolding answer
-  answer-keeps p name v b = looks-from moves _ (λ w good. becomes-from moves Own name (store p v (Truth b) w) w good (store-gives moves p v (Truth b) w good))
+  answer-keeps p name v b = looks-from (chains moves) _ (λ w good. becomes-from moves Own name (store p v (Truth b) w) w good (store-gives moves p v (Truth b) w good))
 
-  pub cancel_event_setting-alters : (e : ℕ) → Alters G (cancel_event_setting e)
+  pub cancel_event_setting-alters : (e : ℕ) → Alters G (Behind G) (cancel_event_setting e)
   cancel_event_setting-alters e = search (drop_appointment-alters)
 
-  pub cancel_event-keeps : (p : Image) (name : Who) (s : StatementNo) (d : DeclNo) (target : VariableName) → Keeps G (cancel_event p name s d target)
+  pub cancel_event-keeps : (p : Image) (name : Who) (s : StatementNo) (d : DeclNo) (target : VariableName) → Keeps G (Behind G) (cancel_event p name s d target)
   unfolding cancel_event
-  cancel_event-keeps p name s d target = search (sees-keeps, given-keeps, goes-keeps, then-keeps, changes-keeps, cancel_event_setting-alters, answer-keeps) depth 9
+  cancel_event-keeps p name s d target = search (sees-keeps, given-keeps, goes-keeps, then-keeps, changes-keeps, cancel_event_setting-alters, answer-keeps, chains) depth 10
 
-  pub clear_timer-alters : (k : ℕ) → Alters G (clear_timer k)
+  pub clear_timer-alters : (k : ℕ) → Alters G (Behind G) (clear_timer k)
   unfolding Alters
   clear_timer-alters k w good = moves.clears_timer k w good
 
-  with_timer_set-alters : (k : ℕ) (h : HandlerOf) (v : ℤ) → Alters G (with_timer_set k h v)
+  with_timer_set-alters : (k : ℕ) (h : HandlerOf) (v : ℤ) → Alters G (Behind G) (with_timer_set k h v)
   unfolding Alters
   with_timer_set-alters k h v w good = moves.sets_timer k h v w good
 
-  pub cancel_timer-keeps : (p : Image) (name : Who) (s : StatementNo) (d : DeclNo) (target : VariableName) → Keeps G (cancel_timer p name s d target)
+  pub cancel_timer-keeps : (p : Image) (name : Who) (s : StatementNo) (d : DeclNo) (target : VariableName) → Keeps G (Behind G) (cancel_timer p name s d target)
   unfolding cancel_timer
-  cancel_timer-keeps p name s d target = search (sees-keeps, given-keeps, goes-keeps, then-keeps, changes-keeps, clear_timer-alters, answer-keeps) depth 9
+  cancel_timer-keeps p name s d target = search (sees-keeps, given-keeps, goes-keeps, then-keeps, changes-keeps, clear_timer-alters, answer-keeps, chains) depth 10
 
-  edit_budget-alters : (b : ℕ) (f : Budget → Budget) → Alters G (edit_budget b f)
+  edit_budget-alters : (b : ℕ) (f : Budget → Budget) → Alters G (Behind G) (edit_budget b f)
   unfolding Alters
   edit_budget-alters b f w good = moves.edits_budget b f w good
 
-  pub change_member-keeps : (p : Image) (name : Who) (s : StatementNo) (t : world.Task) (is_right : Bool) (b : Option ℕ) → Keeps G (change_member p name s t is_right b)
+  pub change_member-keeps : (p : Image) (name : Who) (s : StatementNo) (t : world.Task) (is_right : Bool) (b : Option ℕ) → Keeps G (Behind G) (change_member p name s t is_right b)
   unfolding change_member
-  change_member-keeps p name s t is_right b = search (raise_if-keeps, goes-keeps, then-keeps, changes-keeps, edit_task-alters)
+  change_member-keeps p name s t is_right b = search (raise_if-keeps, goes-keeps, then-keeps, changes-keeps, edit_task-alters, chains)
 
-  pub add_member-keeps : (p : Image) (name : Who) (s : StatementNo) (d : DeclNo) (e : ExprNo) → Keeps G (add_member p name s d e)
+  pub add_member-keeps : (p : Image) (name : Who) (s : StatementNo) (d : DeclNo) (e : ExprNo) → Keeps G (Behind G) (add_member p name s d e)
   unfolding add_member
-  add_member-keeps p name s d e = search (sees-keeps, given-keeps, change_member-keeps) depth 6
+  add_member-keeps p name s d e = search (sees-keeps, given-keeps, change_member-keeps, chains) depth 7
 
-  pub remove_member-keeps : (p : Image) (name : Who) (s : StatementNo) (d : DeclNo) (e : ExprNo) → Keeps G (remove_member p name s d e)
+  pub remove_member-keeps : (p : Image) (name : Who) (s : StatementNo) (d : DeclNo) (e : ExprNo) → Keeps G (Behind G) (remove_member p name s d e)
   unfolding remove_member
-  remove_member-keeps p name s d e = search (sees-keeps, given-keeps, change_member-keeps) depth 6
+  remove_member-keeps p name s d e = search (sees-keeps, given-keeps, change_member-keeps, chains) depth 7
 
-  pub fill_budget-keeps : (p : Image) (name : Who) (s : StatementNo) (d : DeclNo) (e : ExprNo) (f : ℤ → Budget → Budget) → Keeps G (fill_budget p name s d e f)
+  pub fill_budget-keeps : (p : Image) (name : Who) (s : StatementNo) (d : DeclNo) (e : ExprNo) (f : ℤ → Budget → Budget) → Keeps G (Behind G) (fill_budget p name s d e f)
   unfolding fill_budget
-  fill_budget-keeps p name s d e f = search (sees-keeps, given-keeps, with_room_for_release-keeps, raise_if-keeps, goes-keeps, then-keeps, changes-keeps, edit_budget-alters) depth 8
+  fill_budget-keeps p name s d e f = search (sees-keeps, given-keeps, with_room_for_release-keeps, raise_if-keeps, goes-keeps, then-keeps, changes-keeps, edit_budget-alters, chains) depth 9
 
-  pub replenish-keeps : (p : Image) (name : Who) (s : StatementNo) (d : DeclNo) (e : ExprNo) → Keeps G (replenish p name s d e)
+  pub replenish-keeps : (p : Image) (name : Who) (s : StatementNo) (d : DeclNo) (e : ExprNo) → Keeps G (Behind G) (replenish p name s d e)
   unfolding replenish
   replenish-keeps p name s d e = search (fill_budget-keeps)
 
-  pub add_to_budget-keeps : (p : Image) (name : Who) (s : StatementNo) (d : DeclNo) (e : ExprNo) → Keeps G (add_to_budget p name s d e)
+  pub add_to_budget-keeps : (p : Image) (name : Who) (s : StatementNo) (d : DeclNo) (e : ExprNo) → Keeps G (Behind G) (add_to_budget p name s d e)
   unfolding add_to_budget
   add_to_budget-keeps p name s d e = search (fill_budget-keeps)
 
-  pub set_budget-keeps : (p : Image) (name : Who) (s : StatementNo) (d : DeclNo) (named : Option HandlerName) → Keeps G (set_budget p name s d named)
+  pub set_budget-keeps : (p : Image) (name : Who) (s : StatementNo) (d : DeclNo) (named : Option HandlerName) → Keeps G (Behind G) (set_budget p name s d named)
   unfolding set_budget
-  set_budget-keeps p name s d named = search (sees-keeps, given-keeps, with_room_for_release-keeps, raise_if-keeps, goes-keeps, then-keeps, changes-keeps, edit_budget-alters) depth 8
+  set_budget-keeps p name s d named = search (sees-keeps, given-keeps, with_room_for_release-keeps, raise_if-keeps, goes-keeps, then-keeps, changes-keeps, edit_budget-alters, chains) depth 9
 
-  pub cancel_budget-keeps : (p : Image) (name : Who) (s : StatementNo) (d : DeclNo) (target : VariableName) → Keeps G (cancel_budget p name s d target)
+  pub cancel_budget-keeps : (p : Image) (name : Who) (s : StatementNo) (d : DeclNo) (target : VariableName) → Keeps G (Behind G) (cancel_budget p name s d target)
   unfolding cancel_budget
-  cancel_budget-keeps p name s d target = search (sees-keeps, given-keeps, goes-keeps, then-keeps, changes-keeps, edit_budget-alters, answer-keeps) depth 9
+  cancel_budget-keeps p name s d target = search (sees-keeps, given-keeps, goes-keeps, then-keeps, changes-keeps, edit_budget-alters, answer-keeps, chains) depth 10
 
-  pub charge_budget-alters : (n : Option ℕ) → Alters G (charge_budget n)
-  charge_budget-alters None = search (unchanged-alters)
+  pub charge_budget-alters : (n : Option ℕ) → Alters G (Behind G) (charge_budget n)
+  charge_budget-alters None = search (unchanged-alters, chains)
   charge_budget-alters (Some b) = search (edit_budget-alters)
 
   -- ---- a tick is charged
 
-  charge_clock-alters : (t : TaskNo) → Alters G (charge_clock t)
+  charge_clock-alters : (t : TaskNo) → Alters G (Behind G) (charge_clock t)
   unfolding Alters
   charge_clock-alters t w good =
       let next = edit_task (who.Task t) clock_risen w in
       let first = moves.edits_task (who.Task t) clock_risen w good (λ u. refl) (λ u. refl) (λ u. refl) (λ u. refl) (λ u. refl) in
       moves.sets_timers_due (timers_reached t next) next first
 
-  charge_group-alters : (t : TaskNo) → Alters G (charge_group t)
+  charge_group-alters : (t : TaskNo) → Alters G (Behind G) (charge_group t)
   unfolding Alters
   charge_group-alters t w good =
       let b = (task_of w (who.Task t)).budget in
       let first = charge_budget-alters b w good in
       moves.sets_budget_due (due_by_tick w b) (charge_budget b w) first
 
-  charge_task-alters : (p : Image) (t : TaskNo) → Alters G (charge_task p t)
+  charge_task-alters : (p : Image) (t : TaskNo) → Alters G (Behind G) (charge_task p t)
   unfolding Alters
   charge_task-alters p t w good =
       let risen = charge_clock t w in
@@ -160,7 +161,7 @@ module _ {G : GoodWorld} {F : Naming} (moves : FineMoves G F) where
       (moves.edits_task (who.Task t) (quantum_spent_by p) charged second
       (λ u. spent-who (is_robin_level p u.base) u) (λ u. spent-frames (is_robin_level p u.base) u) (λ u. spent-state (is_robin_level p u.base) u) (λ u. spent-master (is_robin_level p u.base) u) (λ u. spent-inherited (is_robin_level p u.base) u))
 
-  pub charge-alters : (p : Image) (name : Who) → Alters G (charge p name)
+  pub charge-alters : (p : Image) (name : Who) → Alters G (Behind G) (charge p name)
   unfolding Alters
   charge-alters p (who.Task t) w good = charge_task-alters p t w good
   charge-alters p who.Agent w good = good
@@ -168,85 +169,85 @@ module _ {G : GoodWorld} {F : Naming} (moves : FineMoves G F) where
 -- ---- what may release
 
 module _ {G : GoodWorld} {F : Naming} (moves : FineMoves G F) where
-  release_drawn-alters : (h : HandlerOf) (argument : Option ℕ) → Alters G (add_release h argument)
+  release_drawn-alters : (h : HandlerOf) (argument : Option ℕ) → Alters G (Behind G) (add_release h argument)
   unfolding Alters
   release_drawn-alters h argument w good = moves.releases h argument w good
 
-  says_release-keeps : (h : HandlerOf) → Keeps G (says_release Own h)
+  says_release-keeps : (h : HandlerOf) → Keeps G (Behind G) (says_release Own h)
   unfolding says_release
-  says_release-keeps h = looks-keeps moves _ (λ w. says-keeps moves Own (line.Release w.drawn.releases h))
+  says_release-keeps h = looks-keeps (chains moves) _ (λ w. says-keeps moves Own (line.Release w.drawn.releases h))
 
-  wake_agent-keeps : (p : Image) (part : Part) (state : State) → Keeps G (wake_agent p part state)
+  wake_agent-keeps : (p : Image) (part : Part) (state : State) → Keeps G (Behind G) (wake_agent p part state)
   unfolding wake_agent
   wake_agent-keeps p part (Blocked waiting) = ready-keeps moves p part who.Agent
-  wake_agent-keeps p part Runnable = nothing-keeps moves
-  wake_agent-keeps p part Made = nothing-keeps moves
+  wake_agent-keeps p part Runnable = nothing-keeps (chains moves)
+  wake_agent-keeps p part Made = nothing-keeps (chains moves)
 
-  pub release-keeps : (p : Image) (h : HandlerOf) (argument : Option ℕ) → Keeps G (release p Own h argument)
+  pub release-keeps : (p : Image) (h : HandlerOf) (argument : Option ℕ) → Keeps G (Behind G) (release p Own h argument)
   unfolding release
   release-keeps p h argument =
-      then-keeps moves (changes (add_release h argument)) _ (changes-keeps moves _ (release_drawn-alters h argument))
-      (then-keeps moves (says_release Own h) _ (says_release-keeps h) (looks-keeps moves _ (λ w. wake_agent-keeps p Own w.agent.state)))
+      then-keeps (chains moves) (changes (add_release h argument)) _ (changes-keeps (chains moves) _ (release_drawn-alters h argument))
+      (then-keeps (chains moves) (says_release Own h) _ (says_release-keeps h) (looks-keeps (chains moves) _ (λ w. wake_agent-keeps p Own w.agent.state)))
 
-  pub interrupt-keeps : (p : Image) (n : ℕ) → Keeps G (interrupt p n)
+  pub interrupt-keeps : (p : Image) (n : ℕ) → Keeps G (Behind G) (interrupt p n)
   unfolding interrupt
   interrupt-keeps p n =
-      then-keeps moves (says Own (line.Interrupt n)) _ (says-keeps moves Own (line.Interrupt n))
-      (looks-keeps moves _ (λ w. for_some-keeps moves (handler_attached p n w.objects) _ (λ h. release-keeps p h None)))
+      then-keeps (chains moves) (says Own (line.Interrupt n)) _ (says-keeps moves Own (line.Interrupt n))
+      (looks-keeps (chains moves) _ (λ w. for_some-keeps (chains moves) (handler_attached p n w.objects) _ (λ h. release-keeps p h None)))
 
-  appoint_event-keeps : (p : Image) (e : ℕ) (h : HandlerOf) (m : ℤ) (test : Bool) → Keeps G (appoint_event p e h m test)
+  appoint_event-keeps : (p : Image) (e : ℕ) (h : HandlerOf) (m : ℤ) (test : Bool) → Keeps G (Behind G) (appoint_event p e h m test)
   unfolding appoint_event Alters
-  appoint_event-keeps p e h m true = changes-keeps moves (appoint (due_for.Event e h) m) (λ w good. moves.appoints (due_for.Event e h) m w good)
+  appoint_event-keeps p e h m true = changes-keeps (chains moves) (appoint (due_for.Event e h) m) (λ w good. moves.appoints (due_for.Event e h) m w good)
   appoint_event-keeps p e h m false = release-keeps p h (Some e)
 
-  pub event_set_to-keeps : (p : Image) (e : ℕ) (h : Option HandlerOf) (m : ℤ) → Keeps G (event_set_to p e h m)
+  pub event_set_to-keeps : (p : Image) (e : ℕ) (h : Option HandlerOf) (m : ℤ) → Keeps G (Behind G) (event_set_to p e h m)
   unfolding event_set_to
-  event_set_to-keeps p e None m = search (nothing-keeps)
-  event_set_to-keeps p e (Some h) m = looks-keeps moves _ (λ w. appoint_event-keeps p e h m (int_lt (pos w.time) m))
+  event_set_to-keeps p e None m = search (nothing-keeps, chains)
+  event_set_to-keeps p e (Some h) m = looks-keeps (chains moves) _ (λ w. appoint_event-keeps p e h m (int_lt (pos w.time) m))
 
-  pub set_event-keeps : (p : Image) (name : Who) (s : StatementNo) (d : DeclNo) (set : Setting) (named : Option HandlerName) → Keeps G (set_event p name s d set named)
+  pub set_event-keeps : (p : Image) (name : Who) (s : StatementNo) (d : DeclNo) (set : Setting) (named : Option HandlerName) → Keeps G (Behind G) (set_event p name s d set named)
   unfolding set_event
-  set_event-keeps p name s d set named = search (sees-keeps, given-keeps, setting_of-keeps, goes-keeps, then-keeps, changes-keeps, cancel_event_setting-alters, event_set_to-keeps) depth 9
+  set_event-keeps p name s d set named = search (sees-keeps, given-keeps, setting_of-keeps, goes-keeps, then-keeps, changes-keeps, cancel_event_setting-alters, event_set_to-keeps, chains) depth 10
 
-  pub timer_set_beyond-keeps : (p : Image) (k : ℕ) (h : HandlerOf) (v : ℤ) (test : Bool) → Keeps G (timer_set_beyond p k h v test)
+  pub timer_set_beyond-keeps : (p : Image) (k : ℕ) (h : HandlerOf) (v : ℤ) (test : Bool) → Keeps G (Behind G) (timer_set_beyond p k h v test)
   unfolding timer_set_beyond
-  timer_set_beyond-keeps p k h v true = search (changes-keeps, with_timer_set-alters)
+  timer_set_beyond-keeps p k h v true = search (changes-keeps, with_timer_set-alters, chains)
   timer_set_beyond-keeps p k h v false = release-keeps p h (Some k)
 
-  pub timer_set_to-keeps : (p : Image) (k clock : ℕ) (h : Option HandlerOf) (v : ℤ) → Keeps G (timer_set_to p k clock h v)
+  pub timer_set_to-keeps : (p : Image) (k clock : ℕ) (h : Option HandlerOf) (v : ℤ) → Keeps G (Behind G) (timer_set_to p k clock h v)
   unfolding timer_set_to
-  timer_set_to-keeps p k clock None v = search (nothing-keeps)
+  timer_set_to-keeps p k clock None v = search (nothing-keeps, chains)
   timer_set_to-keeps p k clock (Some h) v = search (timer_set_beyond-keeps)
 
-  pub set_timer-keeps : (p : Image) (name : Who) (s : StatementNo) (d : DeclNo) (set : Setting) (named : Option HandlerName) → Keeps G (set_timer p name s d set named)
+  pub set_timer-keeps : (p : Image) (name : Who) (s : StatementNo) (d : DeclNo) (set : Setting) (named : Option HandlerName) → Keeps G (Behind G) (set_timer p name s d set named)
   unfolding set_timer
-  set_timer-keeps p name s d set named = search (sees-keeps, given-keeps, setting_of-keeps, goes-keeps, then-keeps, changes-keeps, clear_timer-alters, timer_set_to-keeps) depth 9
+  set_timer-keeps p name s d set named = search (sees-keeps, given-keeps, setting_of-keeps, goes-keeps, then-keeps, changes-keeps, clear_timer-alters, timer_set_to-keeps, chains) depth 10
 
 -- ---- the handler of a release: of the agent, which is ready and has no marks
 
-begin_handler-from : (p : Image) (r : Release) (w : World) → Good Nobody w → Awake who.Agent w → Free who.Agent w → LetsIn who.Agent r.handler.object Write w → From (Good Nobody) w (begin_handler p r)
+begin_handler-from : (p : Image) (r : Release) (w : World) → Good Nobody w → Awake who.Agent w → Free who.Agent w → LetsIn who.Agent r.handler.object Write w → From (Behind (Good Nobody)) w (begin_handler p r)
 unfolding begin_handler
 begin_handler-from p r w good awake free lets =
-    then-from beside (begin_action_on p who.Agent r.handler.object Write None (Some r.number)) _ w
+    then-from (chains beside) (begin_action_on p who.Agent r.handler.object Write None (Some r.number)) _ w
     (begin_action_on-from p who.Agent r.handler.object Write None (Some r.number) w good awake lets (λ e. free) refl tt)
-    (looks-keeps beside _ (λ v. changes-keeps beside _ (opens-alters beside p who.Agent (subprogram_of p r.handler.procedure).scope (body_of_object p v (subprogram_of p r.handler.procedure).scope r.handler.object None (argument_values r.argument)) (opened_for.Subprogram [] bound_for.Nowhere) refl)))
+    (looks-keeps (chains beside) _ (λ v. changes-keeps (chains beside) _ (opens-alters beside p who.Agent (subprogram_of p r.handler.procedure).scope (body_of_object p v (subprogram_of p r.handler.procedure).scope r.handler.object None (argument_values r.argument)) (opened_for.Subprogram [] bound_for.Nowhere) refl)))
 
-served_at_once-from : (n : ℕ) (w : World) → Good Nobody w → Free who.Agent w → From (Good Nobody) w (end_release n)
+served_at_once-from : (n : ℕ) (w : World) → Good Nobody w → Free who.Agent w → From (Behind (Good Nobody)) w (end_release n)
 served_at_once-from n w good free = only-from who.Agent (end_release n) w free good (end_release-keeps (good_moves (Only who.Agent)) n refl)
 
-begin_handler_if_room-from : (p : Image) (r : Release) (w : World) → Good Nobody w → Awake who.Agent w → Free who.Agent w → LetsIn who.Agent r.handler.object Write w → From (Good Nobody) w (begin_handler_if_room p r)
+begin_handler_if_room-from : (p : Image) (r : Release) (w : World) → Good Nobody w → Awake who.Agent w → Free who.Agent w → LetsIn who.Agent r.handler.object Write w → From (Behind (Good Nobody)) w (begin_handler_if_room p r)
 unfolding begin_handler_if_room
 begin_handler_if_room-from p r w good awake free lets =
-    looks_at-from beside (λ v. elim (has_room v who.Agent (1 + marks_of p (subprogram_of p r.handler.procedure).scope) (size_of_body p r.handler.procedure)) as (λ _. Step) [ true ↦ begin_handler p r | false ↦ end_release r.number ]) w (either-from beside (has_room w who.Agent (1 + marks_of p (subprogram_of p r.handler.procedure).scope) (size_of_body p r.handler.procedure)) (begin_handler p r) (end_release r.number) w
+    looks_at-from (chains beside) (λ v. elim (has_room v who.Agent (1 + marks_of p (subprogram_of p r.handler.procedure).scope) (size_of_body p r.handler.procedure)) as (λ _. Step) [ true ↦ begin_handler p r | false ↦ end_release r.number ]) w (either-from (chains beside) (has_room w who.Agent (1 + marks_of p (subprogram_of p r.handler.procedure).scope) (size_of_body p r.handler.procedure)) (begin_handler p r) (end_release r.number) w
     (begin_handler-from p r w good awake free lets) (served_at_once-from r.number w good free))
 
-enter_handler-from : (p : Image) (r : Release) (w : World) (is : Entering) → Good Nobody w → Awake who.Agent w → Free who.Agent w → entering p w who.Agent r.handler.object Write ≡ is → From (Good Nobody) w (enter_handler p r is)
+enter_handler-from : (p : Image) (r : Release) (w : World) (is : Entering) → Good Nobody w → Awake who.Agent w → Free who.Agent w → entering p w who.Agent r.handler.object Write ≡ is → From (Behind (Good Nobody)) w (enter_handler p r is)
 unfolding enter_handler
 enter_handler-from p r w entering_is.SameObject good awake free e = served_at_once-from r.number w good free
 enter_handler-from p r w entering_is.AboveCeiling good awake free e = served_at_once-from r.number w good free
-enter_handler-from p r w entering_is.Held good awake free e = keeps-from beside _ w good (find_held-keeps beside p who.Agent r.handler.object Write)
+enter_handler-from p r w entering_is.Held good awake free e = keeps-from (chains beside) _ w good (find_held-keeps beside p who.Agent r.handler.object Write)
 enter_handler-from p r w entering_is.Inside good awake free e = begin_handler_if_room-from p r w good awake free (entering-inside p w who.Agent r.handler.object Write e)
 
-pub call_handler-from : (p : Image) (r : Release) (w : World) → Good Nobody w → Awake who.Agent w → Free who.Agent w → From (Good Nobody) w (call_handler p r)
+pub call_handler-from : (p : Image) (r : Release) (w : World) → Good Nobody w → Awake who.Agent w → Free who.Agent w → From (Behind (Good Nobody)) w (call_handler p r)
 unfolding call_handler
-call_handler-from p r w good awake free = looks_at-from beside (λ v. enter_handler p r (entering p v who.Agent r.handler.object Write)) w (enter_handler-from p r w (entering p w who.Agent r.handler.object Write) good awake free refl)
+call_handler-from p r w good awake free = looks_at-from (chains beside) (λ v. enter_handler p r (entering p v who.Agent r.handler.object Write)) w (enter_handler-from p r w (entering p w who.Agent r.handler.object Write) good awake free refl)

@@ -1,6 +1,6 @@
 -- The parts of an instant, and the instant: each step leaves worlds good where its parts do.
 use Rattle.std.proofs.Common.{◌≡◌, false, refl}
-use Rattle.std.specs.Prelude.{ℕ, zero, suc, ℤ, pos, int_le, Bool, true, List, [], ◌∷◌, Option, Some, None, map}
+use Rattle.std.specs.Prelude.{ℕ, zero, suc, ℤ, pos, int_le, Bool, true, List, [], ◌∷◌, Option, Some, None}
 use Rattle.ann_base.specs.declared.identities.CallNo.{CallNo}
 use Rattle.trace_text.specs.declared.events.Who.{Who}
 use Rattle.trace_text.specs.declared.events.Who.TheVariants as who
@@ -14,14 +14,14 @@ use Rattle.profile_machine.specs.declared.world.appointments.Appointment.{Appoin
 use Rattle.profile_machine.specs.declared.world.appointments.TimerSetting.{TimerSetting}
 use Rattle.profile_machine.specs.declared.world.appointments.Due.TheVariants as due_for
 use Rattle.profile_machine.specs.declared.world.tasks.Waiting.TheVariants as waits_for
-use Rattle.profile_machine.specs.Steps.{Step, Move, changes, nothing, settles, ◌▷◌, rests, ◌▶◌, Done, done, in_order, placed_by, settled}
+use Rattle.profile_machine.specs.Steps.{Step, Move, changes, nothing, settles, ◌▷◌, rests, ◌▶◌, placed_by}
 use Rattle.profile_machine.specs.Tasks.{task_of, edit_task, with_ticks}
 use Rattle.profile_machine.specs.Act.{act}
 use Rattle.profile_machine.specs.Appointments.{first_due}
 use Rattle.profile_machine.specs.Instant.{effect, is_over, effect_of_runner, finish_action, with_port, with_masked, with_kept_interrupt, interrupt_comes, deliver_kept_interrupt, script_item, with_script, take_item, items_due, script_items, take_delay, end_delay, time_out, come_due, take_due, all_due, appointments_due, events_due, moments_due, expire, expire_timer, no_timers_due, timers_due, run_out, no_budget_due, budgets_due, spend_quantum, quantum_spent, instant}
-use Rattle.world_laws.proofs.Actions.FineMoves.{FineMoves}
+use Rattle.world_laws.proofs.Actions.FineMoves.{FineMoves, chains, move_chains, says-keeps}
 use Rattle.world_laws.proofs.Actions.Sound.{Good}
-use Rattle.world_laws.proofs.Actions.Kept.Combinators.{Keeps, From, Leads, Alters, changes-from, changes_then-from, changes-keeps, for_each-keeps, for_some-keeps, keeps-from, looks-from, looks-keeps, nothing-keeps, says-keeps, then-from, then-keeps, then-leads, when-keeps}
+use Rattle.world_laws.proofs.Actions.Kept.Combinators.{changes_then-from}
 use Rattle.world_laws.proofs.Actions.Kept.Dispatching.{to_tail-keeps, ready-keeps}
 use Rattle.world_laws.proofs.Actions.Kept.Frames.{goes-keeps, open_sequence-keeps, open_if_ready-keeps}
 use Rattle.world_laws.proofs.Actions.Kept.Appointments.{drop_appointment-alters}
@@ -36,161 +36,157 @@ use Rattle.profile_machine.specs.Handlers.{clear_timer}
 use Rattle.world_laws.proofs.Actions.GoodMoves.{Awake, awake-edited}
 use Rattle.world_laws.proofs.Actions.Kept.Protected.{beside}
 use Rattle.trace_text.specs.declared.events.Event.{Event}
-use Rattle.profile_machine.specs.Lines.{event_of}
 use Rattle.profile_machine.specs.Masters.{terminate}
 use Rattle.machine_laws.proofs.FineMoves.{GoodWorld, Naming}
-use Rattle.machine_laws.proofs.Kept.Combinators.{world_behind}
 use Rattle.line_laws.proofs.Leaving.Modes.{Nobody}
+use Rattle.machine_laws.proofs.Kept.Combinators.{Alters, From, Keeps, Leads, changes-from, changes-keeps, for_each-keeps, for_some-keeps, keeps-from, looks-from, looks-keeps, nothing-keeps, then-from, then-keeps, then-leads, when-keeps, settles-from, settles-leads}
+use Rattle.world_laws.proofs.Behind.{Behind, BehindMove}
+use Rattle.machine_laws.proofs.Moves.{lines_of}
 
-settled-good : (G : GoodWorld) → ((lines : List Event) (v : World) → G v → G (placed_by lines v)) → (p : Image) (d : Done) → G (world_behind d) → G (settled p d).0
-settled-good G placed p (done v said) good = placed (map (λ x. event_of p x.line) (in_order said)) v good
-
-pub settles-good : (G : GoodWorld) → ((lines : List Event) (v : World) → G v → G (placed_by lines v)) → (p : Image) (step : Step) (w : World) → From G w step → G (settles p step w).0
-unfolding From
-settles-good G placed p step w a = settled-good G placed p (step w []) (a [])
+pub settles-good : (G : GoodWorld) → ((lines : List Event) (v : World) → G v → G (placed_by lines v)) → (p : Image) (step : Step) (w : World) → From (Behind G) w step → G (settles p step w).0
+settles-good G placed p step w a = settles-from (BehindMove G) p (λ u v xs good. placed (lines_of p xs) v good) step w a
 
 module _ {G : GoodWorld} {F : Naming} (moves : FineMoves G F) (placed : (lines : List Event) (v : World) → G v → G (placed_by lines v)) where
-  settles-leads : (p : Image) (step : Step) → Keeps G step → Leads G (settles p step)
-  unfolding Keeps Leads From
-  settles-leads p step a w good = settles-good G placed p step w (λ said. a w good said)
+  effect-leads : (p : Image) (step : Step) → Keeps G (Behind G) step → Leads G (BehindMove G) (settles p step)
+  effect-leads p step a = settles-leads (BehindMove G) p (λ u v xs good. placed (lines_of p xs) v good) G step a
 
-  with_port-alters : (n : ℕ) (value : ℤ) → Alters G (with_port n value)
+  with_port-alters : (n : ℕ) (value : ℤ) → Alters G (Behind G) (with_port n value)
   unfolding Alters
   with_port-alters n value w good = moves.sets_port n value w good
 
-  with_masked-alters : (n : ℕ) (flag : Bool) → Alters G (with_masked n flag)
+  with_masked-alters : (n : ℕ) (flag : Bool) → Alters G (Behind G) (with_masked n flag)
   unfolding Alters
   with_masked-alters n flag w good = moves.masks n flag w good
 
-  with_kept_interrupt-alters : (n : ℕ) (flag : Bool) → Alters G (with_kept_interrupt n flag)
+  with_kept_interrupt-alters : (n : ℕ) (flag : Bool) → Alters G (Behind G) (with_kept_interrupt n flag)
   unfolding Alters
   with_kept_interrupt-alters n flag w good = moves.keeps_interrupt n flag w good
 
-  pub interrupt_comes-keeps : (p : Image) (n : ℕ) (test : Bool) → Keeps G (interrupt_comes p n test)
+  pub interrupt_comes-keeps : (p : Image) (n : ℕ) (test : Bool) → Keeps G (Behind G) (interrupt_comes p n test)
   unfolding interrupt_comes
-  interrupt_comes-keeps p n true = search (says-keeps, then-keeps, changes-keeps, with_kept_interrupt-alters)
+  interrupt_comes-keeps p n true = search (says-keeps, then-keeps, changes-keeps, with_kept_interrupt-alters, chains)
   interrupt_comes-keeps p n false = search (interrupt-keeps)
 
-  pub deliver_kept_interrupt-keeps : (p : Image) (n : ℕ) (test : Bool) → Keeps G (deliver_kept_interrupt p n test)
+  pub deliver_kept_interrupt-keeps : (p : Image) (n : ℕ) (test : Bool) → Keeps G (Behind G) (deliver_kept_interrupt p n test)
   unfolding deliver_kept_interrupt
-  deliver_kept_interrupt-keeps p n true = search (changes-keeps, with_kept_interrupt-alters, then-keeps, interrupt-keeps)
-  deliver_kept_interrupt-keeps p n false = search (nothing-keeps)
+  deliver_kept_interrupt-keeps p n true = search (changes-keeps, with_kept_interrupt-alters, then-keeps, interrupt-keeps, chains)
+  deliver_kept_interrupt-keeps p n false = search (nothing-keeps, chains)
 
-  pub script_item-keeps : (p : Image) (it : Item) → Keeps G (script_item p it)
+  pub script_item-keeps : (p : Image) (it : Item) → Keeps G (Behind G) (script_item p it)
   unfolding script_item
-  script_item-keeps p (item.Interrupt n) = search (looks-keeps, interrupt_comes-keeps)
-  script_item-keeps p (item.Port n value) = search (changes-keeps, with_port-alters, then-keeps, says-keeps)
-  script_item-keeps p (item.Mask n) = search (changes-keeps, with_masked-alters, then-keeps, says-keeps)
-  script_item-keeps p (item.Unmask n) = search (changes-keeps, with_masked-alters, then-keeps, says-keeps, looks-keeps, deliver_kept_interrupt-keeps) depth 7
+  script_item-keeps p (item.Interrupt n) = search (looks-keeps, interrupt_comes-keeps, chains)
+  script_item-keeps p (item.Port n value) = search (changes-keeps, with_port-alters, then-keeps, says-keeps, chains)
+  script_item-keeps p (item.Mask n) = search (changes-keeps, with_masked-alters, then-keeps, says-keeps, chains)
+  script_item-keeps p (item.Unmask n) = search (changes-keeps, with_masked-alters, then-keeps, says-keeps, looks-keeps, deliver_kept_interrupt-keeps, chains) depth 8
 
-  take_item_if-from : (p : Image) (again : Step) (x : ℤ × Item) (xs : List (ℤ × Item)) (w : World) (test : Bool) → G w → w.script ≡ x ∷ xs → int_le x.0 (pos w.time) ≡ test → Keeps G again → From G w (elim test as (λ _. Step) [ true ↦ changes (with_script xs) ▷ script_item p x.1 ▷ again | false ↦ nothing ])
+  take_item_if-from : (p : Image) (again : Step) (x : ℤ × Item) (xs : List (ℤ × Item)) (w : World) (test : Bool) → G w → w.script ≡ x ∷ xs → int_le x.0 (pos w.time) ≡ test → Keeps G (Behind G) again → From (Behind G) w (elim test as (λ _. Step) [ true ↦ changes (with_script xs) ▷ script_item p x.1 ▷ again | false ↦ nothing ])
   take_item_if-from p again x xs w true good is due kept =
-      then-from moves (changes (with_script xs)) (script_item p x.1 ▷ again) w (changes-from moves (with_script xs) w (moves.cuts_script xs w good))
-      (then-keeps moves (script_item p x.1) again (script_item-keeps p x.1) kept)
-  take_item_if-from p again x xs w false good is due kept = keeps-from moves nothing w good (nothing-keeps moves)
+      then-from (chains moves) (changes (with_script xs)) (script_item p x.1 ▷ again) w (changes-from (chains moves) (with_script xs) w (moves.cuts_script xs w good))
+      (then-keeps (chains moves) (script_item p x.1) again (script_item-keeps p x.1) kept)
+  take_item_if-from p again x xs w false good is due kept = keeps-from (chains moves) nothing w good (nothing-keeps (chains moves))
 
-  take_item-from : (p : Image) (again : Step) (w : World) (script : List (ℤ × Item)) → G w → w.script ≡ script → Keeps G again → From G w (take_item p w.time again script)
-  take_item-from p again w [] good is kept = keeps-from moves nothing w good (nothing-keeps moves)
+  take_item-from : (p : Image) (again : Step) (w : World) (script : List (ℤ × Item)) → G w → w.script ≡ script → Keeps G (Behind G) again → From (Behind G) w (take_item p w.time again script)
+  take_item-from p again w [] good is kept = keeps-from (chains moves) nothing w good (nothing-keeps (chains moves))
   take_item-from p again w (x ∷ xs) good is kept = take_item_if-from p again x xs w (int_le x.0 (pos w.time)) good is refl kept
 
-  items_due-keeps : (fuel : ℕ) (p : Image) → Keeps G (items_due fuel p)
+  items_due-keeps : (fuel : ℕ) (p : Image) → Keeps G (Behind G) (items_due fuel p)
   unfolding items_due
-  items_due-keeps zero p = search (nothing-keeps)
+  items_due-keeps zero p = search (nothing-keeps, chains)
   items_due-keeps (suc fuel) p =
-      looks-from moves _ (λ w good. take_item-from p (items_due fuel p) w w.script good refl (items_due-keeps fuel p))
+      looks-from (chains moves) _ (λ w good. take_item-from p (items_due fuel p) w w.script good refl (items_due-keeps fuel p))
 
-  pub script_items-leads : (p : Image) → Leads G (script_items p)
-  script_items-leads p = search (settles-leads, looks-keeps, items_due-keeps)
+  pub script_items-leads : (p : Image) → Leads G (BehindMove G) (script_items p)
+  script_items-leads p = search (effect-leads, looks-keeps, items_due-keeps, chains)
 
-  pub take_delay-keeps : (p : Image) (name : Who) (waiting : Option Waiting) → Keeps G (take_delay p name waiting)
+  pub take_delay-keeps : (p : Image) (name : Who) (waiting : Option Waiting) → Keeps G (Behind G) (take_delay p name waiting)
   unfolding take_delay
   take_delay-keeps p name (Some (waits_for.Select accepts (Some delay) terminate)) = search (goes-keeps)
-  take_delay-keeps p name _ = search (nothing-keeps)
+  take_delay-keeps p name _ = search (nothing-keeps, chains)
 
-  pub end_delay-keeps : (p : Image) (name : Who) → Keeps G (end_delay p name)
+  pub end_delay-keeps : (p : Image) (name : Who) → Keeps G (Behind G) (end_delay p name)
   unfolding end_delay
-  end_delay-keeps p name = search (looks-keeps, take_delay-keeps, then-keeps, ready-keeps, open_sequence-keeps)
+  end_delay-keeps p name = search (looks-keeps, take_delay-keeps, then-keeps, ready-keeps, open_sequence-keeps, chains)
 
-  pub time_out-keeps : (p : Image) (c : CallNo) → Keeps G (time_out p c)
+  pub time_out-keeps : (p : Image) (c : CallNo) → Keeps G (Behind G) (time_out p c)
   unfolding time_out
-  time_out-keeps p c = search (with_call-keeps, changes-keeps, unqueued-alters, then-keeps, says-keeps, deliver-keeps) depth 6
+  time_out-keeps p c = search (with_call-keeps, changes-keeps, unqueued-alters, then-keeps, says-keeps, deliver-keeps, chains) depth 7
 
-  pub come_due-keeps : (p : Image) (due : Due) → Keeps G (come_due p due)
+  pub come_due-keeps : (p : Image) (due : Due) → Keeps G (Behind G) (come_due p due)
   unfolding come_due
   come_due-keeps p (due_for.Event n h) = release-keeps moves p h (Some n)
   come_due-keeps p (due_for.Delay t) = search (end_delay-keeps)
   come_due-keeps p (due_for.Timeout c) = search (time_out-keeps)
-  come_due-keeps p (due_for.Trigger t depth) = search (trigger_at-keeps, then-keeps, unwind-keeps)
+  come_due-keeps p (due_for.Trigger t depth) = search (trigger_at-keeps, then-keeps, unwind-keeps, chains)
 
-  pub take_due-keeps : (p : Image) (again : Step) (a : Option Appointment) → Keeps G again → Keeps G (take_due p again a)
-  take_due-keeps p again None kept = search (nothing-keeps)
-  take_due-keeps p again (Some a) kept = search (changes-keeps, drop_appointment-alters, then-keeps, come_due-keeps)
+  pub take_due-keeps : (p : Image) (again : Step) (a : Option Appointment) → Keeps G (Behind G) again → Keeps G (Behind G) (take_due p again a)
+  take_due-keeps p again None kept = search (nothing-keeps, chains)
+  take_due-keeps p again (Some a) kept = search (changes-keeps, drop_appointment-alters, then-keeps, come_due-keeps, chains)
 
-  all_due-keeps : (fuel : ℕ) (p : Image) (events : Bool) → Keeps G (all_due fuel p events)
+  all_due-keeps : (fuel : ℕ) (p : Image) (events : Bool) → Keeps G (Behind G) (all_due fuel p events)
   unfolding all_due
-  all_due-keeps zero p events = search (nothing-keeps)
+  all_due-keeps zero p events = search (nothing-keeps, chains)
   all_due-keeps (suc fuel) p events =
-      looks-keeps moves _ (λ w. take_due-keeps p (all_due fuel p events) (first_due events w.time w.appointments) (all_due-keeps fuel p events))
+      looks-keeps (chains moves) _ (λ w. take_due-keeps p (all_due fuel p events) (first_due events w.time w.appointments) (all_due-keeps fuel p events))
 
-  pub appointments_due-leads : (p : Image) (events : Bool) → Leads G (appointments_due p events)
-  appointments_due-leads p events = search (settles-leads, looks-keeps, all_due-keeps)
+  pub appointments_due-leads : (p : Image) (events : Bool) → Leads G (BehindMove G) (appointments_due p events)
+  appointments_due-leads p events = search (effect-leads, looks-keeps, all_due-keeps, chains)
 
-  pub events_due-leads : (p : Image) → Leads G (events_due p)
+  pub events_due-leads : (p : Image) → Leads G (BehindMove G) (events_due p)
   events_due-leads p = search (appointments_due-leads)
 
-  pub moments_due-leads : (p : Image) → Leads G (moments_due p)
+  pub moments_due-leads : (p : Image) → Leads G (BehindMove G) (moments_due p)
   moments_due-leads p = search (appointments_due-leads)
 
-  pub expire-keeps : (p : Image) (k : ℕ) (setting : Option TimerSetting) → Keeps G (expire p k setting)
+  pub expire-keeps : (p : Image) (k : ℕ) (setting : Option TimerSetting) → Keeps G (Behind G) (expire p k setting)
   unfolding expire
-  expire-keeps p k None = search (nothing-keeps)
-  expire-keeps p k (Some s) = then-keeps moves (changes (clear_timer k)) _ (search (changes-keeps, clear_timer-alters)) (release-keeps moves p s.handler (Some k))
+  expire-keeps p k None = search (nothing-keeps, chains)
+  expire-keeps p k (Some s) = then-keeps (chains moves) (changes (clear_timer k)) _ (search (changes-keeps, clear_timer-alters, chains)) (release-keeps moves p s.handler (Some k))
 
-  pub expire_timer-keeps : (p : Image) (k : ℕ) → Keeps G (expire_timer p k)
+  pub expire_timer-keeps : (p : Image) (k : ℕ) → Keeps G (Behind G) (expire_timer p k)
   unfolding expire_timer
-  expire_timer-keeps p k = search (looks-keeps, expire-keeps)
+  expire_timer-keeps p k = search (looks-keeps, expire-keeps, chains)
 
-  no_timers_due-alters : Alters G no_timers_due
+  no_timers_due-alters : Alters G (Behind G) no_timers_due
   unfolding Alters
   no_timers_due-alters w good = moves.sets_timers_due [] w good
 
-  pub timers_due-leads : (p : Image) → Leads G (timers_due p)
-  timers_due-leads p = search (settles-leads, looks-keeps, for_each-keeps, expire_timer-keeps, then-keeps, changes-keeps, no_timers_due-alters) depth 7
+  pub timers_due-leads : (p : Image) → Leads G (BehindMove G) (timers_due p)
+  timers_due-leads p = search (effect-leads, looks-keeps, for_each-keeps, expire_timer-keeps, then-keeps, changes-keeps, no_timers_due-alters, chains) depth 8
 
-  pub run_out-keeps : (p : Image) (b : ℕ) → Keeps G (run_out p b)
+  pub run_out-keeps : (p : Image) (b : ℕ) → Keeps G (Behind G) (run_out p b)
   unfolding run_out
-  run_out-keeps p b = looks-keeps moves _ (λ w. for_some-keeps moves (budget_of w b).handler _ (λ h. release-keeps moves p h (Some b)))
+  run_out-keeps p b = looks-keeps (chains moves) _ (λ w. for_some-keeps (chains moves) (budget_of w b).handler _ (λ h. release-keeps moves p h (Some b)))
 
-  no_budget_due-alters : Alters G no_budget_due
+  no_budget_due-alters : Alters G (Behind G) no_budget_due
   unfolding Alters
   no_budget_due-alters w good = moves.sets_budget_due None w good
 
-  pub budgets_due-leads : (p : Image) → Leads G (budgets_due p)
-  budgets_due-leads p = search (settles-leads, looks-keeps, for_some-keeps, run_out-keeps, then-keeps, changes-keeps, no_budget_due-alters) depth 7
+  pub budgets_due-leads : (p : Image) → Leads G (BehindMove G) (budgets_due p)
+  budgets_due-leads p = search (effect-leads, looks-keeps, for_some-keeps, run_out-keeps, then-keeps, changes-keeps, no_budget_due-alters, chains) depth 8
 
-  pub spend_quantum-keeps : (p : Image) (by : Option Who) → Keeps G (spend_quantum p by)
+  pub spend_quantum-keeps : (p : Image) (by : Option Who) → Keeps G (Behind G) (spend_quantum p by)
   unfolding spend_quantum
-  spend_quantum-keeps p None = search (nothing-keeps)
-  spend_quantum-keeps p (Some who.Agent) = search (nothing-keeps)
-  spend_quantum-keeps p (Some (who.Task t)) = search (looks-keeps, when-keeps, says-keeps, then-keeps, to_tail-keeps) depth 7
+  spend_quantum-keeps p None = search (nothing-keeps, chains)
+  spend_quantum-keeps p (Some who.Agent) = search (nothing-keeps, chains)
+  spend_quantum-keeps p (Some (who.Task t)) = search (looks-keeps, when-keeps, says-keeps, then-keeps, to_tail-keeps, chains) depth 8
 
-  pub quantum_spent-leads : (p : Image) → Leads G (quantum_spent p)
-  quantum_spent-leads p = search (settles-leads, looks-keeps, spend_quantum-keeps)
+  pub quantum_spent-leads : (p : Image) → Leads G (BehindMove G) (quantum_spent p)
+  quantum_spent-leads p = search (effect-leads, looks-keeps, spend_quantum-keeps, chains)
 
   -- all of an instant but the effect of the action that ended
-  pub behind_action-leads : (p : Image) → Leads G (script_items p ▶ events_due p ▶ moments_due p ▶ timers_due p ▶ budgets_due p ▶ quantum_spent p)
-  behind_action-leads p = search (then-leads, script_items-leads, events_due-leads, moments_due-leads, timers_due-leads, budgets_due-leads, quantum_spent-leads) depth 8
+  pub behind_action-leads : (p : Image) → Leads G (BehindMove G) (script_items p ▶ events_due p ▶ moments_due p ▶ timers_due p ▶ budgets_due p ▶ quantum_spent p)
+  behind_action-leads p = search (then-leads, script_items-leads, events_due-leads, moments_due-leads, timers_due-leads, budgets_due-leads, quantum_spent-leads, move_chains) depth 9
 
 -- ---- the effect of who is ready, and the instant
 
-effect-from : (p : Image) (name : Who) (w : World) → Good Nobody w → Awake name w → From (Good Nobody) w (effect p name)
+effect-from : (p : Image) (name : Who) (w : World) → Good Nobody w → Awake name w → From (Behind (Good Nobody)) w (effect p name)
 unfolding effect
 effect-from p name w good awake =
     let v = edit_task name (with_ticks None) w in
     changes_then-from beside (edit_task name (with_ticks None)) _ w
-    (then-from beside (act p name) _ v (act-from p name v (beside.edits_task name (with_ticks None) w good (λ t. refl) (λ t. refl) (λ t. refl) (λ t. refl) (λ t. refl)) (awake-edited name name (with_ticks None) w (λ t. refl) (λ t. refl) awake))
-    (then-keeps beside _ _ (open_if_ready-keeps beside p name)
-    (then-keeps beside _ _ (take_terminates-keeps beside p name) (unwind_all-keeps beside p name))))
+    (then-from (chains beside) (act p name) _ v (act-from p name v (beside.edits_task name (with_ticks None) w good (λ t. refl) (λ t. refl) (λ t. refl) (λ t. refl) (λ t. refl)) (awake-edited name name (with_ticks None) w (λ t. refl) (λ t. refl) awake))
+    (then-keeps (chains beside) _ _ (open_if_ready-keeps beside p name)
+    (then-keeps (chains beside) _ _ (take_terminates-keeps beside p name) (unwind_all-keeps beside p name))))
 
 over-good : (p : Image) (name : Who) (w : World) (test : Bool) → Good Nobody w → (test ≡ true → Awake name w) → Good Nobody ((elim test as (λ _. Move) [ true ↦ settles p (effect p name) | false ↦ rests ]) w).0
 over-good p name w true good awake = settles-good (Good Nobody) (λ lines v g. g) p (effect p name) w (effect-from p name w good (awake refl))

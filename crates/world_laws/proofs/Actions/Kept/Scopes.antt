@@ -12,25 +12,26 @@ use Rattle.world_laws.proofs.Actions.FineMoves.{FineMoves}
 use Rattle.profile_machine.specs.Tasking.{is_task_scope}
 use Rattle.std.proofs.Common.{◌≡◌, true, false, sym, ◌∙◌}
 use Rattle.std.proofs.lemmas.Bool.{false≢true}
-use Rattle.world_laws.proofs.Actions.Kept.Combinators.{Alters}
 use Rattle.machine_laws.proofs.FineMoves.{GoodWorld, Naming}
+use Rattle.machine_laws.proofs.Kept.Combinators.{Alters}
+use Rattle.world_laws.proofs.Behind.{Behind}
 
 module _ {G : GoodWorld} {F : Naming} (moves : FineMoves G F) where
-  pub edit_cells-alters : (id : ScopeId) (f : List Value → List Value) → Alters G (edit_cells id f)
+  pub edit_cells-alters : (id : ScopeId) (f : List Value → List Value) → Alters G (Behind G) (edit_cells id f)
   unfolding Alters
   edit_cells-alters id f w good = moves.edits_cells id f w good
 
-  pub write_cell-alters : (id : ScopeId) (place : ℕ) (value : Value) → Alters G (write_cell id place value)
+  pub write_cell-alters : (id : ScopeId) (place : ℕ) (value : Value) → Alters G (Behind G) (write_cell id place value)
   write_cell-alters id place value = search (edit_cells-alters)
 
-  pub end_scope-alters : (id : ScopeId) → Alters G (end_scope id)
+  pub end_scope-alters : (id : ScopeId) → Alters G (Behind G) (end_scope id)
   unfolding Alters
   end_scope-alters id w good = moves.ends_scope id w good
 
-  pub open_scope-alters : (p : Image) (name : Who) (scope : ScopeNo) (b : Beginning) (purpose : Purpose) → (is_task_scope purpose ≡ true → F name) → Alters G (open_scope p name scope b purpose)
+  pub open_scope-alters : (p : Image) (name : Who) (scope : ScopeNo) (b : Beginning) (purpose : Purpose) → (is_task_scope purpose ≡ true → F name) → Alters G (Behind G) (open_scope p name scope b purpose)
   unfolding Alters
   open_scope-alters p name scope b purpose free w good = moves.opens_scope p name scope b purpose w good free
 
   -- of a body or a block
-  pub opens-alters : (p : Image) (name : Who) (scope : ScopeNo) (b : Beginning) (purpose : Purpose) → is_task_scope purpose ≡ false → Alters G (open_scope p name scope b purpose)
+  pub opens-alters : (p : Image) (name : Who) (scope : ScopeNo) (b : Beginning) (purpose : Purpose) → is_task_scope purpose ≡ false → Alters G (Behind G) (open_scope p name scope b purpose)
   opens-alters p name scope b purpose is = open_scope-alters p name scope b purpose (λ e. absurd (false≢true (sym is ∙ e)))

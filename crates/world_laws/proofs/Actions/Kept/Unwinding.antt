@@ -8,16 +8,17 @@ use Rattle.profile_machine.specs.declared.world.tasks.Waiting.TheVariants as wai
 use Rattle.profile_machine.specs.declared.world.tasks.State.TheVariants.{Made, Runnable, Blocked}
 use Rattle.profile_machine.specs.declared.world.lines.Part.{Part}
 use Rattle.profile_machine.specs.Unwinding.{struck_frame, edit_last, strike_outermost, leave_by_abort, stop_waiting, wake_and_leave, unwind_blocked, unwind_in, unwind}
-use Rattle.world_laws.proofs.Actions.FineMoves.{FineMoves}
+use Rattle.world_laws.proofs.Actions.FineMoves.{FineMoves, chains}
 use Rattle.world_laws.proofs.Actions.Natures.{nature, natures}
 use Rattle.std.proofs.Common.{◌≡◌, List, [], ◌∷◌, refl, ap}
-use Rattle.world_laws.proofs.Actions.Kept.Combinators.{Keeps, Alters, changes-keeps, looks-keeps, nothing-keeps, then-keeps, when-keeps}
 use Rattle.world_laws.proofs.Actions.Kept.Tasks.{edit_task-alters, edit_frames-alters}
 use Rattle.world_laws.proofs.Actions.Kept.Dispatching.{ready-keeps}
 use Rattle.world_laws.proofs.Actions.Kept.Frames.{leaves-keeps}
 use Rattle.world_laws.proofs.Actions.Kept.Appointments.{drop_delay-alters}
 use Rattle.world_laws.proofs.Actions.Kept.Calls.{forget_call-alters, attempt-keeps}
 use Rattle.machine_laws.proofs.FineMoves.{GoodWorld, Naming}
+use Rattle.machine_laws.proofs.Kept.Combinators.{Alters, Keeps, changes-keeps, looks-keeps, nothing-keeps, then-keeps, when-keeps}
+use Rattle.world_laws.proofs.Behind.{Behind}
 
 -- who is struck has the marks that it had
 last-natures : (fs : List Frame) → natures (edit_last struck_frame fs) ≡ natures fs
@@ -26,38 +27,38 @@ last-natures (x ∷ []) = refl
 last-natures (x ∷ y ∷ rest) = ap (λ ns. nature x.mark ∷ ns) (last-natures (y ∷ rest))
 
 module _ {G : GoodWorld} {F : Naming} (moves : FineMoves G F) where
-  pub strike_outermost-alters : (name : Who) → Alters G (strike_outermost name)
+  pub strike_outermost-alters : (name : Who) → Alters G (Behind G) (strike_outermost name)
   strike_outermost-alters name = edit_frames-alters moves name (edit_last struck_frame) last-natures
 
-  pub leave_by_abort-keeps : (name : Who) → Keeps G (leave_by_abort name)
+  pub leave_by_abort-keeps : (name : Who) → Keeps G (Behind G) (leave_by_abort name)
   unfolding leave_by_abort
-  leave_by_abort-keeps name = search (changes-keeps, edit_task-alters, then-keeps, leaves-keeps)
+  leave_by_abort-keeps name = search (changes-keeps, edit_task-alters, then-keeps, leaves-keeps, chains)
 
-  pub stop_waiting-keeps : (p : Image) (part : Part) (name : Who) → Keeps G (stop_waiting p part name)
+  pub stop_waiting-keeps : (p : Image) (part : Part) (name : Who) → Keeps G (Behind G) (stop_waiting p part name)
   unfolding stop_waiting
-  stop_waiting-keeps p part name = search (changes-keeps, drop_delay-alters, then-keeps, ready-keeps)
+  stop_waiting-keeps p part name = search (changes-keeps, drop_delay-alters, then-keeps, ready-keeps, chains)
 
-  pub wake_and_leave-keeps : (p : Image) (part : Part) (name : Who) → Keeps G (wake_and_leave p part name)
+  pub wake_and_leave-keeps : (p : Image) (part : Part) (name : Who) → Keeps G (Behind G) (wake_and_leave p part name)
   unfolding wake_and_leave
-  wake_and_leave-keeps p part name = search (stop_waiting-keeps, then-keeps, leave_by_abort-keeps)
+  wake_and_leave-keeps p part name = search (stop_waiting-keeps, then-keeps, leave_by_abort-keeps, chains)
 
-  pub unwind_blocked-keeps : (p : Image) (part : Part) (name : Who) (waiting : Waiting) → Keeps G (unwind_blocked p part name waiting)
+  pub unwind_blocked-keeps : (p : Image) (part : Part) (name : Who) (waiting : Waiting) → Keeps G (Behind G) (unwind_blocked p part name waiting)
   unfolding unwind_blocked
-  unwind_blocked-keeps p part name (waits_for.Call c) = search (attempt-keeps, changes-keeps, forget_call-alters, then-keeps, wake_and_leave-keeps, nothing-keeps)
-  unwind_blocked-keeps p part name (waits_for.EndOfCall c) = search (nothing-keeps)
+  unwind_blocked-keeps p part name (waits_for.Call c) = search (attempt-keeps, changes-keeps, forget_call-alters, then-keeps, wake_and_leave-keeps, nothing-keeps, chains)
+  unwind_blocked-keeps p part name (waits_for.EndOfCall c) = search (nothing-keeps, chains)
   unwind_blocked-keeps p part name waits_for.Activation = search (wake_and_leave-keeps)
   unwind_blocked-keeps p part name waits_for.Moment = search (wake_and_leave-keeps)
   unwind_blocked-keeps p part name (waits_for.Accept s) = search (wake_and_leave-keeps)
   unwind_blocked-keeps p part name (waits_for.Select accepts delay terminate) = search (wake_and_leave-keeps)
   unwind_blocked-keeps p part name (waits_for.Dependents r) = search (wake_and_leave-keeps)
-  unwind_blocked-keeps p part name waits_for.Release = search (nothing-keeps)
+  unwind_blocked-keeps p part name waits_for.Release = search (nothing-keeps, chains)
 
-  pub unwind_in-keeps : (p : Image) (part : Part) (name : Who) (state : State) → Keeps G (unwind_in p part name state)
+  pub unwind_in-keeps : (p : Image) (part : Part) (name : Who) (state : State) → Keeps G (Behind G) (unwind_in p part name state)
   unfolding unwind_in
-  unwind_in-keeps p part name Made = search (nothing-keeps)
+  unwind_in-keeps p part name Made = search (nothing-keeps, chains)
   unwind_in-keeps p part name Runnable = search (leave_by_abort-keeps)
   unwind_in-keeps p part name (Blocked waiting) = search (unwind_blocked-keeps)
 
-  pub unwind-keeps : (p : Image) (part : Part) (name : Who) → Keeps G (unwind p part name)
+  pub unwind-keeps : (p : Image) (part : Part) (name : Who) → Keeps G (Behind G) (unwind p part name)
   unfolding unwind
-  unwind-keeps p part name = search (looks-keeps, when-keeps, unwind_in-keeps)
+  unwind-keeps p part name = search (looks-keeps, when-keeps, unwind_in-keeps, chains)

@@ -30,8 +30,8 @@ use Rattle.profile_machine.specs.Frames.{frames_of, top_of, pop, leaving_of, is_
 use Rattle.profile_machine.specs.Calls.{with_call, attempt_with}
 use Rattle.profile_machine.specs.Act.{call_main, call, handle_or_pass, behind_handled, end_handled, end_top, wait_for_trigger, drop_trigger, below, end_abortable_by, end_in_abortable, act_statement, end_mark, act_frame, keeping, waiting_mark}
 use Rattle.machine_laws.proofs.FineMoves.{GoodWorld, Naming, nature, is_abortable}
-use Rattle.world_laws.proofs.Sequences.FineMoves.{FineMoves, Openings, Behind, Loosens, Again, Departing, chains}
-use Rattle.world_laws.proofs.Sequences.Kept.Combinators.{wide-from}
+use Rattle.world_laws.proofs.Sequences.FineMoves.{FineMoves, Openings, Loosens, Again, Departing, chains}
+use Rattle.world_laws.proofs.Behind.{Behind, wide-from}
 use Rattle.world_laws.proofs.Sequences.Kept.Dispatching.{block-keeps}
 use Rattle.world_laws.proofs.Sequences.Kept.Frames.{edit_top-alters, goes-keeps, popped, edit_mark-alters, plain_steps}
 use Rattle.world_laws.proofs.Sequences.Kept.Scopes.{open_scope-alters}

@@ -8,7 +8,8 @@ use Rattle.profile_machine.specs.declared.world.appointments.Due.{Due}
 use Rattle.profile_machine.specs.Steps.{changes}
 use Rattle.profile_machine.specs.Appointments.{appoint, drop_appointment, drop_delay}
 use Rattle.machine_laws.proofs.FineMoves.{GoodWorld, Naming}
-use Rattle.world_laws.proofs.Sequences.FineMoves.{FineMoves, Behind, chains}
+use Rattle.world_laws.proofs.Sequences.FineMoves.{FineMoves, chains}
+use Rattle.world_laws.proofs.Behind.{Behind}
 use Rattle.machine_laws.proofs.Kept.Combinators.{Alters, From, changes-from, unchanged-alters}
 
 module _ {p : Image} {G : GoodWorld} {May Other : Naming} (moves : FineMoves p G May Other) where

@@ -24,8 +24,8 @@ use Rattle.profile_machine.specs.CallEnds.{resume, with_results, edit_depth, edi
 use Rattle.std.specs.Prelude.{true, false, cond, eqb, length}
 use Rattle.std.proofs.Common.{◌≡◌, refl, ap, inr, inl}
 use Rattle.machine_laws.proofs.FineMoves.{GoodWorld, Naming, nature, natures}
-use Rattle.world_laws.proofs.Sequences.FineMoves.{FineMoves, Behind, Loosens, StaysOn, onward_in, chains, says-keeps}
-use Rattle.world_laws.proofs.Sequences.Kept.Combinators.{then-turns}
+use Rattle.world_laws.proofs.Sequences.FineMoves.{FineMoves, Loosens, StaysOn, onward_in, chains, says-keeps}
+use Rattle.world_laws.proofs.Behind.{Behind, then-turns}
 use Rattle.world_laws.proofs.Sequences.Kept.Tasks.{edit_frames-alters}
 use Rattle.world_laws.proofs.Sequences.Kept.Dispatching.{ready-keeps}
 use Rattle.world_laws.proofs.Sequences.Kept.Frames.{goes-keeps, popped, leaves-keeps, plain_steps}

@@ -7,7 +7,8 @@ use Rattle.profile_machine.specs.Steps.{Step, nothing, for_some}
 use Rattle.profile_machine.specs.Calls.{with_call, call_of}
 use Rattle.std.proofs.Common.{◌≡◌, refl, None, Some, Option}
 use Rattle.machine_laws.proofs.FineMoves.{GoodWorld, Naming}
-use Rattle.world_laws.proofs.Sequences.FineMoves.{FineMoves, Behind, chains}
+use Rattle.world_laws.proofs.Sequences.FineMoves.{FineMoves, chains}
+use Rattle.world_laws.proofs.Behind.{Behind}
 use Rattle.machine_laws.proofs.Kept.Combinators.{From, Keeps, keeps-from, looks-from, nothing-keeps}
 
 module _ {p : Image} {G : GoodWorld} {May Other : Naming} (moves : FineMoves p G May Other) where

@@ -23,7 +23,8 @@ use Rattle.profile_machine.specs.Scopes.{write_cell, put_cells}
 use Rattle.profile_machine.specs.Statements.{cells_from}
 use Rattle.profile_machine.specs.Controlled.{first_place, open_operation, top_region, registered_as, register, initialize_by, initialize, end_in_initialize, edit_top_scope, finalize_has_raised, open_finalize, has_room_to_finalize, finalize_by, no_longer_registered, finalize_now, finalize, behind_finalize, end_in_finalize, begin_assignment, assign_registered, assign_located, assign_controlled, edit_top_assign, leave_without_room, finalize_target_by, has_room_to_adjust, adjust_by, copy_components_of, copy_object, do_step, step_with, end_in_assign, edit_scope_mark, edit_assign, registered_object, registers, is_assignment}
 use Rattle.machine_laws.proofs.FineMoves.{GoodWorld, Naming, nature}
-use Rattle.world_laws.proofs.Sequences.FineMoves.{FineMoves, Openings, Behind, chains, says-keeps}
+use Rattle.world_laws.proofs.Sequences.FineMoves.{FineMoves, Openings, chains, says-keeps}
+use Rattle.world_laws.proofs.Behind.{Behind}
 use Rattle.world_laws.proofs.Sequences.Kept.Frames.{goes-keeps, push-alters, leaves-keeps, popped, edit_mark-alters, plain_steps}
 use Rattle.world_laws.proofs.Sequences.Kept.Scopes.{open_scope-alters}
 use Rattle.std.proofs.Common.{◌≡◌, refl, ap, []}

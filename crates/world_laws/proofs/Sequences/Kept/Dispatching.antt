@@ -16,7 +16,8 @@ use Rattle.profile_machine.specs.Dispatching.{active, level_kept_by, keep_level,
 use Rattle.std.proofs.Common.{◌≡◌, refl}
 use Rattle.std.specs.Prelude.{false}
 use Rattle.machine_laws.proofs.FineMoves.{GoodWorld, Naming}
-use Rattle.world_laws.proofs.Sequences.FineMoves.{FineMoves, Openings, Behind, is_for_dependents, chains}
+use Rattle.world_laws.proofs.Sequences.FineMoves.{FineMoves, Openings, is_for_dependents, chains}
+use Rattle.world_laws.proofs.Behind.{Behind}
 use Rattle.world_laws.proofs.Sequences.Kept.Tasks.{edit_task-alters}
 use Rattle.machine_laws.proofs.Kept.Dispatching.{full_quantum-frames, full_quantum-state, full_quantum-who}
 use Rattle.machine_laws.proofs.Kept.Combinators.{Alters, From, Keeps, changes-keeps, changes_then-from, from-keeps, keeps-from, looks_at-from, said-from, said-keeps, then-keeps}

@@ -37,7 +37,8 @@ use Rattle.profile_machine.specs.Protected.{begin_action_on, is_barrier_open, ne
 use Rattle.profile_machine.specs.Sending.{open_abortable, is_triggering}
 use Rattle.profile_machine.specs.EntryCalls.{numbered, marks_if_queued, add_call, make_call, end_at_once, call_gone, call_meets, call_queues, call_not_met, call_accepted_by, call_callable, call_task, call_runs, call_without_room, has_room_for_action, call_runs_if_room, call_passes, call_refused, call_closed, call_by_barrier, call_object, call_owner, call_named, entry_call, appoint_trigger, trigger_delay, async_delay, async_by_trigger, asynchronous_select, mark_sending, requeue, is_forbidden, owner_of_entry, entry_parameters, timed_moment, named_call, new_call}
 use Rattle.machine_laws.proofs.FineMoves.{GoodWorld, Naming, first_is_false}
-use Rattle.world_laws.proofs.Sequences.FineMoves.{FineMoves, Openings, Behind, Loosens, chains}
+use Rattle.world_laws.proofs.Sequences.FineMoves.{FineMoves, Openings, Loosens, chains}
+use Rattle.world_laws.proofs.Behind.{Behind}
 use Rattle.world_laws.proofs.Sequences.Kept.Dispatching.{block-keeps}
 use Rattle.world_laws.proofs.Sequences.Kept.Frames.{goes-keeps, leaves-keeps, push-alters, plain_steps}
 use Rattle.world_laws.proofs.Sequences.Kept.CallEnds.{gone-keeps}

@@ -11,7 +11,8 @@ use Rattle.profile_machine.specs.declared.world.lines.Part.TheVariants.{Own}
 use Rattle.profile_machine.specs.Steps.{Step, ◌▷◌}
 use Rattle.profile_machine.specs.Frames.{top_of, edit_first, edit_top, goes, push, pop, leaves, is_protected, goes_on, with_mark, left_so}
 use Rattle.machine_laws.proofs.FineMoves.{GoodWorld, Naming, nature, natures}
-use Rattle.world_laws.proofs.Sequences.FineMoves.{FineMoves, Openings, Behind, StaysOn, onward_in, chains, says-keeps}
+use Rattle.world_laws.proofs.Sequences.FineMoves.{FineMoves, Openings, StaysOn, onward_in, chains, says-keeps}
+use Rattle.world_laws.proofs.Behind.{Behind}
 use Rattle.world_laws.proofs.Sequences.Kept.Tasks.{edit_frames-alters}
 use Rattle.std.proofs.Common.{◌≡◌, List, [], ◌∷◌, refl, ap, inl, inr}
 use Rattle.machine_laws.proofs.Kept.Combinators.{Alters, From, Keeps, changes-keeps, changes_then-from}

@@ -31,7 +31,8 @@ use Rattle.profile_machine.specs.Handlers.{add_release, says_release, wake_agent
 use Rattle.std.proofs.Common.{◌≡◌, refl}
 use Rattle.std.specs.Prelude.{Bool}
 use Rattle.machine_laws.proofs.FineMoves.{GoodWorld, Naming}
-use Rattle.world_laws.proofs.Sequences.FineMoves.{FineMoves, Behind, chains, says-keeps}
+use Rattle.world_laws.proofs.Sequences.FineMoves.{FineMoves, chains, says-keeps}
+use Rattle.world_laws.proofs.Behind.{Behind}
 use Rattle.world_laws.proofs.Sequences.Kept.Frames.{goes-keeps, plain_steps}
 use Rattle.world_laws.proofs.Sequences.Kept.Tasks.{edit_task-alters}
 use Rattle.world_laws.proofs.Sequences.Kept.Dispatching.{ready-from}

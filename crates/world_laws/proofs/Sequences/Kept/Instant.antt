@@ -23,8 +23,8 @@ use Rattle.profile_machine.specs.Tasks.{waiting_of}
 use Rattle.profile_machine.specs.Appointments.{first_due}
 use Rattle.profile_machine.specs.Instant.{with_port, with_masked, with_kept_interrupt, interrupt_comes, deliver_kept_interrupt, script_item, with_script, take_item, items_due, script_items, take_delay, end_delay, time_out, come_due, take_due, all_due, appointments_due, events_due, moments_due, expire, expire_timer, no_timers_due, timers_due, run_out, no_budget_due, budgets_due, spend_quantum, quantum_spent}
 use Rattle.machine_laws.proofs.FineMoves.{GoodWorld, Naming}
-use Rattle.world_laws.proofs.Sequences.FineMoves.{FineMoves, Behind, Loosens, BehindMove, chains, effect-leads, move_chains, says-keeps}
-use Rattle.world_laws.proofs.Sequences.Kept.Combinators.{then-turns, narrow-turns}
+use Rattle.world_laws.proofs.Sequences.FineMoves.{FineMoves, Loosens, chains, effect-leads, move_chains, says-keeps}
+use Rattle.world_laws.proofs.Behind.{Behind, BehindMove, then-turns, narrow-turns}
 use Rattle.world_laws.proofs.Sequences.Kept.Dispatching.{to_tail-keeps, ready-keeps}
 use Rattle.world_laws.proofs.Sequences.Kept.Frames.{goes-keeps, plain_steps}
 use Rattle.world_laws.proofs.Sequences.Kept.Appointments.{drop_appointment-alters}

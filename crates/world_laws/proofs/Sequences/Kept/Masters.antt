@@ -22,8 +22,8 @@ use Rattle.profile_machine.specs.Frames.{leaves, raises}
 use Rattle.profile_machine.specs.Appointments.{drop_delay}
 use Rattle.profile_machine.specs.Masters.{part_of, has_dependents, has_activating, waits_for_activation, waits_for_dependents, gone_by_completion, wake_activator, end_group, end_activation_by, end_activation, complete_with, complete, wake_master, forget_task, terminate, leave_by_terminate}
 use Rattle.machine_laws.proofs.FineMoves.{GoodWorld, Naming}
-use Rattle.world_laws.proofs.Sequences.FineMoves.{FineMoves, Behind, Loosens, chains}
-use Rattle.world_laws.proofs.Sequences.Kept.Combinators.{then-turns}
+use Rattle.world_laws.proofs.Sequences.FineMoves.{FineMoves, Loosens, chains}
+use Rattle.world_laws.proofs.Behind.{Behind, then-turns}
 use Rattle.world_laws.proofs.Sequences.Kept.Tasks.{edit_task-alters}
 use Rattle.world_laws.proofs.Sequences.Kept.Dispatching.{runnable-keeps, ready-keeps, ready-from}
 use Rattle.world_laws.proofs.Sequences.Kept.Inheritance.{lose-alters}

@@ -34,7 +34,8 @@ use Rattle.std.proofs.Common.{◌≡◌, refl, ap}
 use Rattle.profile_machine.specs.Protected.{entering, ceiling_of, new_protected_mark, mode_of, find_held, enter_or, where_let_inside, open_action, begin_action_on, begin_operation, call_operation_of, call_operation, begin_own_operation, call_own_operation, edit_top_protected, begin_call, body_opens, has_room_for_body, serve_call, edit_protected}
 use Rattle.machine_laws.proofs.Moves.{LetsIn, FindsHeld, own}
 use Rattle.machine_laws.proofs.FineMoves.{GoodWorld, Naming, nature}
-use Rattle.world_laws.proofs.Sequences.FineMoves.{FineMoves, Openings, Behind, chains, says-keeps}
+use Rattle.world_laws.proofs.Sequences.FineMoves.{FineMoves, Openings, chains, says-keeps}
+use Rattle.world_laws.proofs.Behind.{Behind}
 use Rattle.machine_laws.proofs.Kept.Entering.{entering-inside, entering-held, LetsIn-same, edit_task-objects}
 use Rattle.world_laws.proofs.Sequences.Kept.Dispatching.{to_tail-keeps}
 use Rattle.world_laws.proofs.Sequences.Kept.Frames.{goes_then-from, push-alters, edit_mark-alters, plain_steps}

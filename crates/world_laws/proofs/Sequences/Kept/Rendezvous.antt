@@ -39,8 +39,8 @@ use Rattle.profile_machine.specs.Calls.{parameters_of, edit_call, with_call, nex
 use Rattle.profile_machine.specs.Rendezvous.{accept_scope, open_accept, has_room_for_accept, begin_accept, finish_without_room, accept_with_room, accept_call, meet_with_room, meet_without_room, meet, accept_or_wait, accept, accept_chosen, wait_at_select, appoint_delay, select_delay, select_wait, select_otherwise, select_by_call, select_open, selective_accept, gone_sent, meet_sent, arrive_at, arrive, finish_accept, finish_rendezvous, behind_accept, finished_call, end_in_accept, own_queue, open_alternatives, open_delays}
 use Rattle.std.proofs.Common.{◌≡◌, refl, inr}
 use Rattle.machine_laws.proofs.FineMoves.{GoodWorld, Naming}
-use Rattle.world_laws.proofs.Sequences.FineMoves.{FineMoves, Openings, Behind, Loosens, Again, chains, says-keeps}
-use Rattle.world_laws.proofs.Sequences.Kept.Combinators.{narrow-turns, then-turns}
+use Rattle.world_laws.proofs.Sequences.FineMoves.{FineMoves, Openings, Loosens, Again, chains, says-keeps}
+use Rattle.world_laws.proofs.Behind.{Behind, narrow-turns, then-turns}
 use Rattle.world_laws.proofs.Sequences.Kept.Dispatching.{ready-keeps, block-keeps, blocked-keeps}
 use Rattle.world_laws.proofs.Sequences.Kept.Frames.{goes-keeps, goes_then-from, popped, plain_steps}
 use Rattle.world_laws.proofs.Sequences.Kept.Scopes.{end_scope-alters}

@@ -7,7 +7,8 @@ use Rattle.profile_machine.specs.declared.world.scopes.ScopeId.{ScopeId}
 use Rattle.profile_machine.specs.declared.world.scopes.Beginning.{Beginning}
 use Rattle.profile_machine.specs.Scopes.{open_scope, end_scope}
 use Rattle.machine_laws.proofs.FineMoves.{GoodWorld, Naming}
-use Rattle.world_laws.proofs.Sequences.FineMoves.{FineMoves, Openings, Behind}
+use Rattle.world_laws.proofs.Sequences.FineMoves.{FineMoves, Openings}
+use Rattle.world_laws.proofs.Behind.{Behind}
 use Rattle.machine_laws.proofs.Kept.Combinators.{Alters}
 
 module _ {p : Image} {G : GoodWorld} {May Other : Naming} (moves : FineMoves p G May Other) where

@@ -21,7 +21,8 @@ use Rattle.profile_machine.specs.Appointments.{appoint}
 use Rattle.profile_machine.specs.Calls.{call_of}
 use Rattle.profile_machine.specs.Sending.{open_abortable, is_not_future, is_conditional, is_to_be_cancelled, cancel_at_once, appoint_timeout, wait_for_call, wait_or_cancel, not_accepted, send_on, cancel_sent, begin_abortable, timeout_again, sent_not_begun_by, sent_not_begun, new_abortable_mark, abortable_in, may_begin_abortable, may_time_out}
 use Rattle.machine_laws.proofs.FineMoves.{GoodWorld, Naming}
-use Rattle.world_laws.proofs.Sequences.FineMoves.{FineMoves, Behind, Openings, Loosens, chains, says-keeps}
+use Rattle.world_laws.proofs.Sequences.FineMoves.{FineMoves, Openings, Loosens, chains, says-keeps}
+use Rattle.world_laws.proofs.Behind.{Behind}
 use Rattle.world_laws.proofs.Sequences.Kept.Dispatching.{block-keeps, ready-from}
 use Rattle.world_laws.proofs.Sequences.Kept.CallEnds.{deliver-keeps}
 use Rattle.profile_machine.specs.Program.{form_of}

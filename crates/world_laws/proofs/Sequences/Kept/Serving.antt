@@ -43,8 +43,8 @@ use Rattle.profile_machine.specs.Serving.{serves_nothing, is_served_now, serve_e
 use Rattle.std.proofs.Common.{◌≡◌, refl, sym, inl, ◌∙◌}
 use Rattle.machine_laws.proofs.Moves.{own}
 use Rattle.machine_laws.proofs.FineMoves.{GoodWorld, Naming}
-use Rattle.world_laws.proofs.Sequences.FineMoves.{FineMoves, Openings, Behind, Loosens, Ending, chains, says-keeps}
-use Rattle.world_laws.proofs.Sequences.Kept.Combinators.{Turns, then-turns, wide-turns, changes-turns, looks-turns, turns-from, when-turns, says-turns, with_call-turns, branch-turns}
+use Rattle.world_laws.proofs.Sequences.FineMoves.{FineMoves, Openings, Loosens, Ending, chains, says-keeps}
+use Rattle.world_laws.proofs.Behind.{Behind, Turns, then-turns, wide-turns, changes-turns, looks-turns, turns-from, when-turns, says-turns, with_call-turns, branch-turns}
 use Rattle.world_laws.proofs.Sequences.Kept.Frames.{edit_top-alters, leaves-keeps, plain_steps}
 use Rattle.world_laws.proofs.Sequences.Kept.Inheritance.{lose_running-keeps}
 use Rattle.world_laws.proofs.Sequences.Kept.Calls.{with_call_known-keeps}

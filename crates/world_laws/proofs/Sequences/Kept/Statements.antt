@@ -22,7 +22,8 @@ use Rattle.profile_machine.specs.Operators.{Valued}
 use Rattle.profile_machine.specs.Values.{seen_by}
 use Rattle.profile_machine.specs.Statements.{block_statement, wait_until, delay_to, delay_until, text_of_pieces, put_line}
 use Rattle.machine_laws.proofs.FineMoves.{GoodWorld, Naming}
-use Rattle.world_laws.proofs.Sequences.FineMoves.{FineMoves, Openings, Behind, chains}
+use Rattle.world_laws.proofs.Sequences.FineMoves.{FineMoves, Openings, chains}
+use Rattle.world_laws.proofs.Behind.{Behind}
 use Rattle.world_laws.proofs.Sequences.Kept.Frames.{goes-keeps, plain_steps}
 use Rattle.world_laws.proofs.Sequences.Kept.Dispatching.{to_tail-keeps, block-keeps}
 use Rattle.world_laws.proofs.Sequences.Kept.Scopes.{open_scope-alters}

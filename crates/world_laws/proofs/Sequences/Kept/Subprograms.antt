@@ -11,7 +11,8 @@ use Rattle.profile_machine.specs.declared.world.marks.ResultTo.{ResultTo}
 use Rattle.profile_machine.specs.declared.world.scopes.Beginning.{Beginning}
 use Rattle.profile_machine.specs.Subprograms.{begin_body, call_subprogram}
 use Rattle.machine_laws.proofs.FineMoves.{GoodWorld, Naming}
-use Rattle.world_laws.proofs.Sequences.FineMoves.{FineMoves, Openings, Behind, chains}
+use Rattle.world_laws.proofs.Sequences.FineMoves.{FineMoves, Openings, chains}
+use Rattle.world_laws.proofs.Behind.{Behind}
 use Rattle.world_laws.proofs.Sequences.Kept.Frames.{goes-keeps, plain_steps}
 use Rattle.world_laws.proofs.Sequences.Kept.Scopes.{open_scope-alters}
 use Rattle.machine_laws.proofs.Kept.Combinators.{Keeps, changes-keeps, sees-keeps, then-keeps}

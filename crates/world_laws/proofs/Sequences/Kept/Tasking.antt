@@ -41,8 +41,8 @@ use Rattle.profile_machine.specs.Tasking.{unit_of_declaration, optional_span, cr
 use Rattle.std.proofs.Common.{◌≡◌, refl, ap, ◌∙◌, inl, ◌∷◌, sym, cond, ◌&&◌, eqb}
 use Rattle.profile_machine.specs.Values.{seen_by}
 use Rattle.machine_laws.proofs.FineMoves.{GoodWorld, Naming, EachIs, first_is_false, edit_task-drawn}
-use Rattle.world_laws.proofs.Sequences.FineMoves.{FineMoves, Openings, Behind, Loosens, Departing, Fitting, AllFitting, chains, says-keeps}
-use Rattle.world_laws.proofs.Sequences.Kept.Combinators.{then-turns, changes-turns, looks-turns, turns-from, when-turns, says-turns, wide-from, Turns}
+use Rattle.world_laws.proofs.Sequences.FineMoves.{FineMoves, Openings, Loosens, Departing, Fitting, AllFitting, chains, says-keeps}
+use Rattle.world_laws.proofs.Behind.{Behind, then-turns, changes-turns, looks-turns, turns-from, when-turns, says-turns, wide-from, Turns}
 use Rattle.world_laws.proofs.Sequences.Kept.Frames.{edit_top-alters, goes-keeps, popped, goes_then-from, plain_steps}
 use Rattle.world_laws.proofs.Sequences.Kept.Tasks.{edit_task-alters}
 use Rattle.world_laws.proofs.Sequences.Kept.Dispatching.{to_head-keeps, says_block-keeps, block-keeps, ready-from}

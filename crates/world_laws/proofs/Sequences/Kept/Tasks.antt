@@ -6,7 +6,8 @@ use Rattle.profile_machine.specs.declared.world.marks.Frame.{Frame}
 use Rattle.profile_machine.specs.Tasks.{edit_task, with_frames}
 use Rattle.std.proofs.Common.{◌≡◌, List}
 use Rattle.machine_laws.proofs.FineMoves.{GoodWorld, Naming, natures}
-use Rattle.world_laws.proofs.Sequences.FineMoves.{FineMoves, Behind, StaysOn, onward_in}
+use Rattle.world_laws.proofs.Sequences.FineMoves.{FineMoves, StaysOn, onward_in}
+use Rattle.world_laws.proofs.Behind.{Behind}
 use Rattle.machine_laws.proofs.Kept.Combinators.{Alters}
 
 module _ {p : Image} {G : GoodWorld} {May Other : Naming} (moves : FineMoves p G May Other) where

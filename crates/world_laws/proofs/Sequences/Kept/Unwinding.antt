@@ -14,9 +14,9 @@ use Rattle.profile_machine.specs.declared.world.tasks.State.TheVariants.{Made, R
 use Rattle.profile_machine.specs.declared.world.lines.Part.{Part}
 use Rattle.profile_machine.specs.Unwinding.{struck_frame, edit_last, strike_outermost, leave_by_abort, stop_waiting, wake_and_leave, unwind_blocked, unwind_in, unwind}
 use Rattle.machine_laws.proofs.FineMoves.{GoodWorld, Naming, nature, natures}
-use Rattle.world_laws.proofs.Sequences.FineMoves.{FineMoves, Behind, Loosens, StaysOn, onward_in, chains}
+use Rattle.world_laws.proofs.Sequences.FineMoves.{FineMoves, Loosens, StaysOn, onward_in, chains}
+use Rattle.world_laws.proofs.Behind.{Behind, Turns, then-turns}
 use Rattle.std.proofs.Common.{◌≡◌, List, [], ◌∷◌, refl, ap, inl, inr, None}
-use Rattle.world_laws.proofs.Sequences.Kept.Combinators.{Turns, then-turns}
 use Rattle.world_laws.proofs.Sequences.Kept.Tasks.{edit_task-alters, edit_frames-alters}
 use Rattle.world_laws.proofs.Sequences.Kept.Dispatching.{ready-keeps}
 use Rattle.world_laws.proofs.Sequences.Kept.Frames.{leaves-keeps, plain_steps}

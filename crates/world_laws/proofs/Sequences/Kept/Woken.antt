@@ -18,9 +18,9 @@ use Rattle.profile_machine.specs.Steps.{Step, says, changes, nothing, ◌▷◌}
 use Rattle.profile_machine.specs.Frames.{edit_top, goes, push, new_frame, left_so, leaves, raises, has_room, open_handled, open_at, open_sequence, onward_of}
 use Rattle.profile_machine.specs.WellFormed.{begins_sequence}
 use Rattle.machine_laws.proofs.FineMoves.{GoodWorld, Naming}
-use Rattle.world_laws.proofs.Sequences.FineMoves.{FineMoves, Loosening, Loosens, Behind, says-keeps}
+use Rattle.world_laws.proofs.Sequences.FineMoves.{FineMoves, Loosening, Loosens, says-keeps}
+use Rattle.world_laws.proofs.Behind.{Behind, Turns, then-turns, narrow-turns, changes-turns, nothing-turns, looks-turns, turns-from, branch-turns}
 use Rattle.world_laws.proofs.Sequences.TaskEdits.{onward-pushed, onward-left}
-use Rattle.world_laws.proofs.Sequences.Kept.Combinators.{Turns, then-turns, narrow-turns, changes-turns, nothing-turns, looks-turns, turns-from, branch-turns}
 use Rattle.world_laws.proofs.Sequences.Kept.Frames.{goes-keeps, edit_top-alters}
 use Rattle.machine_laws.proofs.Kept.Combinators.{Alters, From, Keeps}
 

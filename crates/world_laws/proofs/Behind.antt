@@ -1,4 +1,6 @@
--- Steps that lead from what holds before them to what holds behind them.
+-- Of steps and of moves it is asked only that the world behind is good: what holds before a step leads to what holds behind it.
+use Rattle.machine_laws.proofs.Moves.{StepRelation, MoveRelation}
+use Rattle.machine_laws.proofs.FineMoves.{GoodWorld}
 use Rattle.profile_machine.specs.Calls.{call_of, with_call}
 use Rattle.ann_base.specs.declared.identities.CallNo.{CallNo}
 use Rattle.std.proofs.Common.{◌≡◌, Bool, true, false, List, [], ◌∷◌, ◌++◌, Option, Some, None, refl, sym, ap, ◌∙◌, append_assoc, append-nil}
@@ -8,9 +10,13 @@ use Rattle.profile_machine.specs.declared.world.lines.Part.{Part}
 use Rattle.profile_machine.specs.declared.world.lines.Said.{Said}
 use Rattle.profile_machine.specs.Steps.{Step, Done, done, goes_on_with, nothing, changes, says, looks, when, for_some, ◌▷◌}
 use Rattle.profile_machine.specs.declared.world.calls.Call.{Call}
-use Rattle.machine_laws.proofs.FineMoves.{GoodWorld}
-use Rattle.world_laws.proofs.Sequences.FineMoves.{Behind}
 use Rattle.machine_laws.proofs.Kept.Combinators.{From, Keeps, Kept}
+
+abbrev pub Behind : GoodWorld → StepRelation
+Behind G before lines after = G after
+
+abbrev pub BehindMove : GoodWorld → MoveRelation
+BehindMove G before lines after = G after
 
 -- ---- from what holds before a step to what holds behind it
 

@@ -46,7 +46,7 @@ pub record PlainSteps (G : GoodWorld) (Goes : Naming) (R : StepRelation) : Type 
   pub says_cancel : (part : Part) (t : TaskNo) (c : CallNo) → Keeps G R (says part (said.Cancel t c))
   -- tasks, cells, calls and objects
   pub edits_task : (name : Who) (f : Task → Task) (w : World) → G w → ((t : Task) → (f t).who ≡ t.who) → ((t : Task) → (f t).frames ≡ t.frames) → ((t : Task) → (f t).state ≡ t.state) → ((t : Task) → (f t).master ≡ t.master)
-      → ((t : Task) → (f t).cpu_ticks ≡ t.cpu_ticks) → ((t : Task) → (f t).abnormal ≡ t.abnormal) → ((t : Task) → (f t).unit ≡ t.unit) → R w [] (edit_task name f w)
+      → ((t : Task) → (f t).cpu_ticks ≡ t.cpu_ticks) → ((t : Task) → (f t).abnormal ≡ t.abnormal) → ((t : Task) → (f t).unit ≡ t.unit) → ((t : Task) → (f t).inherited ≡ t.inherited) → R w [] (edit_task name f w)
   pub edits_cells : (id : ScopeId) (f : List Value → List Value) (w : World) → G w → R w [] (edit_cells id f w)
   pub edits_call : (c : CallNo) (f : Call → Call) (w : World) → G w → ((d : Call) → (f d).number ≡ d.number) → ((d : Call) → (f d).caller ≡ d.caller) → R w [] (edit_call c f w)
   pub forgets_call : (c : CallNo) (w : World) → G w → R w [] (forget_call c w)

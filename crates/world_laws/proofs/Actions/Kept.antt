@@ -5,7 +5,6 @@ pub mod Frames
 pub mod Scopes
 pub mod Inheritance
 pub mod Appointments
-pub mod Calls
 pub mod Unwinding
 pub mod CallEnds
 pub mod Switching
@@ -19,7 +18,6 @@ pub mod Serving
 pub mod EntryCalls
 pub mod Rendezvous
 pub mod Controlled
-pub mod Declarations
 pub mod Tasking
 pub mod Handlers
 pub mod Act

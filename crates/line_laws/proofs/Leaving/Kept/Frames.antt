@@ -76,7 +76,7 @@ module _ {G : GoodWorld} {May Acts Pushes : Naming} {Stops : Type 0} {R : StepRe
     says_object = λ o d ceiling. says-keeps moves Own (said.New (created.Object o) (Some d) ceiling) refl;
     says_call = λ part c. says-keeps moves part (said.Call c.caller c.number c.owner c.entry c.priority) refl;
     says_cancel = λ part t c. says-keeps moves part (said.Cancel t c) refl;
-    edits_task = λ name f w g same_who same_frames same_state same_master same_clock same_abnormal same_unit. moves.edits_task name f w g same_who same_frames same_state;
+    edits_task = λ name f w g same_who same_frames same_state same_master same_clock same_abnormal same_unit same_inherited. moves.edits_task name f w g same_who same_frames same_state;
     edits_cells = moves.edits_cells;
     edits_call = moves.edits_call;
     forgets_call = moves.forgets_call;

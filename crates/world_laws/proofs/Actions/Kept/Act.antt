@@ -38,19 +38,17 @@ use Rattle.world_tables.specs.Lists.{first_of}
 use Rattle.profile_machine.specs.Tasks.{is_runnable_state}
 use Rattle.world_laws.proofs.Actions.Kept.Combinators.{changes_then-from}
 use Rattle.world_laws.proofs.Actions.Kept.Dispatching.{block-keeps}
-use Rattle.world_laws.proofs.Actions.Kept.Frames.{edit_top-alters, goes-keeps, raises-keeps, pass_on-keeps, with_room-keeps, popped}
+use Rattle.world_laws.proofs.Actions.Kept.Frames.{edit_top-alters, goes-keeps, popped, plain_steps}
 use Rattle.world_laws.proofs.Actions.Kept.Scopes.{opens-alters}
 use Rattle.world_laws.proofs.Actions.Kept.Appointments.{drop_appointment-alters}
-use Rattle.world_laws.proofs.Actions.Kept.Calls.{with_call-keeps, attempt_with-keeps}
-use Rattle.world_laws.proofs.Actions.Kept.Statements.{null-keeps, assign-keeps, assign_array-keeps, if_statement-keeps, case_statement-keeps, while_turn-keeps, for_bounds-keeps, first_turn-keeps, later_turn-keeps, exit_statement-keeps, block_statement-keeps, raise_again-keeps, delay_until-keeps, put_line-keeps}
-use Rattle.world_laws.proofs.Actions.Kept.Subprograms.{call_subprogram-keeps, return_value-keeps, return-keeps}
+use Rattle.world_laws.proofs.Actions.Kept.Statements.{block_statement-keeps, delay_until-keeps, put_line-keeps}
+use Rattle.world_laws.proofs.Actions.Kept.Subprograms.{call_subprogram-keeps}
 use Rattle.world_laws.proofs.Actions.Kept.Protected.{call_own_operation-keeps, call_operation-from, beside}
 use Rattle.world_laws.proofs.Actions.Kept.Priorities.{set_priority-keeps, set_quantum-keeps, set_deadline_of-keeps, delay_and_set_deadline-keeps}
 use Rattle.world_laws.proofs.Actions.Kept.Serving.{end_in_protected-from, Stands}
 use Rattle.world_laws.proofs.Actions.Kept.Rendezvous.{accept-keeps, selective_accept-keeps, end_in_accept-from}
 use Rattle.world_laws.proofs.Actions.Kept.EntryCalls.{requeue-keeps, asynchronous_select-from, entry_call-from}
 use Rattle.world_laws.proofs.Actions.Kept.Controlled.{initialize-keeps, assign_controlled-keeps, end_in_initialize-from, end_in_finalize-from, end_in_assign-from}
-use Rattle.world_laws.proofs.Actions.Kept.Declarations.{declare-keeps}
 use Rattle.world_laws.proofs.Actions.Kept.Tasking.{create-keeps, activate-keeps, end_own_activation-keeps, abort_statement-keeps, end_scope_mark-from}
 use Rattle.world_laws.proofs.Actions.Kept.Handlers.{set_event-keeps, cancel_event-keeps, set_timer-keeps, cancel_timer-keeps, add_member-keeps, remove_member-keeps, replenish-keeps, add_to_budget-keeps, set_budget-keeps, cancel_budget-keeps, call_handler-from}
 use Rattle.profile_machine.specs.declared.world.World.{World}
@@ -70,6 +68,12 @@ use Rattle.line_laws.proofs.Leaving.Modes.{Nobody}
 use Rattle.machine_laws.proofs.FineMoves.{GoodWorld, Naming}
 use Rattle.machine_laws.proofs.Kept.Combinators.{Alters, From, Keeps, changes-keeps, cond-keeps, keeps-from, looks-keeps, looks_at-from, nothing-keeps, sees-keeps, then-keeps, unchanged-alters}
 use Rattle.world_laws.proofs.Behind.{Behind}
+use Rattle.machine_laws.proofs.Plain.Frames.{raises-keeps, pass_on-keeps, with_room-keeps}
+use Rattle.machine_laws.proofs.Plain.Calls.{with_call-keeps, attempt_with-keeps}
+use Rattle.machine_laws.proofs.Plain.Statements.{null-keeps, assign-keeps, assign_array-keeps, if_statement-keeps, case_statement-keeps, while_turn-keeps, for_bounds-keeps, first_turn-keeps, later_turn-keeps, exit_statement-keeps, raise_again-keeps}
+use Rattle.machine_laws.proofs.Plain.Subprograms.{return_value-keeps, return-keeps}
+use Rattle.machine_laws.proofs.Plain.Declarations.{declare-keeps}
+use Rattle.machine_laws.proofs.Plain.PlainSteps.{anybody}
 
 -- a mark that keeps an exception is what it was
 keeping-nature : (e : Raised) (mark : Mark) → nature (keeping e mark) ≡ nature mark
@@ -88,17 +92,17 @@ waiting-nature x = abortable-nature waiting_mark x.mark
 module _ {G : GoodWorld} {F : Naming} (moves : FineMoves G F) where
   pub handle_or_pass-keeps : (p : Image) (name : Who) (e : Raised) (next : Option StatementNo) → Keeps G (Behind G) (handle_or_pass p name e next)
   unfolding handle_or_pass
-  handle_or_pass-keeps p name e None = search (pass_on-keeps)
+  handle_or_pass-keeps p name e None = search (pass_on-keeps, plain_steps, anybody)
   handle_or_pass-keeps p name e (Some first) = search (changes-keeps, edit_top-alters, keeping-nature, then-keeps, goes-keeps, chains)
 
   pub behind_handled-keeps : (p : Image) (name : Who) (s : StatementNo) (leaving : Leaving) → Keeps G (Behind G) (behind_handled p name s leaving)
   unfolding behind_handled
   behind_handled-keeps p name s (how.Exception e) = search (handle_or_pass-keeps)
   behind_handled-keeps p name s how.End = search (nothing-keeps, chains)
-  behind_handled-keeps p name s how.Return = search (pass_on-keeps)
-  behind_handled-keeps p name s (how.Exit loop) = search (pass_on-keeps)
-  behind_handled-keeps p name s how.Abort = search (pass_on-keeps)
-  behind_handled-keeps p name s how.Terminate = search (pass_on-keeps)
+  behind_handled-keeps p name s how.Return = search (pass_on-keeps, plain_steps, anybody)
+  behind_handled-keeps p name s (how.Exit loop) = search (pass_on-keeps, plain_steps, anybody)
+  behind_handled-keeps p name s how.Abort = search (pass_on-keeps, plain_steps, anybody)
+  behind_handled-keeps p name s how.Terminate = search (pass_on-keeps, plain_steps, anybody)
 
   pub end_handled-from : (p : Image) (name : Who) (s : StatementNo) (leaving : Leaving) (f : Frame) (w : World) → G w → top_of w name ≡ Some f → is_protected f.mark ≡ false → From (Behind G) w (end_handled p name s leaving)
   unfolding end_handled
@@ -120,7 +124,7 @@ module _ {G : GoodWorld} {F : Naming} (moves : FineMoves G F) where
 
   by_trigger-keeps : (p : Image) (name : Who) (m : AbortableMark) (leaving : Leaving) (call : Option CallNo) → F name → Keeps G (Behind G) (elim call as (λ _. Step) [ None ↦ looks (λ w. changes (drop_trigger name (below (frames_of w name)))) ▷ end_top p name | Some c ↦ with_call c (λ d. attempt_with p Own d (end_top p name) (wait_for_trigger name d leaving)) ])
   by_trigger-keeps p name m leaving None free = search (looks-keeps, changes-keeps, drop_trigger-alters, then-keeps, end_top-keeps, chains)
-  by_trigger-keeps p name m leaving (Some c) free = with_call-keeps moves c _ (λ d. attempt_with-keeps moves p Own d (end_top p name) (wait_for_trigger name d leaving) (end_top-keeps p name) (wait_for_trigger-keeps name d leaving free))
+  by_trigger-keeps p name m leaving (Some c) free = with_call-keeps (plain_steps moves) c _ (λ d. attempt_with-keeps (plain_steps moves) p Own d (end_top p name) (wait_for_trigger name d leaving) (end_top-keeps p name) (wait_for_trigger-keeps name d leaving free))
 
   pub end_abortable_by-keeps : (p : Image) (name : Who) (m : AbortableMark) (leaving : Leaving) → F name → Keeps G (Behind G) (end_abortable_by p name m leaving)
   unfolding end_abortable_by
@@ -133,7 +137,7 @@ module _ {G : GoodWorld} {F : Naming} (moves : FineMoves G F) where
 module _ {G : GoodWorld} {F : Naming} (moves : FineMoves G F) where
   pub call_main-keeps : (p : Image) (name : Who) (s : StatementNo) → Keeps G (Behind G) (call_main p name s)
   unfolding call_main
-  call_main-keeps p name s = search (with_room-keeps, goes-keeps, then-keeps, looks-keeps, changes-keeps, opens-alters, chains)
+  call_main-keeps p name s = search (with_room-keeps, goes-keeps, then-keeps, looks-keeps, changes-keeps, opens-alters, chains, plain_steps)
 
 -- ---- of who acts, which is ready
 
@@ -145,30 +149,30 @@ call-from p name s (callee.OwnOperation f) actuals to w good awake = keeps-from 
 
 pub act_statement-from : (p : Image) (name : Who) (s : StatementNo) (form : StatementForm) (w : World) → Good Nobody w → Awake name w → From (Behind (Good Nobody)) w (act_statement p name s form)
 unfolding act_statement
-act_statement-from p name s (form.Declare object) w good awake = keeps-from (chains beside) _ w good (declare-keeps beside p name s object)
+act_statement-from p name s (form.Declare object) w good awake = keeps-from (chains beside) _ w good (declare-keeps (plain_steps beside) p name s object tt)
 act_statement-from p name s (form.Initialize object) w good awake = keeps-from (chains beside) _ w good (initialize-keeps beside p name s object)
 act_statement-from p name s (form.CreateTask object part) w good awake = keeps-from (chains beside) _ w good (create-keeps p name s object part)
 act_statement-from p name s (form.Activate part) w good awake = keeps-from (chains beside) _ w good (activate-keeps p name s part)
 act_statement-from p name s form.EndActivation w good awake = keeps-from (chains beside) _ w good (end_own_activation-keeps beside p name s)
 act_statement-from p name s form.CallMain w good awake = keeps-from (chains beside) _ w good (call_main-keeps beside p name s)
 act_statement-from p name s (form.Handled handlers first) w good awake = keeps-from (chains beside) _ w good (nothing-keeps (chains beside))
-act_statement-from p name s form.Null w good awake = keeps-from (chains beside) _ w good (null-keeps beside p name s)
-act_statement-from p name s (form.Assign target e) w good awake = keeps-from (chains beside) _ w good (assign-keeps beside p name s target e)
-act_statement-from p name s (form.AssignArray target source) w good awake = keeps-from (chains beside) _ w good (assign_array-keeps beside p name s target source)
+act_statement-from p name s form.Null w good awake = keeps-from (chains beside) _ w good (null-keeps (plain_steps beside) p name s tt)
+act_statement-from p name s (form.Assign target e) w good awake = keeps-from (chains beside) _ w good (assign-keeps (plain_steps beside) p name s target e tt)
+act_statement-from p name s (form.AssignArray target source) w good awake = keeps-from (chains beside) _ w good (assign_array-keeps (plain_steps beside) p name s target source tt)
 act_statement-from p name s (form.AssignControlled target source) w good awake = keeps-from (chains beside) _ w good (assign_controlled-keeps beside p name s target source)
-act_statement-from p name s (form.If condition first otherwise) w good awake = keeps-from (chains beside) _ w good (if_statement-keeps beside p name condition first otherwise)
-act_statement-from p name s (form.Case selector alternatives) w good awake = keeps-from (chains beside) _ w good (case_statement-keeps beside p name selector alternatives)
+act_statement-from p name s (form.If condition first otherwise) w good awake = keeps-from (chains beside) _ w good (if_statement-keeps (plain_steps beside) p name condition first otherwise tt)
+act_statement-from p name s (form.Case selector alternatives) w good awake = keeps-from (chains beside) _ w good (case_statement-keeps (plain_steps beside) p name selector alternatives tt)
 act_statement-from p name s (form.Loop body within) w good awake = keeps-from (chains beside) _ w good (goes-keeps beside name (Some body))
-act_statement-from p name s (form.While condition body within) w good awake = keeps-from (chains beside) _ w good (while_turn-keeps beside p name s condition body)
-act_statement-from p name s (form.For parameter reverse low high turn within) w good awake = keeps-from (chains beside) _ w good (for_bounds-keeps beside p name parameter reverse low high turn)
-act_statement-from p name s (form.FirstTurn parameter reverse body) w good awake = keeps-from (chains beside) _ w good (first_turn-keeps beside p name s parameter reverse body)
-act_statement-from p name s (form.LaterTurn parameter reverse body) w good awake = keeps-from (chains beside) _ w good (later_turn-keeps beside p name s parameter reverse body)
-act_statement-from p name s (form.Exit condition of_loop) w good awake = keeps-from (chains beside) _ w good (exit_statement-keeps beside p name s of_loop condition)
+act_statement-from p name s (form.While condition body within) w good awake = keeps-from (chains beside) _ w good (while_turn-keeps (plain_steps beside) p name s condition body tt)
+act_statement-from p name s (form.For parameter reverse low high turn within) w good awake = keeps-from (chains beside) _ w good (for_bounds-keeps (plain_steps beside) p name parameter reverse low high turn tt)
+act_statement-from p name s (form.FirstTurn parameter reverse body) w good awake = keeps-from (chains beside) _ w good (first_turn-keeps (plain_steps beside) p name s parameter reverse body tt)
+act_statement-from p name s (form.LaterTurn parameter reverse body) w good awake = keeps-from (chains beside) _ w good (later_turn-keeps (plain_steps beside) p name s parameter reverse body tt)
+act_statement-from p name s (form.Exit condition of_loop) w good awake = keeps-from (chains beside) _ w good (exit_statement-keeps (plain_steps beside) p name s of_loop condition tt)
 act_statement-from p name s (form.Block scope) w good awake = keeps-from (chains beside) _ w good (block_statement-keeps beside p name s scope)
-act_statement-from p name s form.Return w good awake = keeps-from (chains beside) _ w good (return-keeps beside name)
-act_statement-from p name s (form.ReturnValue function e) w good awake = keeps-from (chains beside) _ w good (return_value-keeps beside p name function e)
-act_statement-from p name s (form.Raise e) w good awake = keeps-from (chains beside) _ w good (raises-keeps beside Own name e)
-act_statement-from p name s (form.RaiseAgain scope) w good awake = keeps-from (chains beside) _ w good (raise_again-keeps beside p name scope)
+act_statement-from p name s form.Return w good awake = keeps-from (chains beside) _ w good (return-keeps (plain_steps beside) name)
+act_statement-from p name s (form.ReturnValue function e) w good awake = keeps-from (chains beside) _ w good (return_value-keeps (plain_steps beside) p name function e)
+act_statement-from p name s (form.Raise e) w good awake = keeps-from (chains beside) _ w good (raises-keeps (plain_steps beside) Own name e)
+act_statement-from p name s (form.RaiseAgain scope) w good awake = keeps-from (chains beside) _ w good (raise_again-keeps (plain_steps beside) p name scope)
 act_statement-from p name s (form.Delay e) w good awake = keeps-from (chains beside) _ w good (sees-keeps (chains beside) p name _ (λ q. delay_until-keeps p name s (relative_moment q e)))
 act_statement-from p name s (form.DelayUntil e) w good awake = keeps-from (chains beside) _ w good (sees-keeps (chains beside) p name _ (λ q. delay_until-keeps p name s (moment q e)))
 act_statement-from p name s (form.Call callee actuals to) w good awake = call-from p name s callee actuals to w good awake

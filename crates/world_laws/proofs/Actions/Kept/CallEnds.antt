@@ -1,43 +1,41 @@
 -- How calls end: each step leaves worlds good where its parts do.
-use Rattle.std.specs.Prelude.{ℕ, Bool, List, [], ◌∷◌, Option, Some, None, Ok, Err, not, slice_set, true, false, cond, eqb, length}
+use Rattle.std.specs.Prelude.{ℕ, Bool, List, [], ◌∷◌, Option, Some, None, not, true, false, cond, eqb, length}
 use Rattle.ann_base.specs.declared.identities.TaskNo.{TaskNo}
 use Rattle.ann_base.specs.declared.identities.CallNo.{CallNo}
 use Rattle.trace_text.specs.declared.events.Who.{Who}
 use Rattle.trace_text.specs.declared.events.Who.TheVariants as who
 use Rattle.profile_machine.specs.declared.image.Image.{Image}
 use Rattle.profile_machine.specs.declared.numbers.StatementNo.{StatementNo}
-use Rattle.profile_machine.specs.declared.values.Value.{Value}
 use Rattle.profile_machine.specs.declared.world.World.{World}
 use Rattle.profile_machine.specs.declared.world.marks.Frame.{Frame}
 use Rattle.profile_machine.specs.declared.world.marks.Mark.{Mark}
 use Rattle.profile_machine.specs.declared.world.marks.AbortableMark.{AbortableMark}
 use Rattle.profile_machine.specs.declared.world.calls.Call.{Call}
 use Rattle.profile_machine.specs.declared.world.calls.Outcome.{Outcome}
-use Rattle.profile_machine.specs.declared.world.scopes.Variable.{Variable}
 use Rattle.profile_machine.specs.declared.world.calls.Outcome.TheVariants as call_ended
 use Rattle.profile_machine.specs.declared.world.marks.Mark.TheVariants.{Scope, Handled, InProtected, InAccept, Abortable, InInitialize, InFinalize, InAssign}
-use Rattle.profile_machine.specs.Program.{declaration_of}
 use Rattle.profile_machine.specs.declared.world.lines.Part.{Part}
 use Rattle.profile_machine.specs.Steps.{Step, changes, looks, ◌▷◌}
 use Rattle.world_tables.specs.Lists.{first_of}
 use Rattle.profile_machine.specs.Tasks.{waiting_of}
 use Rattle.profile_machine.specs.Frames.{frames_of, top_of, pop, pass_on, leaving_of, with_mark, is_protected}
-use Rattle.profile_machine.specs.Scopes.{write_cell}
-use Rattle.profile_machine.specs.Operators.{Valued, checked}
-use Rattle.profile_machine.specs.CallEnds.{go_by_outcome, resume, store, or_stored, copy_back, with_results, edit_depth, edit_frame, edit_abortable, edit_abortable_at, trigger_at, trigger_outcome, forget_trigger, run_triggered, ended_by_itself, behind_abortable, end_abortable, end_abortable_in, end_top_abortable, end_wait, waits_for_end, end_for_abortable, end_for_caller, end_for, end_with, end_call, deliver, gone, waited_mark, is_cancelled}
+use Rattle.profile_machine.specs.CallEnds.{with_results, edit_depth, edit_frame, edit_abortable, edit_abortable_at, trigger_at, trigger_outcome, forget_trigger, run_triggered, ended_by_itself, behind_abortable, end_abortable, end_abortable_in, end_top_abortable, end_wait, waits_for_end, end_for_abortable, end_for_caller, end_for, end_with, end_call, deliver, gone, waited_mark, is_cancelled}
 use Rattle.std.proofs.Common.{◌≡◌, refl, ap}
 use Rattle.world_laws.proofs.Actions.FineMoves.{FineMoves, chains, says-keeps}
 use Rattle.world_laws.proofs.Actions.Natures.{nature, natures}
 use Rattle.world_laws.proofs.Actions.Kept.Combinators.{changes_then-from}
 use Rattle.world_laws.proofs.Actions.Kept.Tasks.{edit_frames-alters}
 use Rattle.world_laws.proofs.Actions.Kept.Dispatching.{ready-keeps}
-use Rattle.world_laws.proofs.Actions.Kept.Frames.{goes-keeps, popped, leaves-keeps, raises-keeps, pass_on-keeps, open_sequence-keeps}
-use Rattle.world_laws.proofs.Actions.Kept.Calls.{edit_call-alters, forget_call-alters, with_call-keeps, unqueued-alters}
+use Rattle.world_laws.proofs.Actions.Kept.Frames.{goes-keeps, popped, leaves-keeps, open_sequence-keeps, plain_steps}
 use Rattle.world_laws.proofs.Actions.Kept.Unwinding.{unwind-keeps}
 use Rattle.profile_machine.specs.Dispatching.{ready}
 use Rattle.machine_laws.proofs.FineMoves.{GoodWorld, Naming}
-use Rattle.machine_laws.proofs.Kept.Combinators.{Alters, From, Gives, Keeps, bind-gives, branch-keeps, changes-keeps, keeps-from, looks-from, looks-keeps, looks_at-from, nothing-keeps, ok-gives, then-keeps, unchanged-alters, when-keeps}
+use Rattle.machine_laws.proofs.Kept.Combinators.{Alters, From, Keeps, branch-keeps, changes-keeps, keeps-from, looks-from, looks-keeps, looks_at-from, nothing-keeps, then-keeps, unchanged-alters, when-keeps}
 use Rattle.world_laws.proofs.Behind.{Behind}
+use Rattle.machine_laws.proofs.Plain.Frames.{raises-keeps, pass_on-keeps}
+use Rattle.machine_laws.proofs.Plain.Calls.{edit_call-alters, forget_call-alters, with_call-keeps, unqueued-alters}
+use Rattle.machine_laws.proofs.Plain.PlainSteps.{anybody}
+use Rattle.machine_laws.proofs.Plain.Results.{with_results-world, resume-keeps}
 
 -- an edit of a mark somewhere, and of an abortable part
 at_depth-natures : (test : Bool) (f : Frame → Frame) (x : Frame) (xs ys : List Frame) → nature (f x).mark ≡ nature x.mark → natures ys ≡ natures xs → natures (cond test (f x ∷ xs) (x ∷ ys)) ≡ natures (x ∷ xs)
@@ -59,39 +57,6 @@ abortable-nature f (InFinalize o) = refl
 abortable-nature f (InAssign m) = refl
 
 module _ {G : GoodWorld} {F : Naming} (moves : FineMoves G F) where
-  pub go_by_outcome-keeps : (p : Image) (part : Part) (name : Who) (s : StatementNo) (outcome : Outcome) → Keeps G (Behind G) (go_by_outcome p part name s outcome)
-  unfolding go_by_outcome
-  go_by_outcome-keeps p part name s call_ended.Finished = search (goes-keeps)
-  go_by_outcome-keeps p part name s call_ended.Cancelled = search (goes-keeps)
-  go_by_outcome-keeps p part name s (call_ended.ToRaise e) = search (raises-keeps)
-  go_by_outcome-keeps p part name s (call_ended.WasRaised e) = search (leaves-keeps)
-
-  pub resume-keeps : (p : Image) (part : Part) (c : Call) (outcome : Outcome) → Keeps G (Behind G) (resume p part c outcome)
-  unfolding resume
-  resume-keeps p part c outcome = search (changes-keeps, forget_call-alters, then-keeps, go_by_outcome-keeps, chains)
-
-  pub store-gives : (p : Image) (v : Variable) (value : Value) (w : World) → G w → Gives (Behind G) w (store p v value w)
-  store-gives p v value w good = bind-gives (chains moves) (checked (declaration_of p v.declared).constraint value) (λ x. Ok (write_cell v.within v.place x w)) w (λ x. ok-gives (chains moves) w (write_cell v.within v.place x w) (moves.edits_cells v.within (λ cells. slice_set cells v.place x) w good))
-
-  -- the world behind the results that are copied back
-  or_stored-world : (result : Valued World) (again : World → World × Bool) (w : World) → G w → Gives (Behind G) w result → ((v : World) → G v → G (again v).0) → G (or_stored w result again).0
-  unfolding Gives
-  or_stored-world (Ok next) again w good a b = b next a
-  or_stored-world (Err e) again w good a b = good
-
-  copy_back-world : (p : Image) (results : List (Option Variable)) (values : List Value) (w : World) → G w → G (copy_back p results values w).0
-  copy_back-world p [] values w good = good
-  copy_back-world p (None ∷ results) [] w good = good
-  copy_back-world p (None ∷ results) (v ∷ values) w good = copy_back-world p results values w good
-  copy_back-world p (Some target ∷ results) [] w good = good
-  copy_back-world p (Some target ∷ results) (v ∷ values) w good = or_stored-world (store p target v w) (copy_back p results values) w good (store-gives p target v w good) (copy_back-world p results values)
-
-  with_results-world : (p : Image) (c : Call) (outcome : Outcome) (w : World) → G w → G (with_results p c outcome w).0
-  with_results-world p c call_ended.Finished w good = copy_back-world p c.results c.values w good
-  with_results-world p c call_ended.Cancelled w good = good
-  with_results-world p c (call_ended.ToRaise e) w good = good
-  with_results-world p c (call_ended.WasRaised e) w good = good
-
   pub edit_frame-alters : (name : Who) (depth : ℕ) (f : Frame → Frame) → ((x : Frame) → nature (f x).mark ≡ nature x.mark) → Alters G (Behind G) (edit_frame name depth f)
   edit_frame-alters name depth f same = edit_frames-alters moves name (edit_depth depth f) (λ fs. depth-natures depth f fs same)
 
@@ -104,13 +69,13 @@ module _ {G : GoodWorld} {F : Naming} (moves : FineMoves G F) where
 
   pub forget_trigger-alters : (c : Option CallNo) → Alters G (Behind G) (forget_trigger c)
   forget_trigger-alters None = search (unchanged-alters, chains)
-  forget_trigger-alters (Some c) = search (forget_call-alters)
+  forget_trigger-alters (Some c) = search (forget_call-alters, plain_steps)
 
   pub run_triggered-keeps : (p : Image) (part : Part) (name : Who) (select : StatementNo) (outcome : Outcome) → Keeps G (Behind G) (run_triggered p part name select outcome)
   unfolding run_triggered
   run_triggered-keeps p part name select call_ended.Finished = search (goes-keeps)
   run_triggered-keeps p part name select call_ended.Cancelled = search (nothing-keeps, chains)
-  run_triggered-keeps p part name select (call_ended.ToRaise e) = search (raises-keeps)
+  run_triggered-keeps p part name select (call_ended.ToRaise e) = search (raises-keeps, plain_steps)
   run_triggered-keeps p part name select (call_ended.WasRaised e) = search (leaves-keeps)
 
   pub behind_abortable-keeps : (p : Image) (part : Part) (name : Who) (m : AbortableMark) (outcome : Outcome) → Keeps G (Behind G) (behind_abortable p part name m outcome)
@@ -124,7 +89,7 @@ module _ {G : GoodWorld} {F : Naming} (moves : FineMoves G F) where
       let out = popped moves name f w good top free in
       looks_at-from (chains moves) (λ v. changes (pop name) ▷ changes (forget_trigger m.call) ▷ elim (ended_by_itself f below) as (λ _. Step) [ true ↦ behind_abortable p part name m (trigger_outcome v m.call) | false ↦ pass_on p name (leaving_of f) ]) w
       (changes_then-from moves (pop name) _ w (keeps-from (chains moves) _ (pop name w) out
-      (then-keeps (chains moves) (changes (forget_trigger m.call)) _ (search (changes-keeps, forget_trigger-alters, chains)) (branch-keeps (chains moves) (ended_by_itself f below) (behind_abortable p part name m (trigger_outcome w m.call)) (pass_on p name (leaving_of f)) (search (behind_abortable-keeps)) (search (pass_on-keeps))))))
+      (then-keeps (chains moves) (changes (forget_trigger m.call)) _ (search (changes-keeps, forget_trigger-alters, chains)) (branch-keeps (chains moves) (ended_by_itself f below) (behind_abortable p part name m (trigger_outcome w m.call)) (pass_on p name (leaving_of f)) (search (behind_abortable-keeps)) (search (pass_on-keeps, plain_steps, anybody))))))
 
   end_abortable_in-from : (p : Image) (part : Part) (name : Who) (f : Frame) (below : List Frame) (mark : Mark) (w : World) → G w → top_of w name ≡ Some f → f.mark ≡ mark → From (Behind G) w (end_abortable_in p part name f below mark)
   unfolding end_abortable_in
@@ -153,7 +118,7 @@ module _ {G : GoodWorld} {F : Naming} (moves : FineMoves G F) where
 
   pub end_for_caller-keeps : (p : Image) (part : Part) (c : Call) (outcome : Outcome) → Keeps G (Behind G) (end_for_caller p part c outcome)
   unfolding end_for_caller
-  end_for_caller-keeps p part c outcome = search (looks-keeps, when-keeps, ready-keeps, then-keeps, resume-keeps, open_sequence-keeps, chains) depth 9
+  end_for_caller-keeps p part c outcome = search (looks-keeps, when-keeps, ready-keeps, then-keeps, resume-keeps, open_sequence-keeps, chains, plain_steps, anybody) depth 10
 
   pub end_for-keeps : (p : Image) (part : Part) (c : Call) (outcome : Outcome) (n : Option ℕ) → Keeps G (Behind G) (end_for p part c outcome n)
   unfolding end_for
@@ -162,19 +127,19 @@ module _ {G : GoodWorld} {F : Naming} (moves : FineMoves G F) where
 
   pub end_with-keeps : (p : Image) (part : Part) (c : Call) (outcome : Outcome) → Keeps G (Behind G) (end_with p part c outcome)
   unfolding end_with
-  end_with-keeps p part c outcome = search (changes-keeps, edit_call-alters, then-keeps, looks-keeps, end_for-keeps, chains)
+  end_with-keeps p part c outcome = search (changes-keeps, edit_call-alters, then-keeps, looks-keeps, end_for-keeps, chains, plain_steps)
 
   pub end_call-keeps : (p : Image) (part : Part) (c : Call) (outcome : Outcome) → Keeps G (Behind G) (end_call p part c outcome)
   unfolding end_call
   end_call-keeps p part c outcome =
       looks-from (chains moves) _ (λ w good. let r = with_results p c outcome w in
-      let first = with_results-world p c outcome w good in
+      let first = with_results-world (plain_steps moves) p c outcome w good in
       changes_then-from moves (λ _. r.0) (end_with p part c r.1) w (keeps-from (chains moves) (end_with p part c r.1) r.0 first (end_with-keeps p part c r.1)))
 
   pub deliver-keeps : (p : Image) (part : Part) (c : CallNo) (outcome : Outcome) → Keeps G (Behind G) (deliver p part c outcome)
   unfolding deliver
-  deliver-keeps p part c outcome = search (with_call-keeps, end_call-keeps, then-keeps, unwind-keeps, chains)
+  deliver-keeps p part c outcome = search (with_call-keeps, end_call-keeps, then-keeps, unwind-keeps, chains, plain_steps)
 
   pub gone-keeps : (p : Image) (part : Part) (c : Call) → Keeps G (Behind G) (gone p part c)
   unfolding gone
-  gone-keeps p part c = search (changes-keeps, unqueued-alters, then-keeps, says-keeps, chains)
+  gone-keeps p part c = search (changes-keeps, unqueued-alters, then-keeps, says-keeps, chains, plain_steps)

@@ -23,8 +23,8 @@ use Rattle.profile_machine.specs.Controlled.{open_operation, registered_as, regi
 use Rattle.world_laws.proofs.Actions.FineMoves.{FineMoves, chains, says-keeps}
 use Rattle.world_laws.proofs.Actions.Natures.{nature}
 use Rattle.world_laws.proofs.Actions.Kept.Combinators.{changes_then-from}
-use Rattle.world_laws.proofs.Actions.Kept.Frames.{edit_top-alters, goes-keeps, push-alters, leaves-keeps, raises-keeps, pass_on-keeps, given-keeps, with_room-keeps, popped}
-use Rattle.world_laws.proofs.Actions.Kept.Scopes.{write_cell-alters, opens-alters}
+use Rattle.world_laws.proofs.Actions.Kept.Frames.{edit_top-alters, goes-keeps, push-alters, leaves-keeps, popped, plain_steps}
+use Rattle.world_laws.proofs.Actions.Kept.Scopes.{opens-alters}
 use Rattle.std.proofs.Common.{◌≡◌, refl}
 use Rattle.profile_machine.specs.Program.{next_of}
 use Rattle.ann_base.specs.declared.identities.RegionNo.{RegionNo}
@@ -36,6 +36,9 @@ use Rattle.profile_machine.specs.Frames.{top_of, pop, with_mark, is_protected, p
 use Rattle.machine_laws.proofs.FineMoves.{GoodWorld, Naming}
 use Rattle.machine_laws.proofs.Kept.Combinators.{Alters, From, Keeps, branch-keeps, changes-from, changes-keeps, cond-keeps, keeps-from, looks-keeps, looks_at-from, nothing-keeps, sees-keeps, then-keeps, when-keeps}
 use Rattle.world_laws.proofs.Behind.{Behind}
+use Rattle.machine_laws.proofs.Plain.Frames.{raises-keeps, pass_on-keeps, given-keeps, with_room-keeps}
+use Rattle.machine_laws.proofs.Plain.Cells.{write_cell-alters}
+use Rattle.machine_laws.proofs.Plain.PlainSteps.{anybody}
 
 -- the region of a scope's mark is not edited, nor what another mark is
 scope-nature : (f : ScopeMark → ScopeMark) → ((m : ScopeMark) → nature (Scope (f m)) ≡ nature (Scope m)) → (mark : Mark) → nature (edit_scope_mark f mark) ≡ nature mark
@@ -65,14 +68,14 @@ module _ {G : GoodWorld} {F : Naming} (moves : FineMoves G F) where
 
   pub register-keeps : (p : Image) (name : Who) (l : Located) → Keeps G (Behind G) (register p name l)
   unfolding register
-  register-keeps p name l = search (looks-keeps, changes-keeps, registered_as-alters, write_cell-alters, then-keeps, says-keeps, chains) depth 9
+  register-keeps p name l = search (looks-keeps, changes-keeps, registered_as-alters, write_cell-alters, then-keeps, says-keeps, chains, plain_steps) depth 10
 
   pub edit_top_scope-alters : (name : Who) (f : ScopeMark → ScopeMark) → ((m : ScopeMark) → nature (Scope (f m)) ≡ nature (Scope m)) → Alters G (Behind G) (edit_top_scope name f)
   edit_top_scope-alters name f same = edit_top-alters moves name (λ x. with_mark (edit_scope_mark f x.mark) x) (λ x. scope-nature f same x.mark)
 
   pub behind_finalize-keeps : (p : Image) (name : Who) (leaving : Leaving) (test : Bool) → Keeps G (Behind G) (behind_finalize p name leaving test)
   unfolding behind_finalize
-  behind_finalize-keeps p name (how.Exception e) true = search (pass_on-keeps)
+  behind_finalize-keeps p name (how.Exception e) true = search (pass_on-keeps, plain_steps, anybody)
   behind_finalize-keeps p name (how.Exception e) false = search (changes-keeps, edit_top_scope-alters, chains)
   behind_finalize-keeps p name how.End of_assignment = search (nothing-keeps, chains)
   behind_finalize-keeps p name how.Return of_assignment = search (nothing-keeps, chains)
@@ -84,7 +87,7 @@ module _ {G : GoodWorld} {F : Naming} (moves : FineMoves G F) where
   unfolding end_in_initialize
   end_in_initialize-from p name l leaving f w good top free =
       let out = popped moves name f w good top free in
-      changes_then-from moves (pop name) _ w (keeps-from (chains moves) (cond (registers leaving) (register p name l) (pass_on p name leaving)) (pop name w) out (search (cond-keeps, register-keeps, pass_on-keeps, chains)))
+      changes_then-from moves (pop name) _ w (keeps-from (chains moves) (cond (registers leaving) (register p name l) (pass_on p name leaving)) (pop name w) out (search (cond-keeps, register-keeps, pass_on-keeps, chains, plain_steps, anybody)))
 
   pub end_in_finalize-from : (p : Image) (name : Who) (leaving : Leaving) (f : Frame) (w : World) → G w → top_of w name ≡ Some f → is_protected f.mark ≡ false → From (Behind G) w (end_in_finalize p name leaving)
   unfolding end_in_finalize
@@ -114,11 +117,11 @@ module _ {G : GoodWorld} {F : Naming} (moves : FineMoves G F) where
   pub initialize_by-keeps : (p : Image) (name : Who) (s : StatementNo) (l : Located) (f : Option SubprogramNo) → Keeps G (Behind G) (initialize_by p name s l f)
   unfolding initialize_by
   initialize_by-keeps p name s l None = search (goes-keeps, then-keeps, register-keeps, chains)
-  initialize_by-keeps p name s l (Some f) = search (with_room-keeps, goes-keeps, then-keeps, changes-keeps, push-alters, open_operation-keeps, chains)
+  initialize_by-keeps p name s l (Some f) = search (with_room-keeps, goes-keeps, then-keeps, changes-keeps, push-alters, open_operation-keeps, chains, plain_steps)
 
   pub initialize-keeps : (p : Image) (name : Who) (s : StatementNo) (d : DeclNo) → Keeps G (Behind G) (initialize p name s d)
   unfolding initialize
-  initialize-keeps p name s d = search (sees-keeps, given-keeps, initialize_by-keeps, chains) depth 7
+  initialize-keeps p name s d = search (sees-keeps, given-keeps, initialize_by-keeps, chains, plain_steps) depth 8
 
   pub open_finalize-keeps : (p : Image) (name : Who) (n : ℕ) (l : Located) (f : SubprogramNo) → Keeps G (Behind G) (open_finalize p name n l f)
   unfolding open_finalize
@@ -143,13 +146,13 @@ module _ {G : GoodWorld} {F : Naming} (moves : FineMoves G F) where
 
   begin_assignment-keeps : (p : Image) (name : Who) (s : StatementNo) (target source : ℕ) → Keeps G (Behind G) (begin_assignment p name s target source)
   unfolding begin_assignment
-  begin_assignment-keeps p name s target source = search (with_room-keeps, goes-keeps, then-keeps, says-keeps, changes-keeps, push-alters, chains) depth 8
+  begin_assignment-keeps p name s target source = search (with_room-keeps, goes-keeps, then-keeps, says-keeps, changes-keeps, push-alters, chains, plain_steps) depth 9
 
   assign_registered-keeps : (p : Image) (name : Who) (s : StatementNo) (target source : Option Registered) → Keeps G (Behind G) (assign_registered p name s target source)
   unfolding assign_registered
   assign_registered-keeps p name s (Some target) (Some source) = begin_assignment-keeps p name s target.object source.object
-  assign_registered-keeps p name s (Some target) None = raises-keeps moves Own name exception.Program
-  assign_registered-keeps p name s None source = raises-keeps moves Own name exception.Program
+  assign_registered-keeps p name s (Some target) None = raises-keeps (plain_steps moves) Own name exception.Program
+  assign_registered-keeps p name s None source = raises-keeps (plain_steps moves) Own name exception.Program
 
   pub assign_located-keeps : (p : Image) (name : Who) (s : StatementNo) (target source : Located) → Keeps G (Behind G) (assign_located p name s target source)
   unfolding assign_located
@@ -159,7 +162,7 @@ module _ {G : GoodWorld} {F : Naming} (moves : FineMoves G F) where
 
   pub assign_controlled-keeps : (p : Image) (name : Who) (s : StatementNo) (target source : DeclNo) → Keeps G (Behind G) (assign_controlled p name s target source)
   unfolding assign_controlled
-  assign_controlled-keeps p name s target source = search (sees-keeps, given-keeps, assign_located-keeps, chains) depth 7
+  assign_controlled-keeps p name s target source = search (sees-keeps, given-keeps, assign_located-keeps, chains, plain_steps) depth 8
 
   pub finalize_target_by-keeps : (p : Image) (name : Who) (r : Registered) (f : Option SubprogramNo) → Keeps G (Behind G) (finalize_target_by p name r f)
   unfolding finalize_target_by
@@ -186,6 +189,6 @@ module _ {G : GoodWorld} {F : Naming} (moves : FineMoves G F) where
   unfolding end_in_assign
   end_in_assign-from p name m (Some (how.Exception e)) f w good top free =
       let out = popped moves name f w good top free in
-      changes_then-from moves (pop name) _ w (keeps-from (chains moves) _ (pop name w) out (raises-keeps moves Own name exception.Program))
+      changes_then-from moves (pop name) _ w (keeps-from (chains moves) _ (pop name w) out (raises-keeps (plain_steps moves) Own name exception.Program))
   end_in_assign-from p name m _ f w good top free =
       looks_at-from (chains moves) (λ v. step_with p name m.step (registered_object v m.target) (registered_object v m.source)) w (step_with-from p name m.step (registered_object w m.target) (registered_object w m.source) w good (popped moves name f w good top free))

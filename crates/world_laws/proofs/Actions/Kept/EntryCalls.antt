@@ -42,9 +42,8 @@ use Rattle.machine_laws.proofs.Kept.Entering.{LetsIn-same, edit_task-objects}
 use Rattle.machine_laws.proofs.FineMoves.{GoodWorld, Naming}
 use Rattle.world_laws.proofs.Actions.Kept.Combinators.{changes_then-from, says_then-from}
 use Rattle.world_laws.proofs.Actions.Kept.Dispatching.{block-keeps}
-use Rattle.world_laws.proofs.Actions.Kept.Frames.{goes-keeps, leaves-keeps, raises-keeps, given-from, given-keeps, raise_if-from, with_room-from, with_room-keeps, goes_then-from}
+use Rattle.world_laws.proofs.Actions.Kept.Frames.{goes-keeps, leaves-keeps, goes_then-from, plain_steps}
 use Rattle.world_laws.proofs.Actions.Kept.Appointments.{appoint-from}
-use Rattle.world_laws.proofs.Actions.Kept.Calls.{edit_call-alters, forget_call-alters, says_call-keeps, enqueue-keeps}
 use Rattle.world_laws.proofs.Actions.Kept.CallEnds.{gone-keeps}
 use Rattle.world_laws.proofs.Actions.Kept.Protected.{begin_action_on-from, serve_call-keeps, where_let_inside-from, beside}
 use Rattle.world_laws.proofs.Actions.Kept.Sending.{open_abortable-alters, not_accepted-keeps}
@@ -59,6 +58,8 @@ use Rattle.profile_machine.specs.declared.world.tasks.Waiting.TheVariants as wai
 use Rattle.line_laws.proofs.Leaving.Modes.{Nobody}
 use Rattle.machine_laws.proofs.Kept.Combinators.{Alters, From, Keeps, changes-keeps, either-from, keeps-from, looks-from, looks-keeps, looks_at-from, nothing-keeps, sees-keeps, then-from, then-keeps, unchanged-alters}
 use Rattle.world_laws.proofs.Behind.{Behind}
+use Rattle.machine_laws.proofs.Plain.Frames.{raises-keeps, given-from, given-keeps, raise_if-from, with_room-from, with_room-keeps}
+use Rattle.machine_laws.proofs.Plain.Calls.{edit_call-alters, forget_call-alters, says_call-keeps, enqueue-keeps}
 
 module _ {G : GoodWorld} {F : Naming} (moves : FineMoves G F) where
   add_call-alters : (c : Call) → Alters G (Behind G) (add_call c)
@@ -69,11 +70,11 @@ module _ {G : GoodWorld} {F : Naming} (moves : FineMoves G F) where
   make_call-keeps p c step kept =
       then-keeps (chains moves) (goes (who.Task c.caller) (next_of p c.statement)) _ (goes-keeps moves (who.Task c.caller) (next_of p c.statement))
       (looks-keeps (chains moves) _ (λ w. then-keeps (chains moves) (changes (add_call c)) _ (changes-keeps (chains moves) _ (add_call-alters c))
-      (then-keeps (chains moves) (says_call TheCall (numbered (suc w.drawn.calls) c)) _ (says_call-keeps moves TheCall (numbered (suc w.drawn.calls) c)) (kept (suc w.drawn.calls)))))
+      (then-keeps (chains moves) (says_call TheCall (numbered (suc w.drawn.calls) c)) _ (says_call-keeps (plain_steps moves) TheCall (numbered (suc w.drawn.calls) c)) (kept (suc w.drawn.calls)))))
 
   pub end_at_once-keeps : (part : Part) (c : Call) (e : Raised) → Keeps G (Behind G) (end_at_once part c e)
   unfolding end_at_once
-  end_at_once-keeps part c e = search (changes-keeps, forget_call-alters, then-keeps, raises-keeps, chains)
+  end_at_once-keeps part c e = search (changes-keeps, forget_call-alters, then-keeps, raises-keeps, chains, plain_steps)
 
   pub call_gone-keeps : (p : Image) (c : Call) → Keeps G (Behind G) (call_gone p c)
   unfolding call_gone
@@ -87,12 +88,12 @@ module _ {G : GoodWorld} {F : Naming} (moves : FineMoves G F) where
 
   pub call_queues-keeps : (p : Image) (c : Call) → F (who.Task c.caller) → Keeps G (Behind G) (call_queues p c)
   unfolding call_queues
-  call_queues-keeps p c free = then-keeps (chains moves) (enqueue p c.number) _ (enqueue-keeps moves p c.number) (not_accepted-keeps moves p Own c c.kind free)
+  call_queues-keeps p c free = then-keeps (chains moves) (enqueue p c.number) _ (enqueue-keeps (plain_steps moves) p c.number) (not_accepted-keeps moves p Own c c.kind free)
 
   pub call_not_met-keeps : (p : Image) (c : Call) (test : Bool) → F (who.Task c.caller) → Keeps G (Behind G) (call_not_met p c test)
   unfolding call_not_met
   call_not_met-keeps p c true free = make_call-keeps p c (λ d. end_at_once Own d exception.Program) (λ n. end_at_once-keeps Own (numbered n c) exception.Program)
-  call_not_met-keeps p c false free = with_room-keeps moves (who.Task c.caller) (marks_if_queued c.kind) 0 _ (make_call-keeps p c (call_queues p) (λ n. call_queues-keeps p (numbered n c) free))
+  call_not_met-keeps p c false free = with_room-keeps (plain_steps moves) (who.Task c.caller) (marks_if_queued c.kind) 0 _ (make_call-keeps p c (call_queues p) (λ n. call_queues-keeps p (numbered n c) free))
 
   pub call_accepted_by-keeps : (p : Image) (t : TaskNo) (c : Call) (next : Option StatementNo) → F (who.Task c.caller) → Keeps G (Behind G) (call_accepted_by p t c next)
   unfolding call_accepted_by
@@ -118,7 +119,7 @@ module _ {G : GoodWorld} {F : Naming} (moves : FineMoves G F) where
   unfolding call_passes
   call_passes-keeps p o c free =
       then-keeps (chains moves) (says Own (line.Enter (who.Task c.caller) o Write)) _ (says-keeps moves Own (line.Enter (who.Task c.caller) o Write))
-      (then-keeps (chains moves) (enqueue p c.number) _ (enqueue-keeps moves p c.number)
+      (then-keeps (chains moves) (enqueue p c.number) _ (enqueue-keeps (plain_steps moves) p c.number)
       (then-keeps (chains moves) (says Own (line.Exit (who.Task c.caller) o)) _ (says-keeps moves Own (line.Exit (who.Task c.caller) o)) (not_accepted-keeps moves p Own c c.kind free)))
 
   call_refused-keeps : (o : ObjectNo) (c : Call) → Keeps G (Behind G) (call_refused o c)
@@ -128,7 +129,7 @@ module _ {G : GoodWorld} {F : Naming} (moves : FineMoves G F) where
   call_closed-keeps : (p : Image) (o : ObjectNo) (c : Call) (test : Bool) → F (who.Task c.caller) → Keeps G (Behind G) (call_closed p o c test)
   unfolding call_closed
   call_closed-keeps p o c true free = make_call-keeps p c (call_refused o) (λ n. call_refused-keeps o (numbered n c))
-  call_closed-keeps p o c false free = with_room-keeps moves (who.Task c.caller) (marks_if_queued c.kind) 0 _ (make_call-keeps p c (call_passes p o) (λ n. call_passes-keeps p o (numbered n c) free))
+  call_closed-keeps p o c false free = with_room-keeps (plain_steps moves) (who.Task c.caller) (marks_if_queued c.kind) 0 _ (make_call-keeps p c (call_passes p o) (λ n. call_passes-keeps p o (numbered n c) free))
 
   appoint_trigger-from : (name : Who) (depth : ℕ) (m : ℤ) (w : World) → G w → From (Behind G) w (changes (appoint_trigger name depth m))
   appoint_trigger-from (who.Task t) depth m w good = appoint-from moves (due_for.Trigger t depth) m w good
@@ -147,17 +148,17 @@ module _ {G : GoodWorld} {F : Naming} (moves : FineMoves G F) where
   unfolding trigger_delay
   trigger_delay-from p name s trigger m false w good free = keeps-from (chains moves) _ w good (search (goes-keeps))
   trigger_delay-from p name s trigger m true w good free =
-      with_room-from moves name 1 0 _ w good
+      with_room-from (plain_steps moves) name 1 0 _ w good
       (goes_then-from moves name (next_of p s) _ w good (λ good_onward.
       opens_until p name s m _ good_onward free))
 
   pub mark_sending-alters : (c : Option CallNo) (o : Owner) (e : EntryNo) (with_abort : Bool) → Alters G (Behind G) (mark_sending c o e with_abort)
   mark_sending-alters None o e with_abort = search (unchanged-alters, chains)
-  mark_sending-alters (Some c) o e with_abort = search (edit_call-alters)
+  mark_sending-alters (Some c) o e with_abort = search (edit_call-alters, plain_steps)
 
   pub requeue-keeps : (p : Image) (name : Who) (e : EntryNo) (o : EntryOwner) (with_abort : Bool) → Keeps G (Behind G) (requeue p name e o with_abort)
   unfolding requeue
-  requeue-keeps p name e o with_abort = search (sees-keeps, given-keeps, changes-keeps, mark_sending-alters, then-keeps, leaves-keeps, chains) depth 9
+  requeue-keeps p name e o with_abort = search (sees-keeps, given-keeps, changes-keeps, mark_sending-alters, then-keeps, leaves-keeps, chains, plain_steps) depth 10
 
 -- ---- a call of a protected entry, whose caller is let in
 
@@ -217,7 +218,7 @@ call_by_barrier-from : (p : Image) (o : ObjectNo) (c : Call) (test : Bool) (w : 
 unfolding call_by_barrier
 call_by_barrier-from p o c true w h =
     let good : Good Nobody w = (h.good.0, λ n is. absurd is) in
-    with_room-from beside (who.Task c.caller) 1 0 (make_call p c (call_runs_if_room p o)) w good (make_call-from p o c w h)
+    with_room-from (plain_steps beside) (who.Task c.caller) 1 0 (make_call p c (call_runs_if_room p o)) w good (make_call-from p o c w h)
 call_by_barrier-from p o c false w h = plain-from c _ w h.good (looks-keeps (chains (outside c)) _ (λ v. call_closed-keeps (outside c) p o c (is_full p v c.owner c.entry) refl))
 
 call_object-from : (p : Image) (o : ObjectNo) (c : Call) (w : World) → Good (Only (who.Task c.caller)) w → Awake (who.Task c.caller) w → From (Behind (Good Nobody)) w (call_object p o c)
@@ -238,9 +239,9 @@ call_named-from p t kind s n w good awake =
     let q = seen_by p w (who.Task t) in
     let less : Good Nobody w = (good.0, λ n is. absurd is) in
     looks_at-from (chains beside) (λ v. named_by (seen_by p v (who.Task t))) w
-    (given-from beside Own (who.Task t) (owner_of_entry q n.entry n.owner) _ w less (λ o.
-    given-from beside Own (who.Task t) (entry_parameters q (entry_of p n.entry).formals n.actuals) _ w less (λ parameters.
-    given-from beside Own (who.Task t) (timed_moment q (form_of p s)) _ w less (λ m.
+    (given-from (plain_steps beside) Own (who.Task t) (owner_of_entry q n.entry n.owner) _ w less (λ o.
+    given-from (plain_steps beside) Own (who.Task t) (entry_parameters q (entry_of p n.entry).formals n.actuals) _ w less (λ parameters.
+    given-from (plain_steps beside) Own (who.Task t) (timed_moment q (form_of p s)) _ w less (λ m.
     call_owner-from p (new_call t kind s n o (active_of p w (who.Task t)) parameters m) o w good awake))))
   where
     named_by : Seen → Step
@@ -260,17 +261,17 @@ pub entry_call-from : (p : Image) (name : Who) (kind : CallKind) (s : StatementN
 unfolding entry_call
 entry_call-from p (who.Task t) kind s w good awake =
     looks_at-from (chains beside) (λ v. raise_if (who.Task t) (is_forbidden v (who.Task t) kind) exception.Program (call_named p t kind s (named_call p s))) w
-    (raise_if-from beside (who.Task t) (is_forbidden w (who.Task t) kind) exception.Program _ w good (λ e.
+    (raise_if-from (plain_steps beside) (who.Task t) (is_forbidden w (who.Task t) kind) exception.Program _ w good (λ e.
     call_named-from p t kind s (named_call p s) w (good.0, λ n is. subst (λ m. Free m w) (sym is) (allowed-free (who.Task t) kind w e)) awake))
-entry_call-from p who.Agent kind s w good awake = keeps-from (chains beside) (raises Own who.Agent exception.Program) w good (raises-keeps beside Own who.Agent exception.Program)
+entry_call-from p who.Agent kind s w good awake = keeps-from (chains beside) (raises Own who.Agent exception.Program) w good (raises-keeps (plain_steps beside) Own who.Agent exception.Program)
 
 async_delay-keeps : (p : Image) (name : Who) (s trigger : StatementNo) → Keeps (Good Nobody) (Behind (Good Nobody)) (async_delay p name s trigger)
 unfolding async_delay
 async_delay-keeps p name s trigger =
     let alone = good_moves (Only name) in
     looks-from (chains beside) (λ v. raise_if name (is_forbidden v name call_kind.Triggering) exception.Program (given Own name (delay_moment (seen_by p v name) trigger) (λ m. trigger_delay p name s trigger m (int_lt (pos v.time) m))))
-    (λ w good. raise_if-from beside name (is_forbidden w name call_kind.Triggering) exception.Program _ w good (λ e.
-    given-from beside Own name (delay_moment (seen_by p w name) trigger) _ w good (λ m.
+    (λ w good. raise_if-from (plain_steps beside) name (is_forbidden w name call_kind.Triggering) exception.Program _ w good (λ e.
+    given-from (plain_steps beside) Own name (delay_moment (seen_by p w name) trigger) _ w good (λ m.
     less-from (Only name) _ w (trigger_delay-from alone p name s trigger m (int_lt (pos w.time) m) w (good.0, λ n is. subst (λ k. Free k w) (sym is) (allowed-free name call_kind.Triggering w e)) refl))))
 
 async_by_trigger-from : (p : Image) (name : Who) (s trigger : StatementNo) (form : StatementForm) (w : World) → Good Nobody w → Awake name w → From (Behind (Good Nobody)) w (async_by_trigger p name s trigger form)

@@ -23,9 +23,8 @@ use Rattle.world_laws.proofs.Actions.FineMoves.{FineMoves, chains, move_chains, 
 use Rattle.world_laws.proofs.Actions.Sound.{Good}
 use Rattle.world_laws.proofs.Actions.Kept.Combinators.{changes_then-from}
 use Rattle.world_laws.proofs.Actions.Kept.Dispatching.{to_tail-keeps, ready-keeps}
-use Rattle.world_laws.proofs.Actions.Kept.Frames.{goes-keeps, open_sequence-keeps, open_if_ready-keeps}
+use Rattle.world_laws.proofs.Actions.Kept.Frames.{goes-keeps, open_sequence-keeps, open_if_ready-keeps, plain_steps}
 use Rattle.world_laws.proofs.Actions.Kept.Appointments.{drop_appointment-alters}
-use Rattle.world_laws.proofs.Actions.Kept.Calls.{with_call-keeps, unqueued-alters}
 use Rattle.world_laws.proofs.Actions.Kept.Unwinding.{unwind-keeps}
 use Rattle.world_laws.proofs.Actions.Kept.CallEnds.{trigger_at-keeps, deliver-keeps}
 use Rattle.world_laws.proofs.Actions.Kept.Tasking.{take_terminates-keeps, unwind_all-keeps}
@@ -42,6 +41,7 @@ use Rattle.line_laws.proofs.Leaving.Modes.{Nobody}
 use Rattle.machine_laws.proofs.Kept.Combinators.{Alters, From, Keeps, Leads, changes-from, changes-keeps, for_each-keeps, for_some-keeps, keeps-from, looks-from, looks-keeps, nothing-keeps, then-from, then-keeps, then-leads, when-keeps, settles-from, settles-leads}
 use Rattle.world_laws.proofs.Behind.{Behind, BehindMove}
 use Rattle.machine_laws.proofs.Moves.{lines_of}
+use Rattle.machine_laws.proofs.Plain.Calls.{with_call-keeps, unqueued-alters}
 
 pub settles-good : (G : GoodWorld) → ((lines : List Event) (v : World) → G v → G (placed_by lines v)) → (p : Image) (step : Step) (w : World) → From (Behind G) w step → G (settles p step w).0
 settles-good G placed p step w a = settles-from (BehindMove G) p (λ u v xs good. placed (lines_of p xs) v good) step w a
@@ -109,7 +109,7 @@ module _ {G : GoodWorld} {F : Naming} (moves : FineMoves G F) (placed : (lines :
 
   pub time_out-keeps : (p : Image) (c : CallNo) → Keeps G (Behind G) (time_out p c)
   unfolding time_out
-  time_out-keeps p c = search (with_call-keeps, changes-keeps, unqueued-alters, then-keeps, says-keeps, deliver-keeps, chains) depth 7
+  time_out-keeps p c = search (with_call-keeps, changes-keeps, unqueued-alters, then-keeps, says-keeps, deliver-keeps, chains, plain_steps) depth 8
 
   pub come_due-keeps : (p : Image) (due : Due) → Keeps G (Behind G) (come_due p due)
   unfolding come_due

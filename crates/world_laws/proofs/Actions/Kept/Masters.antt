@@ -19,13 +19,14 @@ use Rattle.profile_machine.specs.Masters.{gone_by_completion, wake_activator, en
 use Rattle.world_laws.proofs.Actions.FineMoves.{FineMoves, chains}
 use Rattle.world_laws.proofs.Actions.Kept.Tasks.{edit_task-alters}
 use Rattle.world_laws.proofs.Actions.Kept.Dispatching.{runnable-keeps, ready-keeps}
-use Rattle.world_laws.proofs.Actions.Kept.Frames.{leaves-keeps, raises-keeps, open_sequence-keeps}
+use Rattle.world_laws.proofs.Actions.Kept.Frames.{leaves-keeps, open_sequence-keeps, plain_steps}
 use Rattle.world_laws.proofs.Actions.Kept.Inheritance.{lose-alters}
 use Rattle.world_laws.proofs.Actions.Kept.Appointments.{drop_delay-alters}
 use Rattle.world_laws.proofs.Actions.Kept.CallEnds.{end_call-keeps, gone-keeps}
 use Rattle.machine_laws.proofs.FineMoves.{GoodWorld, Naming}
 use Rattle.machine_laws.proofs.Kept.Combinators.{Alters, Keeps, changes-keeps, cond-keeps, for_each-keeps, for_some-keeps, looks-keeps, nothing-keeps, then-keeps, when-keeps}
 use Rattle.world_laws.proofs.Behind.{Behind}
+use Rattle.machine_laws.proofs.Plain.Frames.{raises-keeps}
 
 module _ {G : GoodWorld} {F : Naming} (moves : FineMoves G F) where
   pub gone_by_completion-keeps : (p : Image) (actor : Who) (c : Call) → Keeps G (Behind G) (gone_by_completion p actor c)
@@ -34,7 +35,7 @@ module _ {G : GoodWorld} {F : Naming} (moves : FineMoves G F) where
 
   pub wake_activator-keeps : (p : Image) (part : Part) (name : Who) → Keeps G (Behind G) (wake_activator p part name)
   unfolding wake_activator
-  wake_activator-keeps p part name = search (looks-keeps, ready-keeps, then-keeps, when-keeps, raises-keeps, open_sequence-keeps, chains) depth 8
+  wake_activator-keeps p part name = search (looks-keeps, ready-keeps, then-keeps, when-keeps, raises-keeps, open_sequence-keeps, chains, plain_steps) depth 9
 
   pub end_group-keeps : (p : Image) (actor activator : Who) → Keeps G (Behind G) (end_group p actor activator)
   unfolding end_group

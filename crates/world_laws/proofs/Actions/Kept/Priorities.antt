@@ -29,29 +29,30 @@ use Rattle.world_laws.proofs.Actions.GoodMoves.{good_moves, free-by_test}
 use Rattle.world_laws.proofs.Actions.Kept.Switching.{Only, only-from}
 use Rattle.world_laws.proofs.Actions.Kept.Tasks.{edit_task-alters}
 use Rattle.world_laws.proofs.Actions.Kept.Dispatching.{to_tail-keeps}
-use Rattle.world_laws.proofs.Actions.Kept.Frames.{goes-keeps, given-keeps, raise_if-keeps, raise_if-from}
-use Rattle.world_laws.proofs.Actions.Kept.Calls.{edit_call-alters, with_call-keeps, edit_queue-alters}
+use Rattle.world_laws.proofs.Actions.Kept.Frames.{goes-keeps, plain_steps}
 use Rattle.world_laws.proofs.Actions.Kept.Statements.{delay_to-keeps}
 use Rattle.std.proofs.Common.{refl}
 use Rattle.machine_laws.proofs.FineMoves.{GoodWorld, Naming}
 use Rattle.line_laws.proofs.Leaving.Modes.{Nobody}
 use Rattle.machine_laws.proofs.Kept.Combinators.{Alters, Keeps, branch-keeps, changes-keeps, for_some-keeps, looks-from, looks-keeps, nothing-keeps, sees-keeps, then-keeps, when-keeps}
 use Rattle.world_laws.proofs.Behind.{Behind}
+use Rattle.machine_laws.proofs.Plain.Frames.{given-keeps, raise_if-keeps, raise_if-from}
+use Rattle.machine_laws.proofs.Plain.Calls.{edit_call-alters, with_call-keeps, edit_queue-alters}
 
 module _ {G : GoodWorld} {F : Naming} (moves : FineMoves G F) where
   pub placed_anew-alters : (queuing : Queuing) (p : Image) (c : Call) (level : ℕ) → Alters G (Behind G) (placed_anew queuing p c level)
   unfolding Alters
   placed_anew-alters queuing.Fifo p c level w good = good
   placed_anew-alters queuing.Priority p c level w good =
-      edit_queue-alters moves c.owner (place_of_entry p c.entry) (λ q. put_call queuing.Priority w c.number level (take_call c.number q)) w good
+      edit_queue-alters (plain_steps moves) c.owner (place_of_entry p c.entry) (λ q. put_call queuing.Priority w c.number level (take_call c.number q)) w good
 
   pub reprioritize-keeps : (p : Image) (level : ℕ) (c : Call) → Keeps G (Behind G) (reprioritize p level c)
   unfolding reprioritize
-  reprioritize-keeps p level c = search (when-keeps, changes-keeps, edit_call-alters, then-keeps, placed_anew-alters, chains) depth 7
+  reprioritize-keeps p level c = search (when-keeps, changes-keeps, edit_call-alters, then-keeps, placed_anew-alters, chains, plain_steps) depth 8
 
   pub reprioritize_own-keeps : (p : Image) (name : Who) (waiting : Waiting) → Keeps G (Behind G) (reprioritize_own p name waiting)
   unfolding reprioritize_own
-  reprioritize_own-keeps p name waiting = search (looks-keeps, for_some-keeps, with_call-keeps, reprioritize-keeps, chains)
+  reprioritize_own-keeps p name waiting = search (looks-keeps, for_some-keeps, with_call-keeps, reprioritize-keeps, chains, plain_steps)
 
   pub replace_in-keeps : (p : Image) (part : Part) (name : Who) (state : State) → Keeps G (Behind G) (replace_in p part name state)
   unfolding replace_in
@@ -103,12 +104,12 @@ module _ {G : GoodWorld} {F : Naming} (moves : FineMoves G F) where
   unfolding set_base_of
   set_base_of-keeps p actor s level None = search (goes-keeps)
   set_base_of-keeps p actor s level (Some t) =
-      raise_if-keeps moves actor (is_edf_base p t.base || is_edf_base p level) exception.Program _
+      raise_if-keeps (plain_steps moves) actor (is_edf_base p t.base || is_edf_base p level) exception.Program _
       (then-keeps (chains moves) (goes actor (next_of p s)) _ (search (goes-keeps)) (set_or_defer_base-keeps p actor t.who level))
 
   pub set_priority-keeps : (p : Image) (name : Who) (s : StatementNo) (e : ExprNo) (task : Option ExprNo) → Keeps G (Behind G) (set_priority p name s e task)
   unfolding set_priority
-  set_priority-keeps p name s e task = search (sees-keeps, given-keeps, set_base_of-keeps, chains) depth 8
+  set_priority-keeps p name s e task = search (sees-keeps, given-keeps, set_base_of-keeps, chains, plain_steps) depth 9
 
   set_level-keeps : (level ticks : ℕ) → Keeps G (Behind G) (changes (λ w. record w { quanta = edit_at level (λ _. ticks) w.quanta }))
   unfolding Alters
@@ -117,8 +118,8 @@ module _ {G : GoodWorld} {F : Naming} (moves : FineMoves G F) where
   pub set_quantum-keeps : (p : Image) (name : Who) (s : StatementNo) (level quantum : ExprNo) → Keeps G (Behind G) (set_quantum p name s level quantum)
   unfolding set_quantum
   set_quantum-keeps p name s level quantum =
-      sees-keeps (chains moves) p name _ (λ q. given-keeps moves Own name (value q level) _ (λ v. given-keeps moves Own name (moment q quantum) _ (λ n.
-      given-keeps moves Own name (priority_in_range p.policies.last_priority (whole_in v)) _ (λ l. given-keeps moves Own name (quantum_of p l n) _ (λ ticks.
+      sees-keeps (chains moves) p name _ (λ q. given-keeps (plain_steps moves) Own name (value q level) _ (λ v. given-keeps (plain_steps moves) Own name (moment q quantum) _ (λ n.
+      given-keeps (plain_steps moves) Own name (priority_in_range p.policies.last_priority (whole_in v)) _ (λ l. given-keeps (plain_steps moves) Own name (quantum_of p l n) _ (λ ticks.
       then-keeps (chains moves) (goes name (next_of p s)) _ (goes-keeps moves name (next_of p s)) (set_level-keeps l ticks))))))
 
   pub defer_deadline-keeps : (name : Who) (d : ℤ) → Keeps G (Behind G) (defer_deadline name d)
@@ -131,7 +132,7 @@ module _ {G : GoodWorld} {F : Naming} (moves : FineMoves G F) where
 
   pub set_deadline_of-keeps : (p : Image) (name : Who) (s : StatementNo) (e : ExprNo) (task : Option ExprNo) → Keeps G (Behind G) (set_deadline_of p name s e task)
   unfolding set_deadline_of
-  set_deadline_of-keeps p name s e task = search (sees-keeps, given-keeps, goes-keeps, then-keeps, set_or_defer_deadline-keeps, chains) depth 9
+  set_deadline_of-keeps p name s e task = search (sees-keeps, given-keeps, goes-keeps, then-keeps, set_or_defer_deadline-keeps, chains, plain_steps) depth 10
 
   pub delay_with_deadline-keeps : (p : Image) (name : Who) (s : StatementNo) (until offset : ℤ) → F name → Keeps G (Behind G) (delay_with_deadline p name s until offset)
   unfolding delay_with_deadline
@@ -143,6 +144,6 @@ unfolding delay_and_set_deadline
 delay_and_set_deadline-keeps p name s until offset =
     let outside = good_moves (Only name) in
     looks-from (chains (good_moves Nobody)) _ (λ w good. let q = seen_by p w name in
-    raise_if-from (good_moves Nobody) name (in_protected w name) exception.Program _ w good (λ e.
+    raise_if-from (plain_steps (good_moves Nobody)) name (in_protected w name) exception.Program _ w good (λ e.
     only-from name _ w (free-by_test name w e) good
-    (given-keeps outside Own name (moment q until) _ (λ m. given-keeps outside Own name (moment q offset) _ (λ o. delay_with_deadline-keeps outside p name s m o refl)))))
+    (given-keeps (plain_steps outside) Own name (moment q until) _ (λ m. given-keeps (plain_steps outside) Own name (moment q offset) _ (λ o. delay_with_deadline-keeps outside p name s m o refl)))))

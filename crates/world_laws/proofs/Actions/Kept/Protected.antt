@@ -44,10 +44,9 @@ use Rattle.world_laws.proofs.Actions.Natures.{nature}
 use Rattle.machine_laws.proofs.Kept.Entering.{entering-inside, LetsIn-same, edit_task-objects}
 use Rattle.machine_laws.proofs.FineMoves.{GoodWorld, Naming, ready_line}
 use Rattle.world_laws.proofs.Actions.Kept.Dispatching.{to_tail-keeps}
-use Rattle.world_laws.proofs.Actions.Kept.Frames.{edit_top-alters, goes_then-from, raises-keeps, with_room-keeps, raise_if-from, given-from, with_room-from}
+use Rattle.world_laws.proofs.Actions.Kept.Frames.{edit_top-alters, goes_then-from, plain_steps}
 use Rattle.world_laws.proofs.Actions.Kept.Scopes.{opens-alters}
-use Rattle.world_laws.proofs.Actions.Kept.Calls.{edit_call-alters, unqueued-alters}
-use Rattle.world_laws.proofs.Actions.Kept.Subprograms.{begin_body-keeps, handing-keeps}
+use Rattle.world_laws.proofs.Actions.Kept.Subprograms.{begin_body-keeps}
 use Rattle.profile_machine.specs.declared.world.marks.Mark.{Mark}
 use Rattle.profile_machine.specs.declared.world.marks.Mark.TheVariants.{Scope, Handled, InProtected, InAccept, Abortable, InInitialize, InFinalize, InAssign}
 use Rattle.profile_machine.specs.Subprograms.{result_to, handed, handing}
@@ -55,6 +54,9 @@ use Rattle.line_laws.proofs.Leaving.Modes.{Nobody}
 use Rattle.machine_laws.proofs.Kept.Combinators.{Alters, From, Keeps, branch-keeps, changes-keeps, keeps-from, looks-keeps, looks_at-from, sees-keeps, then-from, then-keeps, Kept}
 use Rattle.world_laws.proofs.Behind.{Behind}
 use Rattle.trace_text.specs.declared.events.QueueEnd.TheVariants.{Head}
+use Rattle.machine_laws.proofs.Plain.Frames.{raises-keeps, with_room-keeps, raise_if-from, given-from, with_room-from}
+use Rattle.machine_laws.proofs.Plain.Calls.{edit_call-alters, unqueued-alters}
+use Rattle.machine_laws.proofs.Plain.Subprograms.{handing-keeps}
 
 -- a protected action's object is not edited, nor the release and the call of one's own that end with it
 pub protected-nature : (f : ProtectedMark → ProtectedMark) → ((m : ProtectedMark) → nature (InProtected (f m)) ≡ nature (InProtected m)) → (mark : Mark) → nature (edit_protected f mark) ≡ nature mark
@@ -73,8 +75,8 @@ module _ {G : GoodWorld} {F : Naming} (moves : FineMoves G F) where
   find_held-keeps p name o mode = search (says-keeps, then-keeps, to_tail-keeps, chains)
 
   enter_or-from : (p : Image) (name : Who) (o : ObjectNo) (mode : Mode) (step : Step) (w : World) (is : Entering) → G w → entering p w name o mode ≡ is → (LetsIn name o mode w → From (Behind G) w step) → From (Behind G) w (enter_or p name o mode step is)
-  enter_or-from p name o mode step w entering_is.SameObject good e kept = keeps-from (chains moves) (raises Own name exception.Program) w good (raises-keeps moves Own name exception.Program)
-  enter_or-from p name o mode step w entering_is.AboveCeiling good e kept = keeps-from (chains moves) (raises Own name exception.Program) w good (raises-keeps moves Own name exception.Program)
+  enter_or-from p name o mode step w entering_is.SameObject good e kept = keeps-from (chains moves) (raises Own name exception.Program) w good (raises-keeps (plain_steps moves) Own name exception.Program)
+  enter_or-from p name o mode step w entering_is.AboveCeiling good e kept = keeps-from (chains moves) (raises Own name exception.Program) w good (raises-keeps (plain_steps moves) Own name exception.Program)
   enter_or-from p name o mode step w entering_is.Held good e kept = keeps-from (chains moves) (find_held p name o mode) w good (find_held-keeps p name o mode)
   enter_or-from p name o mode step w entering_is.Inside good e kept = kept (entering-inside p w name o mode e)
 
@@ -88,16 +90,16 @@ module _ {G : GoodWorld} {F : Naming} (moves : FineMoves G F) where
 
   pub begin_call-keeps : (p : Image) (part : Part) (name : Who) (c : Call) → Keeps G (Behind G) (begin_call p part name c)
   unfolding begin_call
-  begin_call-keeps p part name c = search (changes-keeps, unqueued-alters, then-keeps, edit_call-alters, says-keeps, chains) depth 8
+  begin_call-keeps p part name c = search (changes-keeps, unqueued-alters, then-keeps, edit_call-alters, says-keeps, chains, plain_steps) depth 9
 
   pub begin_own_operation-keeps : (p : Image) (name : Who) (s : StatementNo) (f : SubprogramNo) (o : Option ObjectNo) (h : Handed) (to : ResultTo) → Keeps G (Behind G) (begin_own_operation p name s f o h to)
   unfolding begin_own_operation
-  begin_own_operation-keeps p name s f None h to = search (raises-keeps)
+  begin_own_operation-keeps p name s f None h to = search (raises-keeps, plain_steps)
   begin_own_operation-keeps p name s f (Some o) h to = search (looks-keeps, begin_body-keeps, chains)
 
   pub call_own_operation-keeps : (p : Image) (name : Who) (s : StatementNo) (f : SubprogramNo) (actuals : List Actual) (to : Destination) → Keeps G (Behind G) (call_own_operation p name s f actuals to)
   unfolding call_own_operation
-  call_own_operation-keeps p name s f actuals to = search (with_room-keeps, handing-keeps, sees-keeps, begin_own_operation-keeps, chains)
+  call_own_operation-keeps p name s f actuals to = search (with_room-keeps, handing-keeps, sees-keeps, begin_own_operation-keeps, chains, plain_steps)
 
   pub body_opens-keeps : (p : Image) (name : Who) (o : ObjectNo) (c : Call) → Keeps G (Behind G) (body_opens p name o c)
   unfolding body_opens
@@ -144,13 +146,13 @@ begin_operation-from p name s f o h to w good awake lets =
 call_operation_of-from : (p : Image) (name : Who) (s : StatementNo) (f : SubprogramNo) (actuals : List Actual) (to : Destination) (o : ObjectNo) (w : World) → Good Nobody w → Awake name w → From (Behind (Good Nobody)) w (call_operation_of p name s f actuals to o)
 unfolding call_operation_of
 call_operation_of-from p name s f actuals to o w good awake =
-    looks_at-from (chains beside) (λ v. raise_if name (has_object_open v name o) exception.Program (with_room name (1 + marks_of p (subprogram_of p f).scope) (scope_of p (subprogram_of p f).scope).size (handing p name f actuals to (λ h r. where_let_inside p name o (mode_of (subprogram_of p f)) (begin_operation p name s f o h r))))) w (raise_if-from beside name (has_object_open w name o) exception.Program _ w good (λ e.
-    with_room-from beside name _ _ _ w good
-    (looks_at-from (chains beside) (λ v. given Own name (result_to (seen_by p v name) to) (λ r. given Own name (handed (seen_by p v name) 0 (subprogram_of p f).formals actuals) (λ h. where_let_inside p name o (mode_of (subprogram_of p f)) (begin_operation p name s f o h r)))) w (given-from beside Own name (result_to (seen_by p w name) to) _ w good (λ r.
-    given-from beside Own name (handed (seen_by p w name) 0 (subprogram_of p f).formals actuals) _ w good (λ h.
+    looks_at-from (chains beside) (λ v. raise_if name (has_object_open v name o) exception.Program (with_room name (1 + marks_of p (subprogram_of p f).scope) (scope_of p (subprogram_of p f).scope).size (handing p name f actuals to (λ h r. where_let_inside p name o (mode_of (subprogram_of p f)) (begin_operation p name s f o h r))))) w (raise_if-from (plain_steps beside) name (has_object_open w name o) exception.Program _ w good (λ e.
+    with_room-from (plain_steps beside) name _ _ _ w good
+    (looks_at-from (chains beside) (λ v. given Own name (result_to (seen_by p v name) to) (λ r. given Own name (handed (seen_by p v name) 0 (subprogram_of p f).formals actuals) (λ h. where_let_inside p name o (mode_of (subprogram_of p f)) (begin_operation p name s f o h r)))) w (given-from (plain_steps beside) Own name (result_to (seen_by p w name) to) _ w good (λ r.
+    given-from (plain_steps beside) Own name (handed (seen_by p w name) 0 (subprogram_of p f).formals actuals) _ w good (λ h.
     where_let_inside-from beside p name o (mode_of (subprogram_of p f)) _ w good (λ lets. begin_operation-from p name s f o h r w good awake lets)))))))
 
 pub call_operation-from : (p : Image) (name : Who) (s : StatementNo) (d : DeclNo) (f : SubprogramNo) (actuals : List Actual) (to : Destination) (w : World) → Good Nobody w → Awake name w → From (Behind (Good Nobody)) w (call_operation p name s d f actuals to)
 unfolding call_operation
 call_operation-from p name s d f actuals to w good awake =
-    looks_at-from (chains beside) (λ v. given Own name (object_number (seen_by p v name) d) (call_operation_of p name s f actuals to)) w (given-from beside Own name (object_number (seen_by p w name) d) _ w good (λ o. call_operation_of-from p name s f actuals to o w good awake))
+    looks_at-from (chains beside) (λ v. given Own name (object_number (seen_by p v name) d) (call_operation_of p name s f actuals to)) w (given-from (plain_steps beside) Own name (object_number (seen_by p w name) d) _ w good (λ o. call_operation_of-from p name s f actuals to o w good awake))

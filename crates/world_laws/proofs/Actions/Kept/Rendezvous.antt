@@ -37,11 +37,10 @@ use Rattle.world_laws.proofs.Actions.FineMoves.{FineMoves, chains, says-keeps}
 use Rattle.world_laws.proofs.Actions.Sound.{Good}
 use Rattle.world_laws.proofs.Actions.Kept.Combinators.{changes_then-from}
 use Rattle.world_laws.proofs.Actions.Kept.Dispatching.{ready-keeps, block-keeps, blocked-keeps}
-use Rattle.world_laws.proofs.Actions.Kept.Frames.{goes-keeps, raises-keeps, open_sequence-keeps, pass_on-keeps, raise_if-keeps, goes_then-from, popped, given-from, raise_if-from}
+use Rattle.world_laws.proofs.Actions.Kept.Frames.{goes-keeps, open_sequence-keeps, goes_then-from, popped, plain_steps}
 use Rattle.world_laws.proofs.Actions.Kept.Scopes.{end_scope-alters}
 use Rattle.world_laws.proofs.Actions.Kept.Inheritance.{inherit-alters, inherit_running-keeps, lose_running-keeps}
 use Rattle.world_laws.proofs.Actions.Kept.Appointments.{appoint-from, drop_delay-alters}
-use Rattle.world_laws.proofs.Actions.Kept.Calls.{edit_call-alters, with_call-keeps, enqueue-keeps}
 use Rattle.world_laws.proofs.Actions.Kept.CallEnds.{deliver-keeps, gone-keeps}
 use Rattle.world_laws.proofs.Actions.Kept.Protected.{begin_call-keeps, beside}
 use Rattle.world_laws.proofs.Actions.Kept.Sending.{send_on-keeps, begin_abortable-keeps, sent_not_begun-keeps}
@@ -63,6 +62,9 @@ use Rattle.machine_laws.proofs.Plain.Results.{finished_call-caller, finished_cal
 use Rattle.line_laws.proofs.Leaving.Modes.{Nobody}
 use Rattle.machine_laws.proofs.Kept.Combinators.{Alters, From, Keeps, branch-keeps, changes-keeps, for_some-keeps, keeps-from, looks-from, looks-keeps, looks_at-from, nothing-keeps, then-from, then-keeps, unchanged-alters}
 use Rattle.world_laws.proofs.Behind.{Behind}
+use Rattle.machine_laws.proofs.Plain.Frames.{raises-keeps, pass_on-keeps, raise_if-keeps, given-from, raise_if-from}
+use Rattle.machine_laws.proofs.Plain.Calls.{edit_call-alters, with_call-keeps, enqueue-keeps}
+use Rattle.machine_laws.proofs.Plain.PlainSteps.{anybody}
 
 module _ {G : GoodWorld} {F : Naming} (moves : FineMoves G F) where
   open_accept-alters : (p : Image) (name : Who) (s : StatementNo) (c : Call) → Alters G (Behind G) (open_accept p name s c)
@@ -85,17 +87,17 @@ module _ {G : GoodWorld} {F : Naming} (moves : FineMoves G F) where
   accept_with_room-keeps : (p : Image) (name : Who) (s : StatementNo) (c : Call) (has_room : Bool) → Keeps G (Behind G) (accept_with_room p name s c has_room)
   unfolding accept_with_room
   accept_with_room-keeps p name s c true = search (changes-keeps, open_accept-alters, then-keeps, inherit_running-keeps, chains)
-  accept_with_room-keeps p name s c false = search (finish_without_room-keeps, then-keeps, deliver-keeps, raises-keeps, chains)
+  accept_with_room-keeps p name s c false = search (finish_without_room-keeps, then-keeps, deliver-keeps, raises-keeps, chains, plain_steps)
 
   pub accept_call-keeps : (p : Image) (name : Who) (s : StatementNo) (c : CallNo) → Keeps G (Behind G) (accept_call p name s c)
   unfolding accept_call
-  accept_call-keeps p name s c = search (with_call-keeps, begin_accept-keeps, then-keeps, looks-keeps, accept_with_room-keeps, chains) depth 7
+  accept_call-keeps p name s c = search (with_call-keeps, begin_accept-keeps, then-keeps, looks-keeps, accept_with_room-keeps, chains, plain_steps) depth 8
 
   pub meet_with_room-keeps : (p : Image) (part : Part) (name : Who) (s : StatementNo) (c : Call) (then_ : Step) → Keeps G (Behind G) then_ → Keeps G (Behind G) (meet_with_room p part name s c then_)
   meet_with_room-keeps p part name s c then_ kept = search (begin_accept-keeps, changes-keeps, open_accept-alters, inherit-alters, then-keeps, ready-keeps, open_sequence-keeps, chains) depth 10
 
   pub meet_without_room-keeps : (p : Image) (part : Part) (name : Who) (s : StatementNo) (c : Call) (otherwise : Step) → Keeps G (Behind G) otherwise → Keeps G (Behind G) (meet_without_room p part name s c otherwise)
-  meet_without_room-keeps p part name s c otherwise kept = search (begin_accept-keeps, then-keeps, finish_without_room-keeps, ready-keeps, raises-keeps, chains) depth 9
+  meet_without_room-keeps p part name s c otherwise kept = search (begin_accept-keeps, then-keeps, finish_without_room-keeps, ready-keeps, raises-keeps, chains, plain_steps) depth 10
 
   pub meet-keeps : (p : Image) (part : Part) (name : Who) (s : StatementNo) (c : Call) (then_ otherwise : Step) → Keeps G (Behind G) then_ → Keeps G (Behind G) otherwise → Keeps G (Behind G) (meet p part name s c then_ otherwise)
   meet-keeps p part name s c then_ otherwise kept also_kept = then-keeps (chains moves) (changes (drop_delay name)) _ (search (changes-keeps, drop_delay-alters, chains)) (looks-keeps (chains moves) _ (λ w. branch-keeps (chains moves) (has_room_for_accept p w name s) (meet_with_room p part name s c then_) (meet_without_room p part name s c otherwise) (search (meet_with_room-keeps)) (search (meet_without_room-keeps))))
@@ -107,7 +109,7 @@ module _ {G : GoodWorld} {F : Naming} (moves : FineMoves G F) where
 
   pub accept_chosen-keeps : (p : Image) (name : Who) (accepts : List StatementNo) (c : CallNo) → Keeps G (Behind G) (accept_chosen p name accepts c)
   unfolding accept_chosen
-  accept_chosen-keeps p name accepts c = search (with_call-keeps, for_some-keeps, accept_call-keeps, chains)
+  accept_chosen-keeps p name accepts c = search (with_call-keeps, for_some-keeps, accept_call-keeps, chains, plain_steps)
 
   pub wait_at_select-keeps : (name : Who) (accepts : List StatementNo) (delay : Option StatementNo) (test : Bool) → F name → Keeps G (Behind G) (wait_at_select name accepts delay test)
   unfolding wait_at_select
@@ -144,7 +146,7 @@ module _ {G : GoodWorld} {F : Naming} (moves : FineMoves G F) where
 
   pub select_open-keeps : (p : Image) (name : Who) (s : StatementNo) (otherwise : Option StatementNo) (kinds : List SelectKind) (moments : List DelayMoment) → F name → Keeps G (Behind G) (select_open p name s otherwise kinds moments)
   unfolding select_open
-  select_open-keeps p name s otherwise kinds moments free = search (raise_if-keeps, looks-keeps, select_by_call-keeps, chains)
+  select_open-keeps p name s otherwise kinds moments free = search (raise_if-keeps, looks-keeps, select_by_call-keeps, chains, plain_steps)
 
   pub gone_sent-keeps : (p : Image) (c : Call) → Keeps G (Behind G) (gone_sent p c)
   unfolding gone_sent
@@ -154,10 +156,10 @@ module _ {G : GoodWorld} {F : Naming} (moves : FineMoves G F) where
   unfolding behind_accept
   behind_accept-keeps p name how.End = search (nothing-keeps, chains)
   behind_accept-keeps p name how.Return = search (nothing-keeps, chains)
-  behind_accept-keeps p name (how.Exit loop) = search (pass_on-keeps)
-  behind_accept-keeps p name (how.Exception e) = search (pass_on-keeps)
-  behind_accept-keeps p name how.Abort = search (pass_on-keeps)
-  behind_accept-keeps p name how.Terminate = search (pass_on-keeps)
+  behind_accept-keeps p name (how.Exit loop) = search (pass_on-keeps, plain_steps, anybody)
+  behind_accept-keeps p name (how.Exception e) = search (pass_on-keeps, plain_steps, anybody)
+  behind_accept-keeps p name how.Abort = search (pass_on-keeps, plain_steps, anybody)
+  behind_accept-keeps p name how.Terminate = search (pass_on-keeps, plain_steps, anybody)
 
 -- ---- an accept ends; a call that is sent on may begin an abortable part
 
@@ -168,7 +170,7 @@ meet_sent-keeps : (p : Image) (t : TaskNo) (c : Call) (next : Option StatementNo
 unfolding meet_sent
 meet_sent-keeps p t c (Some s) =
     meet-keeps beside p TheFinish (who.Task t) s c (begin_abortable p c.number) (deliver p TheFinish c.number (call_ended.ToRaise exception.Storage)) (begin_abortable-keeps p c.number) (deliver-keeps beside p TheFinish c.number (call_ended.ToRaise exception.Storage))
-meet_sent-keeps p t c None = then-keeps (chains beside) (enqueue p c.number) _ (enqueue-keeps beside p c.number) (sent_not_begun-keeps p c.number)
+meet_sent-keeps p t c None = then-keeps (chains beside) (enqueue p c.number) _ (enqueue-keeps (plain_steps beside) p c.number) (sent_not_begun-keeps p c.number)
 
 arrive_at-keeps : (p : Image) (t : TaskNo) (c : Call) (test : Bool) → Keeps (Good Nobody) (Behind (Good Nobody)) (arrive_at p t c test)
 unfolding arrive_at
@@ -184,7 +186,7 @@ finish_accept-keeps : (p : Image) (name : Who) (c : Call) (sending : Option Send
 unfolding finish_accept
 finish_accept-keeps p name c None = says_then-keeps TheFinish (line.Finish name c.number meeting.Ok) _ (deliver-keeps beside p TheFinish c.number call_ended.Finished)
 finish_accept-keeps p name c (Some s) =
-    says_then-keeps TheFinish (line.Finish name c.number meeting.Requeue) _ (then-keeps (chains beside) (send_on c.number s) _ (send_on-keeps beside c.number s) (with_call-keeps beside c.number _ (λ d. arrive-keeps p d d.owner)))
+    says_then-keeps TheFinish (line.Finish name c.number meeting.Requeue) _ (then-keeps (chains beside) (send_on c.number s) _ (send_on-keeps beside c.number s) (with_call-keeps (plain_steps beside) c.number _ (λ d. arrive-keeps p d d.owner)))
 
 finish_rendezvous-keeps : (p : Image) (name : Who) (c : Call) (leaving : Leaving) → Keeps (Good Nobody) (Behind (Good Nobody)) (finish_rendezvous p name c leaving)
 unfolding finish_rendezvous
@@ -202,8 +204,8 @@ accept_ends-from p name m leaving f w good top free =
     looks_at-from (chains beside) (λ v. changes (pop name) ▷ changes (end_scope m.within) ▷ changes (edit_call m.call (finished_call p (cells_of (scope_in_use v m.within)) leaving)) ▷ with_call m.call (λ c. finish_rendezvous p name c leaving)) w (changes_then-from beside (pop name) _ w (keeps-from (chains beside) (changes (end_scope m.within) ▷ changes (edit_call m.call (finished_call p (cells_of (scope_in_use w m.within)) leaving)) ▷ with_call m.call (λ c. finish_rendezvous p name c leaving)) (pop name w) out
     (then-keeps (chains beside) (changes (end_scope m.within)) _ (changes-keeps (chains beside) _ (end_scope-alters beside m.within))
     (then-keeps (chains beside) (changes (edit_call m.call (finished_call p (cells_of (scope_in_use w m.within)) leaving))) _
-    (changes-keeps (chains beside) _ (edit_call-alters beside m.call (finished_call p (cells_of (scope_in_use w m.within)) leaving) (finished_call-number p (cells_of (scope_in_use w m.within)) leaving) (finished_call-caller p (cells_of (scope_in_use w m.within)) leaving)))
-    (with_call-keeps beside m.call _ (λ c. finish_rendezvous-keeps p name c leaving))))))
+    (changes-keeps (chains beside) _ (edit_call-alters (plain_steps beside) m.call (finished_call p (cells_of (scope_in_use w m.within)) leaving) (finished_call-number p (cells_of (scope_in_use w m.within)) leaving) (finished_call-caller p (cells_of (scope_in_use w m.within)) leaving)))
+    (with_call-keeps (plain_steps beside) m.call _ (λ c. finish_rendezvous-keeps p name c leaving))))))
 
 pub end_in_accept-from : (p : Image) (name : Who) (m : AcceptMark) (leaving : Leaving) (f : Frame) (w : World) → Good Nobody w → top_of w name ≡ Some f → is_protected f.mark ≡ false → From (Behind (Good Nobody)) w (end_in_accept p name m leaving)
 unfolding end_in_accept
@@ -215,13 +217,13 @@ end_in_accept-from p name m leaving f w good top free =
 pub accept-keeps : (p : Image) (name : Who) (s : StatementNo) (e : EntryNo) → Keeps (Good Nobody) (Behind (Good Nobody)) (accept p name s e)
 unfolding accept
 accept-keeps p name s e =
-    looks-from (chains beside) _ (λ w good. raise_if-from beside name (in_protected w name) exception.Program _ w good
+    looks-from (chains beside) _ (λ w good. raise_if-from (plain_steps beside) name (in_protected w name) exception.Program _ w good
     (λ free. only-from name _ w (free-by_test name w free) good (accept_or_wait-keeps (good_moves (Only name)) p name s (next_call p w (own_queue w name (place_of_entry p e) ∷ [])) refl)))
 
 pub selective_accept-keeps : (p : Image) (name : Who) (s : StatementNo) (alternatives : List SelectAlternative) (otherwise : Option StatementNo) → Keeps (Good Nobody) (Behind (Good Nobody)) (selective_accept p name s alternatives otherwise)
 unfolding selective_accept
 selective_accept-keeps p name s alternatives otherwise =
-    looks-from (chains beside) _ (λ w good. raise_if-from beside name (in_protected w name) exception.Program _ w good
-    (λ free. given-from beside Own name (open_alternatives (seen_by p w name) alternatives) _ w good (λ kinds.
-    given-from beside Own name (open_delays (seen_by p w name) kinds) _ w good (λ moments.
+    looks-from (chains beside) _ (λ w good. raise_if-from (plain_steps beside) name (in_protected w name) exception.Program _ w good
+    (λ free. given-from (plain_steps beside) Own name (open_alternatives (seen_by p w name) alternatives) _ w good (λ kinds.
+    given-from (plain_steps beside) Own name (open_delays (seen_by p w name) kinds) _ w good (λ moments.
     only-from name _ w (free-by_test name w free) good (select_open-keeps (good_moves (Only name)) p name s otherwise kinds moments refl)))))

@@ -1,13 +1,11 @@
--- Scopes that begin and end, and their cells: each step leaves worlds good where its parts do.
-use Rattle.std.specs.Prelude.{ℕ, List}
+-- Scopes that begin and end: each step leaves worlds good where its parts do.
 use Rattle.trace_text.specs.declared.events.Who.{Who}
 use Rattle.profile_machine.specs.declared.image.Image.{Image}
 use Rattle.profile_machine.specs.declared.numbers.ScopeNo.{ScopeNo}
-use Rattle.profile_machine.specs.declared.values.Value.{Value}
 use Rattle.profile_machine.specs.declared.world.marks.Purpose.{Purpose}
 use Rattle.profile_machine.specs.declared.world.scopes.ScopeId.{ScopeId}
 use Rattle.profile_machine.specs.declared.world.scopes.Beginning.{Beginning}
-use Rattle.profile_machine.specs.Scopes.{edit_cells, write_cell, open_scope, end_scope}
+use Rattle.profile_machine.specs.Scopes.{open_scope, end_scope}
 use Rattle.world_laws.proofs.Actions.FineMoves.{FineMoves}
 use Rattle.profile_machine.specs.Tasking.{is_task_scope}
 use Rattle.std.proofs.Common.{◌≡◌, true, false, sym, ◌∙◌}
@@ -17,13 +15,6 @@ use Rattle.machine_laws.proofs.Kept.Combinators.{Alters}
 use Rattle.world_laws.proofs.Behind.{Behind}
 
 module _ {G : GoodWorld} {F : Naming} (moves : FineMoves G F) where
-  pub edit_cells-alters : (id : ScopeId) (f : List Value → List Value) → Alters G (Behind G) (edit_cells id f)
-  unfolding Alters
-  edit_cells-alters id f w good = moves.edits_cells id f w good
-
-  pub write_cell-alters : (id : ScopeId) (place : ℕ) (value : Value) → Alters G (Behind G) (write_cell id place value)
-  write_cell-alters id place value = search (edit_cells-alters)
-
   pub end_scope-alters : (id : ScopeId) → Alters G (Behind G) (end_scope id)
   unfolding Alters
   end_scope-alters id w good = moves.ends_scope id w good

@@ -23,8 +23,7 @@ use Rattle.profile_machine.specs.declared.world.tasks.Waiting.{Waiting}
 use Rattle.world_laws.proofs.Actions.Kept.Switching.{Only, only-from}
 use Rattle.world_laws.proofs.Actions.Kept.Combinators.{when-from}
 use Rattle.world_laws.proofs.Actions.Kept.Dispatching.{ready-keeps, block-keeps}
-use Rattle.world_laws.proofs.Actions.Kept.Calls.{edit_call-alters, with_call-keeps, says_call-keeps, unqueued-alters, attempt_with-keeps}
-use Rattle.world_laws.proofs.Actions.Kept.CallEnds.{resume-keeps, deliver-keeps}
+use Rattle.world_laws.proofs.Actions.Kept.CallEnds.{deliver-keeps}
 use Rattle.profile_machine.specs.Program.{form_of}
 use Rattle.profile_machine.specs.Frames.{new_frame, has_room}
 use Rattle.profile_machine.specs.declared.world.lines.Part.TheVariants.{TheBlock, TheFinish}
@@ -36,6 +35,10 @@ use Rattle.machine_laws.proofs.FineMoves.{GoodWorld, Naming}
 use Rattle.line_laws.proofs.Leaving.Modes.{Nobody}
 use Rattle.machine_laws.proofs.Kept.Combinators.{Alters, Keeps, changes-keeps, looks-from, looks-keeps, nothing-keeps, then-keeps}
 use Rattle.world_laws.proofs.Behind.{Behind}
+use Rattle.machine_laws.proofs.Plain.Calls.{edit_call-alters, with_call-keeps, says_call-keeps, unqueued-alters, attempt_with-keeps}
+use Rattle.machine_laws.proofs.Plain.Results.{resume-keeps}
+use Rattle.world_laws.proofs.Actions.Kept.Frames.{plain_steps}
+use Rattle.machine_laws.proofs.Plain.PlainSteps.{anybody}
 
 module _ {G : GoodWorld} {F : Naming} (moves : FineMoves G F) where
   pub open_abortable-alters : (p : Image) (name : Who) (select : StatementNo) (call : Option CallNo) → F name → Alters G (Behind G) (open_abortable p name select call)
@@ -44,7 +47,7 @@ module _ {G : GoodWorld} {F : Naming} (moves : FineMoves G F) where
 
   pub cancel_at_once-keeps : (p : Image) (part : Part) (c : Call) → Keeps G (Behind G) (cancel_at_once p part c)
   unfolding cancel_at_once
-  cancel_at_once-keeps p part c = search (attempt_with-keeps, resume-keeps, nothing-keeps, chains)
+  cancel_at_once-keeps p part c = search (attempt_with-keeps, resume-keeps, nothing-keeps, chains, plain_steps, anybody)
 
   appoint_timeout-alters : (p : Image) (c : CallNo) (moment : Option ℤ) → Alters G (Behind G) (appoint_timeout p c moment)
   unfolding Alters
@@ -72,11 +75,11 @@ module _ {G : GoodWorld} {F : Naming} (moves : FineMoves G F) where
 
   pub send_on-keeps : (c : CallNo) (s : Sending) → Keeps G (Behind G) (send_on c s)
   unfolding send_on
-  send_on-keeps c s = search (changes-keeps, edit_call-alters, then-keeps, with_call-keeps, says_call-keeps, chains)
+  send_on-keeps c s = search (changes-keeps, edit_call-alters, then-keeps, with_call-keeps, says_call-keeps, chains, plain_steps)
 
   pub cancel_sent-keeps : (p : Image) (c : Call) → Keeps G (Behind G) (cancel_sent p c)
   unfolding cancel_sent
-  cancel_sent-keeps p c = search (changes-keeps, unqueued-alters, then-keeps, says-keeps, deliver-keeps, chains) depth 7
+  cancel_sent-keeps p c = search (changes-keeps, unqueued-alters, then-keeps, says-keeps, deliver-keeps, chains, plain_steps) depth 8
 
   unless_firm-alters : (p : Image) (firm : Bool) (c : Call) → Alters G (Behind G) (cond firm (λ v. v) (appoint_timeout p c.number c.moment))
   unfolding Alters
@@ -106,7 +109,7 @@ pub begin_abortable-keeps : (p : Image) (c : CallNo) → Keeps (Good Nobody) (Be
 unfolding begin_abortable
 begin_abortable-keeps p c =
     let beside = good_moves Nobody in
-    with_call-keeps beside c _ (λ d. looks-from (chains beside) _ (λ w good. when-from beside (may_begin_abortable w d) _ w good (λ e.
+    with_call-keeps (plain_steps beside) c _ (λ d. looks-from (chains beside) _ (λ w good. when-from beside (may_begin_abortable w d) _ w good (λ e.
     let name = who.Task d.caller in
     let waits = sixth (is_triggering d.kind) (is_none (abortable_depth w d)) (not d.firm) (not d.attempted) (is_none d.outcome) (waits_for_call d.number (waiting_of w name)) (has_room w name 1 0) e in
     let found = waiting-some d.number (waiting_of w name) waits in
@@ -121,4 +124,4 @@ sent_not_begun_by-keeps p c false =
 
 pub sent_not_begun-keeps : (p : Image) (c : CallNo) → Keeps (Good Nobody) (Behind (Good Nobody)) (sent_not_begun p c)
 unfolding sent_not_begun
-sent_not_begun-keeps p c = with_call-keeps (good_moves Nobody) c _ (λ d. looks-keeps (chains (good_moves Nobody)) _ (λ w. sent_not_begun_by-keeps p d (is_to_be_cancelled w.time d)))
+sent_not_begun-keeps p c = with_call-keeps (plain_steps (good_moves Nobody)) c _ (λ d. looks-keeps (chains (good_moves Nobody)) _ (λ w. sent_not_begun_by-keeps p d (is_to_be_cancelled w.time d)))

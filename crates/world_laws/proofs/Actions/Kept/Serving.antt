@@ -10,7 +10,6 @@ use Rattle.trace_text.specs.declared.events.Who.{Who}
 use Rattle.profile_machine.specs.declared.image.Image.{Image}
 use Rattle.profile_machine.specs.declared.run_data.Leaving.{Leaving}
 use Rattle.profile_machine.specs.declared.run_data.Leaving.TheVariants as how
-use Rattle.profile_machine.specs.declared.values.Value.{Value}
 use Rattle.profile_machine.specs.declared.world.World.{World}
 use Rattle.profile_machine.specs.declared.world.marks.ProtectedMark.{ProtectedMark}
 use Rattle.profile_machine.specs.declared.world.calls.Call.{Call}
@@ -37,7 +36,7 @@ use Rattle.profile_machine.specs.Dispatching.{to_head}
 use Rattle.profile_machine.specs.Steps.{Step, Done, done, goes_on_with, says, changes, when, for_some, ◌▷◌}
 use Rattle.profile_machine.specs.Protected.{served_next, edit_top_protected, begin_call, body_opens, serve_call, has_room_for_body}
 use Rattle.profile_machine.specs.Values.{object_of}
-use Rattle.profile_machine.specs.Serving.{serves_nothing, is_served_now, serve_ends, end_release, close_action, wait_or_unwind, wait_for_own, resume_own, behind_action, release_object, settle_sent, begins_part, chosen_is_sent, serve_chosen, serve_next, serve_calls, go_on_by_mode, end_operation, finish_raised, finish_well, finish_call, end_entry_body, end_in_protected_by, end_in_protected, keep_values, end_body_of_entry, part_of_start, with_body_left, no_longer_serves, not_left, outcome_by, is_own_call, may_open_abortable}
+use Rattle.profile_machine.specs.Serving.{serves_nothing, is_served_now, serve_ends, end_release, close_action, wait_or_unwind, wait_for_own, resume_own, behind_action, release_object, settle_sent, begins_part, chosen_is_sent, serve_chosen, serve_next, serve_calls, go_on_by_mode, end_operation, finish_raised, finish_well, finish_call, end_entry_body, end_in_protected_by, end_in_protected, part_of_start, with_body_left, no_longer_serves, not_left, outcome_by, is_own_call, may_open_abortable}
 use Rattle.std.proofs.Common.{◌≡◌, refl, sym, subst}
 use Rattle.std.proofs.lemmas.Bool.{or_right}
 use Rattle.world_tables.specs.Lists.{rest_of}
@@ -53,19 +52,20 @@ use Rattle.world_laws.proofs.Actions.Kept.Switching.{Only, less-from}
 use Rattle.world_laws.proofs.Actions.Natures.{Nature, nature, marks}
 use Rattle.world_laws.proofs.Actions.Kept.Combinators.{changes_then-from, for_some-from, says_then-from}
 use Rattle.world_laws.proofs.Actions.Kept.Dispatching.{block-keeps, to_head-keeps}
-use Rattle.world_laws.proofs.Actions.Kept.Frames.{edit_top-alters, leaves-keeps, pass_on-keeps}
-use Rattle.world_laws.proofs.Actions.Kept.Calls.{edit_call-alters, forget_call-alters, with_call-keeps, enqueue-keeps, attempt_with-keeps}
-use Rattle.world_laws.proofs.Actions.Kept.CallEnds.{resume-keeps, deliver-keeps}
+use Rattle.world_laws.proofs.Actions.Kept.Frames.{edit_top-alters, leaves-keeps, plain_steps}
+use Rattle.world_laws.proofs.Actions.Kept.CallEnds.{deliver-keeps}
 use Rattle.world_laws.proofs.Actions.Kept.Protected.{edit_top_protected-alters, begin_call-keeps, body_opens-keeps, beside}
 use Rattle.world_laws.proofs.Actions.Kept.Priorities.{set_deferred-keeps}
 use Rattle.world_laws.proofs.Actions.Kept.Sending.{open_abortable-alters, wait_for_call-keeps, send_on-keeps, begin_abortable-keeps, sent_not_begun-keeps}
 use Rattle.profile_machine.specs.declared.world.marks.Mark.TheVariants.{InProtected}
 use Rattle.profile_machine.specs.Tasks.{with_frames}
 use Rattle.line_laws.proofs.Leaving.Modes.{Nobody}
-use Rattle.machine_laws.proofs.Plain.Results.{keeps_sending-number, keeps_sending-caller}
+use Rattle.machine_laws.proofs.Plain.Results.{resume-keeps}
 use Rattle.machine_laws.proofs.Kept.Combinators.{Alters, From, Keeps, changes-keeps, either-from, keeps-from, looks-from, looks-keeps, looks_at-from, nothing-keeps, then-from, then-keeps, when-keeps, world_behind, Kept, then-kept}
 use Rattle.world_laws.proofs.Behind.{Behind, wide-from}
 use Rattle.profile_machine.specs.declared.world.lines.Said.{Said}
+use Rattle.machine_laws.proofs.Plain.Frames.{pass_on-keeps}
+use Rattle.machine_laws.proofs.Plain.Calls.{forget_call-alters, enqueue-keeps, attempt_with-keeps}
 
 -- ---- the agent has served a release
 
@@ -90,7 +90,7 @@ module _ {G : GoodWorld} {F : Naming} (moves : FineMoves G F) where
   wait_or_unwind-keeps : (p : Image) (name : Who) (c : Call) (test : Bool) → F (who.Task c.caller) → Keeps G (Behind G) (wait_or_unwind p name c test)
   unfolding wait_or_unwind
   wait_or_unwind-keeps p name c true free =
-      attempt_with-keeps moves p Own c _ _ (then-keeps (chains moves) _ _ (changes-keeps (chains moves) _ (forget_call-alters moves c.number)) (leaves-keeps moves name how.Abort)) (wait_for_call-keeps moves c free)
+      attempt_with-keeps (plain_steps moves) p Own c _ _ (then-keeps (chains moves) _ _ (changes-keeps (chains moves) _ (forget_call-alters (plain_steps moves) c.number)) (leaves-keeps moves name how.Abort)) (wait_for_call-keeps moves c free)
   wait_or_unwind-keeps p name c false free = wait_for_call-keeps moves c free
 
   wait_for_own-keeps : (p : Image) (name : Who) (c : Call) (test : Bool) → F (who.Task c.caller) → Keeps G (Behind G) (wait_for_own p name c test)
@@ -100,7 +100,7 @@ module _ {G : GoodWorld} {F : Naming} (moves : FineMoves G F) where
 
   resume_own-keeps : (p : Image) (name : Who) (c : Call) (outcome : Option Outcome) → F (who.Task c.caller) → Keeps G (Behind G) (resume_own p name c outcome)
   unfolding resume_own
-  resume_own-keeps p name c (Some outcome) free = resume-keeps moves p TheBlock c outcome
+  resume_own-keeps p name c (Some outcome) free = resume-keeps (plain_steps moves) p TheBlock c outcome tt
   resume_own-keeps p name c None free = looks-keeps (chains moves) _ (λ w. wait_for_own-keeps p name c (may_open_abortable w name c) free)
 
   -- a ceiling is lost, where that leaves the world good
@@ -132,7 +132,7 @@ module _ (p : Image) (name : Who) (m : ProtectedMark) where
 
   behind_none-keeps : Keeps (Good Nobody) (Behind (Good Nobody)) (behind_action p name m None None)
   unfolding behind_action
-  behind_none-keeps = pass_on-keeps beside p name m.body_left
+  behind_none-keeps = pass_on-keeps (plain_steps beside) p name m.body_left tt
 
   behind_own-keeps : (c : CallNo) → Keeps (GoodKnown (Only name) name c) (Behind (GoodKnown (Only name) name c)) (behind_action p name m None (Some c))
   unfolding behind_action
@@ -249,7 +249,7 @@ module _ (p : Image) (name : Who) (m : ProtectedMark) where
   well-from c (Some s) w h =
       says_then-from beside TheFinish (line.Finish name c.number meeting.Requeue) _ w
       (step_then (send_on c.number s) _ w h (send_on-keeps beside c.number s) (send_on-steady nature_on_top name (acted m) c.number s)
-      (λ u l. step_then (enqueue p c.number) _ u l (enqueue-keeps beside p c.number) (enqueue-steady nature_on_top name (acted m) p c.number)
+      (λ u l. step_then (enqueue p c.number) _ u l (enqueue-keeps (plain_steps beside) p c.number) (enqueue-steady nature_on_top name (acted m) p c.number)
       (λ t n. serve_calls-from (Some c.number) t n)))
 
   finish-from : (leaving : Leaving) (c : Call) (w : World) → Stands w → From (Behind (Good Nobody)) w (finish_call p name m leaving c)
@@ -290,12 +290,3 @@ module _ (p : Image) (name : Who) (m : ProtectedMark) (leaving : Leaving) where
   end_in_protected-from w h = by_body-from m.serves w h
 
 -- ---- the scope of an entry body has ended
-
-module _ {G : GoodWorld} {F : Naming} (moves : FineMoves G F) where
-  pub keep_values-keeps : (p : Image) (c : CallNo) (cells : List Value) → Keeps G (Behind G) (keep_values p c cells)
-  unfolding keep_values
-  keep_values-keeps p c cells = search (with_call-keeps, changes-keeps, edit_call-alters, chains)
-
-  pub end_body_of_entry-keeps : (p : Image) (c : CallNo) (cells : List Value) (leaving : Leaving) → Keeps G (Behind G) (end_body_of_entry p c cells leaving)
-  unfolding end_body_of_entry
-  end_body_of_entry-keeps p c cells leaving = search (changes-keeps, edit_call-alters, then-keeps, keep_values-keeps, keeps_sending-number, keeps_sending-caller, chains)

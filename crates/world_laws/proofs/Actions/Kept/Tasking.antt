@@ -37,17 +37,14 @@ use Rattle.std.proofs.lemmas.Bool.{and_parts, false≢true}
 use Rattle.profile_machine.specs.declared.world.marks.Mark.TheVariants.{Scope}
 use Rattle.world_laws.proofs.Actions.Natures.{nature}
 use Rattle.world_laws.proofs.Actions.Kept.Combinators.{changes_then-from, says_then-from, when-from}
-use Rattle.world_laws.proofs.Actions.Kept.Frames.{raise_if-from, given-from, goes-keeps, raises-keeps, pass_on-keeps, given-keeps, raise_if-keeps, popped, edit_top-alters}
+use Rattle.world_laws.proofs.Actions.Kept.Frames.{goes-keeps, popped, edit_top-alters, plain_steps}
 use Rattle.world_laws.proofs.Actions.Kept.Tasks.{edit_task-alters}
 use Rattle.world_laws.proofs.Actions.Kept.Dispatching.{to_head-keeps, ready-keeps, says_block-keeps, block-keeps}
 use Rattle.world_laws.proofs.Actions.Kept.Scopes.{end_scope-alters, open_scope-alters}
 use Rattle.world_laws.proofs.Actions.Kept.Inheritance.{inherit-alters}
 use Rattle.world_laws.proofs.Actions.Kept.Unwinding.{strike_outermost-alters, unwind-keeps}
 use Rattle.world_laws.proofs.Actions.Kept.Masters.{end_activation-keeps, complete-keeps, terminate-keeps, leave_by_terminate-keeps}
-use Rattle.world_laws.proofs.Actions.Kept.Subprograms.{end_subprogram-keeps}
-use Rattle.world_laws.proofs.Actions.Kept.Serving.{end_body_of_entry-keeps}
 use Rattle.world_laws.proofs.Actions.Kept.Controlled.{edit_top_scope-alters, finalize-keeps}
-use Rattle.world_laws.proofs.Actions.Kept.Declarations.{set_thing-alters}
 use Rattle.ann_base.specs.declared.identities.TaskNo.{TaskNo}
 use Rattle.profile_machine.specs.declared.world.marks.Frame.{Frame}
 use Rattle.profile_machine.specs.declared.world.appointments.Registered.{Registered}
@@ -68,6 +65,11 @@ use Rattle.machine_laws.proofs.FineMoves.{GoodWorld, Naming}
 use Rattle.line_laws.proofs.Leaving.Modes.{Nobody}
 use Rattle.machine_laws.proofs.Kept.Combinators.{Alters, From, Keeps, branch-keeps, changes-keeps, for_each-keeps, for_some-keeps, keeps-from, looks-from, looks-keeps, looks_at-from, nothing-keeps, sees-keeps, then-from, then-keeps, when-keeps}
 use Rattle.world_laws.proofs.Behind.{Behind, wide-from}
+use Rattle.machine_laws.proofs.Plain.Frames.{raise_if-from, given-from, raises-keeps, pass_on-keeps, given-keeps, raise_if-keeps}
+use Rattle.machine_laws.proofs.Plain.Subprograms.{end_subprogram-keeps}
+use Rattle.machine_laws.proofs.Plain.Results.{end_body_of_entry-keeps}
+use Rattle.machine_laws.proofs.Plain.Declarations.{set_thing-alters}
+use Rattle.machine_laws.proofs.Plain.PlainSteps.{anybody}
 
 module _ {G : GoodWorld} {F : Naming} (moves : FineMoves G F) where
   says_created-keeps : (d : DeclNo) (t : world.Task) → Keeps G (Behind G) (says_created d t)
@@ -79,7 +81,7 @@ module _ {G : GoodWorld} {F : Naming} (moves : FineMoves G F) where
   name_task p d within = looks (λ w. changes (set_thing p (record { within = within; declared = d }) (value_of.Task (Some (record { 0 = w.drawn.tasks - 1 })))))
 
   behind_new-keeps : (p : Image) (d : DeclNo) (id : Option ScopeId) (t : world.Task) → Keeps G (Behind G) (for_some id (name_task p d) ▷ says_created d t)
-  behind_new-keeps p d id t = search (then-keeps, for_some-keeps, looks-keeps, changes-keeps, set_thing-alters, says_created-keeps, chains) depth 9
+  behind_new-keeps p d id t = search (then-keeps, for_some-keeps, looks-keeps, changes-keeps, set_thing-alters, says_created-keeps, chains, plain_steps) depth 10
 
   pub fall_from-keeps : (p : Image) (name : Who) (before : World) → Keeps G (Behind G) (fall_from p name before)
   unfolding fall_from
@@ -97,7 +99,7 @@ module _ {G : GoodWorld} {F : Naming} (moves : FineMoves G F) where
   pub await_group-keeps : (name : Who) (begins failed : Bool) → F name → Keeps G (Behind G) (await_group name begins failed)
   unfolding await_group
   await_group-keeps name true failed free = search (block-keeps)
-  await_group-keeps name false true free = search (raises-keeps)
+  await_group-keeps name false true free = search (raises-keeps, plain_steps)
   await_group-keeps name false false free = search (nothing-keeps, chains)
 
   pub end_own_activation-keeps : (p : Image) (name : Who) (s : StatementNo) → Keeps G (Behind G) (end_own_activation p name s)
@@ -121,13 +123,13 @@ module _ {G : GoodWorld} {F : Naming} (moves : FineMoves G F) where
   end_task-keeps p name leaving free = search (says_done-keeps, then-keeps, looks-keeps, end_activation-keeps, terminate-keeps, when-keeps, changes-keeps, end_environment-alters, chains) depth 9
 
   pub end_body-keeps : (p : Image) (name : Who) (leaving : Leaving) (normally : Step) → Keeps G (Behind G) normally → Keeps G (Behind G) (end_body p name leaving normally)
-  end_body-keeps p name leaving normally kept = branch-keeps (chains moves) (is_normal leaving) normally (pass_on p name leaving) (search) (search (pass_on-keeps))
+  end_body-keeps p name leaving normally kept = branch-keeps (chains moves) (is_normal leaving) normally (pass_on p name leaving) (search) (search (pass_on-keeps, plain_steps, anybody))
 
   pub behind_scope-keeps : (p : Image) (name : Who) (purpose : Purpose) (cells : List Value) (leaving : Leaving) → (is_task_scope purpose ≡ true → F name) → Keeps G (Behind G) (behind_scope p name purpose cells leaving)
   unfolding behind_scope
-  behind_scope-keeps p name (opened_for.Block s) cells leaving free = search (pass_on-keeps)
-  behind_scope-keeps p name (opened_for.Subprogram back to) cells leaving free = search (end_body-keeps, end_subprogram-keeps)
-  behind_scope-keeps p name (opened_for.EntryBody c) cells leaving free = search (end_body-keeps, end_body_of_entry-keeps)
+  behind_scope-keeps p name (opened_for.Block s) cells leaving free = search (pass_on-keeps, plain_steps, anybody)
+  behind_scope-keeps p name (opened_for.Subprogram back to) cells leaving free = search (end_body-keeps, end_subprogram-keeps, plain_steps)
+  behind_scope-keeps p name (opened_for.EntryBody c) cells leaving free = search (end_body-keeps, end_body_of_entry-keeps, plain_steps)
   behind_scope-keeps p name opened_for.Task cells leaving free = end_task-keeps p name leaving (free refl)
 
   -- Program_Error, where a Finalize raised
@@ -242,9 +244,9 @@ pub create-keeps : (p : Image) (name : Who) (s : StatementNo) (d : DeclNo) (part
 unfolding create
 create-keeps p name s d part =
     looks-from (chains beside) _ (λ w good. let q = seen_by p w name in
-    raise_if-from beside name (in_protected w name || is_deferred w name) exception.Program _ w good (λ e.
-    raise_if-from beside name (leb 256 (length w.tasks)) exception.Storage _ w good (λ few.
-    given-from beside Own name (optional_span q (task_unit_of p (unit_of_declaration p d)).relative_deadline) _ w good (λ span.
+    raise_if-from (plain_steps beside) name (in_protected w name || is_deferred w name) exception.Program _ w good (λ e.
+    raise_if-from (plain_steps beside) name (leb 256 (length w.tasks)) exception.Storage _ w good (λ few.
+    given-from (plain_steps beside) Own name (optional_span q (task_unit_of p (unit_of_declaration p d)).relative_deadline) _ w good (λ span.
     create_task-from p name s d (home w (declaration_of p d).scope q.within) (created_task q d (unit_of_declaration p d) part span w.drawn.tasks) w good (free-by_test name w (allowed (in_protected w name) (is_deferred w name) e)) refl refl refl))))
 
 group-made : (r : RegionNo) (part : ℕ) (w : World) (t : world.Task) → Member t (filter (is_to_activate r part) w.tasks) → MadeOf w.tasks t.who
@@ -271,7 +273,7 @@ activate_group-from p name s part w good free =
 pub activate-keeps : (p : Image) (name : Who) (s : StatementNo) (part : ℕ) → Keeps (Good Nobody) (Behind (Good Nobody)) (activate p name s part)
 unfolding activate
 activate-keeps p name s part =
-    looks-from (chains beside) _ (λ w good. raise_if-from beside name (in_protected w name || is_deferred w name) exception.Program _ w good
+    looks-from (chains beside) _ (λ w good. raise_if-from (plain_steps beside) name (in_protected w name || is_deferred w name) exception.Program _ w good
     (λ e. activate_group-from p name s part w good (free-by_test name w (allowed (in_protected w name) (is_deferred w name) e))))
 
 abort_named-from : (p : Image) (name : Who) (aborted : List TaskNo) (w : World) → Good Nobody w → From (Behind (Good Nobody)) w (abort_all p name (filter (is_to_abort w aborted) w.tasks))
@@ -283,7 +285,7 @@ abort_named-from p name aborted w good =
 pub abort_statement-keeps : (p : Image) (name : Who) (s : StatementNo) (tasks : List DeclNo) → Keeps (Good Nobody) (Behind (Good Nobody)) (abort_statement p name s tasks)
 unfolding abort_statement
 abort_statement-keeps p name s tasks =
-    sees-keeps (chains beside) p name _ (λ q. raise_if-keeps beside name (in_protected q.world name) exception.Program _ (given-keeps beside Own name (named_tasks q tasks) _ (λ aborted.
+    sees-keeps (chains beside) p name _ (λ q. raise_if-keeps (plain_steps beside) name (in_protected q.world name) exception.Program _ (given-keeps (plain_steps beside) Own name (named_tasks q tasks) _ (λ aborted.
     then-keeps (chains beside) (goes name (next_of p s)) _ (goes-keeps beside name (next_of p s)) (looks-from (chains beside) _ (λ w good. abort_named-from p name aborted w good)))))
 
 -- ---- a region begins to be left: where it has dependents, no action is open

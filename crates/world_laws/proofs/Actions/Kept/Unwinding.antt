@@ -13,12 +13,12 @@ use Rattle.world_laws.proofs.Actions.Natures.{nature, natures}
 use Rattle.std.proofs.Common.{◌≡◌, List, [], ◌∷◌, refl, ap}
 use Rattle.world_laws.proofs.Actions.Kept.Tasks.{edit_task-alters, edit_frames-alters}
 use Rattle.world_laws.proofs.Actions.Kept.Dispatching.{ready-keeps}
-use Rattle.world_laws.proofs.Actions.Kept.Frames.{leaves-keeps}
+use Rattle.world_laws.proofs.Actions.Kept.Frames.{leaves-keeps, plain_steps}
 use Rattle.world_laws.proofs.Actions.Kept.Appointments.{drop_delay-alters}
-use Rattle.world_laws.proofs.Actions.Kept.Calls.{forget_call-alters, attempt-keeps}
 use Rattle.machine_laws.proofs.FineMoves.{GoodWorld, Naming}
 use Rattle.machine_laws.proofs.Kept.Combinators.{Alters, Keeps, changes-keeps, looks-keeps, nothing-keeps, then-keeps, when-keeps}
 use Rattle.world_laws.proofs.Behind.{Behind}
+use Rattle.machine_laws.proofs.Plain.Calls.{forget_call-alters, attempt-keeps}
 
 -- who is struck has the marks that it had
 last-natures : (fs : List Frame) → natures (edit_last struck_frame fs) ≡ natures fs
@@ -44,7 +44,7 @@ module _ {G : GoodWorld} {F : Naming} (moves : FineMoves G F) where
 
   pub unwind_blocked-keeps : (p : Image) (part : Part) (name : Who) (waiting : Waiting) → Keeps G (Behind G) (unwind_blocked p part name waiting)
   unfolding unwind_blocked
-  unwind_blocked-keeps p part name (waits_for.Call c) = search (attempt-keeps, changes-keeps, forget_call-alters, then-keeps, wake_and_leave-keeps, nothing-keeps, chains)
+  unwind_blocked-keeps p part name (waits_for.Call c) = search (attempt-keeps, changes-keeps, forget_call-alters, then-keeps, wake_and_leave-keeps, nothing-keeps, chains, plain_steps)
   unwind_blocked-keeps p part name (waits_for.EndOfCall c) = search (nothing-keeps, chains)
   unwind_blocked-keeps p part name waits_for.Activation = search (wake_and_leave-keeps)
   unwind_blocked-keeps p part name waits_for.Moment = search (wake_and_leave-keeps)

@@ -1,6 +1,6 @@
 -- The item of a list with a number, edited.
 use Rattle.std.proofs.Common.{◌≡◌, ℕ, zero, suc, List, [], ◌∷◌, Some, None, slice_get, slice_set, refl, ap}
-use Rattle.profile_machine.specs.Words.{edit_at}
+use Rattle.profile_image.specs.Words.{edit_at}
 
 pub edited_there : {X : Type 0} (f : X → X) (xs : List X) (n : ℕ) (x : X) → slice_get xs n ≡ Some x → slice_set xs n (f x) ≡ edit_at n f xs
 edited_there f [] n x e = cc

@@ -1,6 +1,6 @@
 //! The bodies of subprograms (ISO/IEC 8652:2012, 6.3).
 ghost use Rattle.std.specs.Prelude.{◌≡◌, OnOk};
-ghost use Rattle.profile_machine.specs.Words.{edit_at};
+ghost use Rattle.profile_image.specs.Words.{edit_at};
 ghost use Rattle.ada_regions.specs.Words.{and_then};
 ghost use Rattle.ada_regions.specs.Names.{kind_at};
 ghost use Rattle.ada_regions.specs.Completions.{specified_number, entity_bound, is_specified, completed_in, headed, with_body, with_body_of, numbered_if, body_of_declared, completed_or_declared, completed};
@@ -14,7 +14,7 @@ use ada_regions::{Denoted, Enclosure, EntityKind, Formal, Names, NumberedSubprog
 use ada_subtypes::formals_of;
 use ada_tree::{Identifier, SubprogramSpecification};
 use ann_base::NoMemory;
-use profile_machine::{ImageList, SubprogramNo};
+use profile_image::{ImageList, SubprogramNo};
 use std::alloc::Global;
 use world_tables::List;
 

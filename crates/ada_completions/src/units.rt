@@ -1,6 +1,6 @@
 //! The bodies of task and protected units, and the names of entry bodies (ISO/IEC 8652:2012, 9.1, 9.4, 9.5.2).
 ghost use Rattle.std.specs.Prelude.{◌≡◌, [], OnOk};
-ghost use Rattle.profile_machine.specs.Words.{edit_at};
+ghost use Rattle.profile_image.specs.Words.{edit_at};
 ghost use Rattle.ada_regions.specs.Words.{and_then};
 ghost use Rattle.ada_regions.specs.Names.{kind_at, region_of_entity};
 ghost use Rattle.ada_regions.specs.Declaring.{type_of_kind};

@@ -10,7 +10,7 @@ use ada_entities::copy;
 use ada_regions::{AdaType, EntityKind, Names, Subtype};
 use ada_tree::{Identifier, OneOrMore};
 use ann_base::NoMemory;
-use profile_machine::{Constraint, EnumerationNo, ImageList, Text};
+use profile_image::{Constraint, EnumerationNo, ImageList, Text};
 use std::alloc::Global;
 
 /// The names of identifiers, each a text of its own.

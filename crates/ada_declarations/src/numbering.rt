@@ -7,7 +7,7 @@ use ada_entities::{copy, expanded};
 use ada_regions::{ExpressionOf, Names, NumberedDeclaration, Sort, Subtype};
 use ada_tree::{Expression, Identifier};
 use ann_base::NoMemory;
-use profile_machine::DeclNo;
+use profile_image::DeclNo;
 use std::alloc::Global;
 
 /// The number of the next declaration.

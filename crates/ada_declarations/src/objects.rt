@@ -10,7 +10,7 @@ use ada_regions::{ComponentOwner, Denoted, EntityKind, Names, Sort};
 use ada_subtypes::{indicated_subtype, mode_of, static_value};
 use ada_tree::{Component, Constraint as Indicated, Identifier, ObjectDeclaration, Parameter};
 use ann_base::NoMemory;
-use profile_machine::{ControlledNo, DeclNo, Value};
+use profile_image::{ControlledNo, DeclNo, Value};
 use std::alloc::Global;
 
 /// The value of a constant whose initial value is static.

@@ -13,7 +13,7 @@ use ada_regions::{
 use ada_subtypes::{formals_of, indicated_subtype};
 use ada_tree::{Identifier, Parameter, SubprogramSpecification};
 use ann_base::NoMemory;
-use profile_machine::{EntryNo, EntryUnit, ProtectedUnitNo, SubprogramNo, TaskUnitNo};
+use profile_image::{EntryNo, EntryUnit, ProtectedUnitNo, SubprogramNo, TaskUnitNo};
 use std::alloc::Global;
 
 /// The type of the construct whose region it is.

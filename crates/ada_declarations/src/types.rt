@@ -12,7 +12,7 @@ use ada_regions::{AdaType, EntityKind, Names, NumberedControlled, Subtype, free_
 use ada_subtypes::{array_type, indicated_subtype, mark_denoted};
 use ada_tree::{Expression, Identifier, Name, SubtypeIndication};
 use ann_base::NoMemory;
-use profile_machine::ControlledNo;
+use profile_image::ControlledNo;
 use std::alloc::Global;
 
 /// An array type is declared.

@@ -13,7 +13,7 @@ use ada_regions::{
 };
 use ada_tree::{Aspect, Identifier};
 use ann_base::NoMemory;
-use profile_machine::{ProtectedUnitNo, TaskUnitNo};
+use profile_image::{ProtectedUnitNo, TaskUnitNo};
 use std::alloc::Global;
 
 /// A library package is declared.

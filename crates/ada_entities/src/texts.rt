@@ -4,7 +4,7 @@ ghost use Rattle.ada_regions.specs.Names.{prefix_of, prefix_with, expanded};
 
 use ada_regions::Frame;
 use ann_base::NoMemory;
-use profile_machine::{ImageList, Text};
+use profile_image::{ImageList, Text};
 use std::alloc::Global;
 use world_tables::List;
 

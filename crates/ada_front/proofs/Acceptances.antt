@@ -9,7 +9,7 @@ use Rattle.ada_tree.specs.declared.units.Unit.{Unit as Tree}
 use Rattle.ada_tree.specs.Written.{lexemes_of}
 use Rattle.ada_tree.specs.Spelling.{SpellsTokens}
 use Rattle.ada_tree.specs.Shape.{is_shaped}
-use Rattle.profile_machine.specs.declared.image.Image.{Image}
+use Rattle.profile_image.specs.declared.image.Image.{Image}
 use Rattle.ada_verdicts.specs.declared.refusals.Refusal.{Refusal}
 use Rattle.ada_verdicts.specs.Accepted.{Accepted, AcceptedTokens, AcceptedTree}
 

@@ -8,7 +8,7 @@ ghost use Rattle.ada_regions.specs.Numbered.{names_of, name_fault_of};
 ghost use Rattle.ada_legality.specs.Faults.{first_fault_of};
 ghost use Rattle.ada_image.specs.BuiltUnits.{unit_built};
 ghost use Rattle.ada_image.specs.ImageOfUnits.{program_of};
-ghost use Rattle.profile_machine.specs.declared.image.Image.{Image};
+ghost use Rattle.profile_image.specs.declared.image.Image.{Image};
 ghost use Rattle.ada_verdicts.specs.Accepted.{Accepted, AcceptedTokens, AcceptedTree, judged, by_grammar, by_names, by_rules, by_forms};
 
 use ada_legality::Fault;
@@ -22,7 +22,7 @@ use ann_base::{NoMemory, OrMemory};
 use image_forms::unit_built;
 use image_programs::program_from;
 use legality::first_fault;
-use profile_machine::Image;
+use profile_image::Image;
 use std::alloc::Global;
 
 /// The image of a source, or why it is refused.

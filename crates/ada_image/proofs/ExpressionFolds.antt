@@ -12,8 +12,8 @@ use Rattle.ada_tree.specs.declared.expressions.Addend.{Addend}
 use Rattle.ada_tree.specs.declared.expressions.Multiplied.{Multiplied}
 use Rattle.ada_tree.specs.declared.expressions.Argument.{Argument}
 use Rattle.ada_tree.specs.declared.expressions.AttributeDesignator.{AttributeDesignator}
-use Rattle.profile_machine.specs.declared.numbers.ExprNo.{ExprNo}
-use Rattle.profile_machine.specs.declared.expressions.BinaryOperator.{BinaryOperator}
+use Rattle.profile_image.specs.declared.numbers.ExprNo.{ExprNo}
+use Rattle.profile_image.specs.declared.expressions.BinaryOperator.{BinaryOperator}
 use Rattle.ada_regions.specs.declared.predefined.Predefined.{Predefined}
 use Rattle.ada_regions.specs.declared.predefined.Predefined.TheVariants as items
 use Rattle.ada_regions.specs.declared.entities.Denoted.{Denoted}

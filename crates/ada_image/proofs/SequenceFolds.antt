@@ -12,14 +12,14 @@ use Rattle.ada_tree.specs.declared.declarations.OperationBody.TheVariants as bod
 use Rattle.ada_tree.specs.declared.declarations.Declaration.{Declaration}
 use Rattle.ada_tree.specs.declared.declarations.Declaration.TheVariants as declaration
 use Rattle.ada_tree.proofs.Mapped.{mapped, mapped_operation, mapped_declaration}
-use Rattle.profile_machine.specs.declared.numbers.StatementNo.{StatementNo}
+use Rattle.profile_image.specs.declared.numbers.StatementNo.{StatementNo}
 use Rattle.ada_regions.specs.Names.{entity_denoted}
 use Rattle.ada_image.specs.declared.making.Lists.{Lists}
 use Rattle.ada_image.specs.declared.making.Within.{Within}
 use Rattle.ada_image.specs.declared.making.SequencePlace.{SequencePlace}
 use Rattle.ada_image.specs.declared.making.SequencePlace.TheVariants as sequence_place
-use Rattle.profile_machine.specs.declared.declarations.Handler.{Handler as ExceptionHandler}
-use Rattle.profile_machine.specs.declared.statements.StatementForm.TheVariants as action
+use Rattle.profile_image.specs.declared.declarations.Handler.{Handler as ExceptionHandler}
+use Rattle.profile_image.specs.declared.statements.StatementForm.TheVariants as action
 use Rattle.ada_image.specs.Making.{reserved, put_at, the_action, in_construct, in_unit}
 use Rattle.ada_image.specs.ImageOfStatements.{SequenceMaking, handlers_put}
 use Rattle.ada_image.specs.ImageOfDeclarations.{declaration_put, declarations_put, makes_task, make_tasks, activation_put, end_of_activation_put, body_put, operation_body_put, operation_bodies_put, inner_body_put, inner_bodies_put, unhandled_put, with_handlers_put, handled_put, whole_put, parts_put, same_making, making_layer, sequence_put}

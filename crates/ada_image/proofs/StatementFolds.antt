@@ -26,11 +26,11 @@ use Rattle.ada_tree.specs.declared.selects.Alternative.TheVariants as alternativ
 use Rattle.ada_tree.specs.declared.selects.Trigger.{Trigger}
 use Rattle.ada_tree.specs.declared.selects.Trigger.TheVariants as trigger
 use Rattle.ada_tree.proofs.Mapped.{mapped_statement, mapped_alternative}
-use Rattle.profile_machine.specs.declared.numbers.StatementNo.{StatementNo}
-use Rattle.profile_machine.specs.declared.declarations.Handler.{Handler as ExceptionHandler}
-use Rattle.profile_machine.specs.declared.statements.CaseAlternative.{CaseAlternative as CaseActions}
-use Rattle.profile_machine.specs.declared.statements.SelectAlternative.{SelectAlternative as GuardedAlternative}
-use Rattle.profile_machine.specs.declared.statements.StatementForm.TheVariants as action
+use Rattle.profile_image.specs.declared.numbers.StatementNo.{StatementNo}
+use Rattle.profile_image.specs.declared.declarations.Handler.{Handler as ExceptionHandler}
+use Rattle.profile_image.specs.declared.statements.CaseAlternative.{CaseAlternative as CaseActions}
+use Rattle.profile_image.specs.declared.statements.SelectAlternative.{SelectAlternative as GuardedAlternative}
+use Rattle.profile_image.specs.declared.statements.StatementForm.TheVariants as action
 use Rattle.ada_image.specs.declared.making.Lists.{Lists}
 use Rattle.ada_image.specs.declared.making.Within.{Within}
 use Rattle.ada_image.specs.ImageOfExpressions.{expression_made, signs_in, signs_if}

@@ -3,9 +3,9 @@ use Rattle.std.specs.Prelude.{ℕ, ◌+◌, List, [], ◌∷◌, Option, Some, N
 use Rattle.ada_tree.specs.declared.names.Name.{Name}
 use Rattle.ada_tree.specs.declared.expressions.Expression.{Expression}
 use Rattle.ada_tree.specs.declared.expressions.Argument.{Argument}
-use Rattle.profile_machine.specs.declared.numbers.StatementNo.{StatementNo}
-use Rattle.profile_machine.specs.declared.statements.Destination.TheVariants as destination
-use Rattle.profile_machine.specs.declared.statements.StatementForm.TheVariants as action
+use Rattle.profile_image.specs.declared.numbers.StatementNo.{StatementNo}
+use Rattle.profile_image.specs.declared.statements.Destination.TheVariants as destination
+use Rattle.profile_image.specs.declared.statements.StatementForm.TheVariants as action
 use Rattle.ada_regions.specs.declared.predefined.Predefined.{Predefined}
 use Rattle.ada_regions.specs.declared.predefined.Predefined.TheVariants as items
 use Rattle.ada_regions.specs.declared.entities.Denoted.{Denoted}

@@ -43,29 +43,29 @@ use Rattle.ada_tree.specs.declared.selects.Alternative.TheVariants as alternativ
 use Rattle.ada_tree.specs.declared.selects.Trigger.{Trigger}
 use Rattle.world_tables.specs.Lists.{first_of}
 use Rattle.ada_tree.specs.declared.selects.Trigger.TheVariants as trigger
-use Rattle.profile_machine.specs.declared.numbers.EntryNo.{EntryNo}
-use Rattle.profile_machine.specs.declared.declarations.EntryUnit.{EntryUnit}
-use Rattle.profile_machine.specs.declared.declarations.EntryUnit.TheVariants as entry_unit
-use Rattle.profile_machine.specs.declared.statements.SelectAlternative.{SelectAlternative as GuardedAlternative}
-use Rattle.profile_machine.specs.declared.statements.SelectKind.{SelectKind}
-use Rattle.profile_machine.specs.declared.statements.SelectKind.TheVariants as select_kind
-use Rattle.profile_machine.specs.declared.numbers.DeclNo.{DeclNo}
-use Rattle.profile_machine.specs.declared.numbers.ExprNo.{ExprNo}
-use Rattle.profile_machine.specs.declared.numbers.StatementNo.{StatementNo}
-use Rattle.profile_machine.specs.declared.numbers.SubprogramNo.{SubprogramNo}
-use Rattle.profile_machine.specs.declared.values.Value.{Value}
-use Rattle.profile_machine.specs.declared.values.Value.TheVariants as value
-use Rattle.profile_machine.specs.declared.expressions.ObjectName.{ObjectName}
-use Rattle.profile_machine.specs.declared.expressions.ObjectName.TheVariants as object
-use Rattle.profile_machine.specs.declared.declarations.ExceptionChoice.{ExceptionChoice}
-use Rattle.profile_machine.specs.declared.declarations.ExceptionChoice.TheVariants as exception_choice
-use Rattle.profile_machine.specs.declared.declarations.Handler.{Handler as ExceptionHandler}
-use Rattle.profile_machine.specs.declared.statements.CaseAlternative.{CaseAlternative as CaseActions}
-use Rattle.profile_machine.specs.declared.statements.Choice.{Choice as CaseChoice}
-use Rattle.profile_machine.specs.declared.statements.Choice.TheVariants as case_choice
-use Rattle.profile_machine.specs.declared.statements.Destination.TheVariants as destination
-use Rattle.profile_machine.specs.declared.statements.StatementForm.{StatementForm}
-use Rattle.profile_machine.specs.declared.statements.StatementForm.TheVariants as action
+use Rattle.profile_image.specs.declared.numbers.EntryNo.{EntryNo}
+use Rattle.profile_image.specs.declared.declarations.EntryUnit.{EntryUnit}
+use Rattle.profile_image.specs.declared.declarations.EntryUnit.TheVariants as entry_unit
+use Rattle.profile_image.specs.declared.statements.SelectAlternative.{SelectAlternative as GuardedAlternative}
+use Rattle.profile_image.specs.declared.statements.SelectKind.{SelectKind}
+use Rattle.profile_image.specs.declared.statements.SelectKind.TheVariants as select_kind
+use Rattle.profile_image.specs.declared.numbers.DeclNo.{DeclNo}
+use Rattle.profile_image.specs.declared.numbers.ExprNo.{ExprNo}
+use Rattle.profile_image.specs.declared.numbers.StatementNo.{StatementNo}
+use Rattle.profile_image.specs.declared.numbers.SubprogramNo.{SubprogramNo}
+use Rattle.profile_image.specs.declared.values.Value.{Value}
+use Rattle.profile_image.specs.declared.values.Value.TheVariants as value
+use Rattle.profile_image.specs.declared.expressions.ObjectName.{ObjectName}
+use Rattle.profile_image.specs.declared.expressions.ObjectName.TheVariants as object
+use Rattle.profile_image.specs.declared.declarations.ExceptionChoice.{ExceptionChoice}
+use Rattle.profile_image.specs.declared.declarations.ExceptionChoice.TheVariants as exception_choice
+use Rattle.profile_image.specs.declared.declarations.Handler.{Handler as ExceptionHandler}
+use Rattle.profile_image.specs.declared.statements.CaseAlternative.{CaseAlternative as CaseActions}
+use Rattle.profile_image.specs.declared.statements.Choice.{Choice as CaseChoice}
+use Rattle.profile_image.specs.declared.statements.Choice.TheVariants as case_choice
+use Rattle.profile_image.specs.declared.statements.Destination.TheVariants as destination
+use Rattle.profile_image.specs.declared.statements.StatementForm.{StatementForm}
+use Rattle.profile_image.specs.declared.statements.StatementForm.TheVariants as action
 use Rattle.ada_regions.specs.declared.types.Subtype.{Subtype}
 use Rattle.ada_regions.specs.declared.predefined.Predefined.{Predefined}
 use Rattle.ada_regions.specs.declared.predefined.Predefined.TheVariants as items

@@ -14,17 +14,17 @@ use Rattle.ada_tree.specs.declared.units.Package.{Package}
 use Rattle.ada_tree.specs.declared.units.Package.TheVariants as packages
 use Rattle.ada_tree.specs.declared.units.PackageDeclaration.{PackageDeclaration}
 use Rattle.ada_tree.specs.declared.units.PackageBody.{PackageBody}
-use Rattle.profile_machine.specs.declared.image.Image.{Image}
-use Rattle.profile_machine.specs.declared.image.MainProcedure.{MainProcedure}
-use Rattle.profile_machine.specs.declared.numbers.StatementNo.{StatementNo}
-use Rattle.profile_machine.specs.declared.values.Constraint.{Constraint}
-use Rattle.profile_machine.specs.declared.values.Constraint.TheVariants as constraint
-use Rattle.profile_machine.specs.declared.declarations.Declaration.{Declaration as NumberedObject}
-use Rattle.profile_machine.specs.declared.declarations.DeclarationKind.{DeclarationKind}
-use Rattle.profile_machine.specs.declared.declarations.DeclarationKind.TheVariants as kind
-use Rattle.profile_machine.specs.declared.declarations.Initial.{Initial}
-use Rattle.profile_machine.specs.declared.declarations.Initial.TheVariants as initial
-use Rattle.profile_machine.specs.declared.statements.StatementForm.TheVariants as action
+use Rattle.profile_image.specs.declared.image.Image.{Image}
+use Rattle.profile_image.specs.declared.image.MainProcedure.{MainProcedure}
+use Rattle.profile_image.specs.declared.numbers.StatementNo.{StatementNo}
+use Rattle.profile_image.specs.declared.values.Constraint.{Constraint}
+use Rattle.profile_image.specs.declared.values.Constraint.TheVariants as constraint
+use Rattle.profile_image.specs.declared.declarations.Declaration.{Declaration as NumberedObject}
+use Rattle.profile_image.specs.declared.declarations.DeclarationKind.{DeclarationKind}
+use Rattle.profile_image.specs.declared.declarations.DeclarationKind.TheVariants as kind
+use Rattle.profile_image.specs.declared.declarations.Initial.{Initial}
+use Rattle.profile_image.specs.declared.declarations.Initial.TheVariants as initial
+use Rattle.profile_image.specs.declared.statements.StatementForm.TheVariants as action
 use Rattle.ada_regions.specs.declared.types.AdaType.{AdaType}
 use Rattle.ada_regions.specs.declared.types.AdaType.TheVariants as types
 use Rattle.ada_regions.specs.declared.types.Subtype.{Subtype}

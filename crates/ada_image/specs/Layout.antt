@@ -2,18 +2,18 @@
 use Rattle.std.specs.Prelude.{ℕ, zero, suc, ◌+◌, ◌-◌, ℤ, pos, ◌-ℤ◌, nat_abs, int_lt, Bool, true, false, cond, ◌&&◌, List, [], ◌∷◌, ◌++◌, Option, Some, None, eqb, slice_get, option_map, map, unwrap_or}
 use Rattle.std.specs.List.{filter, list_any, find}
 use Rattle.std.specs.Char.{to_ascii_uppercase}
-use Rattle.profile_machine.specs.declared.limits.TheConstants.{CONTROLLED_CELLS, PROTECTED_CELLS}
-use Rattle.profile_machine.specs.declared.numbers.ScopeNo.{ScopeNo}
-use Rattle.profile_machine.specs.declared.numbers.ProtectedUnitNo.{ProtectedUnitNo}
-use Rattle.profile_machine.specs.declared.values.Value.{Value}
-use Rattle.profile_machine.specs.declared.values.Value.TheVariants as value
-use Rattle.profile_machine.specs.declared.values.Constraint.{Constraint}
-use Rattle.profile_machine.specs.declared.values.Constraint.TheVariants as constraint
-use Rattle.profile_machine.specs.declared.values.CellRun.{CellRun}
-use Rattle.profile_machine.specs.declared.declarations.Scope.{Scope}
-use Rattle.profile_machine.specs.declared.declarations.Formal.{Formal as FormalCell}
-use Rattle.profile_machine.specs.declared.declarations.Subprogram.{Subprogram}
-use Rattle.profile_machine.specs.declared.declarations.Enumeration.{Enumeration}
+use Rattle.profile_image.specs.declared.limits.TheConstants.{CONTROLLED_CELLS, PROTECTED_CELLS}
+use Rattle.profile_image.specs.declared.numbers.ScopeNo.{ScopeNo}
+use Rattle.profile_image.specs.declared.numbers.ProtectedUnitNo.{ProtectedUnitNo}
+use Rattle.profile_image.specs.declared.values.Value.{Value}
+use Rattle.profile_image.specs.declared.values.Value.TheVariants as value
+use Rattle.profile_image.specs.declared.values.Constraint.{Constraint}
+use Rattle.profile_image.specs.declared.values.Constraint.TheVariants as constraint
+use Rattle.profile_image.specs.declared.values.CellRun.{CellRun}
+use Rattle.profile_image.specs.declared.declarations.Scope.{Scope}
+use Rattle.profile_image.specs.declared.declarations.Formal.{Formal as FormalCell}
+use Rattle.profile_image.specs.declared.declarations.Subprogram.{Subprogram}
+use Rattle.profile_image.specs.declared.declarations.Enumeration.{Enumeration}
 use Rattle.ada_regions.specs.declared.types.AdaType.{AdaType}
 use Rattle.ada_regions.specs.declared.types.AdaType.TheVariants as types
 use Rattle.ada_regions.specs.declared.types.ArrayType.{ArrayType}

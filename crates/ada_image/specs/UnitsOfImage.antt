@@ -3,20 +3,20 @@ use Rattle.std.specs.Prelude.{ℕ, suc, pos, Bool, true, false, cond, ◌&&◌, 
 use Rattle.std.specs.Str.{bytes_eq}
 use Rattle.ada_tree.specs.declared.expressions.Expression.{Expression}
 use Rattle.ada_tree.specs.declared.declarations.Aspect.{Aspect}
-use Rattle.profile_machine.specs.declared.numbers.DeclNo.{DeclNo}
-use Rattle.profile_machine.specs.declared.numbers.ExprNo.{ExprNo}
-use Rattle.profile_machine.specs.declared.numbers.EntryNo.{EntryNo}
-use Rattle.profile_machine.specs.declared.numbers.SubprogramNo.{SubprogramNo}
-use Rattle.profile_machine.specs.declared.values.Value.{Value}
-use Rattle.profile_machine.specs.declared.values.Value.TheVariants as value
-use Rattle.profile_machine.specs.declared.declarations.TaskUnit.{TaskUnit}
-use Rattle.profile_machine.specs.declared.declarations.Attachment.{Attachment}
-use Rattle.profile_machine.specs.declared.declarations.ProtectedUnit.{ProtectedUnit}
-use Rattle.profile_machine.specs.declared.declarations.EntryUnit.{EntryUnit}
-use Rattle.profile_machine.specs.declared.declarations.EntryUnit.TheVariants as entry_unit
-use Rattle.profile_machine.specs.declared.declarations.EntryBody.{EntryBody}
-use Rattle.profile_machine.specs.declared.declarations.Entry.{Entry}
-use Rattle.profile_machine.specs.declared.declarations.ControlledType.{ControlledType}
+use Rattle.profile_image.specs.declared.numbers.DeclNo.{DeclNo}
+use Rattle.profile_image.specs.declared.numbers.ExprNo.{ExprNo}
+use Rattle.profile_image.specs.declared.numbers.EntryNo.{EntryNo}
+use Rattle.profile_image.specs.declared.numbers.SubprogramNo.{SubprogramNo}
+use Rattle.profile_image.specs.declared.values.Value.{Value}
+use Rattle.profile_image.specs.declared.values.Value.TheVariants as value
+use Rattle.profile_image.specs.declared.declarations.TaskUnit.{TaskUnit}
+use Rattle.profile_image.specs.declared.declarations.Attachment.{Attachment}
+use Rattle.profile_image.specs.declared.declarations.ProtectedUnit.{ProtectedUnit}
+use Rattle.profile_image.specs.declared.declarations.EntryUnit.{EntryUnit}
+use Rattle.profile_image.specs.declared.declarations.EntryUnit.TheVariants as entry_unit
+use Rattle.profile_image.specs.declared.declarations.EntryBody.{EntryBody}
+use Rattle.profile_image.specs.declared.declarations.Entry.{Entry}
+use Rattle.profile_image.specs.declared.declarations.ControlledType.{ControlledType}
 use Rattle.ada_regions.specs.declared.types.AdaType.{AdaType}
 use Rattle.ada_regions.specs.declared.types.AdaType.TheVariants as types
 use Rattle.ada_regions.specs.declared.types.Formal.{Formal}

@@ -2,7 +2,7 @@
 ghost use Rattle.std.specs.Prelude.{◌≡◌};
 
 use ada_regions::Names;
-use profile_machine::{
+use profile_image::{
     Declaration, Entry, Expression, ImageList, Statement, StatementNo, SubprogramNo, TaskUnit,
 };
 use std::marker::Model;

@@ -19,13 +19,13 @@ use Rattle.ada_regions.specs.TypeKinds.{is_task_type}
 use Rattle.ada_tree.specs.declared.names.Identifier.{Identifier}
 use Rattle.ada_tree.specs.declared.names.Name.{Name}
 use Rattle.ada_tree.specs.declared.operators.Attribute.{Attribute}
-use Rattle.profile_machine.specs.declared.declarations.EntryUnit.{EntryUnit}
-use Rattle.profile_machine.specs.declared.numbers.ProtectedUnitNo.{ProtectedUnitNo}
+use Rattle.profile_image.specs.declared.declarations.EntryUnit.{EntryUnit}
+use Rattle.profile_image.specs.declared.numbers.ProtectedUnitNo.{ProtectedUnitNo}
 use Rattle.std.specs.Prelude.{Bool, List, None, Option, Some, cond, false, find, not, option_map, slice_get, true, unwrap_or, ℕ, ◌&&◌}
 use Rattle.ada_legality.specs.declared.standing.Around.TheVariants as around
 use Rattle.ada_tree.specs.declared.operators.Attribute.TheVariants as attribute
 use Rattle.ada_regions.specs.declared.entities.EntityKind.TheVariants as entity
-use Rattle.profile_machine.specs.declared.declarations.EntryUnit.TheVariants as entry_unit
+use Rattle.profile_image.specs.declared.declarations.EntryUnit.TheVariants as entry_unit
 use Rattle.ada_regions.specs.declared.types.Mode.TheVariants as mode
 use Rattle.ada_regions.specs.declared.types.AdaType.TheVariants as types
 use Rattle.ada_legality.specs.declared.reading.Typed.TheVariants as typing

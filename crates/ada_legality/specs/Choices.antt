@@ -17,13 +17,13 @@ use Rattle.ada_regions.specs.declared.types.AdaType.{AdaType}
 use Rattle.ada_tree.specs.declared.expressions.Expression.{Expression}
 use Rattle.ada_tree.specs.declared.statements.Choice.{Choice}
 use Rattle.ann_base.specs.declared.places.Place.{Place}
-use Rattle.profile_machine.specs.declared.values.Constraint.{Constraint}
+use Rattle.profile_image.specs.declared.values.Constraint.{Constraint}
 use Rattle.std.specs.List.{list_all, list_any}
-use Rattle.profile_machine.specs.declared.limits.TheConstants.{INTEGER_FIRST, INTEGER_LAST}
+use Rattle.profile_image.specs.declared.limits.TheConstants.{INTEGER_FIRST, INTEGER_LAST}
 use Rattle.std.specs.Prelude.{Bool, List, None, Option, Some, [], cond, false, int_le, int_lt, is_some, length, not, option_map, pos, slice_get, true, unwrap_or, ℤ, ◌&&◌, ◌++◌, ◌+ℤ◌, ◌-◌, ◌||◌, ◌∷◌}
 use Rattle.ada_legality.specs.declared.reading.Asked.TheVariants as asking
 use Rattle.ada_tree.specs.declared.statements.Choice.TheVariants as choice
-use Rattle.profile_machine.specs.declared.values.Constraint.TheVariants as constraint
+use Rattle.profile_image.specs.declared.values.Constraint.TheVariants as constraint
 use Rattle.ada_legality.specs.declared.rules.Rule.TheVariants as rule
 use Rattle.ada_legality.specs.declared.reading.Shape.TheVariants as shapes
 use Rattle.ada_regions.specs.declared.types.AdaType.TheVariants as types

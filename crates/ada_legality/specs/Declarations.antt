@@ -77,7 +77,7 @@ use Rattle.ada_legality.specs.declared.findings.BodyKind.TheVariants as completi
 use Rattle.ada_tree.specs.declared.declarations.Declaration.TheVariants as declaration
 use Rattle.ada_tree.specs.declared.declarations.TypeDefinition.TheVariants as definition
 use Rattle.ada_regions.specs.declared.entities.EntityKind.TheVariants as entity
-use Rattle.profile_machine.specs.declared.declarations.EntryUnit.TheVariants as entry_unit
+use Rattle.profile_image.specs.declared.declarations.EntryUnit.TheVariants as entry_unit
 use Rattle.ada_legality.specs.declared.findings.Finding.TheVariants as finding
 use Rattle.ada_tree.specs.declared.declarations.Constraint.TheVariants as indicated
 use Rattle.ada_tree.specs.declared.declarations.ProtectedOperation.TheVariants as operation

@@ -1,3 +1,4 @@
+pub mod Numbers
 pub mod Findings
 pub mod Types
 pub mod Values

@@ -9,7 +9,7 @@ use Rattle.ada_lex.specs.Meaning.{decimals_of, whole_of}
 use Rattle.ada_regions.specs.Numbered.{last_priority_of}
 use Rattle.ada_regions.specs.PredefinedUnits.{item_in}
 use Rattle.ada_regions.specs.Statics.{subtype_of_item}
-use Rattle.profile_machine.specs.declared.limits.TheConstants.{INTEGER_LAST}
+use Rattle.profile_image.specs.declared.limits.TheConstants.{INTEGER_LAST}
 use Rattle.ada_regions.specs.Words.{all_of, and_then, entry_named}
 use Rattle.ann_base.specs.Lists.{is_empty}
 use Rattle.ada_regions.specs.declared.types.Subtype.{Subtype}
@@ -21,7 +21,7 @@ use Rattle.ada_tree.specs.declared.names.Identifier.{Identifier}
 use Rattle.ada_tree.specs.declared.names.Name.{Name}
 use Rattle.ada_tree.specs.declared.operators.Attribute.{Attribute}
 use Rattle.ada_tree.specs.declared.units.Pragma.{Pragma}
-use Rattle.profile_machine.specs.declared.values.Constraint.{Constraint}
+use Rattle.profile_image.specs.declared.values.Constraint.{Constraint}
 use Rattle.std.specs.List.{list_all, list_any}
 use Rattle.std.specs.Prelude.{Bool, List, None, Option, Some, [], codes, cond, false, int_le, is_some, map, neg_ℤ, not, option_map, pos, suc, take, unwrap_or, ℕ, ℤ, ◌&&◌, ◌++◌, ◌||◌, ◌∷◌}
 use Rattle.std.specs.Str.{bytes_eq}

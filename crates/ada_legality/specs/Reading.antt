@@ -44,15 +44,15 @@ use Rattle.ada_tree.specs.declared.operators.MultiplyingOperator.{MultiplyingOpe
 use Rattle.ada_tree.specs.declared.operators.RelationalOperator.{RelationalOperator}
 use Rattle.ada_tree.specs.declared.operators.Sign.{Sign}
 use Rattle.ann_base.specs.declared.places.Place.{Place}
-use Rattle.profile_machine.specs.declared.expressions.BinaryOperator.{BinaryOperator}
-use Rattle.profile_machine.specs.declared.expressions.UnaryOperator.{UnaryOperator}
+use Rattle.profile_image.specs.declared.expressions.BinaryOperator.{BinaryOperator}
+use Rattle.profile_image.specs.declared.expressions.UnaryOperator.{UnaryOperator}
 use Rattle.std.specs.List.{list_any}
 use Rattle.std.specs.Prelude.{Bool, List, None, Option, Some, [], codes, cond, false, is_none, is_some, leb, length, max, not, option_map, slice_get, suc, true, unwrap_or, ℕ, ◌&&◌, ◌++◌, ◌+◌, ◌||◌, ◌∷◌}
 use Rattle.ada_tree.specs.declared.operators.AddingOperator.TheVariants as adding
 use Rattle.ada_legality.specs.declared.standing.Around.TheVariants as around
 use Rattle.ada_legality.specs.declared.reading.Asked.TheVariants as asking
 use Rattle.ada_tree.specs.declared.operators.Attribute.TheVariants as attribute
-use Rattle.profile_machine.specs.declared.expressions.BinaryOperator.TheVariants as binary
+use Rattle.profile_image.specs.declared.expressions.BinaryOperator.TheVariants as binary
 use Rattle.ada_regions.specs.declared.entities.Denoted.TheVariants as denotes
 use Rattle.ada_regions.specs.declared.entities.EntityKind.TheVariants as entity
 use Rattle.ada_tree.specs.declared.operators.HighestOperator.TheVariants as highest
@@ -65,7 +65,7 @@ use Rattle.ada_legality.specs.declared.reading.Shape.TheVariants as shapes
 use Rattle.ada_tree.specs.declared.operators.Sign.TheVariants as sign
 use Rattle.ada_regions.specs.declared.types.AdaType.TheVariants as types
 use Rattle.ada_legality.specs.declared.reading.Typed.TheVariants as typing
-use Rattle.profile_machine.specs.declared.expressions.UnaryOperator.TheVariants as unary
+use Rattle.profile_image.specs.declared.expressions.UnaryOperator.TheVariants as unary
 use Rattle.ada_legality.specs.declared.parts.Wanted.TheVariants as wanting
 
 -- how an expression is read where something is known: what it is, and what is found in it

@@ -46,18 +46,18 @@ use Rattle.ada_tree.specs.declared.statements.Delay.{Delay}
 use Rattle.ada_tree.specs.declared.statements.Exit.{Exit}
 use Rattle.ada_tree.specs.declared.statements.Iteration.{Iteration}
 use Rattle.ann_base.specs.declared.places.Place.{Place}
-use Rattle.profile_machine.specs.declared.numbers.DeclNo.{DeclNo}
-use Rattle.profile_machine.specs.Words.{same_bool}
+use Rattle.profile_image.specs.declared.numbers.DeclNo.{DeclNo}
+use Rattle.profile_image.specs.Words.{same_bool}
 use Rattle.std.specs.List.{flat_map, list_all, list_any}
 use Rattle.std.specs.Prelude.{Bool, List, None, Option, Some, [], cond, eqb, false, filter, is_some, leb, length, ltb, not, option_map, pos, true, unwrap_or, ℕ, ℤ, ◌&&◌, ◌++◌, ◌||◌, ◌∷◌}
 use Rattle.ada_tree.specs.declared.selects.Alternative.TheVariants as alternative
 use Rattle.ada_legality.specs.declared.parts.AlternativeKind.TheVariants as alternatives
 use Rattle.ada_legality.specs.declared.standing.Around.TheVariants as around
 use Rattle.ada_legality.specs.declared.reading.Asked.TheVariants as asking
-use Rattle.profile_machine.specs.declared.values.Constraint.TheVariants as constraint
+use Rattle.profile_image.specs.declared.values.Constraint.TheVariants as constraint
 use Rattle.ada_regions.specs.declared.entities.Denoted.TheVariants as denotes
 use Rattle.ada_regions.specs.declared.entities.EntityKind.TheVariants as entity
-use Rattle.profile_machine.specs.declared.declarations.EntryUnit.TheVariants as entry_unit
+use Rattle.profile_image.specs.declared.declarations.EntryUnit.TheVariants as entry_unit
 use Rattle.ada_legality.specs.declared.findings.Finding.TheVariants as finding
 use Rattle.ada_regions.specs.declared.predefined.Predefined.TheVariants as items
 use Rattle.ada_tree.specs.declared.statements.Iteration.TheVariants as iteration

@@ -17,14 +17,14 @@ use Rattle.ada_tree.specs.declared.expressions.Expression.{Expression}
 use Rattle.ada_tree.specs.declared.expressions.Expression.TheViews.{out-Expression}
 use Rattle.ada_tree.specs.declared.expressions.ExpressionForm.{ExpressionForm}
 use Rattle.ada_tree.specs.declared.names.Name.{Name}
-use Rattle.profile_machine.specs.declared.values.Value.{Value}
+use Rattle.profile_image.specs.declared.values.Value.{Value}
 use Rattle.std.specs.Prelude.{Bool, List, None, Option, Some, [], cond, eqb, false, find, int_le, is_some, neg_ℤ, option_map, pos, true, ℕ, ℤ, ◌&&◌, ◌||◌, ◌∷◌}
 use Rattle.std.specs.Str.{bytes_eq}
 use Rattle.ada_legality.specs.declared.standing.Around.TheVariants as around
 use Rattle.ada_regions.specs.declared.entities.Denoted.TheVariants as denotes
 use Rattle.ada_tree.specs.declared.expressions.ExpressionForm.TheVariants as form
 use Rattle.ada_tree.specs.declared.operators.Sign.TheVariants as sign
-use Rattle.profile_machine.specs.declared.values.Value.TheVariants as value
+use Rattle.profile_image.specs.declared.values.Value.TheVariants as value
 
 -- ---- values as numbers
 

@@ -1,5 +1,6 @@
 //! What is found in a source: rules that are broken, and facts of which rules on the whole source speak.
 use crate::Fault;
+use crate::numbers::Number;
 use ann_base::Place;
 
 /// A kind of declaration that has a body (3.11.1).
@@ -25,7 +26,7 @@ pub struct Attached {
     /// The aspect.
     pub aspect: Place,
     /// The interrupt, where it is static.
-    pub number: Option<i128>,
+    pub number: Option<Number>,
 }
 
 /// A protected object (9.4).
@@ -47,7 +48,7 @@ pub struct Ceiling {
     /// The unit.
     pub unit: Option<u32>,
     /// The one that is stated.
-    pub stated: Option<i128>,
+    pub stated: Option<Number>,
     /// Where it is stated, else where the unit begins.
     pub place: Place,
 }
@@ -106,14 +107,14 @@ pub enum Finding {
     /// The base priority of the main procedure or of a task, where it is stated (D.1).
     MainPriority {
         /// The priority.
-        number: i128,
+        number: Number,
         /// Where it is stated, else where the main procedure begins.
         place: Place,
     },
     /// That of a task.
     TaskPriority {
         /// The priority.
-        number: i128,
+        number: Number,
         /// Where it is stated.
         place: Place,
     },

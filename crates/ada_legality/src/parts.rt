@@ -1,8 +1,9 @@
 //! Parts of calls, declarations and statements, as rules ask of them.
+use crate::numbers::Number;
 use crate::reading::{Read, Typed};
 use ada_regions::{AdaType, Mode};
 use ann_base::Place;
-use profile_machine::Text;
+use profile_image::Text;
 
 /// What a formal wants (6.4.1).
 #[derive(Clone, Copy)]
@@ -110,7 +111,7 @@ pub struct AspectPart {
     /// The type of its value; none where no value stands there.
     pub typed: Option<Typed>,
     /// The value, where it is a static Integer.
-    pub number: Option<i128>,
+    pub number: Option<Number>,
     /// The value, where it is a static priority.
     pub level: Option<u32>,
 }
@@ -143,9 +144,9 @@ pub struct AlternativePart {
 #[derive(Clone, Copy)]
 pub struct Span {
     /// The first one.
-    pub low: i128,
+    pub low: Number,
     /// The last one.
-    pub high: i128,
+    pub high: Number,
 }
 
 /// A choice of a case statement (5.4).

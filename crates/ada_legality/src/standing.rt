@@ -1,6 +1,7 @@
 //! What is known where a construct stands.
 ghost use Rattle.std.specs.Prelude.{◌≡◌};
 
+use crate::numbers::Number;
 use ada_image::{ListOf, NamesOf};
 use ada_regions::{AdaType, Occurrences, Subtype};
 use ann_base::Place;
@@ -79,11 +80,11 @@ pub struct InForce {
     /// Simple_Barriers.
     pub simple_barriers: bool,
     /// Max_Task_Entries.
-    pub max_task_entries: Option<i128>,
+    pub max_task_entries: Option<Number>,
     /// Max_Protected_Entries.
-    pub max_protected_entries: Option<i128>,
+    pub max_protected_entries: Option<Number>,
     /// Max_Select_Alternatives.
-    pub max_select_alternatives: Option<i128>,
+    pub max_select_alternatives: Option<Number>,
     /// Whether Max_Entry_Queue_Length stands there.
     pub has_longest_queue: bool,
     /// Whether some priorities are dispatched by deadlines (D.2.6).

@@ -1,6 +1,6 @@
 //! The bodies of entries (ISO/IEC 8652:2012, 9.5.2).
 ghost use Rattle.std.specs.Prelude.{◌≡◌, OnOk};
-ghost use Rattle.profile_machine.specs.Words.{edit_at};
+ghost use Rattle.profile_image.specs.Words.{edit_at};
 ghost use Rattle.ada_regions.specs.Words.{and_then};
 ghost use Rattle.ada_regions.specs.Names.{kind_at};
 ghost use Rattle.ada_regions.specs.Completions.{holds_of};
@@ -12,7 +12,7 @@ use ada_entities::kind_at;
 use ada_regions::{ExpressionOf, Names, NumberedEntry, NumberedEntryBody, entry_number, is_entry};
 use ada_tree::Expression;
 use ann_base::{NoMemory, Place};
-use profile_machine::EntryNo;
+use profile_image::EntryNo;
 use world_tables::List;
 
 fn is_entry_at(names: &Names<'_>, entity: u32) -> bool

@@ -8,7 +8,7 @@ use ada_entities::{copy, opened, scope_in};
 use ada_regions::{Frame, Names, NumberedScope};
 use ada_tree::Identifier;
 use ann_base::{NoMemory, Place};
-use profile_machine::Text;
+use profile_image::Text;
 use std::alloc::Global;
 
 /// A region begins for the first time.

@@ -6,7 +6,7 @@ ghost use Rattle.ada_regions.specs.PredefinedUnits.{item_in, free, integers, who
 use crate::priorities::default_priority;
 use ada_regions::{AdaType, Operation, Predefined, PredefinedUnit, Subtype};
 use ann_base::{Moment, Raised};
-use profile_machine::{Constraint, INTEGER_FIRST, INTEGER_LAST, TIME_FIRST, TIME_LAST, Value};
+use profile_image::{Constraint, INTEGER_FIRST, INTEGER_LAST, TIME_FIRST, TIME_LAST, Value};
 
 /// A type whose values have no range.
 fn free(of_type: AdaType) -> Predefined

@@ -2,11 +2,11 @@
 -- numbers that the standard leaves open are this profile's: 31 levels of Priority, or 98 where the range is wide, and
 -- times of 2^62 microseconds on both sides of the start.
 use Rattle.std.specs.Prelude.{ℕ, suc, ℤ, pos, Bool, true, false, cond, List, [], ◌∷◌, Option, Some, None, codes, eqb}
-use Rattle.profile_machine.specs.declared.limits.TheConstants.{INTEGER_FIRST, INTEGER_LAST, TIME_FIRST, TIME_LAST}
+use Rattle.profile_image.specs.declared.limits.TheConstants.{INTEGER_FIRST, INTEGER_LAST, TIME_FIRST, TIME_LAST}
 use Rattle.ann_base.specs.declared.exceptions.Raised.TheVariants as raised
-use Rattle.profile_machine.specs.declared.values.Value.TheVariants as value
-use Rattle.profile_machine.specs.declared.values.Constraint.{Constraint}
-use Rattle.profile_machine.specs.declared.values.Constraint.TheVariants as constraint
+use Rattle.profile_image.specs.declared.values.Value.TheVariants as value
+use Rattle.profile_image.specs.declared.values.Constraint.{Constraint}
+use Rattle.profile_image.specs.declared.values.Constraint.TheVariants as constraint
 use Rattle.ada_regions.specs.declared.types.AdaType.{AdaType}
 use Rattle.ada_regions.specs.declared.types.AdaType.TheVariants as types
 use Rattle.ada_regions.specs.declared.types.Subtype.{Subtype}

@@ -13,10 +13,10 @@ use Rattle.ada_tree.specs.declared.expressions.Expression.TheViews.{out-Expressi
 use Rattle.ada_tree.specs.declared.expressions.ExpressionForm.{ExpressionForm}
 use Rattle.ada_tree.specs.declared.expressions.ExpressionForm.TheVariants as form
 use Rattle.ada_tree.specs.declared.expressions.AttributeDesignator.{AttributeDesignator}
-use Rattle.profile_machine.specs.declared.values.Value.{Value}
-use Rattle.profile_machine.specs.declared.values.Value.TheVariants as value
-use Rattle.profile_machine.specs.declared.values.Constraint.{Constraint}
-use Rattle.profile_machine.specs.declared.values.Constraint.TheVariants as constraint
+use Rattle.profile_image.specs.declared.values.Value.{Value}
+use Rattle.profile_image.specs.declared.values.Value.TheVariants as value
+use Rattle.profile_image.specs.declared.values.Constraint.{Constraint}
+use Rattle.profile_image.specs.declared.values.Constraint.TheVariants as constraint
 use Rattle.ada_regions.specs.declared.types.AdaType.{AdaType}
 use Rattle.ada_regions.specs.declared.types.AdaType.TheVariants as types
 use Rattle.ada_regions.specs.declared.types.Subtype.{Subtype}

@@ -7,7 +7,7 @@ ghost use Rattle.ada_regions.specs.Regions.{entry_number, is_entry};
 use crate::predefined::{Predefined, PredefinedUnit};
 use crate::types::{AdaType, Formal, Mode, Subtype};
 use ann_base::Place;
-use profile_machine::{
+use profile_image::{
     ControlledNo, DeclNo, EntryNo, EntryUnit, EnumerationNo, ImageList, ProtectedUnitNo,
     SubprogramNo, Value,
 };

@@ -1,7 +1,7 @@
 //! The predefined units, and what they declare (ISO/IEC 8652:2012, annex A, C.7.1, annex D).
 use crate::types::{AdaType, Subtype};
 use ann_base::{Level, Raised};
-use profile_machine::{INTEGER_LAST, TIME_LAST, Value};
+use profile_image::{INTEGER_LAST, TIME_LAST, Value};
 
 /// The last Integer (3.5.4), as a literal has it; the first one is one further below 0.
 pub const LAST_INTEGER: u128 = INTEGER_LAST as u128;

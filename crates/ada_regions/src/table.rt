@@ -5,7 +5,7 @@ use crate::faults::NameFault;
 use crate::parts::{AspectsOf, ExpressionOf};
 use crate::types::{ArrayType, Formal, Subtype};
 use ann_base::Place;
-use profile_machine::{EntryUnit, ImageList, Text};
+use profile_image::{EntryUnit, ImageList, Text};
 use world_tables::{List, Table};
 
 /// A name that a region binds. It stands for an entity, or is hidden while its declaration goes on (8.3).

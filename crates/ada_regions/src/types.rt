@@ -3,7 +3,7 @@ ghost use Rattle.std.specs.Prelude.{◌≡◌};
 ghost use Rattle.ada_regions.specs.Declaring.{free_subtype};
 ghost use Rattle.ada_regions.specs.TypeKinds.{is_array_type, is_controlled_type, is_protected_type, is_span_type, is_task_type};
 
-use profile_machine::{Constraint, ControlledNo, EnumerationNo, ProtectedUnitNo, TaskUnitNo, Text};
+use profile_image::{Constraint, ControlledNo, EnumerationNo, ProtectedUnitNo, TaskUnitNo, Text};
 
 /// A type of the profile (3.2).
 #[derive(Clone, Copy)]

@@ -8,7 +8,7 @@ use ada_entities::copy;
 use ada_regions::{Formal, Mode, Names, Subtype};
 use ada_tree::{Identifier, OneOrMore, Parameter};
 use ann_base::NoMemory;
-use profile_machine::ImageList;
+use profile_image::ImageList;
 use std::alloc::Global;
 
 fn mode_out(is_in: bool) -> Mode

@@ -7,7 +7,7 @@ ghost use Rattle.ada_regions.specs.Statics.{digit_at, six_digits, micros_of, in_
 use ada_lex::{decimals, whole_value};
 use ada_regions::{LAST_DURATION, LAST_INTEGER};
 use ann_base::Moment;
-use profile_machine::Value;
+use profile_image::Value;
 
 /// The digit at a place behind the point; 0 where none stands there.
 fn digit_at(digits: &[u8], place: usize) -> u64

@@ -5,7 +5,7 @@ ghost use Rattle.ada_regions.specs.Subtypes.{whole_range, truth_range, literal_r
 
 use ada_regions::{AdaType, Names, Subtype};
 use ann_base::Moment;
-use profile_machine::{Constraint, Value};
+use profile_image::{Constraint, Value};
 
 /// The low end of a range.
 pub fn low_of(range: Constraint) -> Option<Value>

@@ -10,7 +10,7 @@ use crate::ranges::{high_of, low_of, range_named};
 use ada_entities::{denoted_by, kind_at};
 use ada_regions::{Denoted, EntityKind, Names, Predefined, Subtype, subtype_of_kind};
 use ada_tree::{Attribute, AttributeDesignator, Expression, ExpressionForm, Name, Sign};
-use profile_machine::Value;
+use profile_image::Value;
 
 fn value_of_kind(kind: &EntityKind) -> Option<Value>
     ensures { result ≡ value_of_kind kind.now }

@@ -7,7 +7,7 @@ use crate::statics::{static_value, subtype_of_item};
 use ada_entities::{denoted_by, kind_at};
 use ada_regions::{ArrayType, Denoted, EntityKind, Names, Subtype};
 use ada_tree::{Constraint as Indicated, Expression, SubtypeIndication};
-use profile_machine::Constraint;
+use profile_image::Constraint;
 
 fn mark_of_kind(kind: &EntityKind) -> Option<Subtype>
     ensures { result ≡ mark_of_kind kind.now }

@@ -3,7 +3,7 @@ use Rattle.std.proofs.Common.{◌≡◌, ◌<◌, ◌∙◌, ℕ, List, Err, len
 use Rattle.std.proofs.lemmas.Bool.{lt-ltb}
 use Rattle.ada_lex.specs.declared.lexing.TheConstants.{MAX_SOURCE}
 use Rattle.ada_lex.specs.Reading.{tokens_of}
-use Rattle.profile_machine.specs.declared.image.Image.{Image}
+use Rattle.profile_image.specs.declared.image.Image.{Image}
 use Rattle.ada_verdicts.specs.declared.refusals.Code.TheVariants as code
 use Rattle.ada_verdicts.specs.Refusals.{refused_at, first_place}
 use Rattle.ada_verdicts.specs.Accepted.{Accepted, judged, LongSourcesAreRefused}

@@ -17,7 +17,7 @@ use Rattle.ada_legality.specs.declared.faults.Fault.{Fault}
 use Rattle.ada_legality.specs.Faults.{first_fault_of}
 use Rattle.ada_image.specs.BuiltUnits.{unit_built}
 use Rattle.ada_image.specs.ImageOfUnits.{program_of}
-use Rattle.profile_machine.specs.declared.image.Image.{Image}
+use Rattle.profile_image.specs.declared.image.Image.{Image}
 use Rattle.ada_verdicts.specs.declared.refusals.Code.TheVariants as code
 use Rattle.ada_verdicts.specs.declared.refusals.Refusal.{Refusal}
 use Rattle.ada_verdicts.specs.Refusals.{refused_at, first_place, of_tokens, of_grammar, of_names, of_rules, of_forms}

@@ -5,7 +5,7 @@ use Rattle.std.proofs.lemmas.List.Folds.{fold_stays}
 use Rattle.ann_base.specs.Answers.{Answers, AnswersAs}
 use Rattle.ann_base.specs.declared.faults.OrMemory.{OrMemory}
 use Rattle.ann_base.specs.declared.faults.OrMemory.TheVariants as answer
-use Rattle.profile_machine.specs.declared.run_data.Item.{Item}
+use Rattle.profile_image.specs.declared.script_items.Item.{Item}
 use Rattle.text_lines.specs.Lines.{NumberedLine, lines_of}
 use Rattle.event_script.specs.declared.faults.ScriptFault.{ScriptFault}
 use Rattle.event_script.specs.declared.reading.Reading.{Reading}

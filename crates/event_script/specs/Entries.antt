@@ -4,10 +4,10 @@ use Rattle.std.specs.Prelude.{◌≤◌, ℕ, ℤ, ◌*◌, ◌+◌, ◌-◌, �
 use Rattle.std.specs.Str.{bytes_eq}
 use Rattle.text_lines.specs.Lines.{words_of}
 use Rattle.text_lines.specs.Numerals.{number_in}
-use Rattle.profile_machine.specs.declared.run_data.Item.{Item}
-use Rattle.profile_machine.specs.declared.run_data.Item.TheVariants as item
+use Rattle.profile_image.specs.declared.script_items.Item.{Item}
+use Rattle.profile_image.specs.declared.script_items.Item.TheVariants as item
 use Rattle.event_script.specs.declared.faults.TheConstants.{LAST_TICK, MOST_ITEMS}
-use Rattle.profile_machine.specs.declared.limits.TheConstants.{LAST_OUTSIDE_LINE}
+use Rattle.profile_image.specs.declared.limits.TheConstants.{LAST_OUTSIDE_LINE}
 use Rattle.event_script.specs.declared.faults.ScriptFaultKind.{ScriptFaultKind}
 use Rattle.event_script.specs.declared.faults.ScriptFaultKind.TheVariants.{BadLine, BadNumber}
 use Rattle.event_script.specs.declared.words.Keyword.{Keyword}

@@ -2,7 +2,7 @@
 use Rattle.std.specs.Prelude.{ℕ, ℤ, pos, neg_ℤ, ◌==◌, ◌+◌, if◌then◌else◌, List, [], ◌∷◌, Option, Some, None, option_map, Result, Ok, Err}
 use Rattle.text_lines.specs.Numerals.{is_numeral, number_in}
 use Rattle.event_script.specs.declared.faults.TheConstants.{LAST_TICK}
-use Rattle.profile_machine.specs.declared.limits.TheConstants.{LAST_OUTSIDE_LINE}
+use Rattle.profile_image.specs.declared.limits.TheConstants.{LAST_OUTSIDE_LINE}
 use Rattle.event_script.specs.declared.numbers.TheConstants.{MOST_VALUE}
 use Rattle.event_script.specs.declared.faults.ScriptFaultKind.{ScriptFaultKind}
 use Rattle.event_script.specs.declared.faults.ScriptFaultKind.TheVariants.{BadNumber, NoSuchLine}

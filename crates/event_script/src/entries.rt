@@ -1,7 +1,7 @@
 //! What a line says.
 ghost use Rattle.std.specs.Prelude.{◌≡◌, ◌≤◌, IfOk};
 ghost use Rattle.text_lines.specs.Lines.{words_of};
-ghost use Rattle.profile_machine.specs.declared.run_data.Item.TheVariants as item;
+ghost use Rattle.profile_image.specs.declared.script_items.Item.TheVariants as item;
 ghost use Rattle.text_lines.specs.Numerals.{number_in};
 ghost use Rattle.event_script.specs.declared.faults.TheConstants.{LAST_TICK, MOST_ITEMS};
 ghost use Rattle.event_script.specs.Words.{one_word, two_words};
@@ -11,7 +11,7 @@ ghost use Rattle.event_script.specs.Entries.{IsTickAndNumber, IsEntry, at_tick, 
 use crate::faults::{LAST_TICK, MOST_ITEMS, ScriptFaultKind};
 use crate::numbers::{number_of, tick_in, value_in};
 use crate::words::{Keyword, keyword_of, one_word, two_words};
-use profile_machine::Item;
+use profile_image::Item;
 use text_lines::{next_word, number_in};
 
 /// What a line says: an item that comes so many times, first at a tick, and then once in each period.

@@ -2,10 +2,10 @@
 ghost use Rattle.std.specs.Prelude.{◌≡◌, ◌≤◌, IfSome, IfOk};
 ghost use Rattle.event_script.specs.Numbers.{tick_in, number_of, negative_in, natural_in, value_in};
 ghost use Rattle.event_script.specs.declared.faults.TheConstants.{LAST_TICK};
-ghost use Rattle.profile_machine.specs.declared.limits.TheConstants.{LAST_OUTSIDE_LINE};
+ghost use Rattle.profile_image.specs.declared.limits.TheConstants.{LAST_OUTSIDE_LINE};
 
 use crate::faults::{LAST_TICK, ScriptFaultKind};
-use profile_machine::{INTEGER_LAST, LAST_OUTSIDE_LINE};
+use profile_image::{INTEGER_LAST, LAST_OUTSIDE_LINE};
 use text_lines::{is_numeral, number_in};
 
 /// The greatest value of a port, which is the last Integer.

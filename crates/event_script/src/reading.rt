@@ -11,7 +11,7 @@ use crate::entries::{Entry, entry_of};
 use crate::faults::{MOST_ITEMS, SCRIPT_BYTES, ScriptFault, ScriptFaultKind};
 use crate::items::put_entry;
 use ann_base::{Moment, OrMemory};
-use profile_machine::Item;
+use profile_image::Item;
 use std::alloc::Global;
 use text_lines::{TextLine, line_at};
 use world_tables::List;

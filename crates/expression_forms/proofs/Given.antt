@@ -2,7 +2,7 @@
 use Rattle.std.proofs.Common.{◌≡◌, ℕ, ℤ, pos, negsuc, Bool, true, false, refl, arith}
 use Rattle.std.specs.Prelude.{int_le}
 use Rattle.std.proofs.lemmas.Bool.{and_from, le-leb, eq-eqb}
-use Rattle.profile_machine.specs.declared.values.Value.TheVariants as value
+use Rattle.profile_image.specs.declared.values.Value.TheVariants as value
 use Rattle.ada_image.specs.BuiltExpressions.{is_given}
 
 least : (n : ℤ) → int_le n n ≡ true

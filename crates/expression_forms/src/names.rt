@@ -7,7 +7,7 @@ use ada_regions::{EntityKind, Names, Subtype};
 use ada_subtypes::attribute_value;
 use ada_tree::{Attribute, Name};
 use image_layout::subtype_is_thing;
-use profile_machine::{DeclNo, Value};
+use profile_image::{DeclNo, Value};
 
 /// Whether a text can give a value: it is no task of a run, and no thing.
 #[tactic(auto, using(crate::proofs::Given::whole_is_given, crate::proofs::Given::truth_is_given, crate::proofs::Given::literal_is_given, crate::proofs::Given::ticks_are_given))]

@@ -3,7 +3,7 @@ use Rattle.std.proofs.Common.{◌≡◌, ℕ, ◌+◌, ◌<◌, suc, List, ◌�
 use Rattle.std.proofs.lemmas.List.{drop_more, append-nil}
 use Rattle.ada_tree.specs.declared.expressions.Expression.{Expression}
 use Rattle.ada_tree.specs.declared.expressions.Argument.{Argument}
-use Rattle.profile_machine.specs.declared.statements.Actual.{Actual}
+use Rattle.profile_image.specs.declared.statements.Actual.{Actual}
 use Rattle.ada_regions.specs.declared.types.Formal.{Formal}
 use Rattle.ada_image.specs.declared.making.Lists.{Lists}
 use Rattle.ada_image.specs.declared.making.Within.{Within}

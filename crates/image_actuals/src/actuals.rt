@@ -13,7 +13,7 @@ use ann_base::NoMemory;
 use image_expressions::{expression_made, named};
 use image_layout::{argument_from, subtype_is_thing};
 use image_names::thing_in;
-use profile_machine::{Actual, Actuals};
+use profile_image::{Actual, Actuals};
 use std::alloc::Global;
 
 /// An actual of mode `in`.

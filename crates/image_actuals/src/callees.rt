@@ -6,7 +6,7 @@ ghost use Rattle.ada_image.specs.ImageOfCalls.{operation_called, callee_of, owne
 use ada_image::Within;
 use ada_tree::Name;
 use image_names::{named_before, object_before};
-use profile_machine::{Callee, DeclNo, EntryOwner, EntryUnit, ProtectedUnitNo, SubprogramNo};
+use profile_image::{Callee, DeclNo, EntryOwner, EntryUnit, ProtectedUnitNo, SubprogramNo};
 
 fn operation_called(operation: SubprogramNo, object: Option<DeclNo>) -> Callee
     ensures { result ≡ operation_called operation object }

@@ -12,7 +12,7 @@ use ada_tree::{Argument, AttributeDesignator, Expression, ExpressionForm, Name};
 use ann_base::NoMemory;
 use image_layout::action_put;
 use image_names::kind_named;
-use profile_machine::{
+use profile_image::{
     Destination, EntryNo, EntryUnit, ProtectedUnitNo, StatementForm, StatementNo, SubprogramNo,
 };
 use std::alloc::Global;

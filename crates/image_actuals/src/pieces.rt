@@ -1,7 +1,7 @@
 //! The pieces of the text of Put_Line (ISO/IEC 8652:2012, A.10.7): a text, an Image, or several
 //! joined.
 ghost use Rattle.std.specs.Prelude.{◌≡◌, ◌++◌, ◌∷◌, [], OnOk, option_copied};
-ghost use Rattle.profile_machine.specs.declared.statements.Piece.TheVariants as piece;
+ghost use Rattle.profile_image.specs.declared.statements.Piece.TheVariants as piece;
 ghost use Rattle.ada_tree.specs.declared.expressions.Expression.TheViews.{out-Expression};
 ghost use Rattle.ada_image.specs.Made.{Made};
 ghost use Rattle.ada_image.specs.ImageOfCalls.{piece_of_type, image_piece, value_or_none, image_made, piece_made, joined_made, all_joined, pieces_in_form, pieces_made, put_line_put};
@@ -16,7 +16,7 @@ use ann_base::NoMemory;
 use image_expressions::expression_made;
 use image_layout::{action_put, first_argument};
 use image_names::no_value;
-use profile_machine::{ExprNo, ImageList, Piece, StatementForm, StatementNo};
+use profile_image::{ExprNo, ImageList, Piece, StatementForm, StatementNo};
 use std::alloc::Global;
 
 /// The Image of a value of a type (3.5).

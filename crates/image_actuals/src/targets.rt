@@ -1,7 +1,7 @@
 //! Variables that statements and actuals name: an object, or an element of an array (ISO/IEC
 //! 8652:2012, 4.1, 4.1.1).
 ghost use Rattle.std.specs.Prelude.{◌≡◌, None, option_copied};
-ghost use Rattle.profile_machine.specs.declared.expressions.ObjectName.TheVariants as object;
+ghost use Rattle.profile_image.specs.declared.expressions.ObjectName.TheVariants as object;
 ghost use Rattle.ada_image.specs.Made.{Made};
 ghost use Rattle.ada_image.specs.ImageOfCalls.{target_made, variable_in};
 ghost use Rattle.ada_image.specs.ImageOfExpressions.{no_declaration_no};
@@ -12,7 +12,7 @@ use ann_base::NoMemory;
 use image_expressions::variable_made;
 use image_layout::first_argument;
 use image_names::no_declaration_no;
-use profile_machine::{ObjectName, VariableName};
+use profile_image::{ObjectName, VariableName};
 
 /// The variable that a name denotes, with the index of an element or without.
 #[tactic(auto, unfolding(ada_image::specs::ImageOfCalls::target_made, ada_image::specs::ImageOfExpressions::expression_made))]

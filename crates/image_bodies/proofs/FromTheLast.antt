@@ -1,7 +1,7 @@
 -- Statements that are made from the last to the first: those from a place on, and the one before.
 use Rattle.std.proofs.Common.{◌≡◌, ℕ, ◌-◌, ◌<◌, ◌≤◌, List, ◌∷◌, Option, length, drop, get_or, ap, sym, refl, ◌∙◌}
 use Rattle.ada_tree.specs.declared.statements.Statement.{Statement}
-use Rattle.profile_machine.specs.declared.numbers.StatementNo.{StatementNo}
+use Rattle.profile_image.specs.declared.numbers.StatementNo.{StatementNo}
 use Rattle.ada_image.specs.declared.making.Lists.{Lists}
 use Rattle.ada_image.specs.declared.making.Within.{Within}
 use Rattle.ada_image.specs.ImageOfStatements.{SequenceMaking, statement_put, statements_put}

@@ -14,7 +14,7 @@ use image_compounds::{MakeSequence, same_place};
 use image_layout::{first_put, in_body_of, in_units, units_inside};
 use image_objects::subprogram_declared_as;
 use image_statements::scope_at;
-use profile_machine::{StatementNo, SubprogramNo};
+use profile_image::{StatementNo, SubprogramNo};
 use std::alloc::Global;
 use world_tables::List;
 

@@ -10,7 +10,7 @@ use ann_base::NoMemory;
 use image_compounds::{MakeSequence, handlers_put};
 use image_layout::{in_construct, put_at, reserved, the_action};
 use image_objects::{activation_put, declarations_put, end_of_activation_put, make_tasks};
-use profile_machine::{StatementForm, StatementNo};
+use profile_image::{StatementForm, StatementNo};
 use std::alloc::Global;
 
 /// Names how sequences are made here: with the declarations and bodies in them.

@@ -15,7 +15,7 @@ use image_layout::action_put;
 use image_statements::{
     abort_put, assignment_put, delay_put, exit_put, raise_put, requeue_put, return_put,
 };
-use profile_machine::{StatementForm, StatementNo};
+use profile_image::{StatementForm, StatementNo};
 use std::alloc::Global;
 
 /// A statement (5.1).

@@ -1,11 +1,11 @@
 -- The actions of predefined procedures that differ in nothing but in what they make of like arguments, and the names of
 -- their formals (ISO/IEC 8652:2012, D.2.5, D.2.6, D.5.1, D.14.1, D.14.2, D.15).
-use Rattle.profile_machine.specs.declared.numbers.DeclNo.{DeclNo}
-use Rattle.profile_machine.specs.declared.numbers.ExprNo.{ExprNo}
+use Rattle.profile_image.specs.declared.numbers.DeclNo.{DeclNo}
+use Rattle.profile_image.specs.declared.numbers.ExprNo.{ExprNo}
 use Rattle.std.specs.Prelude.{ℕ, List, [], ◌∷◌, Option, codes}
-use Rattle.profile_machine.specs.declared.expressions.VariableName.{VariableName}
-use Rattle.profile_machine.specs.declared.statements.StatementForm.{StatementForm}
-use Rattle.profile_machine.specs.declared.statements.StatementForm.TheVariants as action
+use Rattle.profile_image.specs.declared.expressions.VariableName.{VariableName}
+use Rattle.profile_image.specs.declared.statements.StatementForm.{StatementForm}
+use Rattle.profile_image.specs.declared.statements.StatementForm.TheVariants as action
 use Rattle.image_calls.specs.declared.actions.Cancelling.{Cancelling}
 use Rattle.image_calls.specs.declared.actions.Cancelling.TheVariants as cancelling
 use Rattle.image_calls.specs.declared.actions.Budgeting.{Budgeting}

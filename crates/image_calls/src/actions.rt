@@ -13,7 +13,7 @@ use image_actuals::{no_variable, value_or_none, variable_in};
 use image_expressions::optional_value;
 use image_layout::{action_put, argument_from};
 use image_settings::thing_of;
-use profile_machine::{DeclNo, ExprNo, StatementForm, StatementNo, VariableName};
+use profile_image::{DeclNo, ExprNo, StatementForm, StatementNo, VariableName};
 
 #[tactic(auto, unfolding(ada_image::specs::ImageOfProcedures::variable_of))]
 fn variable_of(

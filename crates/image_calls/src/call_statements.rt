@@ -11,7 +11,7 @@ use ann_base::NoMemory;
 use image_actuals::{call_put, entry_call_put, not_built};
 use image_layout::action_put;
 use image_signs::signs_in_actuals;
-use profile_machine::{Destination, StatementForm, StatementNo};
+use profile_image::{Destination, StatementForm, StatementNo};
 use std::alloc::Global;
 
 /// A call of what an entity is.

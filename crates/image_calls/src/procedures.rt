@@ -18,7 +18,7 @@ use ann_base::NoMemory;
 use image_actuals::{not_built, put_line_put};
 use image_layout::argument_from;
 use image_settings::set_budget_put;
-use profile_machine::StatementNo;
+use profile_image::StatementNo;
 use std::alloc::Global;
 
 /// Text_IO.Put_Line (A.10.7).

@@ -11,7 +11,7 @@ use ann_base::NoMemory;
 use image_actuals::value_or_none;
 use image_layout::{action_put, argument_from};
 use image_settings::{handler_of, is_in_time, moment_of, setting_with, thing_of};
-use profile_machine::{Setting, StatementForm, StatementNo};
+use profile_image::{Setting, StatementForm, StatementNo};
 
 #[tactic(auto, unfolding(ada_image::specs::ImageOfProcedures::setting_made))]
 fn setting_made(

@@ -11,9 +11,7 @@ use ann_base::NoMemory;
 use image_layout::{in_handler, reserved, the_action};
 use image_parts::{in_statement_scope, scope_action};
 use image_statements::{entry_at, handled_made, scope_at};
-use profile_machine::{
-    Handler as ExceptionHandler, ImageList, ScopeNo, StatementForm, StatementNo,
-};
+use profile_image::{Handler as ExceptionHandler, ImageList, ScopeNo, StatementForm, StatementNo};
 use std::alloc::Global;
 
 /// A block (5.6).

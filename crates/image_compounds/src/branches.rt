@@ -11,7 +11,7 @@ use ann_base::NoMemory;
 use image_layout::the_action;
 use image_parts::{case_action, if_action};
 use image_statements::choices_made;
-use profile_machine::{CaseAlternative as CaseActions, ImageList, StatementNo};
+use profile_image::{CaseAlternative as CaseActions, ImageList, StatementNo};
 use std::alloc::Global;
 
 /// The statements of a compound statement lead to what comes behind it.

@@ -11,7 +11,7 @@ use ada_tree::{Expression, Iteration, Loop};
 use ann_base::NoMemory;
 use image_layout::{in_loops, loops_inside, put_at, reserved, the_action};
 use image_parts::{for_action, label_of, parameter_of, while_action};
-use profile_machine::{DeclNo, StatementForm, StatementNo};
+use profile_image::{DeclNo, StatementForm, StatementNo};
 use std::alloc::Global;
 use world_tables::List;
 

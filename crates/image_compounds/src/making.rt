@@ -1,7 +1,7 @@
 //! What makes actions of a sequence of statements.
 use ada_image::{Lists, SequencePlace, Within};
 use ann_base::NoMemory;
-use profile_machine::StatementNo;
+use profile_image::StatementNo;
 use std::alloc::Global;
 
 /// What is a sequence of statements (ISO/IEC 8652:2012, 5.1, 3.11). A crate that makes sequences names itself by a type `W` of its

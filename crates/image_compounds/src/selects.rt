@@ -19,7 +19,7 @@ use image_layout::{action_put, in_construct, put_at, reserved, the_action};
 use image_parts::{guard_of, signs_in_alternatives, signs_in_timed_call, signs_in_trigger};
 use image_signs::signs_in_actuals;
 use image_statements::delay_put;
-use profile_machine::{
+use profile_image::{
     SelectAlternative as GuardedAlternative, SelectAlternatives, SelectKind, StatementForm,
     StatementNo,
 };

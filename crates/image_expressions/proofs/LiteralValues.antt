@@ -3,8 +3,8 @@ use Rattle.std.proofs.Common.{◌≡◌, ℕ, List, Some, None, Bool, true, fals
 use Rattle.std.specs.Prelude.{◌+◌, leb, pos}
 use Rattle.ada_regions.specs.declared.predefined.TheConstants.{LAST_DURATION, LAST_INTEGER}
 use Rattle.ada_lex.specs.Meaning.{whole_of, decimals_of}
-use Rattle.profile_machine.specs.declared.values.Value.{Value}
-use Rattle.profile_machine.specs.declared.values.Value.TheVariants as value
+use Rattle.profile_image.specs.declared.values.Value.{Value}
+use Rattle.profile_image.specs.declared.values.Value.TheVariants as value
 use Rattle.ann_base.specs.Lists.{is_empty}
 use Rattle.ada_regions.specs.Statics.{static_literal, static_negative, literal_value, negated, micros_of}
 

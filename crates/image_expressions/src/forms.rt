@@ -17,7 +17,7 @@ use ada_tree::{Argument, AttributeDesignator, Expression, ExpressionForm, Name};
 use ann_base::NoMemory;
 use image_layout::{first_argument, highest_operator};
 use image_names::{attribute_made, known, no_value};
-use profile_machine::{ExprNo, Value};
+use profile_image::{ExprNo, Value};
 
 /// What a predefined unit declares, as a value.
 #[tactic(auto, unfolding(ada_image::specs::ImageOfExpressions::item_made))]

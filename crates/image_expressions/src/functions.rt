@@ -12,7 +12,7 @@ use ada_tree::Argument;
 use ann_base::{Moment, NoMemory};
 use image_layout::{argument_from, value_put};
 use image_names::{no_value, thing_in};
-use profile_machine::{DeclNo, ExprNo, Expression};
+use profile_image::{DeclNo, ExprNo, Expression};
 
 /// An actual; where it is missing, what no accepted source has there.
 #[tactic(auto, unfolding(ada_image::specs::ImageOfExpressions::image_or_none))]

@@ -2,7 +2,7 @@
 use ada_image::{Lists, Within};
 use ada_tree::Name;
 use ann_base::NoMemory;
-use profile_machine::ExprNo;
+use profile_image::ExprNo;
 
 /// What gives an expression's image (ISO/IEC 8652:2012, clause 4).
 pub trait Imaged {

@@ -5,7 +5,7 @@ ghost use Rattle.ada_regions.specs.Statics.{literal_value, negated};
 
 use ada_subtypes::{static_literal, static_negative};
 use ann_base::NoMemory;
-use profile_machine::Value;
+use profile_image::Value;
 
 /// The value of a literal.
 #[tactic(auto, using(crate::proofs::LiteralValues::value_of_static))]

@@ -11,7 +11,7 @@ use ada_tree::Name;
 use ann_base::NoMemory;
 use image_layout::{subtype_is_thing, value_put};
 use image_names::{declared_as, known, no_value};
-use profile_machine::{DeclNo, ExprNo, Expression, Value};
+use profile_image::{DeclNo, ExprNo, Expression, Value};
 
 /// An object by its name, or a value.
 #[tactic(auto, unfolding(ada_image::specs::ImageOfExpressions::object_made))]

@@ -8,7 +8,7 @@ use ada_image::{Lists, Within};
 use ada_tree::{Addend, LogicalOperator, Multiplied, OneOrMore, Operand, RelationalOperator};
 use ann_base::NoMemory;
 use image_layout::{adding_operator, logical_operator, multiplying_operator, relational_operator};
-use profile_machine::{BinaryOperator, ExprNo};
+use profile_image::{BinaryOperator, ExprNo};
 
 /// Relations behind the left operand.
 #[tactic(auto, unfolding(ada_image::specs::ImageOfExpressions::operands_made))]

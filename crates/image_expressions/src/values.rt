@@ -10,7 +10,7 @@ use ada_tree::Sign;
 use ann_base::NoMemory;
 use image_layout::value_put;
 use image_names::known;
-use profile_machine::{BinaryOperator, ExprNo, Expression, UnaryOperator};
+use profile_image::{BinaryOperator, ExprNo, Expression, UnaryOperator};
 
 /// An operator before its operand.
 #[tactic(auto, unfolding(ada_image::specs::ImageOfExpressions::unary_made))]

@@ -9,7 +9,7 @@ use ada_tree::Name;
 use ann_base::NoMemory;
 use image_layout::value_put;
 use image_names::object_named;
-use profile_machine::{ExprNo, Expression, VariableName};
+use profile_image::{ExprNo, Expression, VariableName};
 
 /// The index of an element, if there is one.
 #[tactic(auto, unfolding(ada_image::specs::ImageOfExpressions::index_made))]

@@ -7,7 +7,7 @@ use ada_subtypes::{static_value, subtype_of_name};
 use ada_tree::{Assignment, Choice, Iteration, OneOrMore, Trigger};
 use expression_forms::{call_statement_built, expression_built, is_given, source_built};
 use image_layout::{subtype_is_array, subtype_is_kept};
-use profile_machine::Value;
+use profile_image::Value;
 
 /// An assignment to a name without an index: a controlled object and a whole array are named.
 fn whole_built(assignment: &Assignment, subtype: Option<Subtype>, names: &Names<'_>) -> bool

@@ -1,6 +1,6 @@
 -- What is made one by one: those so far, one more, and those that are still to come.
 use Rattle.std.proofs.Common.{◌≡◌, ℕ, ◌+◌, List, [], ◌∷◌, ◌++◌, take, drop, refl, ap, sym, ◌∙◌, append_assoc}
-use Rattle.profile_machine.specs.declared.declarations.Declaration.{Declaration}
+use Rattle.profile_image.specs.declared.declarations.Declaration.{Declaration}
 use Rattle.ada_regions.specs.declared.table.NumberedDeclaration.{NumberedDeclaration}
 use Rattle.ada_image.specs.declared.making.Lists.{Lists}
 use Rattle.ada_image.specs.declared.making.Within.{Within}

@@ -12,7 +12,7 @@ use ada_tree::Expression;
 use ann_base::NoMemory;
 use image_layout::{cells_of_declaration, index_range};
 use image_scopes::{place_behind, scope_no};
-use profile_machine::{Declaration, ImageList, Initial};
+use profile_image::{Declaration, ImageList, Initial};
 use std::alloc::Global;
 
 /// A declaration of the image with its initial value, where so many stand before it in the table.

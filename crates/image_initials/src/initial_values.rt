@@ -12,7 +12,7 @@ use image_actuals::function_call;
 use image_expressions::{expression_made, named};
 use image_layout::subtype_is_array;
 use image_statements::array_name;
-use profile_machine::Initial;
+use profile_image::Initial;
 
 /// The value of a scalar.
 #[tactic(auto, unfolding(ada_image::specs::ImageOfUnits::scalar_initial))]

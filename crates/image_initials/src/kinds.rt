@@ -4,7 +4,7 @@ ghost use Rattle.ada_image.specs.ImageOfUnits.{kind_of_sort, kind_of_subtype, ki
 
 use ada_regions::{AdaType, Names, Sort, Subtype};
 use image_layout::{range_of_cells, subtype_is_thing};
-use profile_machine::{Constraint, DeclNo, DeclarationKind, Initial};
+use profile_image::{Constraint, DeclNo, DeclarationKind, Initial};
 
 /// What an object of a type is.
 #[tactic(auto, unfolding(ada_image::specs::ImageOfUnits::kind_of_type))]

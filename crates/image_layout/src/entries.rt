@@ -2,7 +2,7 @@
 ghost use Rattle.std.specs.Prelude.{◌≡◌};
 ghost use Rattle.ada_image.specs.UnitsOfImage.{same_entry_unit};
 
-use profile_machine::EntryUnit;
+use profile_image::EntryUnit;
 
 /// Whether both are the same unit.
 #[tactic(auto, unfolding(ada_image::specs::UnitsOfImage::same_entry_unit))]

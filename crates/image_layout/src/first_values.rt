@@ -5,7 +5,7 @@ ghost use Rattle.ada_image.specs.Layout.{nearest, first_of_free, first_in, first
 use crate::subtypes::cell_subtype;
 use ada_regions::{AdaType, Names, Subtype};
 use ann_base::Moment;
-use profile_machine::{Constraint, Value};
+use profile_image::{Constraint, Value};
 
 /// The whole number of a range that is nearest to zero.
 fn nearest_whole(low: i32, high: i32) -> i32

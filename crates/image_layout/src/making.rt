@@ -6,7 +6,7 @@ ghost use Rattle.ada_image.specs.Making.{value_put, action_put, reserved, put_at
 
 use ada_image::{FirstAction, Lists};
 use ann_base::NoMemory;
-use profile_machine::{ExprNo, Expression, Statement, StatementForm, StatementNo};
+use profile_image::{ExprNo, Expression, Statement, StatementForm, StatementNo};
 use world_tables::List;
 
 /// A count as a number of 32 bits. One that does not fit wants more memory than there is.

@@ -5,7 +5,7 @@ ghost use Rattle.ada_image.specs.ImageOfExpressions.{logical_operator, relationa
 use ada_tree::{
     AddingOperator, HighestOperator, LogicalOperator, MultiplyingOperator, RelationalOperator,
 };
-use profile_machine::{BinaryOperator, UnaryOperator};
+use profile_image::{BinaryOperator, UnaryOperator};
 
 /// A logical operator or a short-circuit form (4.5.1).
 pub fn logical_operator(operator: LogicalOperator) -> BinaryOperator

@@ -7,7 +7,7 @@ use crate::first_values::first_value;
 use crate::subtypes::{range_of_cells, subtype_is_thing};
 use ada_regions::{Formal, Names};
 use ann_base::NoMemory;
-use profile_machine::{Constraint, Enumeration, Formal as FormalCell, ImageList, Text, Value};
+use profile_image::{Constraint, Enumeration, Formal as FormalCell, ImageList, Text, Value};
 use std::alloc::Global;
 
 /// The cell of a formal parameter.

@@ -4,7 +4,7 @@ ghost use Rattle.ada_regions.specs.TypeKinds.{is_array_type};
 ghost use Rattle.ada_image.specs.Layout.{is_thing, is_kept, subtype_is, array_of, cell_subtype, range_of_cells, index_range};
 
 use ada_regions::{AdaType, ArrayType, Names, Subtype, is_array_type};
-use profile_machine::Constraint;
+use profile_image::Constraint;
 
 /// Whether objects of this type stand for themselves, and are named rather than copied.
 pub fn is_thing(of_type: AdaType) -> bool

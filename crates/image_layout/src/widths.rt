@@ -7,7 +7,7 @@ use crate::places::is_component_of;
 use crate::subtypes::{array_at, array_of};
 use ada_regions::{AdaType, ArrayType, ComponentOwner, Names, NumberedDeclaration, Sort, Subtype};
 use ann_base::NoMemory;
-use profile_machine::{CONTROLLED_CELLS, Constraint, PROTECTED_CELLS};
+use profile_image::{CONTROLLED_CELLS, Constraint, PROTECTED_CELLS};
 
 /// A sum of 32 bits. One that does not fit wants more memory than there is.
 pub fn added(sum: u32, more: u32) -> Result<u32, NoMemory>

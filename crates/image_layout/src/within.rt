@@ -7,7 +7,7 @@ ghost use Rattle.ada_image.specs.ImageOfUnits.{outermost};
 use ada_image::{ListOf, Lists, NamesOf, OpenLoop, Within};
 use ada_regions::Names;
 use ann_base::NoMemory;
-use profile_machine::{ImageList, StatementNo, SubprogramNo};
+use profile_image::{ImageList, StatementNo, SubprogramNo};
 use std::alloc::Global;
 use world_tables::List;
 

@@ -1,7 +1,7 @@
 -- What is made of the two lists of declarations of a package.
 use Rattle.std.proofs.Common.{◌≡◌, ℕ, Bool, true, false, List, [], ◌∷◌, ◌++◌, ◌||◌, Option, refl, ap, ◌∙◌}
 use Rattle.ada_tree.specs.declared.declarations.Declaration.{Declaration}
-use Rattle.profile_machine.specs.declared.numbers.StatementNo.{StatementNo}
+use Rattle.profile_image.specs.declared.numbers.StatementNo.{StatementNo}
 use Rattle.ada_image.specs.declared.making.Lists.{Lists}
 use Rattle.ada_image.specs.declared.making.Within.{Within}
 use Rattle.ada_image.specs.ImageOfDeclarations.{makes_task, make_tasks, declaration_put, declarations_put}

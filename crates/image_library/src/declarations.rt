@@ -9,7 +9,7 @@ use ada_image::{Lists, Within};
 use ada_tree::{LibraryPackage, Package, PackageBody, PackageDeclaration};
 use ann_base::NoMemory;
 use image_objects::{declarations_put, make_tasks};
-use profile_machine::StatementNo;
+use profile_image::StatementNo;
 use std::alloc::Global;
 
 /// The actions of the private declarations of a package.

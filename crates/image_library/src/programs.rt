@@ -13,7 +13,7 @@ use image_policies::policies_of;
 use image_scopes::{scope_no, scopes_made, subprograms_made};
 use image_statements::scope_at;
 use image_units::{controlled_types_made, priority_or, protected_units_made};
-use profile_machine::{Image, ImageList, MainProcedure, Statement};
+use profile_image::{Image, ImageList, MainProcedure, Statement};
 use std::alloc::Global;
 use std::mem::replace;
 use world_tables::List;

@@ -1,6 +1,6 @@
 //! Attributes of names (ISO/IEC 8652:2012, 4.1.4), and values that the text gives.
 ghost use Rattle.std.specs.Prelude.{◌≡◌, option_copied, unwrap_or, pos};
-ghost use Rattle.profile_machine.specs.declared.values.Value.TheVariants as value;
+ghost use Rattle.profile_image.specs.declared.values.Value.TheVariants as value;
 ghost use Rattle.ada_regions.specs.Statics.{attribute_value};
 ghost use Rattle.ada_image.specs.Made.{Made};
 ghost use Rattle.ada_image.specs.ImageOfExpressions.{known, no_value, count_of, count_made, attribute_made};
@@ -12,7 +12,7 @@ use ada_subtypes::attribute_value;
 use ada_tree::{Attribute, Name};
 use ann_base::NoMemory;
 use image_layout::value_put;
-use profile_machine::{ExprNo, Expression, Value};
+use profile_image::{ExprNo, Expression, Value};
 
 /// A value that the text gives.
 pub fn known(lists: &mut Lists, value: Value) -> Result<ExprNo, NoMemory>

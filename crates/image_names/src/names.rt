@@ -7,7 +7,7 @@ use ada_image::Within;
 use ada_regions::{ComponentOwner, EntityKind};
 use ada_tree::Name;
 use image_layout::prefix_part;
-use profile_machine::{DeclNo, ObjectName};
+use profile_image::{DeclNo, ObjectName};
 
 /// The number of an object, a parameter or a component.
 pub fn object_number(kind: &EntityKind) -> Option<DeclNo>

@@ -5,7 +5,7 @@ ghost use Rattle.ada_image.specs.ImageOfDeclarations.{activation_put, end_of_act
 use ada_image::Lists;
 use ann_base::NoMemory;
 use image_layout::action_put;
-use profile_machine::{StatementForm, StatementNo};
+use profile_image::{StatementForm, StatementNo};
 
 /// The activation of the tasks of a part.
 #[tactic(auto, unfolding(ada_image::specs::ImageOfDeclarations::activation_put))]

@@ -7,7 +7,7 @@ use crate::objects::{object_makes_task, objects_put, single_put};
 use ada_image::{Lists, Within};
 use ada_tree::Declaration;
 use ann_base::NoMemory;
-use profile_machine::StatementNo;
+use profile_image::StatementNo;
 use std::alloc::Global;
 
 /// A declaration (3.1).

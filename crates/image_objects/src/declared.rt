@@ -9,7 +9,7 @@ use ada_image::Within;
 use ada_regions::{EntityKind, Subtype, is_controlled_type, is_task_type, subtype_of_kind};
 use ada_tree::Identifier;
 use image_names::object_number;
-use profile_machine::{DeclNo, SubprogramNo};
+use profile_image::{DeclNo, SubprogramNo};
 
 #[tactic(auto, unfolding(ada_image::specs::ImageOfDeclarations::kind_declared))]
 fn kind_declared<'n>(within: &Within<'n, '_>, identifier: &Identifier) -> Option<&'n EntityKind>

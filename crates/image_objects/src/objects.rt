@@ -14,7 +14,7 @@ use ann_base::NoMemory;
 use image_actuals::{FunctionCall, function_call, function_call_put};
 use image_layout::{action_put, added, is_component_of};
 use image_signs::{signs_if, signs_in};
-use profile_machine::{DeclNo, Destination, StatementForm, StatementNo};
+use profile_image::{DeclNo, Destination, StatementForm, StatementNo};
 use std::alloc::Global;
 
 /// The signs in the initial value of a declaration.

@@ -8,7 +8,7 @@ use ann_base::NoMemory;
 use image_expressions::expression_made;
 use image_layout::{action_put, the_action};
 use image_signs::signs_in;
-use profile_machine::{CaseAlternative, ImageList, StatementForm, StatementNo};
+use profile_image::{CaseAlternative, ImageList, StatementForm, StatementNo};
 
 /// A condition, and the actions behind it (5.3).
 pub fn if_action(

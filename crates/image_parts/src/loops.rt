@@ -13,7 +13,7 @@ use ann_base::NoMemory;
 use image_expressions::expression_made;
 use image_layout::{added, put_at};
 use image_signs::signs_in;
-use profile_machine::{DeclNo, StatementForm, StatementNo};
+use profile_image::{DeclNo, StatementForm, StatementNo};
 
 /// The number of a loop parameter, where the entity is one.
 fn loop_parameter_number(kind: &EntityKind) -> Option<DeclNo>

@@ -7,7 +7,7 @@ ghost use Rattle.image_parts.specs.Parts.{scope_action};
 use ada_image::{Lists, Within};
 use ann_base::NoMemory;
 use image_layout::{first_put, in_construct, in_scope, put_at};
-use profile_machine::{StatementForm, StatementNo};
+use profile_image::{StatementForm, StatementNo};
 
 /// In the scope of a statement, which is open there.
 pub fn in_statement_scope<'n, 't>(

@@ -17,7 +17,7 @@ use ada_regions::{LAST_PRIORITY, Predefined, PredefinedUnit};
 use ada_subtypes::{high_of, low_of, subtype_of_item};
 use ada_tree::{Argument, Attribute, AttributeDesignator, Expression, ExpressionForm, Name};
 use ann_base::NoMemory;
-use profile_machine::Value;
+use profile_image::Value;
 
 /// The word that a name is.
 fn word_of_name<'t>(name: &'t Name, attribute: &Option<AttributeDesignator>) -> Option<&'t [u8]>

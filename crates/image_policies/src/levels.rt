@@ -3,7 +3,7 @@ ghost use Rattle.std.specs.Prelude.{◌≡◌, IfOk};
 ghost use Rattle.ada_image.specs.UnitsOfImage.{level_of};
 
 use ann_base::{Level, NoMemory};
-use profile_machine::Value;
+use profile_image::Value;
 
 /// A value as a number, if it is a whole one that is not negative.
 #[tactic(auto, unfolding(ada_image::specs::UnitsOfImage::level_of))]

@@ -6,7 +6,7 @@ use crate::dispatching::ranges_sorted;
 use crate::queuing::{longest_of, queuing_of};
 use ada_tree::Pragma;
 use ann_base::{Level, NoMemory};
-use profile_machine::Policies;
+use profile_image::Policies;
 use std::alloc::Global;
 
 /// What the pragmas of a source ask for, where its last Priority is given.

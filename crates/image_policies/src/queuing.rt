@@ -7,7 +7,7 @@ ghost use Rattle.ada_regions.specs.Words.{all_of};
 use crate::arguments::{number_of, word_of};
 use ada_tree::{Argument, Expression, Identifier, OneOrMore, Pragma};
 use ann_base::NoMemory;
-use profile_machine::Queuing;
+use profile_image::Queuing;
 
 /// Whether an argument names Priority_Queuing (D.4).
 fn is_priority_queuing(argument: &Argument<Expression>) -> bool

@@ -14,7 +14,7 @@ use image_library::{
     declaration_makes_tasks, has_body, package_declarations_put, package_part, part_of,
 };
 use image_objects::{activation_put, declarations_put};
-use profile_machine::{StatementForm, StatementNo};
+use profile_image::{StatementForm, StatementNo};
 use std::alloc::Global;
 
 /// The bodies among the private declarations of a package; none where `private` does not stand there.

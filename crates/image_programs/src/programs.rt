@@ -12,7 +12,7 @@ use image_initials::declarations_made;
 use image_layout::{nothing_made, outermost};
 use image_library::program_with;
 use image_units::{entries_made, task_units_made};
-use profile_machine::Image;
+use profile_image::Image;
 use std::alloc::Global;
 use world_tables::List;
 

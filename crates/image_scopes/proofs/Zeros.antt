@@ -1,6 +1,6 @@
 -- What a cell holds that is no zero.
 use Rattle.std.proofs.Common.{◌≡◌, zero, suc, ℤ, pos, negsuc, ◌≢◌, false, refl}
-use Rattle.profile_machine.specs.declared.values.Value.TheVariants as value
+use Rattle.profile_image.specs.declared.values.Value.TheVariants as value
 use Rattle.ada_image.specs.Layout.{is_plain_zero}
 
 pub no_zero : (n : ℤ) → n ≢ pos 0 → is_plain_zero (value.Whole n) ≡ false

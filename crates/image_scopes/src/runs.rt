@@ -8,7 +8,7 @@ use image_layout::{
     added, cells_of_declaration, first_value, is_component_of, is_in_scope, subtype_is_thing,
     width_of_object, width_of_subtype,
 };
-use profile_machine::{CONTROLLED_CELLS, CellRun, ImageList, PROTECTED_CELLS, Value};
+use profile_image::{CONTROLLED_CELLS, CellRun, ImageList, PROTECTED_CELLS, Value};
 
 #[tactic(auto, using(crate::proofs::Zeros::no_zero))]
 fn is_plain_zero(value: Value) -> bool

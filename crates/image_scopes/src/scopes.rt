@@ -9,7 +9,7 @@ use ada_image::FirstAction;
 use ada_regions::{Names, NumberedScope, Sort, Subtype};
 use ann_base::NoMemory;
 use image_layout::{added, cells_of_declaration, is_in_scope, subtype_is_kept};
-use profile_machine::{CellRun, ImageList, Scope, ScopeNo, StatementNo};
+use profile_image::{CellRun, ImageList, Scope, ScopeNo, StatementNo};
 use std::alloc::Global;
 use world_tables::List;
 

@@ -6,7 +6,7 @@ use ada_entities::copy;
 use ada_regions::{Names, NumberedSubprogram, Subtype};
 use ann_base::NoMemory;
 use image_layout::{formals_made, range_of_cells};
-use profile_machine::{Constraint, ImageList, ProtectedUnitNo, ScopeNo, Subprogram};
+use profile_image::{Constraint, ImageList, ProtectedUnitNo, ScopeNo, Subprogram};
 use std::alloc::Global;
 
 fn range_of_result(names: &Names<'_>, result_of: Option<Option<Subtype>>) -> Option<Constraint>

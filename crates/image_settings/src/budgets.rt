@@ -14,7 +14,7 @@ use ann_base::NoMemory;
 use image_expressions::named;
 use image_layout::{action_put, argument_from};
 use image_names::thing_in;
-use profile_machine::{DeclNo, StatementForm, StatementNo};
+use profile_image::{DeclNo, StatementForm, StatementNo};
 
 /// The event, timer or budget that an actual names.
 #[tactic(auto, unfolding(ada_image::specs::ImageOfProcedures::thing_of))]

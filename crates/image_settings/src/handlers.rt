@@ -10,7 +10,7 @@ use ada_image::Within;
 use ada_regions::EntityKind;
 use ada_tree::{Expression, ExpressionForm, Name};
 use image_names::{kind_named, named_before, object_number};
-use profile_machine::{DeclNo, HandlerName};
+use profile_image::{DeclNo, HandlerName};
 
 /// The number of the object that an entity is, if it is one.
 fn object_of_entity(within: &Within<'_, '_>, entity: u32) -> Option<DeclNo>

@@ -9,7 +9,7 @@ use crate::typing::is_span;
 use ada_image::Within;
 use ada_tree::{Argument, Expression, Identifier};
 use image_layout::argument_from;
-use profile_machine::{ExprNo, Setting};
+use profile_image::{ExprNo, Setting};
 
 fn formal_is(name: &[u8], formal: &Option<Identifier>) -> bool
     ensures { result ≡ formal_is name.now formal.now }

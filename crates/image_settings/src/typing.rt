@@ -16,7 +16,7 @@ use ada_tree::{
     Addend, Argument, AttributeDesignator, Expression, ExpressionForm, Multiplied, Name, OneOrMore,
 };
 use image_layout::array_of;
-use profile_machine::SubprogramNo;
+use profile_image::SubprogramNo;
 
 fn type_of_subtype(subtype: Option<Subtype>) -> Option<AdaType>
     ensures { result ≡ type_of_subtype subtype }

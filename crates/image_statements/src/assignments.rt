@@ -15,7 +15,7 @@ use image_expressions::{expression_made, named};
 use image_layout::{action_put, added, subtype_is_array, subtype_is_kept};
 use image_names::{object_named, thing_in, thing_named};
 use image_signs::{signs_if, signs_in};
-use profile_machine::{DeclNo, Destination, ObjectName, StatementForm, StatementNo};
+use profile_image::{DeclNo, Destination, ObjectName, StatementForm, StatementNo};
 use std::alloc::Global;
 
 /// The array that a name denotes (3.6).

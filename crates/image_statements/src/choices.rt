@@ -6,7 +6,7 @@ use ada_image::Within;
 use ada_subtypes::static_value;
 use ada_tree::{Choice, Expression, OneOrMore};
 use ann_base::NoMemory;
-use profile_machine::{Choice as CaseChoice, ImageList, Value};
+use profile_image::{Choice as CaseChoice, ImageList, Value};
 use std::alloc::Global;
 
 #[tactic(auto, unfolding(ada_image::specs::ImageOfStatements::static_or_zero))]

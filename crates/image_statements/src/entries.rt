@@ -13,7 +13,7 @@ use ann_base::{NoMemory, Place};
 use image_actuals::owner_of_entry;
 use image_layout::action_put;
 use image_names::{kind_named, thing_named};
-use profile_machine::{
+use profile_image::{
     DeclNo, EntryNo, EntryUnit, ImageList, StatementForm, StatementNo, TaskUnitNo,
 };
 use std::alloc::Global;

@@ -2,7 +2,7 @@
 ghost use Rattle.std.specs.Prelude.{◌≡◌, ◌∷◌, map, IfOk};
 ghost use Rattle.ada_image.specs.Made.{Made};
 ghost use Rattle.ada_image.specs.ImageOfStatements.{raised_kind, raised_item, exception_denoted, exception_named, raise_put, handled_made};
-ghost use Rattle.profile_machine.specs.declared.declarations.ExceptionChoice.TheVariants as exception_choice;
+ghost use Rattle.profile_image.specs.declared.declarations.ExceptionChoice.TheVariants as exception_choice;
 
 use ada_entities::{denoted_by, kind_at};
 use ada_image::{Lists, Within};
@@ -10,7 +10,7 @@ use ada_regions::{Denoted, EntityKind, Names, Predefined};
 use ada_tree::{HandledExceptions, Name, OneOrMore};
 use ann_base::{NoMemory, Raised};
 use image_layout::action_put;
-use profile_machine::{ExceptionChoice, ImageList, ScopeNo, StatementForm, StatementNo};
+use profile_image::{ExceptionChoice, ImageList, ScopeNo, StatementForm, StatementNo};
 use std::alloc::Global;
 
 fn raised_kind(kind: &EntityKind) -> Raised

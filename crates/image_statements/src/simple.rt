@@ -14,7 +14,7 @@ use image_actuals::{FunctionCall, function_call, function_call_put};
 use image_expressions::{expression_made, optional_value};
 use image_layout::action_put;
 use image_signs::{signs_if, signs_in};
-use profile_machine::{Destination, ExprNo, StatementForm, StatementNo, SubprogramNo};
+use profile_image::{Destination, ExprNo, StatementForm, StatementNo, SubprogramNo};
 use std::alloc::Global;
 
 fn delay_form(until: bool, value: ExprNo) -> StatementForm

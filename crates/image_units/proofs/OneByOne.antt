@@ -1,7 +1,7 @@
 -- What is made one by one: those so far, one more, and those that are still to come.
 use Rattle.std.proofs.Common.{◌≡◌, ℕ, ◌+◌, suc, List, [], ◌∷◌, ◌++◌, take, drop, refl, ap, sym, ◌∙◌, append_assoc, arith}
-use Rattle.profile_machine.specs.declared.declarations.TaskUnit.{TaskUnit}
-use Rattle.profile_machine.specs.declared.declarations.Entry.{Entry}
+use Rattle.profile_image.specs.declared.declarations.TaskUnit.{TaskUnit}
+use Rattle.profile_image.specs.declared.declarations.Entry.{Entry}
 use Rattle.ada_regions.specs.declared.table.NumberedTask.{NumberedTask}
 use Rattle.ada_regions.specs.declared.table.NumberedEntry.{NumberedEntry}
 use Rattle.ada_image.specs.declared.making.Lists.{Lists}

@@ -1,7 +1,7 @@
 -- One task unit and one entry, of all that are made one after another.
 use Rattle.std.specs.Prelude.{ℕ, List, codes}
-use Rattle.profile_machine.specs.declared.declarations.TaskUnit.{TaskUnit}
-use Rattle.profile_machine.specs.declared.declarations.Entry.{Entry}
+use Rattle.profile_image.specs.declared.declarations.TaskUnit.{TaskUnit}
+use Rattle.profile_image.specs.declared.declarations.Entry.{Entry}
 use Rattle.ada_regions.specs.declared.table.NumberedTask.{NumberedTask}
 use Rattle.ada_regions.specs.declared.table.NumberedEntry.{NumberedEntry}
 use Rattle.ada_image.specs.declared.making.Within.{Within}

@@ -5,7 +5,7 @@ ghost use Rattle.ada_image.specs.UnitsOfImage.{components_from, component_number
 use ada_regions::{ComponentOwner, Names};
 use ann_base::NoMemory;
 use image_layout::{added, is_component_of};
-use profile_machine::{DeclNo, ImageList};
+use profile_image::{DeclNo, ImageList};
 use std::alloc::Global;
 
 /// The numbers of the components of an owner, in the order of the text.

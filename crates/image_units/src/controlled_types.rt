@@ -7,7 +7,7 @@ use crate::operations::{overriding, unless_limited};
 use ada_regions::{ComponentOwner, Names, NumberedControlled};
 use ann_base::NoMemory;
 use image_layout::added;
-use profile_machine::{ControlledNo, ControlledType, ImageList};
+use profile_image::{ControlledNo, ControlledType, ImageList};
 use std::alloc::Global;
 
 /// A controlled type with the operations that it overrides.

@@ -12,7 +12,7 @@ use ann_base::NoMemory;
 use image_expressions::expression_made;
 use image_layout::formals_made;
 use image_scopes::scope_no;
-use profile_machine::{Entry, EntryBody, ImageList};
+use profile_image::{Entry, EntryBody, ImageList};
 use std::alloc::Global;
 
 /// An entry, where so many stand before it in the table and its body is given.

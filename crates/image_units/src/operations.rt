@@ -7,7 +7,7 @@ ghost use Rattle.ada_image.specs.UnitsOfImage.{subprogram_no, has_one_of_type, o
 use ada_regions::{Names, NumberedControlled, NumberedSubprogram};
 use ann_base::NoMemory;
 use image_layout::{added, has_one_of_type};
-use profile_machine::SubprogramNo;
+use profile_image::SubprogramNo;
 
 /// Whether a subprogram overrides the operation of a controlled type that has this name.
 #[tactic(auto, unfolding(ada_image::specs::UnitsOfImage::overrides))]

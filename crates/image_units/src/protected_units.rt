@@ -9,7 +9,7 @@ use crate::unit_entries::entries_of;
 use ada_regions::{ComponentOwner, Names, NumberedProtected};
 use ann_base::{Level, NoMemory};
 use image_layout::added;
-use profile_machine::{Attachment, EntryUnit, ImageList, ProtectedUnit, ProtectedUnitNo};
+use profile_image::{Attachment, EntryUnit, ImageList, ProtectedUnit, ProtectedUnitNo};
 use std::alloc::Global;
 
 /// The ceiling without an aspect: the last Priority, and the one above where a handler is attached (this profile's).

@@ -13,7 +13,7 @@ use ann_base::NoMemory;
 use image_expressions::optional_value;
 use image_layout::added;
 use image_scopes::scope_no;
-use profile_machine::{EntryUnit, ExprNo, ImageList, TaskUnit, TaskUnitNo};
+use profile_image::{EntryUnit, ExprNo, ImageList, TaskUnit, TaskUnitNo};
 use std::alloc::Global;
 
 /// A task unit, given the number of its deadline.

@@ -5,7 +5,7 @@ ghost use Rattle.ada_image.specs.UnitsOfImage.{entries_from, entries_of, place_a
 use ada_regions::Names;
 use ann_base::NoMemory;
 use image_layout::{added, same_entry_unit};
-use profile_machine::{EntryNo, EntryUnit, ImageList};
+use profile_image::{EntryNo, EntryUnit, ImageList};
 use std::alloc::Global;
 
 /// The numbers of the entries of a unit.

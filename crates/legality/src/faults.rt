@@ -6,7 +6,7 @@ ghost use Rattle.ada_legality.specs.Units.{known_with, units_found};
 ghost use Rattle.legality.specs.Behind.{found_behind};
 
 use crate::units::units_found;
-use ada_legality::{Fault, Finding, InForce};
+use ada_legality::{Fault, Finding, InForce, Number, add_finding, list_finding};
 use ada_occurrences::occurrences_of;
 use ada_regions::{AdaType, Names, Occurrences};
 use ada_tree::Unit;
@@ -15,7 +15,7 @@ use legality_beside::{first_fault_in, found_beside, packages_judged};
 use legality_contexts::{indexes_of, known_with};
 use legality_pragmas::{deadline_ranges_of, in_force_by, pragmas_judged};
 use legality_units::units_used;
-use profile_machine::ImageList;
+use profile_image::ImageList;
 use std::alloc::Global;
 use world_tables::List;
 
@@ -26,20 +26,36 @@ fn found_in_units<'n, 't>(
     tree: &Unit,
     names: &'n Names<'t>,
     occurrences: &'n Occurrences<'t>,
-    in_force: InForce,
+    in_force: &InForce,
     indexes: &'n List<AdaType>,
 ) -> Result<(), NoMemory>
     ensures { OnOk result
         (found.new
         ≡ found.old
-        ++ units_found tree.now (known_with names.now occurrences.now in_force indexes.now)) }
+        ++ units_found tree.now (known_with names.now occurrences.now in_force.now indexes.now)) }
 {
     let known = known_with(alloc, names, occurrences, in_force, indexes);
     units_found(alloc, found, &known, tree)
 }
 
-/// What a walk over the source finds.
+/// What a walk over the source finds. The check of borrows wants the type of the limits among the parameters.
 #[tactic(auto, unfolding(ada_legality::specs::Faults::walked, ada_legality::specs::Units::known_of))]
+fn walked_through<'n, 't>(
+    alloc: Global,
+    found: &mut List<Finding>,
+    tree: &Unit,
+    names: &'n Names<'t>,
+    occurrences: &'n Occurrences<'t>,
+    _number: Option<Number>,
+) -> Result<(), NoMemory>
+    ensures { OnOk result (found.new ≡ found.old ++ walked tree.now names.now occurrences.now) }
+{
+    let in_force = in_force_by(alloc, tree.pragmas.as_slice())?;
+    let indexes = indexes_of(alloc, names, occurrences, &in_force)?;
+    found_in_units(alloc, found, tree, names, occurrences, &in_force, &indexes)
+}
+
+/// What a walk over the source finds.
 fn walked<'n, 't>(
     alloc: Global,
     found: &mut List<Finding>,
@@ -49,9 +65,7 @@ fn walked<'n, 't>(
 ) -> Result<(), NoMemory>
     ensures { OnOk result (found.new ≡ found.old ++ walked tree.now names.now occurrences.now) }
 {
-    let in_force = in_force_by(alloc, tree.pragmas.as_slice())?;
-    let indexes = indexes_of(alloc, names, occurrences, in_force)?;
-    found_in_units(alloc, found, tree, names, occurrences, in_force, &indexes)
+    walked_through(alloc, found, tree, names, occurrences, None)
 }
 
 /// What is found of pragmas, packages and units, and beside what the walk found.
@@ -87,16 +101,20 @@ fn found_of<'n, 't>(
 {
     let mut found = List::new(alloc);
     walked(alloc, &mut found, tree, names, occurrences)?;
-    let mut all = same_again(&found)?;
+    let mut all = same_again(alloc, &found)?;
     found_behind(alloc, &mut all, tree, names, occurrences, &found)?;
     Ok(all)
 }
 
 /// The same findings again.
-fn same_again(found: &List<Finding>) -> Result<List<Finding>, NoMemory>
+fn same_again(alloc: Global, found: &List<Finding>) -> Result<List<Finding>, NoMemory>
     ensures { IfOk result (λ copy. copy ≡ found.now) }
 {
-    Ok(found.clone()?)
+    let mut copy = List::new(alloc);
+    for finding in found.iter() {
+        add_finding(&mut copy, *finding)?;
+    }
+    Ok(copy)
 }
 
 /// The same findings as one piece of memory.
@@ -105,7 +123,7 @@ fn in_one_piece(alloc: Global, found: &List<Finding>) -> Result<ImageList<Findin
 {
     let mut all = ImageList::new(alloc);
     for finding in found.iter() {
-        all.push(*finding)?;
+        list_finding(&mut all, *finding)?;
     }
     Ok(all)
 }

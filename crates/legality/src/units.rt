@@ -5,19 +5,19 @@ ghost use Rattle.ada_legality.specs.Aspects.{stated_value};
 ghost use Rattle.ada_legality.specs.CallStatements.{all_found, found_if};
 ghost use Rattle.ada_legality.specs.Units.{library_package_found, main_found, main_priority_noted, package_body_found, package_declaration_found, package_found, part_found, units_found};
 
-use ada_legality::{Around, AspectOwner, AspectPart, Finding, Known};
+use ada_legality::{Around, AspectOwner, AspectPart, Finding, Known, Number};
 use ada_predefined::default_priority;
 use ada_tree::{
     Declaration, LibraryPackage, MainProcedure, Package, PackageBody, PackageDeclaration, Sequence,
     Unit,
 };
 use ann_base::{NoMemory, Place};
-use legality_bodies::legality_choices::{place_of_priority, stated_value};
-use legality_bodies::legality_compounds::{Judge, judge_each, judge_if};
-use legality_bodies::legality_parts::aspects_found;
+use legality_choices::{place_of_priority, stated_value};
+use legality_compounds::{Judge, judge_each, judge_if};
 use legality_contexts::context_found;
-use legality_contexts::legality_entities::with_around;
-use legality_contexts::legality_types::note;
+use legality_entities::with_around;
+use legality_parts::aspects_found;
+use legality_types::note;
 use sqlite_items::Items;
 use std::alloc::Global;
 use world_tables::List;
@@ -127,10 +127,13 @@ fn packages_found(
 }
 
 /// The base priority of the main procedure.
-fn priority_of_main(last: u8, aspects: &[AspectPart]) -> i128
+fn priority_of_main(last: u8, aspects: &[AspectPart]) -> Number
     ensures { result ≡ unwrap_or (stated_value last aspects.now) (pos (default_priority last)) }
 {
-    stated_value(last, aspects).unwrap_or(default_priority(last) as i128)
+    match stated_value(last, aspects) {
+        Some(number) => number,
+        None => Number::of(i64::from(default_priority(last))),
+    }
 }
 
 /// The main procedure's base priority.

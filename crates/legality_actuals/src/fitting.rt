@@ -7,7 +7,7 @@ use ada_legality::{ActualPart, Asked, Finding, FormalPart, Known, Read, Wanted};
 use ada_regions::Mode;
 use ann_base::{NoMemory, Place};
 use legality_calls::{actual_from, actuals_numbered, assigned_if, handler_actual};
-use legality_values::legality_reads::fitted;
+use legality_reads::fitted;
 use world_tables::List;
 
 /// An actual for what its formal wants.

@@ -10,8 +10,3 @@ mod names;
 pub use attributes::attribute_judged;
 pub use fitting::actuals_judged;
 pub use names::name_judged;
-
-// What stands below, for the crates above.
-pub use legality_calls;
-pub use legality_values;
-pub use legality_values::{legality_entities, legality_names, legality_reads, legality_types};

@@ -5,7 +5,7 @@ ghost use Rattle.ada_legality.specs.WholeSource.{is_attached_in, has_attached, s
 
 use crate::findings::before_place;
 use ada_entities::same_place;
-use ada_legality::{Attached, Finding, ProtectedObject, Rule};
+use ada_legality::{Attached, Finding, Number, ProtectedObject, Rule};
 use ann_base::{NoMemory, Place};
 use legality_choices::same_number;
 use legality_types::broken_if;
@@ -28,7 +28,7 @@ pub(crate) fn has_attached(found: &[Finding], unit: u32) -> bool
     found.iter().any(|finding| is_attached_in(unit, finding))
 }
 
-fn same_numbers(a: Option<i128>, b: Option<i128>) -> bool
+fn same_numbers(a: Option<Number>, b: Option<Number>) -> bool
     ensures { result ≡ same_numbers a b }
 {
     match a {
@@ -122,7 +122,7 @@ pub(crate) fn handlers_of_object(
     }
 }
 
-fn is_attached_number(number: Option<i128>, unit: u32, finding: &Finding) -> bool
+fn is_attached_number(number: Option<Number>, unit: u32, finding: &Finding) -> bool
     ensures { result ≡ is_attached_number number unit finding.now }
 {
     match finding {
@@ -133,7 +133,7 @@ fn is_attached_number(number: Option<i128>, unit: u32, finding: &Finding) -> boo
     }
 }
 
-fn has_attached_number(found: &[Finding], number: Option<i128>, unit: u32) -> bool
+fn has_attached_number(found: &[Finding], number: Option<Number>, unit: u32) -> bool
     ensures { result ≡ list_any (is_attached_number number unit) found.now }
 {
     found
@@ -142,7 +142,7 @@ fn has_attached_number(found: &[Finding], number: Option<i128>, unit: u32) -> bo
 }
 
 /// Whether an object takes this number.
-fn takes_number(found: &[Finding], number: Option<i128>, finding: &Finding) -> bool
+fn takes_number(found: &[Finding], number: Option<Number>, finding: &Finding) -> bool
     ensures { result ≡ takes_number found.now number finding.now }
 {
     match finding {
@@ -151,7 +151,7 @@ fn takes_number(found: &[Finding], number: Option<i128>, finding: &Finding) -> b
     }
 }
 
-fn any_takes(found: &[Finding], before: &[Finding], number: Option<i128>) -> bool
+fn any_takes(found: &[Finding], before: &[Finding], number: Option<Number>) -> bool
     ensures { result ≡ list_any (takes_number found.now number) before.now }
 {
     before

@@ -4,24 +4,25 @@ ghost use Rattle.std.specs.List.{flat_map};
 ghost use Rattle.ada_legality.specs.WholeSource.{lies_in_range, is_lowest, has_attached_if, ceiling_of, in_deadline_range, range_judged};
 
 use crate::attached::has_attached;
-use ada_legality::{Ceiling, DeadlineRange, Finding, Rule};
+use ada_legality::{Ceiling, DeadlineRange, Finding, Number, Rule};
 use ann_base::NoMemory;
 use legality_choices::same_number;
 use legality_types::{broken_if, broken_unless};
 use world_tables::List;
 
 /// Whether a priority lies in a range.
-fn lies_in_range(range: &DeadlineRange, number: i128) -> bool
+fn lies_in_range(range: &DeadlineRange, number: Number) -> bool
     ensures { result ≡ lies_in_range range.now number }
 {
-    range.low as i128 <= number && number <= range.high as i128
+    Number::of(i64::from(range.low)).is_at_most(number)
+        && number.is_at_most(Number::of(i64::from(range.high)))
 }
 
 /// Whether a priority is a range's lowest.
-fn is_lowest(range: &DeadlineRange, number: i128) -> bool
+fn is_lowest(range: &DeadlineRange, number: Number) -> bool
     ensures { result ≡ is_lowest range.now number }
 {
-    same_number(number, range.low as i128)
+    same_number(number, Number::of(i64::from(range.low)))
 }
 
 fn has_attached_if(found: &[Finding], unit: Option<u32>) -> bool
@@ -35,16 +36,16 @@ fn has_attached_if(found: &[Finding], unit: Option<u32>) -> bool
 
 /// The ceiling of a protected unit, by its aspect or by default (D.3).
 #[tactic(auto, unfolding(ada_legality::specs::WholeSource::ceiling_of))]
-fn ceiling_of(last: u8, found: &[Finding], ceiling: &Ceiling) -> i128
+fn ceiling_of(last: u8, found: &[Finding], ceiling: &Ceiling) -> Number
     ensures { result ≡ ceiling_of last found.now ceiling.now }
 {
     match ceiling.stated {
         Some(stated) => stated,
         None => {
             if has_attached_if(found, ceiling.unit) {
-                last as i128 + 1
+                Number::of(i64::from(last) + 1)
             } else {
-                last as i128
+                Number::of(i64::from(last))
             }
         }
     }

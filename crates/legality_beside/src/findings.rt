@@ -1,9 +1,9 @@
 //! What is found grows at its end, and is read from its beginning.
 ghost use Rattle.std.specs.Prelude.{◌≡◌, ◌≤◌, length, take, IfOk};
 
-use ada_legality::Finding;
+use ada_legality::{Finding, list_finding};
 use ann_base::NoMemory;
-use profile_machine::ImageList;
+use profile_image::ImageList;
 use std::alloc::Global;
 use world_tables::List;
 
@@ -16,7 +16,7 @@ pub(crate) fn in_one_piece(
 {
     let mut all = ImageList::new(alloc);
     for finding in found.iter() {
-        all.push(*finding)?;
+        list_finding(&mut all, *finding)?;
     }
     Ok(all)
 }

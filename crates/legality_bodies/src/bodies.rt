@@ -11,16 +11,14 @@ use ada_tree::{
 };
 use ann_base::NoMemory;
 use legality_compounds::{Judge, judge_each};
-use legality_declarations::legality_entities::with_around;
-use legality_declarations::legality_parts::{indication_found, parameters_found};
-use legality_declarations::legality_tasking::{
-    barrier_found, entry_body_judged, unit_body_judged, unit_here,
-};
 use legality_declarations::{definition_found, object_found};
+use legality_entities::with_around;
+use legality_parts::{indication_found, parameters_found};
 use legality_subprograms::{
     specification_found, subprogram_body_judged, subprogram_found, subprogram_here,
     unit_of_operation,
 };
+use legality_tasking::{barrier_found, entry_body_judged, unit_body_judged, unit_here};
 use legality_unit_declarations::{protected_found, task_found};
 use legality_units::use_found;
 use std::alloc::Global;

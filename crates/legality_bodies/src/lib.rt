@@ -6,7 +6,3 @@ mod bodies;
 mod sequences;
 
 pub use sequences::WithDeclarations;
-
-// What stands below, for the crates above.
-pub use legality_compounds;
-pub use legality_declarations::{legality_choices, legality_parts};

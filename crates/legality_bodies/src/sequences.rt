@@ -2,8 +2,8 @@
 use ada_legality::{Finding, Known};
 use ada_tree::{Sequence, SequenceParts};
 use ann_base::NoMemory;
-use legality_compounds::legality_handlers::handled_judged;
 use legality_compounds::{Judge, judge_all, judge_each};
+use legality_handlers::handled_judged;
 use std::alloc::Global;
 use world_tables::List;
 

@@ -11,7 +11,7 @@ use ada_legality::{ActualPart, FormalPart, Known, Wanted};
 use ada_regions::{AdaType, Denoted, EntityKind, Formal, Mode, Operation, Subtype};
 use ann_base::NoMemory;
 use legality_entities::{denoted_kind, operation_of};
-use profile_machine::ImageList;
+use profile_image::ImageList;
 use std::alloc::Global;
 
 fn wanted_subtype(subtype: Option<Subtype>) -> Wanted

@@ -5,19 +5,21 @@ ghost use Rattle.ada_legality.specs.Findings.{Reads};
 ghost use Rattle.ada_legality.specs.Choices.{both_ends, case_judged, choice_number, choice_read, choices_read, one_value, range_choice, selector_judged, type_of_selector, value_choice};
 ghost use Rattle.legality_cases.specs.Ranges.{range_judged};
 
-use ada_legality::{Asked, ChoicePart, Finding, Known, Read, Rule, Span, Typed};
+use ada_legality::{
+    Asked, ChoicePart, Finding, Known, Number, Read, Rule, Span, Typed, add_choice,
+};
 use ada_regions::AdaType;
 use ada_tree::{Choice, Expression, OneOrMore};
 use ann_base::{NoMemory, Place};
-use legality_conditions::legality_choices::{others_not_last, static_number, wrong_choices};
-use legality_conditions::legality_expressions::Readable;
-use legality_conditions::legality_reads::{
+use legality_choices::{others_not_last, static_number, wrong_choices};
+use legality_conditions::not_static;
+use legality_expressions::Readable;
+use legality_reads::{
     call_inside, expected, integer_literal, is_discrete_or_refused, literal_in,
     other_pointed_literal,
 };
-use legality_conditions::legality_types::{broken_unless, discrete_if, operand_type};
-use legality_conditions::not_static;
-use profile_machine::ImageList;
+use legality_types::{broken_unless, discrete_if, operand_type};
+use profile_image::ImageList;
 use std::alloc::Global;
 use std::marker::Model;
 use world_tables::List;
@@ -94,7 +96,7 @@ fn selector_judged(found: &mut List<Finding>, read: &Read, typed: Typed) -> Resu
 }
 
 /// One value.
-fn one_value(number: i128) -> Span
+fn one_value(number: Number) -> Span
     ensures { result ≡ one_value number }
 {
     Span {
@@ -104,7 +106,7 @@ fn one_value(number: i128) -> Span
 }
 
 /// One value that may be there.
-fn one_value_if(number: Option<i128>) -> Option<Span>
+fn one_value_if(number: Option<Number>) -> Option<Span>
     ensures { result ≡ option_map one_value number }
 {
     let number = number?;
@@ -112,7 +114,7 @@ fn one_value_if(number: Option<i128>) -> Option<Span>
 }
 
 /// Two ends that are there.
-fn both_ends(low: Option<i128>, high: Option<i128>) -> Option<Span>
+fn both_ends(low: Option<Number>, high: Option<Number>) -> Option<Span>
     ensures { result ≡ both_ends low high }
 {
     let low = low?;
@@ -127,7 +129,7 @@ fn choice_number(
     t: Option<AdaType>,
     expression: &Expression,
     typed: Typed,
-) -> Result<Option<i128>, NoMemory>
+) -> Result<Option<Number>, NoMemory>
     ensures { IfOk result (λ n. n ≡ choice_number known.now t expression.now typed) }
 {
     match t {
@@ -231,8 +233,27 @@ fn choice_read(
     }
 }
 
-/// Choices in their order.
+// Choices in their order. The check of borrows asks that a loop whose list holds values is in a function that names their type.
 #[tactic(auto, unfolding(ada_legality::specs::Choices::choices_read))]
+fn choices_in_order(
+    alloc: Global,
+    found: &mut List<Finding>,
+    known: &Known<'_, '_>,
+    t: Option<AdaType>,
+    choices: &[ChoiceOf<'_>],
+    _values: Option<Span>,
+) -> Result<ImageList<ChoicePart>, NoMemory>
+    ensures { Reads (choices_read t choices.now known.now) found.old found.new result }
+{
+    let mut parts = ImageList::new(alloc);
+    for choice in choices {
+        let part = choice_read(alloc, found, known, t, choice.get())?;
+        add_choice(&mut parts, part)?;
+    }
+    Ok(parts)
+}
+
+/// Choices in their order.
 pub fn choices_read(
     alloc: Global,
     found: &mut List<Finding>,
@@ -242,11 +263,7 @@ pub fn choices_read(
 ) -> Result<ImageList<ChoicePart>, NoMemory>
     ensures { Reads (choices_read t choices.now known.now) found.old found.new result }
 {
-    let mut parts = ImageList::new(alloc);
-    for choice in choices {
-        parts.push(choice_read(alloc, found, known, t, choice.get())?)?;
-    }
-    Ok(parts)
+    choices_in_order(alloc, found, known, t, choices, None)
 }
 
 /// A case, of which the selector and the choices are read.

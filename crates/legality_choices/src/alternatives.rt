@@ -1,9 +1,12 @@
 //! The alternatives of selective accepts (ISO/IEC 8652:2012, 9.7.1, D.7).
 ghost use Rattle.std.specs.Prelude.{◌≡◌, ◌++◌, slice_get, OnOk, Some};
 ghost use Rattle.ada_legality.specs.CallStatements.{beyond};
+ghost use Rattle.ada_legality.specs.Numbers.{size_in};
 ghost use Rattle.ada_legality.specs.SimpleStatements.{is_accept_alternative, is_delay_alternative, is_delay_until_alternative, is_terminate_alternative, any_is, has_delay, has_mixed_delays, terminates, excludes, is_selective_accept, terminates_forbidden, beyond_restriction, selective_accept_judged};
 
-use ada_legality::{AlternativeKind, AlternativePart, Finding, Known, MOST_ALTERNATIVES, Rule};
+use ada_legality::{
+    AlternativeKind, AlternativePart, Finding, Known, MOST_ALTERNATIVES, Number, Rule,
+};
 use ann_base::{NoMemory, Place};
 use legality_types::{broken_if, broken_unless};
 use world_tables::List;
@@ -152,26 +155,40 @@ fn beyond(
     }
 }
 
-/// The alternative with which there are more than a restriction allows. A number that its type cannot hold is taken for want of
-/// memory.
+/// The alternative behind so many.
+#[tactic(auto, using(std::proofs::lemmas::Option::slice_get_past))]
+fn part_behind(parts: &[AlternativePart], most: Number) -> Option<AlternativePart>
+    ensures { result ≡ slice_get parts.now (size_in most) }
+{
+    match most.place_below(parts.len()) {
+        None => None,
+        Some(place) => part_at(parts, place),
+    }
+}
+
+/// The alternative with which there are more than a restriction allows.
 fn beyond_allowed(
     found: &mut List<Finding>,
-    most: i128,
+    most: Number,
     parts: &[AlternativePart],
 ) -> Result<(), NoMemory>
     ensures { OnOk result
         (found.new ≡ found.old ++ beyond_restriction (λ p. p.place) (Some most) parts.now) }
 {
-    match usize::try_from(most) {
-        Ok(most) => beyond(found, Rule::Restriction, most, parts),
-        Err(_) => { if most < 0 { Ok(()) } else { Err(NoMemory) } }
+    if most.is_negative() {
+        Ok(())
+    } else {
+        match part_behind(parts, most) {
+            None => Ok(()),
+            Some(part) => broken_if(found, Rule::Restriction, true, part.place),
+        }
     }
 }
 
 /// The same, where a restriction limits them.
 fn beyond_restriction(
     found: &mut List<Finding>,
-    most: Option<i128>,
+    most: Option<Number>,
     parts: &[AlternativePart],
 ) -> Result<(), NoMemory>
     ensures { OnOk result

@@ -15,7 +15,7 @@ use ada_legality::{AspectOwner, AspectPart, Attached, Finding, Rule, Typed};
 use ada_regions::AdaType;
 use ann_base::{NoMemory, Place};
 use legality_types::{broken_if, broken_unless, fits, has_type, is_pointed, note};
-use profile_machine::LAST_OUTSIDE_LINE;
+use profile_image::LAST_OUTSIDE_LINE;
 use world_tables::List;
 
 /// A number with a point breaks the rule on literals alone.
@@ -95,7 +95,7 @@ fn wrong_interrupt(found: &mut List<Finding>, aspect: &AspectPart) -> Result<(),
     ensures { OnOk result (found.new ≡ found.old ++ wrong_interrupt aspect.now) }
 {
     let broken = is_attach_name(aspect.name)
-        && (!has_point(aspect) && !lies_between(0, i128::from(LAST_OUTSIDE_LINE), aspect.number));
+        && (!has_point(aspect) && !lies_between(0, i64::from(LAST_OUTSIDE_LINE), aspect.number));
     broken_if(found, Rule::AttachedInterrupt, broken, aspect.place)
 }
 

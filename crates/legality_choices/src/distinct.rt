@@ -4,7 +4,7 @@ ghost use Rattle.ada_legality.specs.Choices.{kept_range, meets_before, others_no
 ghost use Rattle.legality_choices.specs.OneByOne.{others_behind, others_here, others_place, repeated_along};
 
 use crate::meet;
-use ada_legality::{ChoicePart, Finding, Rule, Span};
+use ada_legality::{ChoicePart, Finding, Rule, Span, add_values};
 use ann_base::{NoMemory, Place};
 use legality_types::broken_if;
 use std::alloc::Global;
@@ -29,8 +29,7 @@ fn keep_range(
     if meets {
         Ok(())
     } else {
-        before.push_front(range)?;
-        Ok(())
+        add_values(before, range)
     }
 }
 

@@ -4,17 +4,17 @@ ghost use Rattle.ada_legality.specs.Aspects.{is_attach_name, is_cpu_name, is_dea
 
 use crate::lies_between;
 use crate::owners::{is_attach_name, is_cpu_name, is_deadline_name, is_priority_name};
-use ada_legality::{AspectName, AspectPart};
+use ada_legality::{AspectName, AspectPart, Number};
 use ann_base::Place;
 
 /// The value of a priority's aspect is one of its subtype.
 #[tactic(auto, unfolding(ada_legality::specs::Aspects::is_priority_value))]
-pub(crate) fn is_priority_value(last: u8, name: AspectName, number: Option<i128>) -> bool
+pub(crate) fn is_priority_value(last: u8, name: AspectName, number: Option<Number>) -> bool
     ensures { result ≡ is_priority_value last name number }
 {
-    let highest = i128::from(last) + 1;
+    let highest = i64::from(last) + 1;
     match name {
-        AspectName::Priority => lies_between(0, i128::from(last), number),
+        AspectName::Priority => lies_between(0, i64::from(last), number),
         _ => lies_between(highest, highest, number),
     }
 }
@@ -70,7 +70,7 @@ fn priority_aspect(last: u8, aspects: &[AspectPart]) -> Option<&AspectPart>
 
 /// The priority that aspects give.
 #[tactic(auto, unfolding(ada_legality::specs::Aspects::stated_value))]
-pub fn stated_value(last: u8, aspects: &[AspectPart]) -> Option<i128>
+pub fn stated_value(last: u8, aspects: &[AspectPart]) -> Option<Number>
     ensures { result ≡ stated_value last aspects.now }
 {
     let aspect = priority_aspect(last, aspects)?;

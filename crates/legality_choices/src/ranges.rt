@@ -1,20 +1,21 @@
 //! The values of subtypes, as numbers (ISO/IEC 8652:2012, 3.5, 5.4).
-ghost use Rattle.std.specs.Prelude.{◌≡◌, ◌-◌, [], length, pos, slice_get, unwrap_or};
+ghost use Rattle.std.specs.Prelude.{◌≡◌, ◌-◌, [], length, slice_get, unwrap_or};
 ghost use Rattle.ada_legality.specs.Choices.{whole_range_of, range_typed};
 
+use crate::spans::span_of;
 use crate::{ends_of, span};
-use ada_legality::{Span, Typed};
+use ada_legality::{Number, Span, Typed};
 use ada_regions::{AdaType, Names};
-use profile_machine::{INTEGER_FIRST, INTEGER_LAST};
+use profile_image::{INTEGER_FIRST, INTEGER_LAST};
 
 /// The last position of an enumeration type.
-fn last_literal(names: &Names<'_>, enumeration: usize) -> i128
+fn last_literal(names: &Names<'_>, enumeration: usize) -> usize
     ensures { result
-        ≡ pos (length (unwrap_or (slice_get names.now.enumerations enumeration) []) - 1) }
+        ≡ length (unwrap_or (slice_get names.now.enumerations enumeration) []) - 1 }
 {
     match names.enumerations.get(enumeration) {
         None => 0,
-        Some(literals) => literals.as_slice().len().saturating_sub(1) as i128,
+        Some(literals) => literals.as_slice().len().saturating_sub(1),
     }
 }
 
@@ -24,12 +25,13 @@ pub fn whole_range_of(names: &Names<'_>, t: AdaType) -> Span
     ensures { result ≡ whole_range_of names.now t }
 {
     match t {
-        AdaType::Integer => span(i128::from(INTEGER_FIRST), i128::from(INTEGER_LAST)),
-        AdaType::Boolean => span(0, 1),
+        AdaType::Integer => span_of(i64::from(INTEGER_FIRST), i64::from(INTEGER_LAST)),
+        AdaType::Boolean => span_of(0, 1),
         AdaType::Enumeration(enumeration) => {
-            span(0, last_literal(names, enumeration.0 as usize))
+            let last = last_literal(names, enumeration.0 as usize);
+            span(Number::of(0), Number::of_count(last))
         }
-        _ => span(0, 0),
+        _ => span_of(0, 0),
     }
 }
 

@@ -5,18 +5,18 @@ ghost use Rattle.ada_tree.specs.declared.expressions.Expression.TheViews.{out-Ex
 ghost use Rattle.ada_regions.specs.Statics.{literal_of};
 ghost use Rattle.ada_legality.specs.Words.{number_of_value, number_of_literal, literal_number, number_of_expression, static_number};
 
-use crate::literals::number_of_literal;
+use crate::literals::{number_of_literal, number_of_negative};
 use crate::numbers::number_of_value;
-use ada_legality::{Known, Typed};
+use ada_legality::{Known, Number, Typed};
 use ada_regions::AdaType;
 use ada_subtypes::{literal_of, static_value};
 use ada_tree::{Expression, ExpressionForm, Sign};
 use ann_base::NoMemory;
 use legality_types::{fits, has_type};
-use profile_machine::Value;
+use profile_image::Value;
 
 /// The number of minus a literal.
-fn negative_literal(operand: &Expression) -> Result<Option<i128>, NoMemory>
+fn negative_literal(operand: &Expression) -> Result<Option<Number>, NoMemory>
     ensures { IfOk result
         (λ n.
         n
@@ -25,16 +25,13 @@ fn negative_literal(operand: &Expression) -> Result<Option<i128>, NoMemory>
 {
     match literal_of(operand) {
         None => Ok(None),
-        Some(literal) => {
-            let number = number_of_literal(literal)?;
-            Ok(Some(number.checked_neg().ok_or(NoMemory)?))
-        }
+        Some(literal) => Ok(Some(number_of_negative(literal)?)),
     }
 }
 
 /// The number of a literal, or of minus a literal.
 #[tactic(auto, unfolding(ada_legality::specs::Words::literal_number))]
-fn literal_number(expression: &Expression) -> Result<Option<i128>, NoMemory>
+fn literal_number(expression: &Expression) -> Result<Option<Number>, NoMemory>
     ensures { IfOk result (λ n. n ≡ literal_number (out-Expression expression.now).form) }
 {
     match expression.form.get() {
@@ -50,20 +47,20 @@ fn literal_number(expression: &Expression) -> Result<Option<i128>, NoMemory>
 }
 
 /// The number of a value that is known.
-fn number_of_static(value: Option<Value>) -> Option<i128>
+fn number_of_static(value: Option<Value>) -> Option<Number>
     ensures { result ≡ and_then value number_of_value }
 {
     let value = value?;
     number_of_value(value)
 }
 
-/// The number of an expression that has one: a literal outside its type has no value. A number of more than 38 digits is
-/// answered by `NoMemory`.
+/// The number of an expression that has one: a literal outside its type has no value. Only a literal of more than 128 bits,
+/// which no token is, is answered by `NoMemory`.
 #[tactic(auto, unfolding(ada_legality::specs::Words::number_of_expression))]
 pub fn number_of_expression(
     known: &Known<'_, '_>,
     expression: &Expression,
-) -> Result<Option<i128>, NoMemory>
+) -> Result<Option<Number>, NoMemory>
     ensures { IfOk result (λ n. n ≡ number_of_expression known.now expression.now) }
 {
     match literal_number(expression)? {
@@ -79,7 +76,7 @@ pub fn static_number(
     t: AdaType,
     expression: &Expression,
     typed: Typed,
-) -> Result<Option<i128>, NoMemory>
+) -> Result<Option<Number>, NoMemory>
     ensures { IfOk result (λ n. n ≡ static_number known.now t expression.now typed) }
 {
     if fits(typed, t) && has_type(typed) {

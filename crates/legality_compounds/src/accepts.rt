@@ -8,10 +8,10 @@ use ada_entities::entity_denoted;
 use ada_legality::{Around, Finding, Known};
 use ada_tree::{Accept, AcceptBody};
 use ann_base::NoMemory;
-use legality_handlers::legality_entities::with_around;
+use legality_entities::with_around;
 use legality_handlers::{accept_judged, kind_of_entity};
 use legality_parts::parameters_found;
-use legality_requeues::legality_profiles::accept_conforms;
+use legality_profiles::accept_conforms;
 use std::alloc::Global;
 use world_tables::List;
 

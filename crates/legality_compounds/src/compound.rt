@@ -11,11 +11,11 @@ use ada_legality::{Around, Finding, Known};
 use ada_tree::{Case, CaseAlternative, Elsif, If, Iteration, Label, Loop};
 use ann_base::{NoMemory, Place};
 use legality_cases::{ChoiceOf, add_choices, case_judged, choices_read, type_of_selector};
-use legality_handlers::legality_entities::with_around;
-use legality_leaving::legality_conditions::condition_found;
-use legality_leaving::legality_expressions::Readable;
+use legality_conditions::condition_found;
+use legality_entities::with_around;
+use legality_expressions::Readable;
 use legality_statements::{iteration_found, with_iteration};
-use profile_machine::ImageList;
+use profile_image::ImageList;
 use std::alloc::Global;
 use world_tables::List;
 

@@ -3,7 +3,7 @@ use crate::judging::Judge;
 use ada_legality::{Around, Finding, Known};
 use ada_tree::Handler;
 use ann_base::NoMemory;
-use legality_handlers::legality_entities::with_around;
+use legality_entities::with_around;
 use std::alloc::Global;
 use world_tables::List;
 

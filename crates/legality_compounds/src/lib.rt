@@ -11,6 +11,3 @@ mod selects;
 mod statements;
 
 pub use judging::{Judge, judge_all, judge_each, judge_if};
-
-// What stands below, for the crates above.
-pub use legality_handlers;

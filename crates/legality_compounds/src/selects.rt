@@ -13,11 +13,11 @@ use ada_tree::{
     SelectForm, SelectStatement, SelectiveAccept, TimedEntryCall,
 };
 use ann_base::{NoMemory, Place};
-use legality_handlers::legality_entities::with_around;
-use legality_handlers::legality_types::broken_if;
-use legality_parts::legality_choices::selective_accept_judged;
+use legality_choices::selective_accept_judged;
+use legality_entities::with_around;
 use legality_statements::{delay_found, entry_call_found, guard_found, trigger_found};
-use profile_machine::ImageList;
+use legality_types::broken_if;
+use profile_image::ImageList;
 use std::alloc::Global;
 use world_tables::List;
 

@@ -8,9 +8,9 @@ use ada_legality::{Finding, Known};
 use ada_regions::EntityKind;
 use ada_tree::Identifier;
 use ann_base::{NoMemory, Place};
-use legality_expressions::legality_entities::kind_of_identifier;
-use legality_expressions::legality_types::note;
-use profile_machine::DeclNo;
+use legality_entities::kind_of_identifier;
+use legality_types::note;
+use profile_image::DeclNo;
 use world_tables::List;
 
 /// The number of what has cells.

@@ -7,11 +7,3 @@ mod values;
 
 pub use cells::cells_noted;
 pub use values::{condition_found, not_static, value_alone_found_if, value_found, value_found_if};
-
-// What stands below, for the crates above.
-pub use legality_choices;
-pub use legality_expressions;
-pub use legality_expressions::{
-    legality_actuals, legality_calls, legality_entities, legality_names, legality_reads,
-    legality_types, legality_values,
-};

@@ -8,8 +8,8 @@ use ada_tree::Expression;
 use ann_base::{NoMemory, Place};
 use legality_choices::number_of_expression;
 use legality_expressions::Readable;
-use legality_expressions::legality_reads::{expected, fitted};
-use legality_expressions::legality_types::broken_unless;
+use legality_reads::{expected, fitted};
+use legality_types::broken_unless;
 use std::alloc::Global;
 use world_tables::List;
 

@@ -12,9 +12,9 @@ use ada_predefined::same_unit;
 use ada_regions::{Denoted, PredefinedUnit};
 use ada_tree::{ContextClause, Name, OneOrMore};
 use ann_base::NoMemory;
-use legality_expressions::legality_types::{broken_if, broken_unless};
-use legality_expressions::legality_values::place_of;
+use legality_types::{broken_if, broken_unless};
 use legality_units::use_found;
+use legality_values::place_of;
 use world_tables::List;
 
 /// Ada.Dynamic_Priorities.

@@ -19,18 +19,18 @@ pub fn known_with<'n, 't>(
     alloc: Global,
     names: &'n Names<'t>,
     occurrences: &'n Occurrences<'t>,
-    in_force: InForce,
+    in_force: &InForce,
     indexes: &'n List<AdaType>,
 ) -> Known<'n, 't>
     // It is what the definition says.
-    ensures { result ≡ known_with names.now occurrences.now in_force indexes.now }
+    ensures { result ≡ known_with names.now occurrences.now in_force.now indexes.now }
 {
     Known {
         names: NamesOf::new(names),
         around: List::new(alloc),
         loops: List::new(alloc),
         indexes: ListOf::new(indexes),
-        in_force,
+        in_force: *in_force,
         occurrences: OccurrencesOf::new(occurrences),
     }
 }
@@ -40,7 +40,7 @@ fn index_between<'n, 't>(
     alloc: Global,
     names: &'n Names<'t>,
     occurrences: &'n Occurrences<'t>,
-    in_force: InForce,
+    in_force: &InForce,
     indexes: &'n List<AdaType>,
     low: &Expression,
     high: &Expression,
@@ -48,7 +48,7 @@ fn index_between<'n, 't>(
     ensures { IfOk result
         (λ t.
         t
-        ≡ type_between (known_with names.now occurrences.now in_force indexes.now) low.now
+        ≡ type_between (known_with names.now occurrences.now in_force.now indexes.now) low.now
         high.now) }
 {
     let known = known_with(alloc, names, occurrences, in_force, indexes);
@@ -60,13 +60,13 @@ fn index_put<'n, 't>(
     alloc: Global,
     names: &'n Names<'t>,
     occurrences: &'n Occurrences<'t>,
-    in_force: InForce,
+    in_force: &InForce,
     indexes: &mut List<AdaType>,
     occurrence: Occurrence<'_>,
 ) -> Result<(), NoMemory>
     ensures { OnOk result
         (indexes.new
-        ≡ index_put names.now occurrences.now in_force indexes.old
+        ≡ index_put names.now occurrences.now in_force.now indexes.old
         (occurrence_shown occurrence.entry)) }
 {
     match occurrence {
@@ -84,13 +84,13 @@ fn indexes_along<'n, 't>(
     alloc: Global,
     names: &'n Names<'t>,
     occurrences: &'n Occurrences<'t>,
-    in_force: InForce,
+    in_force: &InForce,
     indexes: &mut List<AdaType>,
     items: &[Occurrence<'t>],
 ) -> Result<(), NoMemory>
     ensures { OnOk result
         (indexes.new
-        ≡ indexes_along names.now occurrences.now in_force indexes.old
+        ≡ indexes_along names.now occurrences.now in_force.now indexes.old
         (map occurrence_shown items.now)) }
 {
     for occurrence in items {
@@ -105,10 +105,10 @@ pub fn indexes_of<'n, 't>(
     alloc: Global,
     names: &'n Names<'t>,
     occurrences: &'n Occurrences<'t>,
-    in_force: InForce,
+    in_force: &InForce,
 ) -> Result<List<AdaType>, NoMemory>
     // They are those of the definition.
-    ensures { IfOk result (λ indexes. indexes ≡ indexes_of names.now occurrences.now in_force) }
+    ensures { IfOk result (λ indexes. indexes ≡ indexes_of names.now occurrences.now in_force.now) }
 {
     let mut indexes = List::new(alloc);
     indexes_along(

@@ -7,6 +7,3 @@ mod indexes;
 
 pub use contexts::context_found;
 pub use indexes::{indexes_of, known_with};
-
-// What stands below, for the crates above.
-pub use legality_expressions::{legality_entities, legality_types};

@@ -6,7 +6,7 @@ ghost use Rattle.ada_legality.specs.Declarations.{component_found, components_fo
 use ada_legality::{Finding, IndicationUse, Known};
 use ada_tree::{Component, OneOrMore};
 use ann_base::NoMemory;
-use legality_parts::legality_conditions::value_found_if;
+use legality_conditions::value_found_if;
 use legality_parts::{indication_found, type_of_mark};
 use std::alloc::Global;
 use world_tables::List;

@@ -11,10 +11,3 @@ pub use components::protected_components_found;
 pub use entries::{entries_found, entry_found};
 pub use objects::object_found;
 pub use types::definition_found;
-
-// What stands below, for the crates above.
-pub use legality_parts;
-pub use legality_parts::{
-    legality_choices, legality_conditions, legality_entities, legality_types,
-};
-pub use legality_tasking;

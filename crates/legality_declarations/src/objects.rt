@@ -8,7 +8,7 @@ use ada_legality::{Finding, IndicationUse, Known};
 use ada_regions::AdaType;
 use ada_tree::{Identifier, ObjectDeclaration, OneOrMore};
 use ann_base::NoMemory;
-use legality_parts::legality_conditions::{cells_noted, value_alone_found_if};
+use legality_conditions::{cells_noted, value_alone_found_if};
 use legality_parts::{indication_found, type_of_mark};
 use legality_tasking::{protected_noted, task_judged, typed_object_if};
 use std::alloc::Global;

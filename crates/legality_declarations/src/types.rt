@@ -1,22 +1,21 @@
 //! Type declarations (ISO/IEC 8652:2012, 3.2.1, 3.6, 7.6).
-ghost use Rattle.std.specs.Prelude.{◌≡◌, ◌++◌, IfOk, OnOk, false, option_map, unwrap_or};
+ghost use Rattle.std.specs.Prelude.{◌≡◌, ◌++◌, IfOk, OnOk, false, int_le, option_map, unwrap_or};
 ghost use Rattle.ada_legality.specs.CallStatements.{found_if};
+ghost use Rattle.ada_legality.specs.declared.limits.TheConstants.{MOST_COMPONENTS};
 ghost use Rattle.ada_legality.specs.Declarations.{array_found, array_judged, components_found, components_from_to, definition_found, is_controlled_root, is_other_component, is_too_long};
 
 use crate::components::components_found;
 use ada_entities::denoted_by;
-use ada_legality::{Finding, IndicationUse, Known, MOST_COMPONENTS, Read, Rule};
+use ada_legality::{Finding, IndicationUse, Known, MOST_COMPONENTS, Number, Read, Rule};
 use ada_regions::AdaType;
 use ada_subtypes::mark_denoted;
 use ada_tree::{Component, Expression, Name, OneOrMore, SubtypeIndication, TypeDefinition};
 use ann_base::{NoMemory, Place};
-use legality_parts::legality_choices::static_number;
-use legality_parts::legality_expressions::Readable;
-use legality_parts::legality_types::{
-    broken_if, broken_unless, is_root_controlled, is_scalar, type_of_bounds,
-};
-use legality_parts::legality_values::place_of;
+use legality_choices::static_number;
+use legality_expressions::Readable;
 use legality_parts::{bounds_judged, indication_found, type_of_mark};
+use legality_types::{broken_if, broken_unless, is_root_controlled, is_scalar, type_of_bounds};
+use legality_values::place_of;
 use std::alloc::Global;
 use world_tables::List;
 
@@ -27,15 +26,15 @@ fn is_other_component(t: AdaType) -> bool
     !(is_scalar(t) || is_root_controlled(t))
 }
 
-/// How many components lie behind the first. A number that its type cannot hold is taken for want of memory.
-fn components_from_to(low: Option<i128>, high: Option<i128>) -> Result<i128, NoMemory>
-    ensures { IfOk result (λ n. n ≡ components_from_to low high) }
+/// More components lie from one number to another than there may be.
+fn lie_apart(low: Option<Number>, high: Option<Number>) -> bool
+    ensures { result ≡ int_le MOST_COMPONENTS (components_from_to low high) }
 {
     match low {
-        None => Ok(0),
+        None => false,
         Some(low) => match high {
-            None => Ok(0),
-            Some(high) => high.checked_sub(low).ok_or(NoMemory),
+            None => false,
+            Some(high) => low.is_before(MOST_COMPONENTS as u16, high),
         },
     }
 }
@@ -55,8 +54,7 @@ fn is_too_long(
 {
     let first = static_number(known, t, low, low_read.typed)?;
     let last = static_number(known, t, high, high_read.typed)?;
-    let behind = components_from_to(first, last)?;
-    Ok(MOST_COMPONENTS <= behind)
+    Ok(lie_apart(first, last))
 }
 
 /// The component of an array is no scalar.

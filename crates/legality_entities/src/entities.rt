@@ -8,7 +8,7 @@ use ada_entities::{denoted_by, entity_denoted, entity_of, kind_at};
 use ada_legality::{Known, LoopParameter};
 use ada_regions::{AdaType, Denoted, EntityKind, Names, Subtype, free_subtype, is_entry};
 use ada_tree::{Identifier, Name};
-use profile_machine::DeclNo;
+use profile_image::DeclNo;
 use world_tables::List;
 
 fn parameter_found(loops: &List<LoopParameter>, entity: u32) -> Option<&LoopParameter>

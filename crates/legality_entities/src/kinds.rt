@@ -5,7 +5,7 @@ ghost use Rattle.ada_legality.specs.SimpleStatements.{task_type_of_entry};
 ghost use Rattle.ada_legality.specs.Attributes.{protected_procedure, is_in_mode, is_variable_kind, type_of_entry_unit, unit_type_of_entry};
 
 use ada_regions::{AdaType, EntityKind, Formal, Mode};
-use profile_machine::{EntryUnit, ProtectedUnitNo};
+use profile_image::{EntryUnit, ProtectedUnitNo};
 
 /// An object, a parameter, a component or a loop parameter.
 pub fn is_object_kind(kind: &EntityKind) -> bool

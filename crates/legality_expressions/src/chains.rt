@@ -7,7 +7,7 @@ use ada_legality::{Finding, Known, Read};
 use ada_tree::{Addend, LogicalOperator, Multiplied, OneOrMore, Operand, RelationalOperator};
 use ann_base::{NoMemory, Place};
 use image_layout::{logical_operator, multiplying_operator, relational_operator};
-use legality_actuals::legality_reads::{
+use legality_reads::{
     compared_read, first_relation, first_term, operation_judged, plain_read, sum_judged,
     with_factor, with_relation, with_term,
 };

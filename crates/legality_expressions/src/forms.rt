@@ -17,14 +17,14 @@ use ada_tree::{
 };
 use ann_base::{NoMemory, Place};
 use image_layout::highest_operator;
-use legality_actuals::legality_reads::{
+use legality_actuals::{attribute_judged, name_judged};
+use legality_reads::{
     bracketed_read, call_inside, highest_read, number_read, operation_of_one_judged, plain_read,
     signed_judged, signed_read, text_read,
 };
-use legality_actuals::legality_types::type_of_bounds;
-use legality_actuals::legality_values::{attribute_read, name_read};
-use legality_actuals::{attribute_judged, name_judged};
-use profile_machine::{ImageList, Text};
+use legality_types::type_of_bounds;
+use legality_values::{attribute_read, name_read};
+use profile_image::{ImageList, Text};
 use std::alloc::Global;
 use world_tables::List;
 

@@ -8,10 +8,3 @@ mod readable;
 
 pub use forms::{arguments_read, type_between, typed_expression};
 pub use readable::Readable;
-
-// What stands below, for the crates above.
-pub use legality_actuals;
-pub use legality_actuals::{
-    legality_calls, legality_entities, legality_names, legality_reads, legality_types,
-    legality_values,
-};

@@ -4,7 +4,7 @@ ghost use Rattle.ada_legality.specs.ReadExpressions.{operand_read};
 
 use ada_legality::{Finding, Known, Read};
 use ann_base::NoMemory;
-use legality_actuals::legality_reads::as_operand;
+use legality_reads::as_operand;
 use std::alloc::Global;
 use world_tables::List;
 

@@ -14,8 +14,8 @@ use ada_legality::{Around, Finding, Known, Rule};
 use ada_regions::{AdaType, EntityKind, is_entry};
 use ada_tree::Identifier;
 use ann_base::{NoMemory, Place};
-use legality_values::legality_entities::{in_own_task, is_body, same_entities, task_type_of_entry};
-use legality_values::legality_types::{broken_if, broken_unless};
+use legality_entities::{in_own_task, is_body, same_entities, task_type_of_entry};
+use legality_types::{broken_if, broken_unless};
 use world_tables::List;
 
 /// What the entity is, where there is one.

@@ -8,10 +8,10 @@ ghost use Rattle.legality_handlers.specs.Handled.{name_judged, others_behind, ot
 use ada_legality::{Finding, Known, Rule};
 use ada_tree::{HandledExceptions, Handler, Name};
 use ann_base::{NoMemory, Place};
-use legality_values::legality_entities::{names_exception, same_named};
-use legality_values::legality_types::{broken_if, broken_unless};
+use legality_entities::{names_exception, same_named};
+use legality_types::{broken_if, broken_unless};
 use legality_values::place_of;
-use profile_machine::ImageList;
+use profile_image::ImageList;
 use std::alloc::Global;
 use std::marker::Model;
 use world_tables::List;

@@ -7,6 +7,3 @@ mod handlers;
 
 pub use accepts::{accept_judged, kind_of_entity};
 pub use handlers::handled_judged;
-
-// What stands below, for the crates above.
-pub use legality_values::{legality_entities, legality_types};

@@ -1,6 +1,6 @@
 //! Exits, returns and raises (ISO/IEC 8652:2012, 5.7, 6.5, 11.3).
 ghost use Rattle.std.specs.Prelude.{◌≡◌, ◌++◌, OnOk};
-ghost use Rattle.profile_machine.specs.Words.{same_bool};
+ghost use Rattle.profile_image.specs.Words.{same_bool};
 ghost use Rattle.ada_legality.specs.Attributes.{kind_of_identifier};
 ghost use Rattle.ada_regions.specs.Completions.{holds_of};
 ghost use Rattle.ada_legality.specs.Words.{any_in_body, any_in_sequence};
@@ -12,12 +12,12 @@ use ada_legality::{Around, Finding, Known, Rule, SubprogramAround};
 use ada_regions::{AdaType, EntityKind};
 use ada_tree::{Exit, Expression, Identifier, Name};
 use ann_base::{NoMemory, Place};
-use legality_conditions::legality_entities::{
+use legality_conditions::{condition_found, value_alone_found_if};
+use legality_entities::{
     is_accept, is_body, kind_of_identifier, names_exception, same_entities, sequence_around,
 };
-use legality_conditions::legality_types::{broken_unless, note};
-use legality_conditions::legality_values::place_of;
-use legality_conditions::{condition_found, value_alone_found_if};
+use legality_types::{broken_unless, note};
+use legality_values::place_of;
 use std::alloc::Global;
 use world_tables::List;
 

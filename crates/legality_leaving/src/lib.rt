@@ -5,7 +5,3 @@
 mod leaving;
 
 pub use leaving::{exit_found, raise_found, return_found};
-
-// What stands below, for the crates above.
-pub use legality_conditions;
-pub use legality_conditions::legality_expressions;

@@ -12,7 +12,7 @@ use ada_subtypes::mark_denoted;
 use ada_tree::{Attribute, Name};
 use legality_entities::{denoted_kind, in_own_task, stands_in_type, subtype_of_entity};
 use legality_types::{has_ranges, is_discrete, typed_as, typed_if};
-use profile_machine::EntryUnit;
+use profile_image::EntryUnit;
 
 /// The type of an array's index.
 #[tactic(auto, unfolding(ada_legality::specs::Attributes::type_of_index))]

@@ -14,7 +14,7 @@ use legality_entities::{
     entity_of_name, is_library_object, is_object_kind, kind_of_name, protected_procedure,
     single_object,
 };
-use profile_machine::ProtectedUnitNo;
+use profile_image::ProtectedUnitNo;
 
 /// An entity that is an object.
 fn object_at(names: &Names<'_>, entity: u32) -> Option<u32>

@@ -2,7 +2,7 @@
 ghost use Rattle.std.specs.Prelude.{◌≡◌, pos, suc};
 ghost use Rattle.ada_regions.specs.PredefinedUnits.{subtype_with};
 ghost use Rattle.ada_regions.specs.declared.types.AdaType.TheVariants as types;
-ghost use Rattle.profile_machine.specs.declared.values.Constraint.TheVariants as constraint;
+ghost use Rattle.profile_image.specs.declared.values.Constraint.TheVariants as constraint;
 ghost use Rattle.ada_legality.specs.declared.reading.Typed.TheVariants as typing;
 ghost use Rattle.ada_legality.specs.Values.{denotes_value, denotes_object, denotes_function, denotes_procedure, component_subtype, subtype_with_index, unless_index, typed_constant, typed_value, result_of_kind, typed_operation_call, typed_call, typed_denoted, typed_name};
 
@@ -20,7 +20,7 @@ use legality_entities::{
     subtype_of_entity, type_of_constant,
 };
 use legality_types::{typed_as, typed_by, typed_if};
-use profile_machine::Constraint;
+use profile_image::Constraint;
 
 /// An object, a literal or a constant.
 #[tactic(auto, unfolding(ada_legality::specs::Values::denotes_value))]

@@ -3,19 +3,17 @@ ghost use Rattle.std.specs.Prelude.{◌≡◌, ◌++◌, OnOk};
 ghost use Rattle.ada_legality.specs.Findings.{Reads};
 ghost use Rattle.ada_legality.specs.Aspects.{aspect_alone, aspect_named, aspect_read, aspect_with_value, aspects_found, aspects_judged, aspects_read, static_level};
 
-use ada_legality::{AspectName, AspectOwner, AspectPart, Finding, Known, Rule};
+use ada_legality::{AspectName, AspectOwner, AspectPart, Finding, Known, Number, Rule, add_aspect};
 use ada_regions::{AdaType, Names};
 use ada_subtypes::static_value;
 use ada_tree::{Aspect, Expression, Identifier};
 use ann_base::{NoMemory, Place};
 use image_policies::level_of;
-use legality_conditions::legality_choices::{
-    aspects_from, may_be_attached, stands_before_attach, static_number,
-};
-use legality_conditions::legality_expressions::Readable;
-use legality_conditions::legality_reads::without_point;
-use legality_conditions::legality_types::broken_if;
-use profile_machine::ImageList;
+use legality_choices::{aspects_from, may_be_attached, stands_before_attach, static_number};
+use legality_expressions::Readable;
+use legality_reads::without_point;
+use legality_types::broken_if;
+use profile_image::ImageList;
 use std::alloc::Global;
 use world_tables::List;
 
@@ -102,8 +100,26 @@ fn aspect_read(
     }
 }
 
-/// Aspects in their order.
+// Aspects in their order. The check of borrows asks that a loop whose list holds numbers is in a function that names their type.
 #[tactic(auto, unfolding(ada_legality::specs::Aspects::aspects_read))]
+fn aspects_in_order(
+    alloc: Global,
+    found: &mut List<Finding>,
+    known: &Known<'_, '_>,
+    aspects: &[Aspect],
+    _number: Option<Number>,
+) -> Result<ImageList<AspectPart>, NoMemory>
+    ensures { Reads (aspects_read aspects.now known.now) found.old found.new result }
+{
+    let mut parts = ImageList::new(alloc);
+    for aspect in aspects {
+        let part = aspect_read(alloc, found, known, &aspect.name, &aspect.value)?;
+        add_aspect(&mut parts, part)?;
+    }
+    Ok(parts)
+}
+
+/// Aspects in their order.
 fn aspects_read(
     alloc: Global,
     found: &mut List<Finding>,
@@ -112,11 +128,7 @@ fn aspects_read(
 ) -> Result<ImageList<AspectPart>, NoMemory>
     ensures { Reads (aspects_read aspects.now known.now) found.old found.new result }
 {
-    let mut parts = ImageList::new(alloc);
-    for aspect in aspects {
-        parts.push(aspect_read(alloc, found, known, &aspect.name, &aspect.value)?)?;
-    }
-    Ok(parts)
+    aspects_in_order(alloc, found, known, aspects, None)
 }
 
 /// The aspects of a construct that begins here.

@@ -3,24 +3,24 @@ ghost use Rattle.std.specs.Prelude.{◌≡◌, ◌++◌, [], OnOk, cond};
 ghost use Rattle.ada_legality.specs.Types.{has_ranges};
 ghost use Rattle.ada_legality.specs.CallStatements.{is_above, pair_judged, bounds_judged, bounds_found, bounds_if};
 
-use ada_legality::{Asked, Finding, Known, Read, Rule};
+use ada_legality::{Asked, Finding, Known, Number, Read, Rule};
 use ada_regions::AdaType;
 use ada_tree::Expression;
 use ann_base::NoMemory;
-use legality_conditions::legality_choices::static_number;
-use legality_conditions::legality_expressions::Readable;
-use legality_conditions::legality_reads::expected;
-use legality_conditions::legality_types::{broken_if, has_ranges};
+use legality_choices::static_number;
 use legality_conditions::{not_static, value_found};
+use legality_expressions::Readable;
+use legality_reads::expected;
+use legality_types::{broken_if, has_ranges};
 use std::alloc::Global;
 use world_tables::List;
 
 /// The first number is above the second.
-fn is_above(low: Option<i128>, high: Option<i128>) -> bool
+fn is_above(low: Option<Number>, high: Option<Number>) -> bool
     ensures { result ≡ is_above low high }
 {
     match (low, high) {
-        (Some(low), Some(high)) => high < low,
+        (Some(low), Some(high)) => !low.is_at_most(high),
         _ => false,
     }
 }

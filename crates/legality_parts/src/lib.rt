@@ -12,9 +12,3 @@ pub use aspects::aspects_found;
 pub use bounds::{bounds_if, bounds_judged};
 pub use marks::{indication_found, type_of_mark};
 pub use parameters::parameters_found;
-
-// What stands below, for the crates above.
-pub use legality_conditions;
-pub use legality_conditions::{
-    legality_choices, legality_entities, legality_expressions, legality_types, legality_values,
-};

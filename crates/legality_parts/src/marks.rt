@@ -10,12 +10,12 @@ use ada_regions::{AdaType, is_controlled_type};
 use ada_subtypes::indicated_subtype;
 use ada_tree::{Constraint as Indicated, Name, Parameter, SubtypeIndication};
 use ann_base::NoMemory;
-use legality_conditions::legality_entities::kind_of_name;
-use legality_conditions::legality_types::{
+use legality_entities::kind_of_name;
+use legality_types::{
     broken_if, broken_unless, has_ranges, is_event_timer_or_budget, is_root_controlled, is_scalar,
     is_scalar_or_array, is_timer,
 };
-use legality_conditions::legality_values::{is_unclear_mark, place_of};
+use legality_values::{is_unclear_mark, place_of};
 use std::alloc::Global;
 use world_tables::List;
 

@@ -11,10 +11,10 @@ use Rattle.ada_tree.specs.declared.expressions.Argument.{Argument}
 use Rattle.ada_tree.specs.declared.expressions.Expression.{Expression}
 use Rattle.ada_tree.specs.declared.units.Pragma.{Pragma}
 use Rattle.ann_base.specs.declared.places.Place.{Place}
-use Rattle.profile_machine.specs.declared.image.Dispatching.{Dispatching}
-use Rattle.profile_machine.specs.declared.image.DispatchingRange.{DispatchingRange}
+use Rattle.profile_image.specs.declared.image.Dispatching.{Dispatching}
+use Rattle.profile_image.specs.declared.image.DispatchingRange.{DispatchingRange}
 use Rattle.legality_pragmas.specs.Deadlines.{deadlines_of, placed, told}
-use Rattle.profile_machine.specs.declared.image.Dispatching.TheVariants as dispatching
+use Rattle.profile_image.specs.declared.image.Dispatching.TheVariants as dispatching
 
 -- ---- a pragma gives at most one range, which stands in order
 

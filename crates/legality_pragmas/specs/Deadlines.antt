@@ -5,7 +5,7 @@ use Rattle.ada_legality.specs.Pragmas.{is_pragma_of_profile}
 use Rattle.ada_legality.specs.declared.findings.DeadlineRange.{DeadlineRange}
 use Rattle.ada_tree.specs.declared.units.Pragma.{Pragma}
 use Rattle.ann_base.specs.declared.places.Place.{Place}
-use Rattle.profile_machine.specs.declared.image.DispatchingRange.{DispatchingRange}
+use Rattle.profile_image.specs.declared.image.DispatchingRange.{DispatchingRange}
 use Rattle.std.specs.List.{flat_map}
 use Rattle.std.specs.Prelude.{List, [], cond, ℕ, ◌∷◌}
 

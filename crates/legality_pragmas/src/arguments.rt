@@ -9,7 +9,8 @@ ghost use Rattle.ada_tree.specs.declared.expressions.ExpressionForm.TheVariants 
 ghost use Rattle.legality_pragmas.specs.Arguments.{signed_number};
 ghost use Rattle.ada_legality.specs.Pragmas.{end_of_range, integer_behind, integer_named, integer_names, lone_word, number_in, number_of_form, plain_word, whole_literal, word_in};
 
-use ada_lex::{decimals, whole_value};
+use ada_legality::Number;
+use ada_lex::decimals;
 use ada_predefined::item_in;
 use ada_regions::{LAST_PRIORITY, PredefinedUnit, Subtype};
 use ada_subtypes::subtype_of_item;
@@ -17,8 +18,8 @@ use ada_tree::{
     Argument, Attribute, AttributeDesignator, Expression, ExpressionForm, Identifier, Name, Sign,
 };
 use ann_base::NoMemory;
-use legality_choices::ends_of;
-use profile_machine::Constraint;
+use legality_choices::{ends_of, number_of_literal, number_of_negative};
+use profile_image::Constraint;
 
 /// The word that a name without a point is.
 fn lone_word(name: &Name) -> Option<&[u8]>
@@ -75,30 +76,33 @@ pub(crate) fn word_in(argument: &Argument<Expression>) -> Option<&[u8]>
 }
 
 /// The number that a literal without a point is.
-fn whole_number(literal: &[u8]) -> Result<Option<i128>, NoMemory>
+#[tactic(auto, unfolding(ada_legality::specs::Words::number_of_literal))]
+fn whole_number(literal: &[u8]) -> Result<Option<Number>, NoMemory>
     ensures { IfOk result
         (λ n.
         n
         ≡ cond (is_empty (decimals_of literal.now)) (Some (pos (whole_of literal.now))) None) }
 {
     if decimals(literal).is_empty() {
-        match whole_value(literal) {
-            Some(number) if number <= i128::MAX as u128 => Ok(Some(number as i128)),
-            _ => Err(NoMemory),
-        }
+        Ok(Some(number_of_literal(literal)?))
     } else {
         Ok(None)
     }
 }
 
-/// The number of a form that is a literal without a point.
-#[tactic(auto, unfolding(ada_legality::specs::Pragmas::whole_literal))]
-fn whole_literal(form: &ExpressionForm<Expression>) -> Result<Option<i128>, NoMemory>
-    ensures { IfOk result (λ n. n ≡ whole_literal form.now) }
+/// The number that minus such a literal is.
+#[tactic(auto, unfolding(ada_legality::specs::Words::number_of_literal))]
+fn minus_whole(literal: &[u8]) -> Result<Option<Number>, NoMemory>
+    ensures { IfOk result
+        (λ n.
+        n
+        ≡ option_map neg_ℤ
+        (cond (is_empty (decimals_of literal.now)) (Some (pos (whole_of literal.now))) None)) }
 {
-    match form {
-        ExpressionForm::Number { literal, .. } => whole_number(literal.as_slice()),
-        _ => Ok(None),
+    if decimals(literal).is_empty() {
+        Ok(Some(number_of_negative(literal)?))
+    } else {
+        Ok(None)
     }
 }
 
@@ -141,7 +145,7 @@ fn integer_behind(first: &Identifier, others: &[Identifier]) -> Option<Subtype>
 
 /// The end of a range that the attribute asks for.
 #[tactic(auto, unfolding(ada_legality::specs::Pragmas::end_of_range))]
-fn end_of_range(attribute: Attribute, range: Constraint) -> Option<i128>
+fn end_of_range(attribute: Attribute, range: Constraint) -> Option<Number>
     ensures { result ≡ end_of_range attribute range }
 {
     match attribute {
@@ -152,13 +156,14 @@ fn end_of_range(attribute: Attribute, range: Constraint) -> Option<i128>
 }
 
 /// The number of minus a literal.
-fn negative_number(operand: &Expression) -> Result<Option<i128>, NoMemory>
+#[tactic(auto, unfolding(ada_legality::specs::Pragmas::whole_literal))]
+fn negative_number(operand: &Expression) -> Result<Option<Number>, NoMemory>
     ensures { IfOk result
         (λ n. n ≡ option_map neg_ℤ (whole_literal (out-Expression operand.now).form)) }
 {
-    match whole_literal(operand.form.get())? {
-        None => Ok(None),
-        Some(number) => Ok(Some(number.checked_neg().ok_or(NoMemory)?)),
+    match operand.form.get() {
+        ExpressionForm::Number { literal, .. } => minus_whole(literal.as_slice()),
+        _ => Ok(None),
     }
 }
 
@@ -168,7 +173,7 @@ fn number_of_name(
     name: &Name,
     attribute: &Option<AttributeDesignator>,
     arguments: &[Argument<Expression>],
-) -> Option<i128>
+) -> Option<Number>
     ensures { result ≡ number_of_form (form.Named name.now attribute.now arguments.now) }
 {
     let designator = attribute.as_ref()?;
@@ -182,7 +187,7 @@ fn number_of_name(
 }
 
 /// The number of a literal behind a sign: that of minus a literal alone is known.
-fn signed_number(sign: Sign, operand: &Expression) -> Result<Option<i128>, NoMemory>
+fn signed_number(sign: Sign, operand: &Expression) -> Result<Option<Number>, NoMemory>
     ensures { IfOk result (λ n. n ≡ signed_number sign operand.now) }
 {
     match sign {
@@ -193,7 +198,7 @@ fn signed_number(sign: Sign, operand: &Expression) -> Result<Option<i128>, NoMem
 
 /// The number of a literal, of minus a literal, or of First or Last.
 #[tactic(auto, unfolding(ada_legality::specs::Pragmas::number_of_form, ada_legality::specs::Pragmas::whole_literal))]
-fn number_of_form(form: &ExpressionForm<Expression>) -> Result<Option<i128>, NoMemory>
+fn number_of_form(form: &ExpressionForm<Expression>) -> Result<Option<Number>, NoMemory>
     ensures { IfOk result (λ n. n ≡ number_of_form form.now) }
 {
     match form {
@@ -209,7 +214,7 @@ fn number_of_form(form: &ExpressionForm<Expression>) -> Result<Option<i128>, NoM
 }
 
 /// The number of an argument.
-pub(crate) fn number_in(argument: &Argument<Expression>) -> Result<Option<i128>, NoMemory>
+pub(crate) fn number_in(argument: &Argument<Expression>) -> Result<Option<Number>, NoMemory>
     ensures { IfOk result (λ n. n ≡ number_in argument.now) }
 {
     number_of_form(argument.value.form.get())

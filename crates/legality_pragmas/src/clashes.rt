@@ -9,7 +9,7 @@ ghost use Rattle.legality_pragmas.specs.Judging.{judged_along, pragma_judged};
 
 use crate::arguments::number_in;
 use crate::profile::is_pragma_of_profile;
-use ada_legality::{Finding, Rule, Span};
+use ada_legality::{Finding, Number, Rule, Span};
 use ada_predefined::last_priority_of;
 use ada_tree::Pragma;
 use ann_base::NoMemory;
@@ -49,7 +49,7 @@ fn is_given_again(before: &[Pragma], pragma: &Pragma) -> bool
 }
 
 /// Two numbers that are known.
-fn pair(low: Option<i128>, high: Option<i128>) -> Option<Span>
+fn pair(low: Option<Number>, high: Option<Number>) -> Option<Span>
     ensures { result ≡ pair_of (low ∷ high ∷ []) }
 {
     let low = low?;

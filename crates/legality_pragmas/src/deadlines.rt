@@ -11,7 +11,7 @@ use ada_predefined::last_priority_of;
 use ada_tree::Pragma;
 use ann_base::{NoMemory, Place};
 use image_policies::policies_of;
-use profile_machine::{Dispatching, DispatchingRange, ImageList};
+use profile_image::{Dispatching, DispatchingRange, ImageList};
 use std::alloc::Global;
 
 /// EDF_Across_Priorities (D.2.6).

@@ -4,7 +4,7 @@ ghost use Rattle.ada_legality.specs.InForce.{in_force_by, in_force_with, is_give
 
 use crate::deadlines::deadline_ranges_of;
 use crate::restrictions::{has_longest, is_given, least_limit_in};
-use ada_legality::InForce;
+use ada_legality::{InForce, Number};
 use ada_tree::Pragma;
 use ann_base::NoMemory;
 use std::alloc::Global;
@@ -61,7 +61,7 @@ fn simple_barriers(pragmas: &[Pragma]) -> bool
 }
 
 /// The least Max_Task_Entries that is given.
-fn max_task_entries(pragmas: &[Pragma]) -> Result<Option<i128>, NoMemory>
+fn max_task_entries(pragmas: &[Pragma]) -> Result<Option<Number>, NoMemory>
     ensures { IfOk result
         (λ least.
         least ≡ least_limit_in (codes "max_task_entries") (restriction_arguments pragmas.now)) }
@@ -70,7 +70,7 @@ fn max_task_entries(pragmas: &[Pragma]) -> Result<Option<i128>, NoMemory>
 }
 
 /// The least Max_Protected_Entries that is given.
-fn max_protected_entries(pragmas: &[Pragma]) -> Result<Option<i128>, NoMemory>
+fn max_protected_entries(pragmas: &[Pragma]) -> Result<Option<Number>, NoMemory>
     ensures { IfOk result
         (λ least.
         least
@@ -80,7 +80,7 @@ fn max_protected_entries(pragmas: &[Pragma]) -> Result<Option<i128>, NoMemory>
 }
 
 /// The least Max_Select_Alternatives that is given.
-fn max_select_alternatives(pragmas: &[Pragma]) -> Result<Option<i128>, NoMemory>
+fn max_select_alternatives(pragmas: &[Pragma]) -> Result<Option<Number>, NoMemory>
     ensures { IfOk result
         (λ least.
         least

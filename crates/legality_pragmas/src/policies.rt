@@ -7,6 +7,7 @@ ghost use Rattle.ada_legality.specs.Pragmas.{is_one_word, is_policy, is_range_of
 ghost use Rattle.legality_pragmas.specs.Arguments.{only_word};
 
 use crate::arguments::{number_in, word_in};
+use ada_legality::Number;
 use ada_tree::{Argument, Expression, OneOrMore, Pragma};
 use ann_base::NoMemory;
 
@@ -105,14 +106,17 @@ fn is_policy(argument: &Argument<Expression>) -> bool
 }
 
 /// Whether two priorities stand in order, where the last Priority is given.
-fn is_range_of_priorities(last: u8, low: Option<i128>, high: Option<i128>) -> bool
+fn is_range_of_priorities(last: u8, low: Option<Number>, high: Option<Number>) -> bool
     ensures { result ≡ is_range_of_priorities last low high }
 {
     match low {
         None => false,
         Some(low) => match high {
             None => false,
-            Some(high) => 0 <= low && (low <= high && high <= i128::from(last) + 1),
+            Some(high) => {
+                Number::of(0).is_at_most(low)
+                    && (low.is_at_most(high) && high.is_at_most(Number::of(i64::from(last) + 1)))
+            }
         },
     }
 }
@@ -121,8 +125,8 @@ fn is_range_of_priorities(last: u8, low: Option<i128>, high: Option<i128>) -> bo
 fn is_specific_with(
     last: u8,
     policy: &Argument<Expression>,
-    low: Option<i128>,
-    high: Option<i128>,
+    low: Option<Number>,
+    high: Option<Number>,
 ) -> bool
     ensures { result ≡ is_policy policy.now && is_range_of_priorities last low high }
 {

@@ -1,6 +1,6 @@
 //! Pragmas of the profile, with their arguments (ISO/IEC 8652:2012, 2.8, 13.12, D.2.2, D.3, D.4, D.7).
 ghost use Rattle.std.specs.Prelude.{◌≡◌, ◌&&◌, pos, IfOk};
-ghost use Rattle.profile_machine.specs.declared.limits.TheConstants.{INTEGER_LAST};
+ghost use Rattle.profile_image.specs.declared.limits.TheConstants.{INTEGER_LAST};
 ghost use Rattle.std.specs.List.{list_all, list_any};
 ghost use Rattle.std.specs.Str.{bytes_eq};
 ghost use Rattle.ada_regions.specs.Words.{all_of};
@@ -10,9 +10,11 @@ ghost use Rattle.legality_pragmas.specs.Arguments.{is_among};
 
 use crate::arguments::{number_in, word_in};
 use crate::policies::{is_specific, names_dispatching, names_locking, names_queuing, names_wide};
+use ada_legality::Number;
 use ada_tree::{Argument, Expression, Identifier, OneOrMore, Pragma};
 use ann_base::NoMemory;
-use profile_machine::INTEGER_LAST;
+use legality_choices::lies_between;
+use profile_image::INTEGER_LAST;
 
 /// Whether it is the name of a restriction that forbids.
 fn is_forbidding(word: &[u8]) -> bool
@@ -38,17 +40,14 @@ fn is_limiting(word: &[u8]) -> bool
 }
 
 /// Whether a number that is known is one that limits.
-fn is_limit(number: Option<i128>) -> bool
+fn is_limit(number: Option<Number>) -> bool
     ensures { result ≡ lies_between (pos 0) INTEGER_LAST number }
 {
-    match number {
-        None => false,
-        Some(number) => 0 <= number && number <= i128::from(INTEGER_LAST),
-    }
+    lies_between(0, i64::from(INTEGER_LAST), number)
 }
 
 /// Whether a restriction of this name has such a number.
-fn is_limited_by(name: &Identifier, number: Option<i128>) -> bool
+fn is_limited_by(name: &Identifier, number: Option<Number>) -> bool
     ensures { result
         ≡ list_any (bytes_eq name.now.text) restrictions_with_number
         && lies_between (pos 0) INTEGER_LAST number }

@@ -8,6 +8,7 @@ ghost use Rattle.ada_legality.specs.InForce.{gives_restriction, is_given, is_nam
 ghost use Rattle.legality_pragmas.specs.Restrictions.{gives, gives_longest, least_before, least_with};
 
 use crate::arguments::{number_in, word_in};
+use ada_legality::Number;
 use ada_tree::{Argument, Expression, OneOrMore, Pragma};
 use ann_base::NoMemory;
 use image_policies::is_longest;
@@ -77,7 +78,7 @@ fn is_named_as(name: &[u8], argument: &Argument<Expression>) -> bool
 
 /// The limit that an argument gives.
 #[tactic(auto, unfolding(ada_legality::specs::InForce::limit_in))]
-fn limit_in(name: &[u8], argument: &Argument<Expression>) -> Result<Option<i128>, NoMemory>
+fn limit_in(name: &[u8], argument: &Argument<Expression>) -> Result<Option<Number>, NoMemory>
     ensures { IfOk result (λ limit. limit ≡ limit_in name.now argument.now) }
 {
     if is_named_as(name, argument) {
@@ -88,13 +89,13 @@ fn limit_in(name: &[u8], argument: &Argument<Expression>) -> Result<Option<i128>
 }
 
 /// The least of two limits.
-fn least_limit(a: Option<i128>, b: Option<i128>) -> Option<i128>
+fn least_limit(a: Option<Number>, b: Option<Number>) -> Option<Number>
     ensures { result ≡ least_limit a b }
 {
     match (a, b) {
         (None, b) => b,
         (Some(a), None) => Some(a),
-        (Some(a), Some(b)) => { if a <= b { Some(a) } else { Some(b) } }
+        (Some(a), Some(b)) => { if a.is_at_most(b) { Some(a) } else { Some(b) } }
     }
 }
 
@@ -102,8 +103,8 @@ fn least_limit(a: Option<i128>, b: Option<i128>) -> Option<i128>
 fn least_here(
     name: &[u8],
     argument: &Argument<Expression>,
-    later: Option<i128>,
-) -> Result<Option<i128>, NoMemory>
+    later: Option<Number>,
+) -> Result<Option<Number>, NoMemory>
     ensures { IfOk result (λ least. least ≡ least_limit (limit_in name.now argument.now) later) }
 {
     let limit = limit_in(name, argument)?;
@@ -115,8 +116,8 @@ fn least_here(
 fn least_with(
     name: &[u8],
     arguments: &[Argument<Expression>],
-    later: Option<i128>,
-) -> Result<Option<i128>, NoMemory>
+    later: Option<Number>,
+) -> Result<Option<Number>, NoMemory>
     ensures { IfOk result (λ least. least ≡ least_with name.now arguments.now later) }
 {
     let mut least = later;
@@ -129,7 +130,11 @@ fn least_with(
 }
 
 /// The least of the limits that a pragma gives, and a later one.
-fn least_before(name: &[u8], pragma: &Pragma, later: Option<i128>) -> Result<Option<i128>, NoMemory>
+fn least_before(
+    name: &[u8],
+    pragma: &Pragma,
+    later: Option<Number>,
+) -> Result<Option<Number>, NoMemory>
     ensures { IfOk result (λ least. least ≡ least_before name.now pragma.now later) }
 {
     if is_restrictions(pragma) {
@@ -142,7 +147,7 @@ fn least_before(name: &[u8], pragma: &Pragma, later: Option<i128>) -> Result<Opt
 
 /// The least limit that these pragmas give. The last pragma's is looked at first.
 #[tactic(auto, using(crate::proofs::Limits::pragma_laws))]
-pub(crate) fn least_limit_in(pragmas: &[Pragma], name: &[u8]) -> Result<Option<i128>, NoMemory>
+pub(crate) fn least_limit_in(pragmas: &[Pragma], name: &[u8]) -> Result<Option<Number>, NoMemory>
     ensures { IfOk result
         (λ least. least ≡ least_limit_in name.now (restriction_arguments pragmas.now)) }
 {

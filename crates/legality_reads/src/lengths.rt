@@ -12,7 +12,7 @@ use ada_subtypes::mark_denoted;
 use ada_tree::{AddingOperator, Attribute, Name};
 use ann_base::NAME_BYTES;
 use legality_types::discrete_if;
-use profile_machine::Text;
+use profile_image::Text;
 
 /// A length that is short enough for a line.
 pub(crate) fn short_length(bytes: usize) -> Option<u32>

@@ -8,7 +8,7 @@ use ada_legality::{Finding, Read, Rule, Typed};
 use ada_tree::{AddingOperator, Sign};
 use ann_base::{NoMemory, Place};
 use legality_types::{broken_if, has_type, is_text, operation_type, operation_type_of_one};
-use profile_machine::{BinaryOperator, UnaryOperator};
+use profile_image::{BinaryOperator, UnaryOperator};
 use world_tables::List;
 
 /// An operator that is not defined for its operands.

@@ -16,7 +16,7 @@ use ada_tree::{
 use ann_base::Place;
 use image_layout::{highest_operator, logical_operator, multiplying_operator, relational_operator};
 use legality_types::{operation_type, operation_type_of_one, typed_if};
-use profile_machine::{BinaryOperator, UnaryOperator};
+use profile_image::{BinaryOperator, UnaryOperator};
 
 /// An expression of this type, and nothing more.
 pub fn plain_read(place: Place, typed: Typed) -> Read

@@ -5,6 +5,3 @@
 mod requeues;
 
 pub use requeues::{abort_found, requeue_found};
-
-// What stands below, for the crates above.
-pub use legality_profiles;

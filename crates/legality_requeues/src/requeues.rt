@@ -17,13 +17,13 @@ use ada_legality::{Around, Finding, Known, Rule};
 use ada_regions::{AdaType, Denoted, EntityKind, Formal};
 use ada_tree::{Name, OneOrMore};
 use ann_base::{NoMemory, Place};
-use legality_profiles::same_mode;
-use legality_values::legality_entities::{
+use legality_entities::{
     innermost_unit, is_accept, is_body, is_type_in, kind_of_name, names_entry, sequence_around,
     stands_in_unit, task_type_of_entry, unit_type_of_entry,
 };
-use legality_values::legality_names::{denotes_value, is_task_object, object_prefix};
-use legality_values::legality_types::{broken_if, broken_unless, same_type_if};
+use legality_names::{denotes_value, is_task_object, object_prefix};
+use legality_profiles::same_mode;
+use legality_types::{broken_if, broken_unless, same_type_if};
 use legality_values::{is_unclear_object, place_of};
 use world_tables::List;
 

@@ -9,17 +9,15 @@ use ada_legality::{Asked, Finding, Known, Read, Rule, Shape, Typed};
 use ada_regions::{AdaType, Denoted, Names};
 use ada_tree::{Assignment, Delay, Name};
 use ann_base::NoMemory;
-use legality_conditions::legality_calls::component_assigned;
-use legality_conditions::legality_expressions::Readable;
-use legality_conditions::legality_names::{
-    denotes_object, ends_of_object, is_variable, typed_name,
-};
-use legality_conditions::legality_reads::fitted;
-use legality_conditions::legality_types::{
+use legality_calls::component_assigned;
+use legality_conditions::{value_found, value_found_if};
+use legality_expressions::Readable;
+use legality_names::{denotes_object, ends_of_object, is_variable, typed_name};
+use legality_reads::fitted;
+use legality_types::{
     broken_if, broken_unless, fits, has_type, is_copied_controlled, is_limited, operand_type,
 };
-use legality_conditions::legality_values::{index_fits, names_object, owner_of_name, place_of};
-use legality_conditions::{value_found, value_found_if};
+use legality_values::{index_fits, names_object, owner_of_name, place_of};
 use std::alloc::Global;
 use world_tables::List;
 

@@ -9,9 +9,9 @@ use ada_legality::{BodyKind, Finding, Known, SubprogramAround};
 use ada_regions::AdaType;
 use ada_tree::{SubprogramSpecification, SubtypeIndication};
 use ann_base::NoMemory;
-use legality_parts::legality_types::note;
 use legality_parts::type_of_mark;
 use legality_profiles::{body_noted, body_profile_judged};
+use legality_types::note;
 use std::alloc::Global;
 use world_tables::List;
 

@@ -8,6 +8,3 @@ mod subprograms;
 
 pub use bodies::{subprogram_body_judged, subprogram_here};
 pub use subprograms::{specification_found, subprogram_found, unit_of_operation};
-
-// What stands below, for the crates above.
-pub use legality_profiles;

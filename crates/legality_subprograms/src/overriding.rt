@@ -15,9 +15,9 @@ use ada_regions::{
 use ada_tree::{Identifier, Parameter, SubprogramSpecification};
 use ann_base::{NoMemory, Place};
 use image_layout::{added, has_one_of_type};
-use legality_parts::legality_entities::{formals_of_subprogram, kind_of_identifier};
-use legality_parts::legality_types::broken_if;
+use legality_entities::{formals_of_subprogram, kind_of_identifier};
 use legality_parts::type_of_mark;
+use legality_types::broken_if;
 use world_tables::List;
 
 /// A subprogram begins with `overriding`, where it has the word.

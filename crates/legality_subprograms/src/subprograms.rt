@@ -11,7 +11,7 @@ use crate::overriding::{
 use ada_legality::{AspectOwner, BodyKind, Finding, IndicationUse, Known};
 use ada_tree::{Aspect, Identifier, SubprogramSpecification, SubtypeIndication};
 use ann_base::{NoMemory, Place};
-use legality_parts::legality_entities::kind_of_identifier;
+use legality_entities::kind_of_identifier;
 use legality_parts::{aspects_found, indication_found, parameters_found};
 use legality_profiles::declaration_noted;
 use std::alloc::Global;

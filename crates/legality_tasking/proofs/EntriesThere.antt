@@ -2,8 +2,8 @@
 use Rattle.std.proofs.Common.{◌≡◌, ℕ, List, [], ◌∷◌, Bool, true, false, cond, suc, refl}
 use Rattle.std.specs.List.{list_any}
 use Rattle.std.specs.Prelude.{not, ◌||◌}
-use Rattle.profile_machine.specs.declared.declarations.EntryUnit.{EntryUnit}
-use Rattle.profile_machine.specs.declared.numbers.EntryNo.{EntryNo}
+use Rattle.profile_image.specs.declared.declarations.EntryUnit.{EntryUnit}
+use Rattle.profile_image.specs.declared.numbers.EntryNo.{EntryNo}
 use Rattle.ann_base.specs.Lists.{is_empty}
 use Rattle.ada_regions.specs.declared.table.Names.{Names}
 use Rattle.ada_regions.specs.declared.table.NumberedEntry.{NumberedEntry}

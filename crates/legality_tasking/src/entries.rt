@@ -2,15 +2,16 @@
 ghost use Rattle.std.specs.Prelude.{◌≡◌, ◌++◌, IfOk, OnOk, Some, option_copied, slice_get};
 ghost use Rattle.std.specs.List.{flat_map};
 ghost use Rattle.ada_legality.specs.CallStatements.{all_found, beyond};
+ghost use Rattle.ada_legality.specs.Numbers.{size_in};
 ghost use Rattle.ada_legality.specs.SimpleStatements.{beyond_restriction};
 ghost use Rattle.ada_legality.specs.Declarations.{entries_judged, entries_noted, entries_of_definition, entry_noted, entry_of_operation, most_entries};
 
-use ada_legality::{BodyKind, Finding, InForce, Known, MOST_ENTRIES, Rule};
+use ada_legality::{BodyKind, Finding, InForce, Known, MOST_ENTRIES, Number, Rule};
 use ada_tree::{EntryDeclaration, ProtectedOperation, TaskDefinition};
 use ann_base::NoMemory;
-use legality_expressions::legality_types::broken_if;
 use legality_profiles::declaration_noted;
-use profile_machine::ImageList;
+use legality_types::broken_if;
+use profile_image::ImageList;
 use std::alloc::Global;
 use std::marker::Model;
 use world_tables::List;
@@ -110,7 +111,7 @@ pub fn entries_of_operations<'t>(
 }
 
 /// How many a restriction allows.
-fn most_entries(in_force: InForce, of_task: bool) -> Option<i128>
+fn most_entries(in_force: InForce, of_task: bool) -> Option<Number>
     ensures { result ≡ most_entries in_force of_task }
 {
     if of_task {
@@ -185,25 +186,40 @@ fn beyond_most(
     }
 }
 
-/// The entry with which there are more than a restriction allows. A number that its type cannot hold is taken for want of memory.
+/// The entry behind so many, if there is one.
+#[tactic(auto, using(std::proofs::lemmas::Option::slice_get_past))]
+fn entry_behind<'t>(entries: &[EntryOf<'t>], most: Number) -> Option<&'t EntryDeclaration>
+    ensures { option_copied result ≡ slice_get entries.now (size_in most) }
+{
+    match most.place_below(entries.len()) {
+        None => None,
+        Some(place) => entry_at(entries, place),
+    }
+}
+
+/// The entry with which there are more than a restriction allows.
 fn beyond_allowed(
     found: &mut List<Finding>,
-    most: i128,
+    most: Number,
     entries: &[EntryOf<'_>],
 ) -> Result<(), NoMemory>
     ensures { OnOk result
         (found.new ≡ found.old ++ beyond_restriction (λ e. e.place) (Some most) entries.now) }
 {
-    match usize::try_from(most) {
-        Ok(most) => beyond_most(found, Rule::Restriction, most, entries),
-        Err(_) => { if most < 0 { Ok(()) } else { Err(NoMemory) } }
+    if most.is_negative() {
+        Ok(())
+    } else {
+        match entry_behind(entries, most) {
+            None => Ok(()),
+            Some(entry) => broken_if(found, Rule::Restriction, true, entry.place),
+        }
     }
 }
 
 /// The same, where a restriction limits them.
 fn beyond_restriction(
     found: &mut List<Finding>,
-    most: Option<i128>,
+    most: Option<Number>,
     entries: &[EntryOf<'_>],
 ) -> Result<(), NoMemory>
     ensures { OnOk result

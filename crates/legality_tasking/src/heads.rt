@@ -10,10 +10,10 @@ use ada_regions::{AdaType, UnitKind};
 use ada_tree::{EntryHead, Expression, Identifier, Name, Parameter};
 use ann_base::NoMemory;
 use legality_expressions::Readable;
-use legality_expressions::legality_names::is_own_entry;
-use legality_expressions::legality_reads::expected;
-use legality_expressions::legality_types::{broken_if, broken_unless};
+use legality_names::is_own_entry;
 use legality_profiles::{body_noted, entry_body_profile_judged};
+use legality_reads::expected;
+use legality_types::{broken_if, broken_unless};
 use std::alloc::Global;
 use world_tables::List;
 

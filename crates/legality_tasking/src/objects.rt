@@ -8,9 +8,9 @@ use ada_legality::{Finding, Known, ProtectedObject, Rule};
 use ada_regions::AdaType;
 use ada_tree::{Constraint as Indicated, Identifier, ObjectDeclaration};
 use ann_base::{NoMemory, Place};
-use legality_expressions::legality_entities::entity_of_name;
-use legality_expressions::legality_names::is_library_entity;
-use legality_expressions::legality_types::{
+use legality_entities::entity_of_name;
+use legality_names::is_library_entity;
+use legality_types::{
     broken_if, has_no_values, is_event_timer_or_budget, is_task_id, is_timer, note,
 };
 use world_tables::List;

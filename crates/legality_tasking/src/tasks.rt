@@ -9,9 +9,9 @@ use ada_regions::{AdaType, Names, NumberedEntry, is_task_type, type_of_kind};
 use ada_tree::Identifier;
 use ann_base::{NoMemory, Place};
 use image_layout::same_entry_unit;
-use legality_expressions::legality_entities::{is_library_object, kind_of_identifier};
-use legality_expressions::legality_types::broken_if;
-use profile_machine::EntryUnit;
+use legality_entities::{is_library_object, kind_of_identifier};
+use legality_types::broken_if;
+use profile_image::EntryUnit;
 use world_tables::List;
 
 /// An object of a library package.

@@ -6,7 +6,7 @@ use crate::kinds::{is_discrete, is_duration, is_integer};
 use crate::operators::{result_of, result_of_one};
 use ada_legality::{Typed, same_type};
 use ada_regions::{AdaType, Subtype, free_subtype};
-use profile_machine::{BinaryOperator, UnaryOperator};
+use profile_image::{BinaryOperator, UnaryOperator};
 
 /// An expression of this type.
 pub fn typed_as(t: AdaType) -> Typed

@@ -2,7 +2,7 @@
 ghost use Rattle.std.specs.Prelude.{◌≡◌, ◌++◌, ◌∷◌, [], OnOk};
 ghost use Rattle.ada_legality.specs.Findings.{broken_if, broken_unless};
 
-use ada_legality::{Fault, Finding, Rule};
+use ada_legality::{Fault, Finding, Rule, add_finding};
 use ann_base::{NoMemory, Place};
 use world_tables::List;
 
@@ -10,8 +10,7 @@ use world_tables::List;
 pub fn note(found: &mut List<Finding>, finding: Finding) -> Result<(), NoMemory>
     ensures { OnOk result (found.new ≡ found.old ++ finding ∷ []) }
 {
-    found.push_back(finding)?;
-    Ok(())
+    add_finding(found, finding)
 }
 
 /// A rule is broken here, where something holds.

@@ -4,7 +4,7 @@ ghost use Rattle.ada_legality.specs.Types.{is_limited_controlled, is_limited, is
 
 use crate::kinds::has_no_values;
 use ada_regions::{AdaType, Names, is_controlled_type};
-use profile_machine::ControlledNo;
+use profile_image::ControlledNo;
 
 /// A type derived from Limited_Controlled.
 fn is_limited_controlled(names: &Names<'_>, controlled: ControlledNo) -> bool

@@ -5,7 +5,7 @@ ghost use Rattle.ada_legality.specs.Types.{sum_of, difference_of, product_of, qu
 use crate::kinds::{is_boolean, is_duration, is_integer, is_ordered, is_scalar};
 use ada_legality::same_type;
 use ada_regions::{AdaType, is_span_type};
-use profile_machine::{BinaryOperator, UnaryOperator};
+use profile_image::{BinaryOperator, UnaryOperator};
 
 /// A sum.
 #[tactic(auto, unfolding(ada_legality::specs::Types::sum_of))]

@@ -7,19 +7,17 @@ ghost use Rattle.legality_unit_declarations.specs.ProtectedParts.{protected_part
 use ada_legality::{AspectOwner, AspectPart, BodyKind, Ceiling, Finding, Known};
 use ada_tree::{Component, Identifier, ProtectedDeclaration, ProtectedOperation, TaskDeclaration};
 use ann_base::{NoMemory, Place};
-use legality_declarations::legality_choices::{
-    is_other_ceiling, place_of_priority, stated_level, stated_value,
-};
-use legality_declarations::legality_conditions::cells_noted;
-use legality_declarations::legality_parts::aspects_found;
-use legality_declarations::legality_tasking::{
+use legality_choices::{is_other_ceiling, place_of_priority, stated_level, stated_value};
+use legality_conditions::cells_noted;
+use legality_declarations::{entries_found, entry_found, protected_components_found};
+use legality_parts::aspects_found;
+use legality_profiles::declaration_noted;
+use legality_subprograms::subprogram_found;
+use legality_tasking::{
     entries_judged, entries_of_definition, entries_of_operations, protected_noted,
     protected_unit_of_name, single_task_judged,
 };
-use legality_declarations::legality_types::note;
-use legality_declarations::{entries_found, entry_found, protected_components_found};
-use legality_subprograms::legality_profiles::declaration_noted;
-use legality_subprograms::subprogram_found;
+use legality_types::note;
 use sqlite_items::Items;
 use std::alloc::Global;
 use world_tables::List;

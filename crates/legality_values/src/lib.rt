@@ -12,9 +12,3 @@ pub use values::{
     index_fits, index_fitted, is_unclear_object, name_read, names_object, names_value,
     owner_of_name, place_of,
 };
-
-// What stands below, for the crates above.
-pub use legality_entities;
-pub use legality_names;
-pub use legality_reads;
-pub use legality_types;

@@ -13,7 +13,7 @@ use Rattle.ada_tree.specs.declared.expressions.ExpressionForm.{ExpressionForm}
 use Rattle.ada_tree.specs.declared.expressions.ExpressionForm.TheVariants as form
 use Rattle.ada_tree.specs.declared.expressions.Argument.{Argument}
 use Rattle.ada_tree.specs.declared.expressions.AttributeDesignator.{AttributeDesignator}
-use Rattle.profile_machine.specs.declared.expressions.UnaryOperator.TheVariants as unary
+use Rattle.profile_image.specs.declared.expressions.UnaryOperator.TheVariants as unary
 use Rattle.ada_regions.specs.Names.{denoted_by}
 use Rattle.ann_base.specs.Lists.{is_empty}
 use Rattle.ada_image.specs.ImageOfExpressions.{relational_operator, highest_operator}

@@ -5,10 +5,10 @@ use Rattle.std.proofs.lemmas.Bool.{and_parts, false≢true}
 use Rattle.ann_base.specs.declared.places.Place.{Place}
 use Rattle.ada_tree.specs.declared.operators.AddingOperator.{AddingOperator}
 use Rattle.ada_tree.specs.declared.operators.AddingOperator.TheVariants as adding
-use Rattle.profile_machine.specs.declared.expressions.BinaryOperator.{BinaryOperator}
-use Rattle.profile_machine.specs.declared.expressions.BinaryOperator.TheVariants as binary
-use Rattle.profile_machine.specs.declared.expressions.UnaryOperator.{UnaryOperator}
-use Rattle.profile_machine.specs.declared.expressions.UnaryOperator.TheVariants as unary
+use Rattle.profile_image.specs.declared.expressions.BinaryOperator.{BinaryOperator}
+use Rattle.profile_image.specs.declared.expressions.BinaryOperator.TheVariants as binary
+use Rattle.profile_image.specs.declared.expressions.UnaryOperator.{UnaryOperator}
+use Rattle.profile_image.specs.declared.expressions.UnaryOperator.TheVariants as unary
 use Rattle.ada_regions.specs.declared.types.AdaType.{AdaType}
 use Rattle.ada_regions.specs.declared.types.AdaType.TheVariants as types
 use Rattle.ada_image.specs.Layout.{is_thing}

@@ -9,12 +9,12 @@ use Rattle.ada_tree.specs.declared.statements.Iteration.TheVariants as iteration
 use Rattle.ada_tree.specs.declared.statements.Block.{Block}
 use Rattle.ada_tree.specs.declared.statements.Accept.{Accept}
 use Rattle.ada_tree.specs.declared.statements.AcceptBody.{AcceptBody}
-use Rattle.profile_machine.specs.declared.image.Image.{Image}
-use Rattle.profile_machine.specs.declared.numbers.DeclNo.{DeclNo}
-use Rattle.profile_machine.specs.declared.numbers.ExprNo.{ExprNo}
-use Rattle.profile_machine.specs.declared.numbers.StatementNo.{StatementNo}
-use Rattle.profile_machine.specs.declared.statements.StatementForm.TheVariants as action
-use Rattle.profile_machine.specs.Program.{form_of}
+use Rattle.profile_image.specs.declared.image.Image.{Image}
+use Rattle.profile_image.specs.declared.numbers.DeclNo.{DeclNo}
+use Rattle.profile_image.specs.declared.numbers.ExprNo.{ExprNo}
+use Rattle.profile_image.specs.declared.numbers.StatementNo.{StatementNo}
+use Rattle.profile_image.specs.declared.statements.StatementForm.TheVariants as action
+use Rattle.profile_image.specs.Program.{form_of}
 use Rattle.ada_image.specs.declared.making.Within.{Within}
 use Rattle.ada_image.specs.declared.making.SequencePlace.TheVariants as sequence_place
 use Rattle.ada_image.specs.Making.{Making, ◌>>=◌, ◌>>◌, pure, first_put, the_action, in_loop, in_construct, in_scope}

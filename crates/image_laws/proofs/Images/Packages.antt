@@ -11,9 +11,9 @@ use Rattle.ada_tree.specs.declared.units.Package.{Package}
 use Rattle.ada_tree.specs.declared.units.Package.TheVariants as packages
 use Rattle.ada_tree.specs.declared.units.PackageDeclaration.{PackageDeclaration}
 use Rattle.ada_tree.specs.declared.units.PackageBody.{PackageBody}
-use Rattle.profile_machine.specs.declared.image.Image.{Image}
-use Rattle.profile_machine.specs.declared.numbers.StatementNo.{StatementNo}
-use Rattle.profile_machine.specs.declared.statements.StatementForm.TheVariants as action
+use Rattle.profile_image.specs.declared.image.Image.{Image}
+use Rattle.profile_image.specs.declared.numbers.StatementNo.{StatementNo}
+use Rattle.profile_image.specs.declared.statements.StatementForm.TheVariants as action
 use Rattle.ada_image.specs.declared.making.Within.{Within}
 use Rattle.ada_image.specs.declared.making.SequencePlace.TheVariants as sequence_place
 use Rattle.ada_image.specs.Making.{◌>>=◌, ◌>>◌, action_put, first_put}

@@ -11,10 +11,10 @@ use Rattle.ada_tree.specs.declared.expressions.ExpressionForm.TheVariants as for
 use Rattle.ada_tree.specs.declared.expressions.Addend.{Addend}
 use Rattle.ada_tree.specs.declared.expressions.Argument.{Argument}
 use Rattle.ada_tree.specs.declared.expressions.AttributeDesignator.{AttributeDesignator}
-use Rattle.profile_machine.specs.declared.image.Image.{Image}
-use Rattle.profile_machine.specs.declared.numbers.ExprNo.{ExprNo}
-use Rattle.profile_machine.specs.declared.statements.Piece.{Piece}
-use Rattle.profile_machine.specs.declared.statements.Piece.TheVariants as piece
+use Rattle.profile_image.specs.declared.image.Image.{Image}
+use Rattle.profile_image.specs.declared.numbers.ExprNo.{ExprNo}
+use Rattle.profile_image.specs.declared.statements.Piece.{Piece}
+use Rattle.profile_image.specs.declared.statements.Piece.TheVariants as piece
 use Rattle.ada_regions.specs.declared.types.AdaType.{AdaType}
 use Rattle.ada_regions.specs.declared.types.AdaType.TheVariants as types
 use Rattle.ada_regions.specs.declared.types.Subtype.{Subtype}

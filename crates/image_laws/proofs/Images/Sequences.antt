@@ -8,10 +8,10 @@ use Rattle.ada_tree.specs.declared.statements.Sequence.TheOpen.{Sequence-F}
 use Rattle.ada_tree.specs.declared.statements.Sequence.TheViews.{roll-Sequence}
 use Rattle.ada_tree.specs.declared.statements.Sequence.TheFolds.{ind-Sequence, map-Sequence, fold-roll-Sequence}
 use Rattle.ada_tree.specs.declared.statements.SequenceParts.{SequenceParts}
-use Rattle.profile_machine.specs.declared.image.Image.{Image}
-use Rattle.profile_machine.specs.declared.numbers.StatementNo.{StatementNo}
-use Rattle.profile_machine.specs.declared.declarations.Handler.{Handler as ExceptionHandler}
-use Rattle.profile_machine.specs.declared.statements.StatementForm.TheVariants as action
+use Rattle.profile_image.specs.declared.image.Image.{Image}
+use Rattle.profile_image.specs.declared.numbers.StatementNo.{StatementNo}
+use Rattle.profile_image.specs.declared.declarations.Handler.{Handler as ExceptionHandler}
+use Rattle.profile_image.specs.declared.statements.StatementForm.TheVariants as action
 use Rattle.ada_image.specs.declared.making.Within.{Within}
 use Rattle.ada_image.specs.declared.making.SequencePlace.{SequencePlace}
 use Rattle.ada_image.specs.declared.making.SequencePlace.TheVariants as sequence_place

@@ -11,14 +11,14 @@ use Rattle.ada_tree.specs.declared.statements.Choice.TheVariants as choice
 use Rattle.ada_tree.specs.declared.statements.Delay.{Delay}
 use Rattle.ada_tree.specs.declared.statements.Exit.{Exit}
 use Rattle.ada_tree.specs.declared.statements.HandledExceptions.{HandledExceptions}
-use Rattle.profile_machine.specs.declared.numbers.StatementNo.{StatementNo}
-use Rattle.profile_machine.specs.declared.numbers.SubprogramNo.{SubprogramNo}
-use Rattle.profile_machine.specs.declared.values.Value.{Value}
-use Rattle.profile_machine.specs.declared.values.Value.TheVariants as value
-use Rattle.profile_machine.specs.declared.declarations.ExceptionChoice.{ExceptionChoice}
-use Rattle.profile_machine.specs.declared.declarations.ExceptionChoice.TheVariants as exception_choice
-use Rattle.profile_machine.specs.declared.statements.Destination.TheVariants as destination
-use Rattle.profile_machine.specs.declared.statements.StatementForm.TheVariants as action
+use Rattle.profile_image.specs.declared.numbers.StatementNo.{StatementNo}
+use Rattle.profile_image.specs.declared.numbers.SubprogramNo.{SubprogramNo}
+use Rattle.profile_image.specs.declared.values.Value.{Value}
+use Rattle.profile_image.specs.declared.values.Value.TheVariants as value
+use Rattle.profile_image.specs.declared.declarations.ExceptionChoice.{ExceptionChoice}
+use Rattle.profile_image.specs.declared.declarations.ExceptionChoice.TheVariants as exception_choice
+use Rattle.profile_image.specs.declared.statements.Destination.TheVariants as destination
+use Rattle.profile_image.specs.declared.statements.StatementForm.TheVariants as action
 use Rattle.ada_regions.specs.Names.{last_part}
 use Rattle.ada_regions.specs.Statics.{static_value, subtype_of_name}
 use Rattle.ada_regions.specs.TypeKinds.{is_array_type}

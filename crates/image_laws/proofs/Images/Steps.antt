@@ -3,15 +3,15 @@
 use Rattle.std.proofs.Common.{◌≡◌, ◌≢◌, ℕ, ◌+◌, ◌<◌, ◌≤◌, length, List, [], ◌∷◌, ◌++◌, Option, Some, refl, ap, ◌∙◌, arith}
 use Rattle.std.proofs.lemmas.List.{length-append, length-set, get_or_append_left, get_or-set_same, get_or-set_other}
 use Rattle.std.proofs.Math.Seq.{get_or-append_seam}
-use Rattle.profile_machine.specs.declared.image.Image.{Image}
-use Rattle.profile_machine.specs.declared.numbers.ExprNo.{ExprNo}
-use Rattle.profile_machine.specs.declared.numbers.StatementNo.{StatementNo}
-use Rattle.profile_machine.specs.declared.values.Value.TheVariants as value
-use Rattle.profile_machine.specs.declared.expressions.Expression.{Expression as Valuation}
-use Rattle.profile_machine.specs.declared.expressions.Expression.TheVariants as valuation
-use Rattle.profile_machine.specs.declared.statements.Statement.{Statement as Action}
-use Rattle.profile_machine.specs.declared.statements.StatementForm.{StatementForm}
-use Rattle.profile_machine.specs.Program.{expression_of, form_of, next_of, no_statement}
+use Rattle.profile_image.specs.declared.image.Image.{Image}
+use Rattle.profile_image.specs.declared.numbers.ExprNo.{ExprNo}
+use Rattle.profile_image.specs.declared.numbers.StatementNo.{StatementNo}
+use Rattle.profile_image.specs.declared.values.Value.TheVariants as value
+use Rattle.profile_image.specs.declared.expressions.Expression.{Expression as Valuation}
+use Rattle.profile_image.specs.declared.expressions.Expression.TheVariants as valuation
+use Rattle.profile_image.specs.declared.statements.Statement.{Statement as Action}
+use Rattle.profile_image.specs.declared.statements.StatementForm.{StatementForm}
+use Rattle.profile_image.specs.Program.{expression_of, form_of, next_of, no_statement}
 use Rattle.std.specs.Prelude.{slice_index_or, pos}
 use Rattle.ada_image.specs.declared.making.FirstAction.{FirstAction}
 use Rattle.ada_image.specs.declared.making.Lists.{Lists}

@@ -4,12 +4,12 @@ use Rattle.std.specs.Prelude.{codes}
 use Rattle.std.proofs.lemmas.Bool.{and_from, and_parts}
 use Rattle.ada_tree.specs.declared.expressions.Expression.{Expression}
 use Rattle.ada_tree.specs.declared.units.Unit.{Unit as Tree}
-use Rattle.profile_machine.specs.declared.numbers.ExprNo.{ExprNo}
-use Rattle.profile_machine.specs.declared.declarations.Declaration.{Declaration as NumberedObject}
-use Rattle.profile_machine.specs.declared.declarations.Entry.{Entry}
-use Rattle.profile_machine.specs.declared.declarations.EntryBody.{EntryBody}
-use Rattle.profile_machine.specs.declared.declarations.TaskUnit.{TaskUnit}
-use Rattle.profile_machine.specs.declared.declarations.Initial.TheVariants as initial
+use Rattle.profile_image.specs.declared.numbers.ExprNo.{ExprNo}
+use Rattle.profile_image.specs.declared.declarations.Declaration.{Declaration as NumberedObject}
+use Rattle.profile_image.specs.declared.declarations.Entry.{Entry}
+use Rattle.profile_image.specs.declared.declarations.EntryBody.{EntryBody}
+use Rattle.profile_image.specs.declared.declarations.TaskUnit.{TaskUnit}
+use Rattle.profile_image.specs.declared.declarations.Initial.TheVariants as initial
 use Rattle.ada_regions.specs.declared.types.Subtype.{Subtype}
 use Rattle.ada_regions.specs.declared.table.Names.{Names}
 use Rattle.ada_regions.specs.declared.table.NumberedDeclaration.{NumberedDeclaration}

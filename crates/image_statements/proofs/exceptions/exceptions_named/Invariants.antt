@@ -1,5 +1,5 @@
 use Rattle.std.proofs.Common.{◌≡◌, ◌∷◌, ◌++◌, drop, map}
-use Rattle.profile_machine.specs.declared.declarations.ExceptionChoice.TheVariants as exception_choice
+use Rattle.profile_image.specs.declared.declarations.ExceptionChoice.TheVariants as exception_choice
 use Rattle.ada_image.specs.ImageOfStatements.{exception_named}
 use Rattle.image_statements.proofs.exceptions.exceptions_named.Given as goal
 

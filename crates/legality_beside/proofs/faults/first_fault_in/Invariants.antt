@@ -1,4 +1,4 @@
-use Rattle.std.proofs.Common.{◌≡◌, ◌≤◌, ℕ, drop, length}
+use Rattle.std.proofs.Common.{◌≡◌, ◌≤◌, drop, length}
 use Rattle.world_tables.specs.Lists.{first_of}
 use Rattle.ada_legality.specs.Faults.{faults_in, in_order_of_text}
 use Rattle.legality_beside.proofs.faults.first_fault_in.Given as goal

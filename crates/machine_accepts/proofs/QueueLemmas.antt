@@ -4,13 +4,13 @@ use Rattle.std.proofs.lemmas.List.{drop_all}
 use Rattle.std.specs.List.{slice_get}
 use Rattle.ann_base.specs.declared.identities.CallNo.{CallNo}
 use Rattle.trace_text.specs.declared.events.Who.{Who}
-use Rattle.profile_machine.specs.declared.image.Image.{Image}
-use Rattle.profile_machine.specs.declared.image.Queuing.{Queuing}
-use Rattle.profile_machine.specs.declared.image.Queuing.TheVariants as queuing
-use Rattle.profile_machine.specs.declared.numbers.StatementNo.{StatementNo}
+use Rattle.profile_image.specs.declared.image.Image.{Image}
+use Rattle.profile_image.specs.declared.image.Queuing.{Queuing}
+use Rattle.profile_image.specs.declared.image.Queuing.TheVariants as queuing
+use Rattle.profile_image.specs.declared.numbers.StatementNo.{StatementNo}
 use Rattle.profile_machine.specs.declared.world.World.{World}
 use Rattle.profile_machine.specs.Calls.{next_by, next_call}
-use Rattle.profile_machine.specs.Program.{form_of}
+use Rattle.profile_image.specs.Program.{form_of}
 use Rattle.profile_machine.specs.Rendezvous.{queue_of_accept, queues_of_accepts}
 use Rattle.world_tables.specs.Lists.{first_of}
 use Rattle.machine_barriers.specs.Heads.{next_with}

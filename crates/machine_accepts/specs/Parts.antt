@@ -2,10 +2,10 @@
 use Rattle.std.specs.Prelude.{List, ◌++◌, Option, Some, None, Ok, Err}
 use Rattle.std.specs.Bool.{then_some}
 use Rattle.ann_base.specs.Results.{◌>>=◌}
-use Rattle.profile_machine.specs.declared.numbers.StatementNo.{StatementNo}
-use Rattle.profile_machine.specs.declared.statements.SelectAlternative.{SelectAlternative}
-use Rattle.profile_machine.specs.declared.statements.SelectKind.{SelectKind}
-use Rattle.profile_machine.specs.declared.statements.SelectKind.TheVariants as select
+use Rattle.profile_image.specs.declared.numbers.StatementNo.{StatementNo}
+use Rattle.profile_image.specs.declared.statements.SelectAlternative.{SelectAlternative}
+use Rattle.profile_image.specs.declared.statements.SelectKind.{SelectKind}
+use Rattle.profile_image.specs.declared.statements.SelectKind.TheVariants as select
 use Rattle.profile_machine.specs.declared.world.calls.DelayMoment.{DelayMoment}
 use Rattle.profile_machine.specs.Operators.{Valued}
 use Rattle.profile_machine.specs.Rendezvous.{delay_moment, is_open}

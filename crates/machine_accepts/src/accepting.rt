@@ -15,11 +15,11 @@ use machine_frames::{
 use machine_program::{Program, form_of, marks_of, next_of, scope_of};
 use machine_queues::{copied_call, next_of_queue, parameters_of, place_of_entry, queue_of};
 use machine_scopes::{begin_scope, innermost, next_id};
+use profile_image::{EntryNo, ScopeNo, StatementForm, StatementNo};
 use profile_machine::world::{
     AcceptMark, Beginning, Call, Cause, Line, Mark, MeetingEnd, Outcome, Owner, Part, Waiting,
     World,
 };
-use profile_machine::{EntryNo, ScopeNo, StatementForm, StatementNo};
 use std::alloc::Global;
 use trace_text::Who;
 use world_tables::List;

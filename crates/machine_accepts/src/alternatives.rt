@@ -7,8 +7,8 @@ ghost use Rattle.machine_accepts.specs.Parts.{open_kind, accept_in, delay_in};
 use ann_base::{Moment, NoMemory, OrMemory, Raised};
 use machine_program::form_of;
 use machine_values::{Seen, condition, moment, relative_moment};
+use profile_image::{ExprNo, SelectAlternative, SelectKind, StatementForm, StatementNo};
 use profile_machine::world::DelayMoment;
-use profile_machine::{ExprNo, SelectAlternative, SelectKind, StatementForm, StatementNo};
 use std::alloc::Global;
 use world_tables::List;
 

@@ -10,15 +10,14 @@ use crate::alternatives::{
     has_terminate, is_closed, least_delay, open_accepts, open_alternatives, open_delays,
 };
 use ann_base::{CallNo, Moment, NoMemory, Raised};
-use machine_appointments::{appoint, has_come};
 use machine_barriers::next_with;
 use machine_dispatching::block;
-use machine_frames::{Effect, goes, in_protected, raises, refused, set_state};
+use machine_frames::{Effect, appoint, goes, in_protected, raises, refused, set_state};
 use machine_program::{Program, form_of, next_of, policies};
 use machine_queues::{call_of, place_of_entry, queue_of};
 use machine_values::seen_by;
-use profile_machine::world::{DelayMoment, Due, Owner, Part, State, Waiting, World};
-use profile_machine::{EntryNo, SelectAlternative, SelectKind, StatementForm, StatementNo};
+use profile_image::{EntryNo, SelectAlternative, SelectKind, StatementForm, StatementNo};
+use profile_machine::world::{DelayMoment, Due, Owner, Part, State, Waiting, World, has_come};
 use std::alloc::Global;
 use trace_text::Who;
 use world_tables::List;

@@ -4,10 +4,10 @@ use Rattle.std.proofs.Math.Seq.{drop-cons}
 use Rattle.std.proofs.lemmas.List.{drop_all}
 use Rattle.ann_base.specs.declared.identities.CallNo.{CallNo}
 use Rattle.trace_text.specs.declared.events.Who.{Who}
-use Rattle.profile_machine.specs.declared.image.Image.{Image}
-use Rattle.profile_machine.specs.declared.image.Queuing.{Queuing}
-use Rattle.profile_machine.specs.declared.image.Queuing.TheVariants as queuing
-use Rattle.profile_machine.specs.declared.numbers.EntryNo.{EntryNo}
+use Rattle.profile_image.specs.declared.image.Image.{Image}
+use Rattle.profile_image.specs.declared.image.Queuing.{Queuing}
+use Rattle.profile_image.specs.declared.image.Queuing.TheVariants as queuing
+use Rattle.profile_image.specs.declared.numbers.EntryNo.{EntryNo}
 use Rattle.profile_machine.specs.declared.world.World.{World}
 use Rattle.profile_machine.specs.declared.world.objects.Object.{Object}
 use Rattle.profile_machine.specs.Calls.{next_by, next_call}

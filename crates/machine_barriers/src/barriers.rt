@@ -12,8 +12,8 @@ use machine_frames::object_of;
 use machine_program::{Program, entry_of, policies, protected_unit_of};
 use machine_queues::{place_of_entry, priority_of};
 use machine_values::{Seen, condition};
+use profile_image::{EntryBody, EntryNo, Queuing};
 use profile_machine::world::{Object, World};
-use profile_machine::{EntryBody, EntryNo, Queuing};
 use trace_text::Who;
 use world_tables::List;
 

@@ -1,6 +1,6 @@
 -- The step by which a task is unwound, by how it is.
 use Rattle.trace_text.specs.declared.events.Who.{Who}
-use Rattle.profile_machine.specs.declared.image.Image.{Image}
+use Rattle.profile_image.specs.declared.image.Image.{Image}
 use Rattle.profile_machine.specs.declared.world.lines.Part.{Part}
 use Rattle.profile_machine.specs.Steps.{Step, changes, nothing, ◌▷◌}
 use Rattle.profile_machine.specs.Calls.{attempt, forget_call}

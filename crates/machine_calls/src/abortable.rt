@@ -14,10 +14,10 @@ use ann_base::{CallNo, NoMemory, TaskNo};
 use machine_frames::{Effect, goes, leaves, leaving_of, pass_on, pop, raises, says, task_at};
 use machine_program::Program;
 use machine_queues::{call_of, forget_call};
-use profile_machine::world::{AbortableMark, Frame, Line, Mark, Outcome, Part, World};
-use profile_machine::{Leaving, StatementNo};
+use profile_image::StatementNo;
+use profile_machine::Leaving;
+use profile_machine::world::{AbortableMark, Frame, FrameStack, Line, Mark, Outcome, Part, World};
 use trace_text::Who;
-use world_tables::List;
 
 /// A trigger completes while its abortable part is open: `trigger`, and the part is struck.
 ///
@@ -113,7 +113,7 @@ fn is_own_abort(leaving: Leaving, struck: bool, outer: bool) -> bool
 }
 
 // Whether any construct below the top is struck.
-fn any_struck_below(frames: &List<Frame>) -> bool
+fn any_struck_below(frames: &FrameStack) -> bool
     ensures { result ≡ any_struck (rest_of frames.now) }
 {
     let mut below = frames.iter();

@@ -15,8 +15,9 @@ use machine_frames::{Effect, goes, leaves, open_sequence, raises, says, waiting_
 use machine_program::Program;
 use machine_queues::{call_mut, copied_call, forget_call, unqueued};
 use machine_scopes::with_results;
+use profile_image::StatementNo;
+use profile_machine::Leaving;
 use profile_machine::world::{Call, Line, Outcome, Part, Waiting, World};
-use profile_machine::{Leaving, StatementNo};
 use trace_text::Who;
 
 #[tactic(auto, unfolding(profile_machine::specs::CallEnds::go_by_outcome))]

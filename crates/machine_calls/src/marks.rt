@@ -3,14 +3,13 @@ ghost use Rattle.std.specs.Prelude.{◌≡◌, true, not};
 ghost use Rattle.profile_machine.specs.CallEnds.{is_abortable_of, depth_of_abortable, abortable_depth, edit_depth, edit_frame, edit_abortable, edit_abortable_at, triggered_mark, waited_mark, is_cancelled};
 ghost use Rattle.profile_machine.specs.Frames.{with_mark};
 ghost use Rattle.profile_machine.specs.Unwinding.{struck_frame};
-ghost use Rattle.profile_machine.specs.Words.{is_the, same_call};
+ghost use Rattle.profile_image.specs.Words.{is_the, same_call};
 ghost use Rattle.machine_calls.specs.Depths.{place_at};
 
 use ann_base::CallNo;
 use machine_frames::{task_at, task_mut};
-use profile_machine::world::{Call, Frame, Mark, Outcome, World};
+use profile_machine::world::{Call, FrameStack, Mark, Outcome, World};
 use trace_text::Who;
-use world_tables::List;
 
 fn is_the_call(call: Option<CallNo>, c: CallNo) -> bool
     ensures { result ≡ is_the same_call call c }
@@ -37,7 +36,7 @@ fn is_abortable_of(c: CallNo, mark: &Mark) -> bool
     }
 }
 
-fn depth_of_abortable(c: CallNo, frames: &List<Frame>) -> Option<usize>
+fn depth_of_abortable(c: CallNo, frames: &FrameStack) -> Option<usize>
     ensures { result ≡ depth_of_abortable c frames.now }
 {
     let mut below = frames.len();
@@ -92,7 +91,7 @@ fn set_waited(mark: &mut Mark, outcome: Outcome)
 }
 
 // Where the construct stands that has so many below it.
-fn place_at(frames: &List<Frame>, depth: usize) -> Option<usize>
+fn place_at(frames: &FrameStack, depth: usize) -> Option<usize>
     ensures { result ≡ place_at depth frames.now }
 {
     if depth < frames.len() {
@@ -103,7 +102,7 @@ fn place_at(frames: &List<Frame>, depth: usize) -> Option<usize>
 }
 
 #[tactic(auto, using(crate::proofs::DepthLemmas::depth_laws))]
-fn strike_in(frames: &mut List<Frame>, depth: usize)
+fn strike_in(frames: &mut FrameStack, depth: usize)
     ensures { frames.new ≡ edit_depth depth struck_frame frames.old }
 {
     if let Some(place) = place_at(frames, depth) {
@@ -114,7 +113,7 @@ fn strike_in(frames: &mut List<Frame>, depth: usize)
 }
 
 #[tactic(auto, using(crate::proofs::DepthLemmas::depth_laws))]
-fn trigger_in(frames: &mut List<Frame>, depth: usize)
+fn trigger_in(frames: &mut FrameStack, depth: usize)
     ensures { frames.new
         ≡ edit_depth depth (λ x. with_mark (edit_abortable triggered_mark x.mark) x) frames.old }
 {
@@ -126,7 +125,7 @@ fn trigger_in(frames: &mut List<Frame>, depth: usize)
 }
 
 #[tactic(auto, using(crate::proofs::DepthLemmas::depth_laws))]
-fn end_wait_in(frames: &mut List<Frame>, depth: usize, outcome: Outcome)
+fn end_wait_in(frames: &mut FrameStack, depth: usize, outcome: Outcome)
     ensures { frames.new
         ≡ edit_depth depth
         (λ x. with_mark (edit_abortable (waited_mark (not (is_cancelled outcome))) x.mark) x)

@@ -3,7 +3,7 @@ ghost use Rattle.std.specs.Prelude.{◌≡◌};
 ghost use Rattle.profile_machine.specs.CallEnds.{call_in, onward_when_done, otherwise_in, onward_when_cancelled};
 
 use machine_program::{Program, form_of, next_of};
-use profile_machine::{StatementForm, StatementNo};
+use profile_image::{StatementForm, StatementNo};
 
 /// The entry call that a statement makes: itself, or the one in it.
 pub fn call_in(form: &StatementForm, s: StatementNo) -> StatementNo

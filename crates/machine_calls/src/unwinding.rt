@@ -10,12 +10,10 @@ ghost use Rattle.machine_calls.specs.UnwindingSteps.{unwind_so};
 ghost use Rattle.machine_calls.specs.Unwindings.{unwinding_of, unwinding_of_waiting};
 
 use ann_base::{CallNo, NoMemory};
-use machine_appointments::drop_delay;
 use machine_dispatching::ready;
-use machine_frames::{Effect, leaves, set_ticks, task_at};
+use machine_frames::{Effect, drop_delay, leaves, may_unwind, set_ticks, task_at};
 use machine_program::Program;
 use machine_queues::{attempt_on, copied_call, forget_call, is_cancellable};
-use machine_striking::may_unwind;
 use profile_machine::Leaving;
 use profile_machine::world::{Part, State, Waiting, World};
 use trace_text::Who;

@@ -15,8 +15,9 @@ use machine_frames::{Effect, leaves, pop, raises};
 use machine_parameters::cells_from;
 use machine_program::{Program, declaration_of};
 use machine_scopes::{put_cells, scope_mut};
+use profile_image::{CONTROLLED_CELLS, SubprogramNo};
+use profile_machine::Leaving;
 use profile_machine::world::{AssignMark, AssignStep, Located, Part, Registered, Variable, World};
-use profile_machine::{CONTROLLED_CELLS, Leaving, SubprogramNo};
 use std::alloc::Global;
 use trace_text::Who;
 

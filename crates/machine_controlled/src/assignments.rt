@@ -8,8 +8,8 @@ use ann_base::{NoMemory, Raised};
 use machine_frames::{Effect, goes, has_room, new_frame, push, raises, says};
 use machine_program::{Program, next_of};
 use machine_values::{located, seen_by};
+use profile_image::{DeclNo, StatementNo};
 use profile_machine::world::{AssignMark, AssignStep, Line, Located, Mark, Part, Registered};
-use profile_machine::{DeclNo, StatementNo};
 use trace_text::Who;
 
 fn new_assign_mark(target: u32, source: u32) -> Mark

@@ -9,8 +9,9 @@ use ann_base::{NoMemory, Raised};
 use machine_frames::{Effect, goes, new_frame, pass_on, pop, push, raises};
 use machine_program::{Program, next_of};
 use machine_values::{located, seen_by};
+use profile_image::{DeclNo, StatementNo, SubprogramNo};
+use profile_machine::Leaving;
 use profile_machine::world::{Located, Mark, Part};
-use profile_machine::{DeclNo, Leaving, StatementNo, SubprogramNo};
 use std::alloc::Global;
 use trace_text::Who;
 

@@ -1,6 +1,6 @@
 //! The operations of a controlled type (ISO/IEC 8652:2012, 7.6), and how the body of one is opened.
 ghost use Rattle.std.specs.Prelude.{◌≡◌, ◌+◌, IfOk, OnOk, option_and_then};
-ghost use Rattle.profile_machine.specs.Program.{scope_of, subprogram_of};
+ghost use Rattle.profile_image.specs.Program.{scope_of, subprogram_of};
 ghost use Rattle.profile_machine.specs.Scopes.{home, innermost};
 ghost use Rattle.profile_machine.specs.Controlled.{type_of, first_place, operation_beginning, open_operation, marks_of_operation, has_room_to_finalize, has_room_to_adjust};
 ghost use Rattle.machine_frames.specs.Did.{Did};
@@ -12,8 +12,8 @@ use machine_program::{
     subprogram_of,
 };
 use machine_scopes::{home, innermost, open_scope, read_cell};
+use profile_image::{DeclarationKind, Scope, SubprogramNo};
 use profile_machine::world::{Beginning, Located, Purpose, ResultTo, ScopeId, World};
-use profile_machine::{DeclarationKind, Scope, SubprogramNo};
 use std::alloc::Global;
 use trace_text::Who;
 use world_tables::List;

@@ -1,6 +1,6 @@
 //! Registered controlled objects (ISO/IEC 8652:2012, 7.6), the newest first.
 ghost use Rattle.std.specs.Prelude.{◌≡◌, OnOk, find, option_copied};
-ghost use Rattle.profile_machine.specs.Words.{without};
+ghost use Rattle.profile_image.specs.Words.{without};
 ghost use Rattle.profile_machine.specs.Controlled.{region_or_none, top_region, controlled_drawn, registered_as, register, is_number, no_longer_registered, same_located, is_located, registered_at, registered_object};
 ghost use Rattle.machine_frames.specs.Did.{Did};
 
@@ -9,7 +9,7 @@ use ann_base::{NoMemory, RegionNo, next_number};
 use machine_frames::{Effect, region_of_mark, says, top_of};
 use machine_program::Program;
 use machine_scopes::{same_id, write_cell};
-use profile_machine::Value;
+use profile_image::Value;
 use profile_machine::world::{Drawn, Line, Located, Part, Registered, World};
 use trace_text::Who;
 use world_tables::List;

@@ -5,8 +5,8 @@ ghost use Rattle.profile_machine.specs.Cost.{of_region, has_registered, cost_of_
 use ann_base::RegionNo;
 use machine_frames::top_of;
 use machine_program::{Program, statement_of};
+use profile_image::{Statement, StatementForm, StatementNo};
 use profile_machine::world::{AssignStep, Mark, Registered, World};
-use profile_machine::{Statement, StatementForm, StatementNo};
 use trace_text::Who;
 use world_tables::List;
 

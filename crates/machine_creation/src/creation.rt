@@ -1,7 +1,7 @@
 //! The creation of a task (ISO/IEC 8652:2012, 9.1).
 ghost use Rattle.std.specs.Prelude.{◌≡◌, IfOk, OnOk, leb, length};
 ghost use Rattle.ann_base.specs.Answers.{Answers};
-ghost use Rattle.profile_machine.specs.declared.limits.TheConstants.{MOST_LIVE_TASKS};
+ghost use Rattle.profile_image.specs.declared.limits.TheConstants.{MOST_LIVE_TASKS};
 ghost use Rattle.profile_machine.specs.Tasking.{unit_of_kind, unit_of_declaration, optional_span, outer_of_task, created_task, task_drawn, add_task, create_task, create};
 ghost use Rattle.machine_frames.specs.Did.{Did};
 ghost use Rattle.machine_creation.specs.Created.{span_given, asks_span, last_drawn, names_object};
@@ -14,10 +14,10 @@ use machine_frames::{Effect, bars_tasks, goes, new_task, raises, refused, says};
 use machine_program::{Program, declaration_of, next_of, scope_of, task_unit_of};
 use machine_scopes::home;
 use machine_values::{Seen, moment, seen_by};
-use profile_machine::world::{Drawn, Line, Located, Part, ScopeId, State, Task, World};
-use profile_machine::{
+use profile_image::{
     DeclNo, DeclarationKind, ExprNo, MOST_LIVE_TASKS, StatementNo, TaskUnit, TaskUnitNo, Value,
 };
+use profile_machine::world::{Drawn, Line, Located, Part, ScopeId, State, Task, World};
 use std::alloc::Global;
 use trace_text::{Created, Who};
 

@@ -1,14 +1,14 @@
 -- What the cells of objects get that are declared, found before any of them is written.
 use Rattle.std.specs.Prelude.{ℕ, List, [], ◌∷◌, ◌++◌, Ok}
 use Rattle.ann_base.specs.Results.{◌>>=◌}
-use Rattle.profile_machine.specs.declared.image.Image.{Image}
-use Rattle.profile_machine.specs.declared.numbers.DeclNo.{DeclNo}
-use Rattle.profile_machine.specs.declared.declarations.Initial.{Initial}
-use Rattle.profile_machine.specs.declared.declarations.Initial.TheVariants as initial
+use Rattle.profile_image.specs.declared.image.Image.{Image}
+use Rattle.profile_image.specs.declared.numbers.DeclNo.{DeclNo}
+use Rattle.profile_image.specs.declared.declarations.Initial.{Initial}
+use Rattle.profile_image.specs.declared.declarations.Initial.TheVariants as initial
 use Rattle.profile_machine.specs.declared.world.World.{World}
 use Rattle.profile_machine.specs.declared.world.scopes.Located.{Located}
 use Rattle.profile_machine.specs.declared.world.scopes.Variable.{Variable}
-use Rattle.profile_machine.specs.Program.{declaration_of}
+use Rattle.profile_image.specs.Program.{declaration_of}
 use Rattle.profile_machine.specs.Operators.{Valued, checked}
 use Rattle.profile_machine.specs.Scopes.{write_cell}
 use Rattle.profile_machine.specs.Values.{Seen, value, object_cell, component_at}

@@ -1,12 +1,12 @@
 -- The steps of the declaration of a protected object, in the machine's own words.
 use Rattle.trace_text.specs.declared.events.Who.{Who}
-use Rattle.profile_machine.specs.declared.limits.TheConstants.{PROTECTED_CELLS}
-use Rattle.profile_machine.specs.declared.image.Image.{Image}
-use Rattle.profile_machine.specs.declared.numbers.ProtectedUnitNo.{ProtectedUnitNo}
-use Rattle.profile_machine.specs.declared.numbers.StatementNo.{StatementNo}
+use Rattle.profile_image.specs.declared.limits.TheConstants.{PROTECTED_CELLS}
+use Rattle.profile_image.specs.declared.image.Image.{Image}
+use Rattle.profile_image.specs.declared.numbers.ProtectedUnitNo.{ProtectedUnitNo}
+use Rattle.profile_image.specs.declared.numbers.StatementNo.{StatementNo}
 use Rattle.profile_machine.specs.declared.world.lines.Part.TheVariants.{Own}
 use Rattle.profile_machine.specs.declared.world.scopes.Located.{Located}
-use Rattle.profile_machine.specs.Program.{next_of, protected_unit_of}
+use Rattle.profile_image.specs.Program.{next_of, protected_unit_of}
 use Rattle.profile_machine.specs.Steps.{Step, changes, ◌▷◌}
 use Rattle.profile_machine.specs.Frames.{goes, given}
 use Rattle.profile_machine.specs.Statements.{sees}

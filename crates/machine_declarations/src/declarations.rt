@@ -12,11 +12,11 @@ use ann_base::{NoMemory, OrMemory, Raised};
 use machine_frames::{Effect, goes, raises};
 use machine_program::{Program, controlled_of, declaration_of, next_of};
 use machine_values::{object_cell, or_raised, seen_by};
-use profile_machine::world::{Part, World};
-use profile_machine::{
+use profile_image::{
     CONTROLLED_CELLS, ControlledNo, DeclNo, DeclarationKind, Initial, ObjectName, StatementNo,
     Value,
 };
+use profile_machine::world::{Part, World};
 use std::alloc::Global;
 use trace_text::Who;
 

@@ -4,7 +4,7 @@ ghost use Rattle.std.specs.Prelude.{◌≡◌, IfOk, OnOk, [], take, drop};
 ghost use Rattle.ann_base.specs.Answers.{Answers};
 ghost use Rattle.machine_scopes.specs.Stored.{Stores};
 ghost use Rattle.profile_machine.specs.Declarations.{default_cells, set_defaults, initial_of, initialized, components_initialized};
-ghost use Rattle.profile_machine.specs.declared.declarations.Initial.TheVariants as initially;
+ghost use Rattle.profile_image.specs.declared.declarations.Initial.TheVariants as initially;
 ghost use Rattle.profile_machine.specs.Values.{seen_by};
 ghost use Rattle.machine_declarations.specs.FirstValues.{first_value, written, first_of_component, first_values, all_written, value_set, components_set};
 
@@ -13,8 +13,8 @@ use machine_parameters::{checked_for, copy_cells};
 use machine_program::{Program, declaration_of, initial_cells, scope_of};
 use machine_scopes::{put_cells, scope_in_use, scope_mut, write_cell};
 use machine_values::{Seen, component_at, object_cell, or_raised, seen_by, value};
+use profile_image::{DeclNo, DeclarationKind, ExprNo, Initial, Value};
 use profile_machine::world::{Located, Variable, World};
-use profile_machine::{DeclNo, DeclarationKind, ExprNo, Initial, Value};
 use std::alloc::Global;
 use trace_text::Who;
 use world_tables::List;

@@ -8,8 +8,8 @@ use crate::objects::{located_here, set_thing};
 use ann_base::{NoMemory, OrMemory, Raised, TaskNo, next_number};
 use machine_program::Program;
 use machine_values::{Seen, first_cell, home_of, or_raised, seen_by, task_in};
+use profile_image::{DeclNo, MOST_TIMERS, Value};
 use profile_machine::world::{Budget, Drawn, Timer, World};
-use profile_machine::{DeclNo, MOST_TIMERS, Value};
 use trace_text::Who;
 
 fn event_drawn(drawn: &mut Drawn) -> Result<(), NoMemory>

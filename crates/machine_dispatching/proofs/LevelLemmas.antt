@@ -5,7 +5,7 @@ use Rattle.profile_machine.specs.declared.world.tasks.Rival.{Rival}
 use Rattle.profile_machine.specs.declared.world.World.{World}
 use Rattle.profile_machine.specs.declared.world.objects.Action.{Action}
 use Rattle.profile_machine.specs.declared.world.tasks.Task.{Task}
-use Rattle.profile_machine.specs.Words.{greatest_of}
+use Rattle.profile_image.specs.Words.{greatest_of}
 use Rattle.profile_machine.specs.Dispatching.{all_later, of_level, inside_object, greatest_level}
 
 -- ---- the greatest of levels

@@ -1,7 +1,7 @@
 -- An effect that is over, and lines as they are written.
 use Rattle.std.specs.Prelude.{◌≡◌, ◌++◌, List, map}
 use Rattle.trace_text.specs.declared.events.Event.{Event}
-use Rattle.profile_machine.specs.declared.image.Image.{Image}
+use Rattle.profile_image.specs.declared.image.Image.{Image}
 use Rattle.profile_machine.specs.declared.world.World.{World}
 use Rattle.profile_machine.specs.declared.world.lines.Line.{Line}
 use Rattle.profile_machine.specs.declared.world.lines.Said.{Said}

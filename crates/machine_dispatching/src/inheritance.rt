@@ -2,7 +2,7 @@
 ghost use Rattle.std.specs.Prelude.{◌≡◌, OnOk};
 ghost use Rattle.std.specs.List.{position_from};
 ghost use Rattle.profile_machine.specs.Inheritance.{same_cause, inherit, lose, inherit_running, lose_running};
-ghost use Rattle.profile_machine.specs.Words.{without};
+ghost use Rattle.profile_image.specs.Words.{without};
 ghost use Rattle.machine_frames.specs.Did.{Did};
 
 use crate::levels::active_of;

@@ -2,12 +2,12 @@
 ghost use Rattle.std.specs.Prelude.{◌≡◌, map};
 ghost use Rattle.profile_machine.specs.Dispatching.{own_level, active, active_of};
 ghost use Rattle.profile_machine.specs.Tasks.{task_of};
-ghost use Rattle.profile_machine.specs.Words.{greatest_of};
+ghost use Rattle.profile_image.specs.Words.{greatest_of};
 
 use ann_base::{Level, Moment};
 use machine_frames::task_at;
 use machine_program::{Program, edf_low};
-use profile_machine::TIME_LAST;
+use profile_image::TIME_LAST;
 use profile_machine::world::{Inherited, Task, World};
 use trace_text::Who;
 use world_tables::List;

@@ -21,6 +21,6 @@ pub use levels::{active, active_of};
 pub use order::in_order;
 pub use parts::{part_of, placing_of};
 pub use placing::{keep_level, ready, to_head, to_tail};
-pub use queues::{choose, places_after, put_at};
+pub use queues::{choose, places_after};
 pub use rivals::edf_level;
 pub use settling::settle;

@@ -3,8 +3,7 @@ ghost use Rattle.std.specs.Prelude.{◌≡◌};
 ghost use Rattle.profile_machine.specs.Masters.{part_of};
 ghost use Rattle.profile_machine.specs.Priorities.{placing_of};
 
-use machine_frames::same_who;
-use profile_machine::world::Part;
+use profile_machine::world::{Part, same_who};
 use trace_text::Who;
 
 /// The part for the lines of somebody: of who acts, or of another.

@@ -2,7 +2,7 @@
 ghost use Rattle.std.specs.Prelude.{◌≡◌, OnOk};
 ghost use Rattle.std.specs.Bool.{then_some};
 ghost use Rattle.profile_machine.specs.Dispatching.{level_kept_by, keep_level, deadline_shown, granted, grant_quantum, says_ready, to_tail, to_head, ready};
-ghost use Rattle.profile_machine.specs.Program.{edf_low, is_edf_level};
+ghost use Rattle.profile_image.specs.Program.{edf_low, is_edf_level};
 ghost use Rattle.profile_machine.specs.Tasks.{task_of, edit_task};
 ghost use Rattle.machine_frames.specs.Did.{Did};
 

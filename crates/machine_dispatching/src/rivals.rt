@@ -6,11 +6,11 @@ ghost use Rattle.profile_machine.specs.Tasks.{is_runnable, is_who};
 
 use crate::levels::{active, deadline_of};
 use ann_base::{Level, Moment};
-use machine_frames::{is_runnable, same_who};
+use machine_frames::is_runnable;
 use machine_program::Program;
-use profile_machine::world::{Object, Task, World};
+use profile_machine::world::{Object, Task, World, same_who};
+use rosters::Roster;
 use trace_text::Who;
-use world_tables::List;
 
 // Whether everybody inside an object has a later deadline, or its ceiling is another level.
 fn is_later_inside(world: &World, object: &Object, level: Level, deadline: Moment) -> bool
@@ -44,7 +44,7 @@ fn are_later_inside(world: &World, level: Level, deadline: Moment) -> bool
 fn are_later_ready(
     p: &Program,
     name: Who,
-    tasks: &List<Task>,
+    tasks: &Roster<Task>,
     low: Level,
     level: Level,
     deadline: Moment,

@@ -1,6 +1,6 @@
 //! An effect that is over: its lines are put in order, and the ready queues follow them (ISO/IEC 8652:2012, D.2.1).
 ghost use Rattle.std.specs.Prelude.{◌≡◌, ◌++◌, OnOk, []};
-ghost use Rattle.profile_machine.specs.declared.image.Image.{Image};
+ghost use Rattle.profile_image.specs.declared.image.Image.{Image};
 ghost use Rattle.profile_machine.specs.Steps.{places_after_all};
 ghost use Rattle.machine_dispatching.specs.Settling.{written, said_as, Settles};
 
@@ -8,13 +8,13 @@ use crate::order::in_order;
 use crate::queues::places_after;
 use ann_base::NoMemory;
 use machine_frames::Effect;
-use profile_machine::world::{Line, Placed, Said};
+use profile_machine::world::{Line, ReadyQueues, Said};
 use std::alloc::Global;
 use world_tables::List;
 
 // The ready queues follow these lines, which are owed behind those that are owed already.
 fn follow(
-    places: &mut List<Placed>,
+    places: &mut ReadyQueues,
     lines: &mut List<Line>,
     mut ordered: List<Said>,
 ) -> Result<(), NoMemory>
@@ -30,13 +30,27 @@ fn follow(
     Ok(())
 }
 
-/// An effect is over: its lines are put in order behind those that are there, and the ready queues follow them. What
-/// is left is an effect that has said nothing. The clause speaks of the lines as they are written, whatever the names.
-pub fn settle(alloc: Global, effect: &mut Effect, lines: &mut List<Line>) -> Result<(), NoMemory>
+// The same of an effect that has said something.
+fn settle_said(alloc: Global, effect: &mut Effect, lines: &mut List<Line>) -> Result<(), NoMemory>
     ensures settled { OnOk result
         ((p : Image) → Settles p effect.old lines.old effect.new.world lines.new) }
     ensures nothing_said { OnOk result (effect.new.said ≡ []) }
 {
     let ordered = in_order(alloc, &mut effect.said)?;
     follow(&mut effect.world.places, lines, ordered)
+}
+
+/// An effect is over: its lines are put in order behind those that are there, and the ready queues follow them. What
+/// is left is an effect that has said nothing. The clause speaks of the lines as they are written, whatever the names.
+/// Most effects say nothing, and there is nothing to do then.
+pub fn settle(alloc: Global, effect: &mut Effect, lines: &mut List<Line>) -> Result<(), NoMemory>
+    ensures settled { OnOk result
+        ((p : Image) → Settles p effect.old lines.old effect.new.world lines.new) }
+    ensures nothing_said { OnOk result (effect.new.said ≡ []) }
+{
+    if effect.said.is_empty() {
+        Ok(())
+    } else {
+        settle_said(alloc, effect, lines)
+    }
 }

@@ -8,8 +8,8 @@ use machine_frames::number_of;
 use machine_program::{entry_of, task_unit_of};
 use machine_scopes::{home, scope_in_use};
 use machine_values::{Seen, own_object, task_in, thing, thing_number};
+use profile_image::{EntryNo, EntryOwner, EntryUnit, Value};
 use profile_machine::world::{Owner, ScopeId, World};
-use profile_machine::{EntryNo, EntryOwner, EntryUnit, Value};
 
 fn owner_task(task: Option<TaskNo>) -> Result<Owner, Raised>
     ensures { result ≡ owner_task task }

@@ -10,8 +10,9 @@ use machine_frames::{Effect, call_returned, leaves, raises};
 use machine_program::Program;
 use machine_queues::call_mut;
 use machine_values::seen_by;
+use profile_image::{EntryNo, EntryOwner};
+use profile_machine::Leaving;
 use profile_machine::world::{Owner, Part, Sending, World};
-use profile_machine::{EntryNo, EntryOwner, Leaving};
 use trace_text::Who;
 
 // The call is to be sent on, once the marks are left.

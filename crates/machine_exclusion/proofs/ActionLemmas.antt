@@ -6,7 +6,7 @@ use Rattle.trace_text.specs.declared.events.Mode.TheVariants.{Read, Write}
 use Rattle.trace_text.specs.declared.events.Who.{Who}
 use Rattle.profile_machine.specs.declared.world.objects.Action.{Action}
 use Rattle.profile_machine.specs.Protected.{is_action_of, is_read, has_open, excludes}
-use Rattle.profile_machine.specs.Words.{without}
+use Rattle.profile_image.specs.Words.{without}
 use Rattle.ann_base.specs.Lists.{is_empty}
 
 any-step : {X : Type 0} (b : Bool) (x : X) (left : List X) (any : Bool) → any ≡ not (is_empty left) → (b || any) ≡ not (is_empty (cond b (x ∷ left) left))

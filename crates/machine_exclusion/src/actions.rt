@@ -10,10 +10,11 @@ use machine_frames::{Effect, new_frame, object_of, push, says};
 use machine_program::{Program, scope_of};
 use machine_queues::object_mut;
 use machine_scopes::home;
+use profile_image::{ScopeNo, Value};
+use profile_machine::Leaving;
 use profile_machine::world::{
     Action, Beginning, Cause, Line, Located, Mark, Part, ProtectedMark, ScopeId, World,
 };
-use profile_machine::{Leaving, ScopeNo, Value};
 use trace_text::{Mode, Who};
 use world_tables::List;
 

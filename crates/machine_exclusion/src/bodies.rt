@@ -1,6 +1,6 @@
 //! Entry bodies that run for calls (ISO/IEC 8652:2012, 9.5.2, 9.5.3).
 ghost use Rattle.std.specs.Prelude.{◌≡◌, ◌+◌, OnOk, Some};
-ghost use Rattle.profile_machine.specs.Program.{marks_of};
+ghost use Rattle.profile_image.specs.Program.{marks_of};
 ghost use Rattle.profile_machine.specs.Calls.{edit_call};
 ghost use Rattle.profile_machine.specs.Protected.{begun_call, begin_call, body_opens, body_scope_of, edit_top_protected, has_room_for_body};
 ghost use Rattle.machine_frames.specs.Did.{Did};
@@ -11,8 +11,8 @@ use machine_frames::{Effect, has_room, says, task_mut};
 use machine_program::{Program, entry_of, form_of, marks_of, opens_handled, scope_of};
 use machine_queues::{call_mut, parameters_of, unqueued};
 use machine_scopes::open_scope;
+use profile_image::{EntryNo, ScopeNo};
 use profile_machine::world::{Call, Line, Mark, Part, Purpose, World};
-use profile_machine::{EntryNo, ScopeNo};
 use std::alloc::Global;
 use trace_text::Who;
 

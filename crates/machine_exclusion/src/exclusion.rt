@@ -3,14 +3,14 @@ ghost use Rattle.std.specs.Prelude.{◌≡◌, ◌&&◌, OnOk, not};
 ghost use Rattle.std.specs.List.{list_any};
 ghost use Rattle.profile_machine.specs.Protected.{is_action_of, has_open, is_read, excludes, is_above_ceiling, entering_object, entering, find_held};
 ghost use Rattle.profile_machine.specs.Tasks.{task_of};
-ghost use Rattle.profile_machine.specs.Words.{without};
+ghost use Rattle.profile_image.specs.Words.{without};
 ghost use Rattle.machine_frames.specs.Did.{Did};
 
 use ann_base::{Level, NoMemory, ObjectNo};
 use machine_dispatching::{active_of, to_tail};
-use machine_frames::{Effect, object_of, same_who, says, task_at};
+use machine_frames::{Effect, object_of, says, task_at};
 use machine_program::{Program, has_edf};
-use profile_machine::world::{Action, Entering, Line, Object, Part, World};
+use profile_machine::world::{Action, Entering, Line, Object, Part, World, same_who};
 use trace_text::{Mode, Who};
 use world_tables::List;
 

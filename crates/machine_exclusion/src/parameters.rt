@@ -11,8 +11,9 @@ use machine_frames::Effect;
 use machine_program::Program;
 use machine_queues::{call_mut, call_of, formals_count};
 use machine_scopes::scope_in_use;
+use profile_image::Value;
+use profile_machine::Leaving;
 use profile_machine::world::{Call, ScopeId, World};
-use profile_machine::{Leaving, Value};
 use std::alloc::Global;
 use world_tables::List;
 

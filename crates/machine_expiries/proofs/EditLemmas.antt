@@ -1,7 +1,7 @@
 -- An item at its place that gets a value.
 use Rattle.std.proofs.Common.{◌≡◌, ℕ, zero, suc, List, [], ◌∷◌, None, slice_set, refl, ap}
 use Rattle.std.specs.List.{slice_get}
-use Rattle.profile_machine.specs.Words.{edit_at}
+use Rattle.profile_image.specs.Words.{edit_at}
 
 pub set_edited : {X : Type 0} (n : ℕ) (x : X) (xs : List X) → slice_set xs n x ≡ edit_at n (λ _. x) xs
 set_edited n x [] = refl

@@ -1,13 +1,13 @@
 -- One item, or one appointment, more.
 use Rattle.std.proofs.Common.{◌≡◌, ◌<◌, ◌-◌, ℕ, suc, Bool, List, Option, Some, None, option_map, arith, refl, sym, ap, ◌∙◌}
-use Rattle.profile_machine.specs.declared.image.Image.{Image}
+use Rattle.profile_image.specs.declared.image.Image.{Image}
 use Rattle.profile_machine.specs.declared.world.World.{World}
 use Rattle.profile_machine.specs.declared.world.appointments.Appointment.{Appointment}
 use Rattle.profile_machine.specs.declared.world.appointments.Due.{Due}
 use Rattle.profile_machine.specs.declared.world.lines.Said.{Said}
 use Rattle.profile_machine.specs.Steps.{Step, done, goes_on_with}
-use Rattle.machine_appointments.specs.declared.appointments.DueOf.{DueOf}
-use Rattle.machine_appointments.specs.Appointments.{is_due_of}
+use Rattle.profile_machine.specs.declared.world.agenda.DueOf.{DueOf}
+use Rattle.profile_machine.specs.DueOf.{is_due_of}
 use Rattle.profile_machine.specs.Appointments.{first_due, drop_appointment}
 use Rattle.profile_machine.specs.Instant.{all_due, take_due, come_due, is_the_same_due, items_due, take_item}
 

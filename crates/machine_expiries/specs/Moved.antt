@@ -1,6 +1,6 @@
 -- What a part of an instant has done: a move of the machine.
 use Rattle.std.specs.Prelude.{◌≡◌, ◌++◌, [], List}
-use Rattle.profile_machine.specs.declared.image.Image.{Image}
+use Rattle.profile_image.specs.declared.image.Image.{Image}
 use Rattle.profile_machine.specs.declared.world.lines.Line.{Line}
 use Rattle.profile_machine.specs.Steps.{Move}
 use Rattle.machine_frames.specs.declared.effects.Effect.{Effect}

@@ -6,18 +6,17 @@ ghost use Rattle.profile_machine.specs.Tasks.{waiting_of};
 ghost use Rattle.profile_machine.specs.Steps.{looks};
 ghost use Rattle.profile_machine.specs.Appointments.{first_due};
 ghost use Rattle.machine_frames.specs.Did.{Did};
-ghost use Rattle.machine_appointments.specs.Appointments.{is_due_of};
+ghost use Rattle.profile_machine.specs.DueOf.{is_due_of};
 ghost use Rattle.machine_expiries.specs.Moved.{Moved};
 
 use ann_base::{CallNo, NoMemory};
-use machine_appointments::{DueOf, drop_appointment, first_due};
 use machine_calls::{deliver, trigger_at, unwind};
 use machine_dispatching::{ready, settle};
-use machine_frames::{Effect, goes, open_sequence, says, waiting_of};
+use machine_frames::{Effect, drop_appointment, goes, open_sequence, says, waiting_of};
 use machine_program::{Program, next_of};
 use machine_queues::{copied_call, unqueued};
 use machine_releases::release;
-use profile_machine::world::{Due, Line, Outcome, Part, Waiting, World};
+use profile_machine::world::{Due, DueOf, Line, Outcome, Part, Waiting, World};
 use std::alloc::Global;
 use trace_text::Who;
 use world_tables::List;
@@ -95,7 +94,7 @@ fn due_now(world: &World, events: bool) -> Option<Due>
     ensures { result
         ≡ option_map (λ a. a.due) (first_due events world.now.time world.now.appointments) }
 {
-    Some(first_due(events, world.time, &world.appointments)?.due)
+    Some(world.appointments.first_due(events, world.time)?.due)
 }
 
 #[tactic(auto, unfolding(profile_machine::specs::Instant::all_due), using(crate::proofs::FuelLemmas::due_laws))]

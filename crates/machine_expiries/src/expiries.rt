@@ -10,7 +10,7 @@ ghost use Rattle.machine_expiries.specs.Moved.{Moved};
 
 use ann_base::NoMemory;
 use machine_dispatching::{active, settle, to_tail};
-use machine_frames::{Effect, any_protected, is_runnable, says, task_at};
+use machine_frames::{Effect, is_runnable, says, task_at};
 use machine_program::{Program, is_robin_level};
 use machine_releases::{clear_timer, release};
 use machine_values::{budget_of, timer_of};
@@ -131,7 +131,7 @@ fn has_spent_quantum(p: &Program, task: &Task) -> bool
         && is_robin_level(p, task.base)
         && active(p, task) == task.base
         && task.inherited.is_empty()
-        && !any_protected(&task.frames)
+        && !task.frames.any_protected()
 }
 
 fn quantum_is_spent(p: &Program, world: &World, name: Who) -> bool

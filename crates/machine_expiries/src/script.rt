@@ -1,19 +1,18 @@
 //! The items of the script whose moment has come (docs/LANGUAGE.md): interrupts, ports and masks.
 ghost use Rattle.std.specs.Prelude.{◌≡◌, [], OnOk};
 ghost use Rattle.profile_machine.specs.Instant.{with_port, with_masked, with_kept_interrupt, interrupt_comes, deliver_kept_interrupt, script_item, items_due, script_items};
-ghost use Rattle.profile_machine.specs.Words.{edit_at, is_flag};
-ghost use Rattle.profile_machine.specs.declared.run_data.Item.TheVariants as item;
+ghost use Rattle.profile_image.specs.Words.{edit_at, is_flag};
+ghost use Rattle.profile_image.specs.declared.script_items.Item.TheVariants as item;
 ghost use Rattle.machine_frames.specs.Did.{Did};
 ghost use Rattle.machine_expiries.specs.Moved.{Moved};
 
 use ann_base::NoMemory;
-use machine_appointments::has_come;
 use machine_dispatching::settle;
 use machine_frames::{Effect, says};
 use machine_program::Program;
 use machine_releases::interrupt;
-use profile_machine::Item;
-use profile_machine::world::{Line, Part, World};
+use profile_image::Item;
+use profile_machine::world::{Line, Part, World, has_come};
 use std::alloc::Global;
 use world_tables::List;
 

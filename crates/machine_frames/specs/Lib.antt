@@ -1,3 +1,4 @@
 pub mod Did
 pub mod Lends
 pub mod Refused
+pub mod Struck

@@ -2,15 +2,16 @@
 ghost use Rattle.std.specs.Prelude.{◌≡◌, OnOk, option_copied};
 ghost use Rattle.profile_machine.specs.Frames.{top_of, onward_of, leaving_of, goes, leaves, raises, push, pop, new_frame, statement_of_purpose, statement_of_mark, within_of, stands_in, exit_loop, pass_on};
 ghost use Rattle.profile_machine.specs.Steps.{says};
-ghost use Rattle.profile_machine.specs.Words.{same_option, same_statement};
+ghost use Rattle.profile_image.specs.Words.{same_option, same_statement};
 ghost use Rattle.machine_frames.specs.Did.{Did};
 
 use crate::effects::Effect;
 use crate::tasks::{task_at, task_mut};
 use ann_base::{NoMemory, Raised};
 use machine_program::{Program, form_of, next_of};
+use profile_image::{StatementForm, StatementNo};
+use profile_machine::Leaving;
 use profile_machine::world::{Frame, Line, Mark, Part, Purpose, Said, World};
-use profile_machine::{Leaving, StatementForm, StatementNo};
 use trace_text::Who;
 
 /// The top frame of a task, if it has one.

@@ -2,6 +2,7 @@
 //! Each function has the name of the machine's definition of which it is the counterpart.
 #![tactic(auto)]
 
+mod appointments;
 mod deferral;
 mod effects;
 mod faults;
@@ -11,11 +12,11 @@ mod regions;
 mod room;
 mod sequences;
 mod served;
+mod striking;
 mod tasks;
 
-pub use deferral::{
-    any_defers, any_protected, bars_tasks, defers, in_protected, is_deferred, is_protected,
-};
+pub use appointments::{appoint, drop_appointment, drop_delay, is_appointed};
+pub use deferral::{bars_tasks, in_protected, is_deferred};
 pub use effects::Effect;
 pub use faults::refused;
 pub use frames::{
@@ -27,7 +28,8 @@ pub use regions::region_of_mark;
 pub use room::{frame_count, has_room};
 pub use sequences::{open_at, open_handled, open_if_ready, open_sequence};
 pub use served::call_returned;
+pub use striking::{may_unwind, strike_outermost};
 pub use tasks::{
-    found_task, found_task_mut, is_made, is_runnable, may_run, new_task, number_of, same_who,
-    set_state, set_ticks, task_at, task_mut, waiting_in, waiting_of,
+    found_task, found_task_mut, is_made, is_runnable, may_run, new_task, number_of, set_state,
+    set_ticks, task_at, task_mut, waiting_in, waiting_of,
 };

@@ -9,8 +9,5 @@ use profile_machine::world::{Object, World};
 pub fn object_of(world: &World, number: ObjectNo) -> Option<&Object>
     ensures { option_copied result ≡ object_of world.now number }
 {
-    world
-        .objects
-        .iter()
-        .find(|object| number.0 == object.number.0)
+    world.objects.find(number.0)
 }

@@ -1,13 +1,12 @@
 //! Room (own): 1,000 marks of a task, 65,536 marks in all, and 65,536 cells.
-ghost use Rattle.std.specs.Prelude.{◌≡◌, ◌+◌, leb, length, sum_by};
-ghost use Rattle.profile_machine.specs.declared.limits.TheConstants.{MOST_MARKS_OF_TASK, MOST_MARKS, MOST_CELLS};
+ghost use Rattle.std.specs.Prelude.{◌≡◌, ◌+◌, leb, length};
+ghost use Rattle.profile_image.specs.declared.limits.TheConstants.{MOST_MARKS_OF_TASK, MOST_MARKS, MOST_CELLS};
 ghost use Rattle.profile_machine.specs.Frames.{frames_of, marks_in_use, cells_in_use, has_room};
 
 use crate::tasks::task_at;
-use profile_machine::world::{ScopeInUse, Task, World};
-use profile_machine::{MOST_CELLS, MOST_MARKS, MOST_MARKS_OF_TASK};
+use profile_image::{MOST_CELLS, MOST_MARKS, MOST_MARKS_OF_TASK};
+use profile_machine::world::World;
 use trace_text::Who;
-use world_tables::List;
 
 /// How many marks the one with this name has open.
 pub fn frame_count(world: &World, name: Who) -> usize
@@ -17,35 +16,6 @@ pub fn frame_count(world: &World, name: Who) -> usize
         Some(task) => task.frames.len(),
         None => 0,
     }
-}
-
-// What is in use is taken from the room, so that no sum can pass the end of its type.
-fn marks_fit(tasks: &List<Task>, room: usize) -> bool
-    ensures { result ≡ leb (sum_by (λ t. length t.frames) tasks.now) room }
-{
-    let mut left = room;
-    for task in tasks.iter() {
-        let count = task.frames.len();
-        if left < count {
-            return false;
-        }
-        left -= count;
-    }
-    true
-}
-
-fn cells_fit(scopes: &List<ScopeInUse>, room: usize) -> bool
-    ensures { result ≡ leb (sum_by (λ s. length s.cells) scopes.now) room }
-{
-    let mut left = room;
-    for scope in scopes.iter() {
-        let count = scope.cells.len();
-        if left < count {
-            return false;
-        }
-        left -= count;
-    }
-    true
 }
 
 fn task_has_room(world: &World, name: Who, marks: u32) -> bool
@@ -62,14 +32,14 @@ fn marks_have_room(world: &World, marks: u32) -> bool
     let more = marks as usize;
     more <= MOST_MARKS
         && of_agent <= MOST_MARKS - more
-        && marks_fit(&world.tasks, MOST_MARKS - more - of_agent)
+        && world.tasks.fits(MOST_MARKS - more - of_agent)
 }
 
 fn cells_have_room(world: &World, cells: u32) -> bool
     ensures { result ≡ leb (cells_in_use world.now + cells) MOST_CELLS }
 {
     let more = cells as usize;
-    more <= MOST_CELLS && cells_fit(&world.scopes, MOST_CELLS - more)
+    more <= MOST_CELLS && world.scopes.fits(MOST_CELLS - more)
 }
 
 /// Whether there is room for so many more marks of a task, and for so many more cells.

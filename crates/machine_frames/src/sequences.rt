@@ -9,8 +9,8 @@ use crate::room::has_room;
 use crate::tasks::may_run;
 use ann_base::{NoMemory, Raised};
 use machine_program::{Program, form_of, next_of};
+use profile_image::{StatementForm, StatementNo};
 use profile_machine::world::{Mark, Part};
-use profile_machine::{StatementForm, StatementNo};
 use trace_text::Who;
 
 /// The sequence with handlers that begins here is opened, if one does. Without room for its mark Storage_Error is

@@ -5,12 +5,11 @@ ghost use Rattle.profile_machine.specs.Subprograms.{call_that_returns};
 
 use crate::tasks::task_at;
 use ann_base::CallNo;
-use profile_machine::world::{Frame, Mark, Purpose, World};
+use profile_machine::world::{FrameStack, Mark, Purpose, World};
 use trace_text::Who;
-use world_tables::List;
 
 // The call of the accept or entry body that a return ends.
-fn call_that_returns(frames: &List<Frame>) -> Option<CallNo>
+fn call_that_returns(frames: &FrameStack) -> Option<CallNo>
     ensures { result ≡ call_that_returns frames.now }
 {
     for frame in frames.iter() {

@@ -1,15 +1,15 @@
 //! The tasks of a world and the agent, by name.
-ghost use Rattle.std.specs.Prelude.{◌≡◌, Some, find, option_copied};
+ghost use Rattle.std.specs.Prelude.{◌≡◌, Some, option_copied};
 ghost use Rattle.std.specs.List.{position_from};
 ghost use Rattle.std.specs.Option.{option_copied_mut};
 ghost use Rattle.std.specs.Borrow.{sem};
 ghost use Rattle.profile_machine.specs.Tasks.{is_who, found_task, task_at, task_of, new_task, number_of, is_runnable, is_made, waiting_in, waiting_of, edit_task, with_state, with_ticks};
-ghost use Rattle.profile_machine.specs.Words.{same_who};
 ghost use Rattle.machine_frames.specs.Lends.{lends_found, lends_task};
 
 use ann_base::{Level, TaskNo};
-use profile_machine::TIME_LAST;
-use profile_machine::world::{State, Task, Waiting, World};
+use profile_image::TIME_LAST;
+use profile_machine::world::{FrameStack, State, Task, Waiting, World, same_who};
+use rosters::Roster;
 use std::alloc::Global;
 use trace_text::Who;
 use world_tables::List;
@@ -24,7 +24,7 @@ pub fn new_task(alloc: Global, who: Who, base: Level, state: State) -> Task
         unit: None,
         outer: None,
         state,
-        frames: List::new(alloc),
+        frames: FrameStack::new(alloc),
         ticks_left: None,
         base,
         inherited: List::new(alloc),
@@ -46,22 +46,14 @@ pub fn new_task(alloc: Global, who: Who, base: Level, state: State) -> Task
     }
 }
 
-/// Whether both names stand for the same task, or for the agent.
-pub fn same_who(a: Who, b: Who) -> bool
-    ensures { result ≡ same_who a b }
-{
-    match (a, b) {
-        (Who::Task(a), Who::Task(b)) => a.0 == b.0,
-        (Who::Agent, Who::Agent) => true,
-        _ => false,
-    }
-}
-
 /// The task with this name, if it is there.
-pub fn found_task(name: Who, tasks: &List<Task>) -> Option<&Task>
+pub fn found_task(name: Who, tasks: &Roster<Task>) -> Option<&Task>
     ensures { option_copied result ≡ found_task name tasks.now }
 {
-    tasks.iter().find(|task| same_who(name, task.who))
+    match place_of(tasks, name) {
+        Some(place) => tasks.get(place),
+        None => None,
+    }
 }
 
 /// The task, or the agent, that has this name, if it is there.
@@ -75,14 +67,17 @@ pub fn task_at(world: &World, name: Who) -> Option<&Task>
 }
 
 // Where the first task with this name stands.
-fn place_of(tasks: &List<Task>, name: Who) -> Option<usize>
+fn place_of(tasks: &Roster<Task>, name: Who) -> Option<usize>
     ensures { result ≡ position_from (is_who name) 0 tasks.now }
 {
-    tasks.iter().position(|task| same_who(name, task.who))
+    match name {
+        Who::Task(number) => tasks.place_of(number.0),
+        Who::Agent => tasks.iter().position(|task| same_who(name, task.who)),
+    }
 }
 
 // The task at this place, where the first one with this name stands, for writing.
-fn task_in_place(tasks: &mut List<Task>, name: Who, place: usize) -> Option<&mut Task>
+fn task_in_place(tasks: &mut Roster<Task>, name: Who, place: usize) -> Option<&mut Task>
     requires { position_from (is_who name) 0 tasks.old ≡ Some place }
     ensures* writes_back { sem 𝓛 (lends_found tasks.entry name result) }
     ensures value { option_copied_mut result ≡ found_task name tasks.old }
@@ -91,7 +86,7 @@ fn task_in_place(tasks: &mut List<Task>, name: Who, place: usize) -> Option<&mut
 }
 
 /// The task with this name for writing, if it is there.
-pub fn found_task_mut(tasks: &mut List<Task>, name: Who) -> Option<&mut Task>
+pub fn found_task_mut(tasks: &mut Roster<Task>, name: Who) -> Option<&mut Task>
     ensures* writes_back { sem 𝓛 (lends_found tasks.entry name result) }
     ensures value { option_copied_mut result ≡ found_task name tasks.old }
 {

@@ -2,10 +2,10 @@
 use Rattle.std.specs.Prelude.{ℕ, Bool, not, Option, None, is_some}
 use Rattle.ann_base.specs.declared.exceptions.Raised.TheVariants as exception
 use Rattle.trace_text.specs.declared.events.Who.{Who}
-use Rattle.profile_machine.specs.declared.image.Image.{Image}
-use Rattle.profile_machine.specs.declared.numbers.StatementNo.{StatementNo}
+use Rattle.profile_image.specs.declared.image.Image.{Image}
+use Rattle.profile_image.specs.declared.numbers.StatementNo.{StatementNo}
 use Rattle.profile_machine.specs.declared.world.appointments.Budget.{Budget}
-use Rattle.profile_machine.specs.Program.{next_of}
+use Rattle.profile_image.specs.Program.{next_of}
 use Rattle.profile_machine.specs.Steps.{Step, changes, looks, ◌▷◌}
 use Rattle.profile_machine.specs.Frames.{goes, raise_if}
 use Rattle.profile_machine.specs.Tasks.{edit_task}

@@ -9,7 +9,7 @@ use machine_frames::{Effect, has_room};
 use machine_program::{Program, marks_of, scope_of, subprogram_of};
 use machine_protected::end_release;
 use machine_scopes::open_scope;
-use profile_machine::Value;
+use profile_image::Value;
 use profile_machine::world::{Entering, Purpose, Release, ResultTo};
 use std::alloc::Global;
 use trace_text::{Mode, Who};

@@ -13,8 +13,8 @@ use machine_frames::{Effect, goes, refused};
 use machine_program::{Program, next_of};
 use machine_releases::{has_room_for_release, load, raise_by, set_handler};
 use machine_values::{Seen, budget_of, moment, number_of_thing, or_raised, seen_by};
+use profile_image::{DeclNo, ExprNo, HandlerName, StatementNo, VariableName};
 use profile_machine::world::HandlerOf;
-use profile_machine::{DeclNo, ExprNo, HandlerName, StatementNo, VariableName};
 use trace_text::Who;
 
 // A budget with a positive amount.

@@ -6,15 +6,14 @@ ghost use Rattle.machine_handlers.specs.SettingSteps.{event_is_set, event_is_can
 
 use crate::settings::{Named, Set, event_setting, thing_named};
 use ann_base::{Moment, NoMemory};
-use machine_appointments::{DueOf, appoint, drop_appointment, is_appointed};
 use machine_dispatching::is_ahead;
-use machine_frames::{Effect, goes, refused};
+use machine_frames::{Effect, appoint, drop_appointment, goes, is_appointed, refused};
 use machine_program::{Program, next_of};
 use machine_releases::release;
 use machine_scopes::store;
 use machine_values::seen_by;
-use profile_machine::world::{Due, HandlerOf, Part, Variable};
-use profile_machine::{DeclNo, HandlerName, Setting, StatementNo, Value, VariableName};
+use profile_image::{DeclNo, HandlerName, Setting, StatementNo, Value, VariableName};
+use profile_machine::world::{Due, DueOf, HandlerOf, Part, Variable};
 use trace_text::Who;
 
 /// A variable gets whether something was set.

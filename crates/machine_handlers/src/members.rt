@@ -11,8 +11,8 @@ use ann_base::{NoMemory, OrMemory, Raised};
 use machine_frames::{Effect, goes, raises, refused, task_mut};
 use machine_program::{Program, next_of};
 use machine_values::{Seen, live_task, number_of_thing, or_raised, seen_by, task_in, value};
+use profile_image::{DeclNo, ExprNo, StatementNo};
 use profile_machine::world::{Part, Task, World};
-use profile_machine::{DeclNo, ExprNo, StatementNo};
 use trace_text::Who;
 
 fn set_member(world: &mut World, name: Who, budget: Option<u32>)

@@ -12,8 +12,8 @@ use machine_releases::has_room_for_release;
 use machine_values::{
     Seen, live_task, moment, number_of_thing, object_number, or_raised, timer_of, variable,
 };
+use profile_image::{DeclNo, HandlerName, Setting, VariableName};
 use profile_machine::world::{HandlerOf, Variable, World};
-use profile_machine::{DeclNo, HandlerName, Setting, VariableName};
 
 /// The handler that has this name.
 ///

@@ -11,8 +11,8 @@ use machine_frames::{Effect, goes, refused};
 use machine_program::{Program, next_of};
 use machine_releases::{clear_timer, release, set_in};
 use machine_values::{seen_by, timer_of};
+use profile_image::{DeclNo, HandlerName, Setting, StatementNo, VariableName};
 use profile_machine::world::{HandlerOf, Part, TimerSetting, World};
-use profile_machine::{DeclNo, HandlerName, Setting, StatementNo, VariableName};
 use trace_text::Who;
 
 fn with_timer_set(

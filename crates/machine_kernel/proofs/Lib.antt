@@ -1,3 +1,4 @@
 mod JumpLemmas
 mod FutureLemmas
 mod KernelLemmas
+mod FirstLemmas

@@ -1,7 +1,7 @@
 -- Idle ticks: behind a tock with nobody ready and nothing due, the time becomes the first tick at which something is
 -- due.
 use Rattle.std.specs.Prelude.{ℕ, ℤ, pos, negsuc, min, max, Bool, not, ◌&&◌, cond, List, [], ◌∷◌, is_none}
-use Rattle.profile_machine.specs.declared.run_data.Item.{Item}
+use Rattle.profile_image.specs.declared.script_items.Item.{Item}
 use Rattle.profile_machine.specs.declared.world.World.{World}
 use Rattle.profile_machine.specs.declared.world.appointments.Appointment.{Appointment}
 use Rattle.ann_base.specs.Lists.{is_empty}

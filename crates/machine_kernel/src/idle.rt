@@ -4,8 +4,8 @@ ghost use Rattle.std.specs.Prelude.{◌≡◌, ◌≤◌};
 ghost use Rattle.machine_kernel.specs.Jump.{sooner, first_appointed, first_item, is_idle, first_tick, jumped};
 
 use ann_base::Moment;
-use profile_machine::Item;
-use profile_machine::world::{Appointment, World};
+use profile_image::Item;
+use profile_machine::world::{Agenda, World};
 use world_tables::List;
 
 fn sooner(moment: Moment, tick: u64) -> u64
@@ -17,14 +17,15 @@ fn sooner(moment: Moment, tick: u64) -> u64
     }
 }
 
-fn first_appointed(appointments: &List<Appointment>, tick: u64) -> u64
+#[tactic(auto, using(crate::proofs::FirstLemmas::first_laws))]
+fn first_appointed(appointments: &Agenda, tick: u64) -> u64
     ensures { result ≡ first_appointed appointments.now tick }
 {
-    let mut first = tick;
-    for appointment in appointments.iter() {
-        first = sooner(appointment.moment, first);
+    appointments.stands_in_order();
+    match appointments.front() {
+        Some(first) => sooner(first.moment, tick),
+        None => tick,
     }
-    first
 }
 
 fn first_item(script: &List<(Moment, Item)>, tick: u64) -> u64

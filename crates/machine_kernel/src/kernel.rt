@@ -14,8 +14,8 @@ use machine_laws::time::{instants_take_no_time, runs_begin_at_0, tocks_take_one_
 use machine_program::Program;
 use machine_run::instant;
 use machine_ticks::{Stopped, TickLine, ended_by, event_of, opening, stop, tick_event, tock};
+use profile_image::{Image, Item};
 use profile_machine::world::Line;
-use profile_machine::{Image, Item};
 use std::alloc::Global;
 use trace_text::{Ended, Event};
 use world_tables::List;
@@ -72,7 +72,7 @@ impl Drop for Kernel {
 impl Kernel {
     ghost use Rattle.std.specs.Prelude.{◌++◌, OnOk, IfOk, IfSome, OnErr};
     ghost use Rattle.trace_text.specs.Text.{ArePrintable, IsPrintable, text_of};
-    ghost use Rattle.machine_kernel.specs.Kernel.{shown, future, stop_to_come, left_to_do, Takes};
+    ghost use Rattle.machine_kernel.specs.Kernel.{shown, future, stop_to_come, left_to_do, OwesNothing, Takes};
     ghost use Rattle.machine_kernel.specs.Next.{IfGoing, IfEnded};
     ghost use Rattle.machine_kernel.specs.Future.{advanced, opened, goes_by, after_instant, after_tock, unless_stopped, written_of, first_line};
     ghost use Rattle.profile_machine.specs.Instant.{instant};
@@ -142,10 +142,67 @@ impl Kernel {
         ensures ended { IfOk result
             (IfEnded (λ why. ((shown self.old).owed ≡ []) × ((shown self.old).stop ≡ Some why))) }
     {
+        if self.moves(out)? {
+            Ok(Next::Going)
+        } else {
+            self.end()
+        }
+    }
+
+    /// Why the run has ended, if it has.
+    fn end(&self) -> Result<Next, NoMemory>
+        ensures going { IfOk result (IfGoing ((shown self.now).stop ≡ None)) }
+        ensures ended { IfOk result (IfEnded (λ why. (shown self.now).stop ≡ Some why)) }
+    {
+        match self.stop {
+            Some(stopped) => Ok(Next::Ended(ended_by(&self.program, stopped)?)),
+            None => Ok(Next::Going),
+        }
+    }
+
+    /// Tells an owed line or goes on; false, and nothing done, if a stop is reached. Its answer is small, and a line is made in a
+    /// call of its own, since a function pays at its entry for the room of what it keeps, and most steps tell no line.
+    fn moves(&mut self, out: &mut LineBuffer) -> Result<bool, NoMemory>
+        requires { length out.old + LINE_BYTES ≤ BUFFER_BYTES }
+        ensures step { OnOk result (shown self.new ≡ advanced (shown self.old)) }
+        ensures told { OnOk result (out.new ≡ out.old ++ written_of (shown self.old).owed) }
+        ensures printable { OnOk result (ArePrintable (first_line (shown self.old).owed)) }
+        ensures err { OnErr result (out.new ≡ out.old) }
+        ensures going { IfOk result
+            (λ goes. goes ≡ true → (shown self.old).owed ≡ [] → (shown self.old).stop ≡ None) }
+        ensures over { IfOk result
+            (λ goes. goes ≡ false → OwesNothing self.old × (shown self.new ≡ shown self.old)) }
+    {
+        if self.owes_nothing() {
+            self.go_on()
+        } else {
+            self.tell(out)
+        }
+    }
+
+    /// Whether every line is told.
+    fn owes_nothing(&self) -> bool
+        ensures { result ≡ true → OwesNothing self.now }
+    {
+        self.said.is_empty() && self.ticks.is_empty() && self.last.is_none()
+    }
+
+    /// The same where a line may be owed.
+    fn tell(&mut self, out: &mut LineBuffer) -> Result<bool, NoMemory>
+        requires { length out.old + LINE_BYTES ≤ BUFFER_BYTES }
+        ensures step { OnOk result (shown self.new ≡ advanced (shown self.old)) }
+        ensures told { OnOk result (out.new ≡ out.old ++ written_of (shown self.old).owed) }
+        ensures printable { OnOk result (ArePrintable (first_line (shown self.old).owed)) }
+        ensures err { OnErr result (out.new ≡ out.old) }
+        ensures going { IfOk result
+            (λ goes. goes ≡ true → (shown self.old).owed ≡ [] → (shown self.old).stop ≡ None) }
+        ensures over { IfOk result
+            (λ goes. goes ≡ false → OwesNothing self.old × (shown self.new ≡ shown self.old)) }
+    {
         match self.take_owed()? {
             Some(event) => {
                 write_line(self.told_at, &event, out);
-                Ok(Next::Going)
+                Ok(true)
             }
             None => self.go_on(),
         }
@@ -199,21 +256,21 @@ impl Kernel {
         }
     }
 
-    /// Goes on where no line is owed.
-    fn go_on(&mut self) -> Result<Next, NoMemory>
+    /// Goes on where no line is owed; false, and nothing done, if a stop is reached.
+    fn go_on(&mut self) -> Result<bool, NoMemory>
         requires said { self.old.said ≡ [] }
         requires ticks { self.old.ticks ≡ [] }
         requires last { self.old.last ≡ None }
         ensures step { OnOk result
             (shown self.new ≡ unless_stopped (shown self.old).stop (shown self.old)) }
-        ensures going { IfOk result (IfGoing ((shown self.old).stop ≡ None)) }
-        ensures ended { IfOk result (IfEnded (λ why. (shown self.old).stop ≡ Some why)) }
+        ensures going { IfOk result (λ goes. goes ≡ true → (shown self.old).stop ≡ None) }
+        ensures over { IfOk result (λ goes. goes ≡ false → shown self.new ≡ shown self.old) }
     {
         match self.stop {
-            Some(stopped) => Ok(Next::Ended(ended_by(&self.program, stopped)?)),
+            Some(_) => Ok(false),
             None => {
                 self.advance()?;
-                Ok(Next::Going)
+                Ok(true)
             }
         }
     }

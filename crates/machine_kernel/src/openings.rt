@@ -7,7 +7,7 @@ ghost use Rattle.profile_machine.specs.Run.{lines_of_run, stop_of_run};
 use crate::kernel::Kernel;
 use ann_base::{Moment, NoMemory};
 use machine_laws::time::runs_begin_at_0;
-use profile_machine::{Image, Item};
+use profile_image::{Image, Item};
 use std::alloc::Global;
 use world_tables::List;
 

@@ -9,12 +9,12 @@ use Rattle.trace_text.specs.declared.events.Who.{Who}
 use Rattle.trace_text.specs.declared.events.Who.TheVariants as who
 use Rattle.trace_text.specs.Queue.{TraceLine, RisesFrom, seen_from, up_to, last_from, head_of, who_of, runner_after, Sight, see, nothing_seen}
 use Rattle.trace_text.specs.Laws.{DispatchOk}
-use Rattle.profile_machine.specs.declared.image.Image.{Image}
-use Rattle.profile_machine.specs.declared.run_data.Item.{Item}
+use Rattle.profile_image.specs.declared.image.Image.{Image}
+use Rattle.profile_image.specs.declared.script_items.Item.{Item}
 use Rattle.profile_machine.specs.declared.world.World.{World}
 use Rattle.profile_machine.specs.declared.world.marks.Frame.{Frame}
 use Rattle.profile_machine.specs.declared.world.appointments.Release.{Release}
-use Rattle.profile_machine.specs.Words.{same_who, same_option}
+use Rattle.profile_image.specs.Words.{same_who, same_option}
 use Rattle.profile_machine.specs.Steps.{places_after_all, rests}
 use Rattle.profile_machine.specs.Dispatching as dispatching
 use Rattle.profile_machine.specs.Dispatching.{choose}

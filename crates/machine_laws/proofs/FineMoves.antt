@@ -12,13 +12,13 @@ use Rattle.trace_text.specs.declared.events.QueueEnd.{QueueEnd}
 use Rattle.trace_text.specs.declared.events.Who.{Who}
 use Rattle.world_tables.specs.Lists.{rest_of}
 use Rattle.trace_text.specs.declared.events.Who.TheVariants as who
-use Rattle.profile_machine.specs.declared.image.Image.{Image}
-use Rattle.profile_machine.specs.declared.numbers.ProtectedUnitNo.{ProtectedUnitNo}
-use Rattle.profile_machine.specs.declared.numbers.ScopeNo.{ScopeNo}
-use Rattle.profile_machine.specs.declared.numbers.StatementNo.{StatementNo}
-use Rattle.profile_machine.specs.declared.run_data.Item.{Item}
+use Rattle.profile_image.specs.declared.image.Image.{Image}
+use Rattle.profile_image.specs.declared.numbers.ProtectedUnitNo.{ProtectedUnitNo}
+use Rattle.profile_image.specs.declared.numbers.ScopeNo.{ScopeNo}
+use Rattle.profile_image.specs.declared.numbers.StatementNo.{StatementNo}
+use Rattle.profile_image.specs.declared.script_items.Item.{Item}
 use Rattle.profile_machine.specs.declared.run_data.Leaving.{Leaving}
-use Rattle.profile_machine.specs.declared.values.Value.{Value}
+use Rattle.profile_image.specs.declared.values.Value.{Value}
 use Rattle.profile_machine.specs.declared.world.World.{World}
 use Rattle.profile_machine.specs.declared.world.marks.Frame.{Frame}
 use Rattle.profile_machine.specs.declared.world.marks.Mark.{Mark}
@@ -40,11 +40,11 @@ use Rattle.profile_machine.specs.declared.world.lines.Part.{Part}
 use Rattle.profile_machine.specs.declared.world.lines.Said.{Said}
 use Rattle.profile_machine.specs.declared.world.lines.Line.{Line}
 use Rattle.profile_machine.specs.declared.world.lines.Line.TheVariants as said
-use Rattle.profile_machine.specs.Words.{edit_at}
+use Rattle.profile_image.specs.Words.{edit_at}
 use Rattle.profile_machine.specs.Steps.{placed_by}
 use Rattle.profile_machine.specs.Tasks.{task_of, task_at, edit_task_found, edit_task, with_state, with_frames, waiting_of}
 use Rattle.profile_machine.specs.Dispatching.{active, deadline_shown, word_of}
-use Rattle.profile_machine.specs.Program.{scope_of}
+use Rattle.profile_image.specs.Program.{scope_of}
 use Rattle.profile_machine.specs.Frames.{top_of, edit_first, edit_top, new_frame, push, pop, goes_on, is_protected, in_protected}
 use Rattle.profile_machine.specs.Scopes.{edit_cells, begin_scope, draw_region, open_scope, end_scope, next_id, region_of_next, new_scope_mark}
 use Rattle.profile_machine.specs.Appointments.{appoint, drop_appointment}

@@ -4,11 +4,11 @@ use Rattle.trace_text.specs.declared.events.Event.{Event}
 use Rattle.trace_text.specs.declared.events.Event.TheVariants as line
 use Rattle.trace_text.specs.declared.events.Who.{Who}
 use Rattle.trace_text.specs.declared.events.Who.TheVariants as who
-use Rattle.profile_machine.specs.declared.image.Image.{Image}
+use Rattle.profile_image.specs.declared.image.Image.{Image}
 use Rattle.profile_machine.specs.declared.world.World.{World}
 use Rattle.profile_machine.specs.declared.world.marks.Frame.{Frame}
 use Rattle.profile_machine.specs.declared.world.appointments.Release.{Release}
-use Rattle.profile_machine.specs.Words.{same_who, same_option}
+use Rattle.profile_image.specs.Words.{same_who, same_option}
 use Rattle.profile_machine.specs.declared.world.lines.Line.{Line}
 use Rattle.profile_machine.specs.declared.world.lines.Line.TheVariants as said
 use Rattle.profile_machine.specs.declared.world.lines.Said.{Said}
@@ -17,7 +17,7 @@ use Rattle.profile_machine.specs.Steps.{in_order, rests}
 use Rattle.profile_machine.specs.Dispatching.{choose}
 use Rattle.profile_machine.specs.Instant.{instant}
 use Rattle.profile_machine.specs.Run.{say, says_run, serve_if_free, serve, says_idle, opens, opening, blank_world, tock}
-use Rattle.profile_machine.specs.declared.run_data.Item.{Item}
+use Rattle.profile_image.specs.declared.script_items.Item.{Item}
 use Rattle.machine_laws.specs.LineKinds.{is_of_effect, is_of_tock, is_no_end, AllAre}
 use Rattle.machine_laws.proofs.FinestMoves.{all_of, effect-leads}
 use Rattle.machine_laws.proofs.Moves.{Moves}

@@ -3,7 +3,7 @@ use Rattle.std.proofs.Common.{◌≡◌, ℕ, suc, ◌<◌, ◌≤◌, Bool, tru
 use Rattle.std.specs.Prelude.{find}
 use Rattle.std.specs.List.{list_all}
 use Rattle.std.proofs.lemmas.Bool.{and_from}
-use Rattle.profile_machine.specs.Words.{edit_where, without, edit_found, set_where}
+use Rattle.profile_image.specs.Words.{edit_where, without, edit_found, set_where}
 use Rattle.profile_machine.specs.WellFormed.{all_adjacent}
 
 -- ---- numbers that fall, the first below a top

@@ -5,8 +5,8 @@ use Rattle.std.specs.List.{list_all}
 use Rattle.std.proofs.lemmas.Bool.{and_from}
 use Rattle.trace_text.specs.declared.events.Who.{Who}
 use Rattle.trace_text.specs.declared.events.Who.TheVariants as who
-use Rattle.profile_machine.specs.declared.image.Image.{Image}
-use Rattle.profile_machine.specs.declared.run_data.Item.{Item}
+use Rattle.profile_image.specs.declared.image.Image.{Image}
+use Rattle.profile_image.specs.declared.script_items.Item.{Item}
 use Rattle.profile_machine.specs.declared.world.World.{World}
 use Rattle.profile_machine.specs.declared.world.tasks.Task.{Task}
 use Rattle.profile_machine.specs.declared.world.calls.Call.{Call}
@@ -18,7 +18,7 @@ use Rattle.profile_machine.specs.declared.world.appointments.Release.{Release}
 use Rattle.profile_machine.specs.Tasks.{is_who, task_at, edit_task_found, edit_task}
 use Rattle.profile_machine.specs.Scopes.{goes_with, is_id, with_cells}
 use Rattle.profile_machine.specs.Calls.{is_call}
-use Rattle.profile_machine.specs.Words.{without}
+use Rattle.profile_image.specs.Words.{without}
 use Rattle.profile_machine.specs.Protected.{is_action_of}
 use Rattle.profile_machine.specs.Values.{is_object}
 use Rattle.profile_machine.specs.Controlled.{is_number}

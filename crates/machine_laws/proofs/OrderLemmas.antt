@@ -10,7 +10,7 @@ use Rattle.trace_text.specs.declared.events.QueueEnd.TheVariants.{Head, Tail}
 use Rattle.trace_text.specs.declared.events.Who.{Who}
 use Rattle.trace_text.specs.declared.events.Who.TheVariants as who
 use Rattle.profile_machine.specs.declared.world.tasks.Placed.{Placed}
-use Rattle.profile_machine.specs.Words.{same_who}
+use Rattle.profile_image.specs.Words.{same_who}
 use Rattle.profile_machine.specs.Steps.{is_deadline_before, is_above, put_at_tail, put_at_head, put_at, take_out, places_after, places_after_all}
 use Rattle.profile_machine.specs.WellFormed.{all_adjacent, all_differ}
 

@@ -12,7 +12,7 @@ use Rattle.trace_text.specs.declared.events.Who.TheVariants as who
 use Rattle.trace_text.specs.declared.events.Entry.{Entry}
 use Rattle.trace_text.specs.Queue.{who_eq, without, placed, queue_after, int_before, is_earlier, goes_before, first_of, head_of, who_of}
 use Rattle.profile_machine.specs.declared.world.tasks.Placed.{Placed}
-use Rattle.profile_machine.specs.Words.{same_who}
+use Rattle.profile_image.specs.Words.{same_who}
 use Rattle.profile_machine.specs.Steps.{is_deadline_before, is_above, put_at_tail, put_at_head, put_at, take_out, places_after}
 use Rattle.profile_machine.specs.Dispatching as dispatching
 use Rattle.machine_laws.proofs.OrderLemmas.{Behind, Behind-out, Descends, Descends-head, is_above-asym, is_above-trans}

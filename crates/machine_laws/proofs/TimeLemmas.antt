@@ -1,10 +1,10 @@
 -- No instant changes the time, and a tock takes one tick.
 use Rattle.std.proofs.Common.{◌≡◌, suc, List, None, ap, refl, ℤ, ◌∙◌}
-use Rattle.profile_machine.specs.declared.image.Image.{Image}
+use Rattle.profile_image.specs.declared.image.Image.{Image}
 use Rattle.profile_machine.specs.declared.world.World.{World}
 use Rattle.profile_machine.specs.Instant.{instant}
 use Rattle.profile_machine.specs.Run.{tock, opening, blank_world, opens}
-use Rattle.profile_machine.specs.declared.run_data.Item.{Item}
+use Rattle.profile_image.specs.declared.script_items.Item.{Item}
 use Rattle.profile_machine.specs.Dispatching.{choose}
 use Rattle.machine_laws.proofs.FinestMoves.{all_of, tocks_of, effect-leads}
 use Rattle.machine_laws.proofs.Kept.Run.{tock-parts, before_tick-leads, opens-keeps}

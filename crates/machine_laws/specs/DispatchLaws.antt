@@ -3,8 +3,8 @@
 -- law is that of traces, and knows lines alone.
 use Rattle.std.specs.Prelude.{ℕ, ℤ, List}
 use Rattle.trace_text.specs.Laws.{DispatchOk}
-use Rattle.profile_machine.specs.declared.image.Image.{Image}
-use Rattle.profile_machine.specs.declared.run_data.Item.{Item}
+use Rattle.profile_image.specs.declared.image.Image.{Image}
+use Rattle.profile_image.specs.declared.script_items.Item.{Item}
 use Rattle.profile_machine.specs.Run.{run_of}
 
 abbrev pub RunsDispatch : Type 0

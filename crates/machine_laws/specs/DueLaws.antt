@@ -1,7 +1,7 @@
 -- Appointments: no instant leaves one that is due, so no run comes to a world with one before now (9.6, D.15).
 use Rattle.std.specs.Prelude.{pos, Bool, IsTrue, int_lt, int_le}
 use Rattle.std.specs.List.{list_all}
-use Rattle.profile_machine.specs.declared.image.Image.{Image}
+use Rattle.profile_image.specs.declared.image.Image.{Image}
 use Rattle.profile_machine.specs.declared.world.World.{World}
 use Rattle.profile_machine.specs.Instant.{instant}
 use Rattle.machine_laws.specs.Reached.{AllReached}

@@ -1,8 +1,8 @@
 -- The items of the script: no instant leaves the first that is ahead where its moment has come, so the fuel with which
 -- an instant takes them never runs out (own).
 use Rattle.std.specs.Prelude.{ℕ, ℤ, pos, int_lt, Bool, true, IsTrue, List, [], ◌∷◌}
-use Rattle.profile_machine.specs.declared.image.Image.{Image}
-use Rattle.profile_machine.specs.declared.run_data.Item.{Item}
+use Rattle.profile_image.specs.declared.image.Image.{Image}
+use Rattle.profile_image.specs.declared.script_items.Item.{Item}
 use Rattle.profile_machine.specs.declared.world.World.{World}
 use Rattle.profile_machine.specs.Instant.{instant}
 

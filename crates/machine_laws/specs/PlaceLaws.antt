@@ -1,10 +1,10 @@
 -- The ready queues of a world are what the lines say: `ready` places, `block` and `done` take out, and nothing else
 -- moves anybody.
 use Rattle.std.specs.Prelude.{◌≡◌, ℤ, Bool, not, List, [], IsTrue}
-use Rattle.profile_machine.specs.declared.image.Image.{Image}
-use Rattle.profile_machine.specs.declared.run_data.Item.{Item}
+use Rattle.profile_image.specs.declared.image.Image.{Image}
+use Rattle.profile_image.specs.declared.script_items.Item.{Item}
 use Rattle.profile_machine.specs.declared.world.World.{World}
-use Rattle.profile_machine.specs.Words.{same_who}
+use Rattle.profile_image.specs.Words.{same_who}
 use Rattle.profile_machine.specs.Steps.{places_after_all, is_above}
 use Rattle.profile_machine.specs.Instant.{instant}
 use Rattle.profile_machine.specs.Run.{opening, tock}

@@ -1,7 +1,7 @@
 -- The worlds that a run reaches: before each of its instants, and behind it.
 use Rattle.std.specs.Prelude.{◌≡◌, ℕ, ℤ, List, None}
-use Rattle.profile_machine.specs.declared.image.Image.{Image}
-use Rattle.profile_machine.specs.declared.run_data.Item.{Item}
+use Rattle.profile_image.specs.declared.image.Image.{Image}
+use Rattle.profile_image.specs.declared.script_items.Item.{Item}
 use Rattle.profile_machine.specs.declared.world.World.{World}
 use Rattle.profile_machine.specs.Instant.{instant}
 use Rattle.profile_machine.specs.Run.{opening, stop, tock}

@@ -1,7 +1,7 @@
 -- Time: a run begins at 0, an instant takes none, a tock takes one tick.
 use Rattle.std.specs.Prelude.{◌≡◌, suc, ℤ, List}
-use Rattle.profile_machine.specs.declared.image.Image.{Image}
-use Rattle.profile_machine.specs.declared.run_data.Item.{Item}
+use Rattle.profile_image.specs.declared.image.Image.{Image}
+use Rattle.profile_image.specs.declared.script_items.Item.{Item}
 use Rattle.profile_machine.specs.declared.world.World.{World}
 use Rattle.profile_machine.specs.Instant.{instant}
 use Rattle.profile_machine.specs.Run.{tock, opening}

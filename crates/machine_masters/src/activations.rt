@@ -6,9 +6,9 @@ ghost use Rattle.machine_frames.specs.Did.{Did};
 
 use ann_base::{NoMemory, Raised};
 use machine_dispatching::{lose, part_of, ready};
-use machine_frames::{Effect, open_sequence, raises, same_who, task_at, task_mut, waiting_of};
+use machine_frames::{Effect, open_sequence, raises, task_at, task_mut, waiting_of};
 use machine_program::Program;
-use profile_machine::world::{Cause, Part, Task, Waiting, World};
+use profile_machine::world::{Cause, Part, Task, Waiting, World, same_who};
 use trace_text::Who;
 
 fn is_activated_by(name: Who, task: &Task) -> bool

@@ -14,7 +14,7 @@ use machine_dispatching::part_of;
 use machine_frames::{Effect, task_at, task_mut};
 use machine_program::Program;
 use profile_machine::Leaving;
-use profile_machine::world::{Call, Frame, Outcome, World};
+use profile_machine::world::{Call, FrameStack, Outcome, World};
 use std::alloc::Global;
 use trace_text::Who;
 use world_tables::List;
@@ -76,7 +76,7 @@ fn set_completed(alloc: Global, world: &mut World, name: Who) -> Result<(), NoMe
 }
 
 // How the outermost mark is being left, if it is.
-fn last_left_as(frames: &List<Frame>) -> Option<Leaving>
+fn last_left_as(frames: &FrameStack) -> Option<Leaving>
     ensures { result ≡ last_left_as frames.now }
 {
     match frames.len().checked_sub(1) {

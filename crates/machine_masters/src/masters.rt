@@ -3,12 +3,11 @@
 ghost use Rattle.std.specs.Prelude.{◌≡◌, suc, Some};
 ghost use Rattle.std.specs.List.{list_any};
 ghost use Rattle.profile_machine.specs.Masters.{masters_from, depends_on_region, is_task, owner_of, depends_on_task, has_dependents};
-ghost use Rattle.profile_machine.specs.Words.{has, is_the, same_region};
+ghost use Rattle.profile_image.specs.Words.{has, is_the, same_region};
 
 use crate::regions::owner_of;
 use ann_base::RegionNo;
-use machine_frames::same_who;
-use profile_machine::world::{Task, World};
+use profile_machine::world::{Task, World, same_who};
 use trace_text::Who;
 
 // Whether the region is this master, or one of so many more beyond it.

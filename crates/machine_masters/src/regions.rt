@@ -4,8 +4,7 @@ ghost use Rattle.profile_machine.specs.Masters.{region_of_mark, has_region, owns
 
 use ann_base::RegionNo;
 use machine_frames::region_of_mark;
-use profile_machine::world::{Frame, Mark, Task, World};
-use world_tables::List;
+use profile_machine::world::{Frame, FrameStack, Mark, Task, World};
 
 // Whether a frame's mark has this region.
 fn has_region(region: RegionNo, frame: &Frame) -> bool
@@ -40,7 +39,7 @@ fn is_scope_being_left(mark: &Mark) -> bool
 }
 
 // Whether the topmost of these frames that has the region is that of a scope that is being left.
-fn is_being_left_in(region: RegionNo, frames: &List<Frame>) -> bool
+fn is_being_left_in(region: RegionNo, frames: &FrameStack) -> bool
     ensures { result ≡ is_being_left_in region frames.now }
 {
     for frame in frames.iter() {

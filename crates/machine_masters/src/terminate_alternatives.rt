@@ -8,12 +8,11 @@ ghost use Rattle.machine_frames.specs.Did.{Did};
 use crate::masters::depends_on_region;
 use crate::regions::{is_region_being_left, owner_of};
 use ann_base::{NoMemory, RegionNo};
-use machine_appointments::drop_delay;
 use machine_dispatching::ready;
-use machine_frames::{Effect, leaves, same_who, set_state, waiting_in};
+use machine_frames::{Effect, drop_delay, leaves, set_state, waiting_in};
 use machine_program::Program;
 use profile_machine::Leaving;
-use profile_machine::world::{Part, State, Task, Waiting, World};
+use profile_machine::world::{Part, State, Task, Waiting, World, same_who};
 use trace_text::Who;
 
 /// Whether what is waited for may be an open terminate alternative.

@@ -3,20 +3,19 @@ ghost use Rattle.std.specs.Prelude.{◌≡◌, OnOk, find, option_copied};
 ghost use Rattle.profile_machine.specs.Masters.{waits_for_dependents, wake_master, forget_task, terminate};
 ghost use Rattle.profile_machine.specs.Steps.{for_some};
 ghost use Rattle.profile_machine.specs.Tasks.{is_who, task_of};
-ghost use Rattle.profile_machine.specs.Words.{without};
+ghost use Rattle.profile_image.specs.Words.{without};
 ghost use Rattle.machine_frames.specs.Did.{Did};
 
 use crate::completion::complete;
 use crate::masters::has_dependents;
 use ann_base::{NoMemory, RegionNo};
-use machine_appointments::drop_delay;
 use machine_dispatching::{part_of, ready};
-use machine_frames::{Effect, same_who, task_at, waiting_in};
+use machine_frames::{Effect, drop_delay, task_at, waiting_in};
 use machine_program::Program;
-use profile_machine::world::{Task, Waiting, World};
+use profile_machine::world::{Task, Waiting, World, same_who};
+use rosters::Roster;
 use std::alloc::Global;
 use trace_text::Who;
-use world_tables::List;
 
 fn waits_for_dependents(region: RegionNo, task: &Task) -> bool
     ensures { result ≡ waits_for_dependents region task.now }
@@ -74,7 +73,7 @@ fn wake_master_of(
     }
 }
 
-fn forget_in(tasks: &mut List<Task>, name: Who)
+fn forget_in(tasks: &mut Roster<Task>, name: Who)
     ensures { tasks.new ≡ without (is_who name) tasks.old }
 {
     tasks.retain(|task| !same_who(name, task.who));

@@ -1,11 +1,11 @@
 -- What an entry call names, from its parts, and the call that is to be made.
 use Rattle.std.specs.Prelude.{ℕ, ℤ, false, List, Option, None}
 use Rattle.ann_base.specs.declared.identities.TaskNo.{TaskNo}
-use Rattle.profile_machine.specs.declared.numbers.EntryNo.{EntryNo}
-use Rattle.profile_machine.specs.declared.numbers.StatementNo.{StatementNo}
-use Rattle.profile_machine.specs.declared.statements.Actual.{Actual}
-use Rattle.profile_machine.specs.declared.statements.EntryOwner.{EntryOwner}
-use Rattle.profile_machine.specs.declared.values.Value.{Value}
+use Rattle.profile_image.specs.declared.numbers.EntryNo.{EntryNo}
+use Rattle.profile_image.specs.declared.numbers.StatementNo.{StatementNo}
+use Rattle.profile_image.specs.declared.statements.Actual.{Actual}
+use Rattle.profile_image.specs.declared.statements.EntryOwner.{EntryOwner}
+use Rattle.profile_image.specs.declared.values.Value.{Value}
 use Rattle.profile_machine.specs.declared.world.calls.Call.{Call}
 use Rattle.profile_machine.specs.declared.world.calls.CallKind.{CallKind}
 use Rattle.profile_machine.specs.declared.world.calls.EntryCallNamed.{EntryCallNamed}

@@ -6,14 +6,13 @@ ghost use Rattle.machine_frames.specs.Did.{Did};
 use crate::task_calls::{entry_call, is_forbidden};
 use ann_base::{Moment, NoMemory, Raised};
 use machine_accepts::delay_moment;
-use machine_appointments::appoint;
 use machine_dispatching::is_ahead;
-use machine_frames::{Effect, frame_count, goes, has_room, raises, refused};
+use machine_frames::{Effect, appoint, frame_count, goes, has_room, raises, refused};
 use machine_program::{Program, form_of, next_of};
 use machine_sending::open_abortable;
 use machine_values::seen_by;
+use profile_image::{StatementForm, StatementNo};
 use profile_machine::world::{CallKind, Due, Part, World};
-use profile_machine::{StatementForm, StatementNo};
 use std::alloc::Global;
 use trace_text::Who;
 

@@ -16,10 +16,11 @@ use machine_program::Program;
 use machine_queues::{call_mut, copied_call, enqueue, formals_count};
 use machine_scopes::end_scope;
 use machine_sending::{send_on, sent_not_begun};
+use profile_image::{StatementNo, Value};
+use profile_machine::Leaving;
 use profile_machine::world::{
     AcceptMark, Call, Cause, Line, MeetingEnd, Outcome, Owner, Part, Sending, World,
 };
-use profile_machine::{Leaving, StatementNo, Value};
 use std::alloc::Global;
 use trace_text::Who;
 use world_tables::List;

@@ -6,14 +6,13 @@ ghost use Rattle.machine_meetings.specs.Meetings.{behind_met, behind_failed};
 
 use ann_base::{NoMemory, Raised};
 use machine_accepts::{begin_accept, finish_without_room, has_room_for_accept, open_accept};
-use machine_appointments::drop_delay;
 use machine_calls::deliver;
 use machine_dispatching::{block, inherit, ready};
 use machine_entry_calls::end_at_once;
-use machine_frames::{Effect, open_sequence, raises};
+use machine_frames::{Effect, drop_delay, open_sequence, raises};
 use machine_program::Program;
 use machine_sending::begin_abortable;
-use profile_machine::StatementNo;
+use profile_image::StatementNo;
 use profile_machine::world::{Call, Cause, Outcome, Part, Waiting};
 use std::alloc::Global;
 use trace_text::Who;

@@ -6,8 +6,8 @@ ghost use Rattle.profile_machine.specs.EntryCalls.{entry_parameter, entry_parame
 use ann_base::{NoMemory, OrMemory, Raised};
 use machine_operators::checked;
 use machine_values::{Seen, or_raised, read, thing, value, variable};
+use profile_image::{Actual, Formal, Value};
 use profile_machine::world::Variable;
-use profile_machine::{Actual, Formal, Value};
 use std::alloc::Global;
 use world_tables::List;
 

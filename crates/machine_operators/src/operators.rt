@@ -5,7 +5,7 @@ ghost use Rattle.ann_base.specs.declared.exceptions.Raised.TheVariants as except
 
 use crate::ranges::ticks;
 use ann_base::{Moment, Raised};
-use profile_machine::{BinaryOperator, UnaryOperator, Value};
+use profile_image::{BinaryOperator, UnaryOperator, Value};
 
 /// The unary minus.
 pub fn negated(value: Value) -> Result<Value, Raised>

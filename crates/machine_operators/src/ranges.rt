@@ -1,10 +1,10 @@
 //! Ends of the numbers, and ranges (ISO/IEC 8652:2012, 3.5).
 ghost use Rattle.std.specs.Prelude.{◌≡◌, ◌+ℤ◌, pos, Ok, Err};
-ghost use Rattle.profile_machine.specs.declared.values.Value.TheVariants.{Whole};
+ghost use Rattle.profile_image.specs.declared.values.Value.TheVariants.{Whole};
 ghost use Rattle.profile_machine.specs.Operators.{whole, ticks, held_moment, is_in, checked, place_in, component_place};
 
 use ann_base::{Moment, Raised};
-use profile_machine::{Constraint, TIME_FIRST, TIME_LAST, Value};
+use profile_image::{Constraint, TIME_FIRST, TIME_LAST, Value};
 
 /// The Integer of this value, where it has 32 bits (3.5.4).
 pub fn whole(n: i64) -> Result<Value, Raised>

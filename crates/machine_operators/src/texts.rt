@@ -4,7 +4,7 @@ ghost use Rattle.profile_machine.specs.Operators.{text_of_whole, text_of_truth, 
 
 use ann_base::NoMemory;
 use itoa::Buffer;
-use profile_machine::{Text, Value};
+use profile_image::{Text, Value};
 use std::alloc::Global;
 
 /// The digits of an Integer; one that is not negative begins with a space.

@@ -3,8 +3,8 @@ use Rattle.std.proofs.Common.{◌≡◌, ℕ, suc, ◌+◌, ◌<◌, List, ◌�
 use Rattle.std.specs.List.{slice_get}
 use Rattle.std.proofs.lemmas.List.{drop_more}
 use Rattle.std.proofs.lemmas.Option.{slice_get_within}
-use Rattle.profile_machine.specs.declared.declarations.Formal.{Formal}
-use Rattle.profile_machine.specs.declared.statements.Actual.{Actual}
+use Rattle.profile_image.specs.declared.declarations.Formal.{Formal}
+use Rattle.profile_image.specs.declared.statements.Actual.{Actual}
 use Rattle.profile_machine.specs.Values.{Seen}
 use Rattle.profile_machine.specs.Subprograms.{handed, hand_over, nothing_handed}
 use Rattle.machine_parameters.proofs.ListLemmas.{drop-found, drop-none}

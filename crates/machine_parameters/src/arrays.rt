@@ -1,14 +1,14 @@
 //! The cells of arrays: they are read, put and copied (ISO/IEC 8652:2012, 3.6, 5.2).
 ghost use Rattle.std.specs.Prelude.{◌≡◌, IfOk, OnOk, take, drop};
 ghost use Rattle.profile_machine.specs.Operators.{checked};
-ghost use Rattle.profile_machine.specs.Program.{declaration_of};
+ghost use Rattle.profile_image.specs.Program.{declaration_of};
 ghost use Rattle.profile_machine.specs.Statements.{cells_from, copy_cells};
 
 use ann_base::{NoMemory, Raised};
 use machine_operators::checked;
 use machine_program::{Program, declaration_of};
 use machine_scopes::{put_cells, scope_in_use, scope_mut};
-use profile_machine::Value;
+use profile_image::Value;
 use profile_machine::world::{Variable, World};
 use std::alloc::Global;
 use world_tables::List;

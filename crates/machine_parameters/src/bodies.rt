@@ -8,8 +8,8 @@ use ann_base::{NoMemory, ObjectNo};
 use machine_frames::{Effect, goes};
 use machine_program::{Program, next_of, subprogram_of};
 use machine_scopes::open_scope;
+use profile_image::{StatementNo, SubprogramNo};
 use profile_machine::world::{Beginning, Handed, Purpose, ResultTo, ScopeId};
-use profile_machine::{StatementNo, SubprogramNo};
 use std::alloc::Global;
 use trace_text::Who;
 

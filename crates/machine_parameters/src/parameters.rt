@@ -6,8 +6,8 @@ ghost use Rattle.profile_machine.specs.Subprograms.{nothing_handed, hand_value, 
 use ann_base::{OrMemory, Raised};
 use machine_operators::checked;
 use machine_values::{Seen, located, object_cell, or_raised, read, thing, value, variable};
+use profile_image::{Actual, Destination, Formal, ObjectName, Value};
 use profile_machine::world::{CopyBack, Handed, Located, ResultTo, Variable};
-use profile_machine::{Actual, Destination, Formal, ObjectName, Value};
 use std::alloc::Global;
 use world_tables::List;
 

@@ -1,7 +1,7 @@
 -- The quantum of a level, by its place.
 use Rattle.std.proofs.Common.{◌≡◌, ℕ, zero, suc, List, [], ◌∷◌, None, slice_set, refl, ap}
 use Rattle.std.specs.List.{slice_get}
-use Rattle.profile_machine.specs.Words.{edit_at}
+use Rattle.profile_image.specs.Words.{edit_at}
 
 pub edit_at-set : (n x : ℕ) (xs : List ℕ) → edit_at n (λ _. x) xs ≡ slice_set xs n x
 edit_at-set n x [] = refl

@@ -15,8 +15,8 @@ use machine_frames::{
 use machine_operators::held_moment;
 use machine_program::{Program, has_edf, is_edf_level, next_of};
 use machine_values::{Seen, live_task, moment, optional_task, or_raised, seen_by};
+use profile_image::{ExprNo, StatementNo};
 use profile_machine::world::{Line, Part, Task, World};
-use profile_machine::{ExprNo, StatementNo};
 use trace_text::Who;
 
 fn put_deadline(world: &mut World, name: Who, deadline: Moment)

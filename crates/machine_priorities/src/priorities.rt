@@ -18,8 +18,8 @@ use machine_frames::{
 };
 use machine_program::{Program, edf_low, interrupt_priority, next_of};
 use machine_values::{Seen, optional_task, seen_by, value, whole_in};
+use profile_image::{ExprNo, StatementNo};
 use profile_machine::world::{Line, Part, State, World};
-use profile_machine::{ExprNo, StatementNo};
 use trace_text::Who;
 
 fn put_base(world: &mut World, name: Who, level: Level)

@@ -12,8 +12,8 @@ use ann_base::{Level, Moment, NoMemory, Raised};
 use machine_frames::{Effect, goes, raises, refused};
 use machine_program::{Program, is_robin_level, next_of, policies};
 use machine_values::{moment, seen_by, value, whole_in};
+use profile_image::{ExprNo, LAST_QUANTUM, StatementNo, Value};
 use profile_machine::world::{Part, World};
-use profile_machine::{ExprNo, LAST_QUANTUM, StatementNo, Value};
 use trace_text::Who;
 
 fn quantum_in_range(n: Moment) -> bool

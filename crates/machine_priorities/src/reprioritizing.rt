@@ -11,7 +11,7 @@ use machine_dispatching::active_of;
 use machine_frames::Effect;
 use machine_program::{Program, policies};
 use machine_queues::{call_mut, copied_call, place_of_entry};
-use profile_machine::Queuing;
+use profile_image::Queuing;
 use profile_machine::world::{Call, Waiting, World};
 use trace_text::Who;
 

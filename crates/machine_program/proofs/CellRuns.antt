@@ -4,9 +4,9 @@ use Rattle.std.proofs.lemmas.List.{take-replicate, length-append, length-take-le
 use Rattle.std.proofs.lemmas.Bool.{cases_lt}
 use Rattle.std.proofs.Math.Seq.{take-append-add}
 use Rattle.std.proofs.lemmas.Grind.{common_steps}
-use Rattle.profile_machine.specs.declared.values.Value.{Value}
-use Rattle.profile_machine.specs.declared.values.CellRun.{CellRun}
-use Rattle.profile_machine.specs.Program.{with_run, with_runs}
+use Rattle.profile_image.specs.declared.values.Value.{Value}
+use Rattle.profile_image.specs.declared.values.CellRun.{CellRun}
+use Rattle.profile_image.specs.Program.{with_run, with_runs}
 
 -- a run: what stands before it, its values, what stands behind it
 pub with_run-parts : (r : CellRun) (cells : List Value) → with_run r cells ≡ (take r.place cells ++ replicate r.count r.value) ++ drop (r.place + r.count) cells

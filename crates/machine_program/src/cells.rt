@@ -1,9 +1,9 @@
 //! How the cells of a scope begin (ISO/IEC 8652:2012, 3.3.1).
 ghost use Rattle.std.specs.Prelude.{◌≡◌, length, take, IfOk};
-ghost use Rattle.profile_machine.specs.Program.{with_run, with_runs, initial_cells};
+ghost use Rattle.profile_image.specs.Program.{with_run, with_runs, initial_cells};
 
 use ann_base::NoMemory;
-use profile_machine::{CellRun, Scope, Value};
+use profile_image::{CellRun, Scope, Value};
 use std::alloc::Global;
 
 /// The cells of a scope as it begins.

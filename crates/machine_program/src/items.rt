@@ -1,9 +1,9 @@
 //! The items of a program by their numbers.
 ghost use Rattle.std.specs.Prelude.{◌≡◌, length};
 ghost use Rattle.machine_program.specs.Items.{no_items};
-ghost use Rattle.profile_machine.specs.Program.{declaration_of, expression_of, statement_of, form_of, next_of, scope_of, subprogram_of, task_unit_of, protected_unit_of, entry_of, controlled_of, literals_of};
+ghost use Rattle.profile_image.specs.Program.{declaration_of, expression_of, statement_of, form_of, next_of, scope_of, subprogram_of, task_unit_of, protected_unit_of, entry_of, controlled_of, literals_of};
 
-use profile_machine::{
+use profile_image::{
     Constraint, ControlledNo, ControlledType, DeclNo, Declaration, DeclarationKind, Entry, EntryNo,
     EntryUnit, EnumerationNo, ExprNo, Expression, Image, ImageList, MainProcedure, Policies,
     ProtectedUnit, ProtectedUnitNo, Scope, ScopeNo, Statement, StatementForm, StatementNo,
@@ -58,7 +58,7 @@ impl Drop for Nothing {
 
 impl Model for Program {
     ghost use Rattle.std.specs.Prelude.{◌≡◌};
-    ghost use Rattle.profile_machine.specs.declared.image.Image.{Image};
+    ghost use Rattle.profile_image.specs.declared.image.Image.{Image};
     ghost use Rattle.machine_program.specs.Items.{no_items};
 
     ghost Value = { Image };

@@ -1,9 +1,9 @@
 //! What opens with a scope: its marks, and how its cells begin.
 ghost use Rattle.std.specs.Prelude.{◌≡◌};
-ghost use Rattle.profile_machine.specs.Program.{opens_handled, marks_with, marks_of};
+ghost use Rattle.profile_image.specs.Program.{opens_handled, marks_with, marks_of};
 
 use crate::items::{Program, form_of, scope_of};
-use profile_machine::{ScopeNo, StatementForm, StatementNo};
+use profile_image::{ScopeNo, StatementForm, StatementNo};
 
 /// Whether a sequence with handlers begins here (11.2).
 pub fn opens_handled(form: &StatementForm) -> bool

@@ -1,11 +1,11 @@
 -- A protected operation that is called from inside its unit.
 use Rattle.trace_text.specs.declared.events.Who.{Who}
-use Rattle.profile_machine.specs.declared.image.Image.{Image}
-use Rattle.profile_machine.specs.declared.numbers.StatementNo.{StatementNo}
-use Rattle.profile_machine.specs.declared.numbers.SubprogramNo.{SubprogramNo}
+use Rattle.profile_image.specs.declared.image.Image.{Image}
+use Rattle.profile_image.specs.declared.numbers.StatementNo.{StatementNo}
+use Rattle.profile_image.specs.declared.numbers.SubprogramNo.{SubprogramNo}
 use Rattle.profile_machine.specs.declared.world.marks.ResultTo.{ResultTo}
 use Rattle.profile_machine.specs.declared.world.scopes.Handed.{Handed}
-use Rattle.profile_machine.specs.Program.{subprogram_of}
+use Rattle.profile_image.specs.Program.{subprogram_of}
 use Rattle.profile_machine.specs.Protected.{begin_own_operation, unit_of_operation}
 use Rattle.profile_machine.specs.Statements.{sees}
 use Rattle.profile_machine.specs.Steps.{Step}

@@ -1,7 +1,7 @@
 //! Calls of protected operations (ISO/IEC 8652:2012, 9.5.1).
 ghost use Rattle.std.specs.Prelude.{◌≡◌, OnOk};
 ghost use Rattle.profile_machine.specs.Values.{own_object, seen_by};
-ghost use Rattle.profile_machine.specs.Program.{marks_of, scope_of, subprogram_of};
+ghost use Rattle.profile_image.specs.Program.{marks_of, scope_of, subprogram_of};
 ghost use Rattle.profile_machine.specs.Subprograms.{handing};
 ghost use Rattle.profile_machine.specs.Protected.{mode_of, where_let_inside, begin_operation, has_object_open, call_operation_of, call_operation, begin_own_operation, unit_of_operation, call_own_operation};
 ghost use Rattle.machine_frames.specs.Did.{Did};
@@ -16,10 +16,10 @@ use machine_parameters::{begin_body, handed, result_to};
 use machine_program::{Program, marks_of, next_of, scope_of, subprogram_of};
 use machine_scopes::open_scope;
 use machine_values::{object_number, own_object, seen_by};
-use profile_machine::world::{Entering, Handed, Part, Purpose, ResultTo, World};
-use profile_machine::{
+use profile_image::{
     Actual, DeclNo, Destination, ProtectedUnitNo, StatementNo, Subprogram, SubprogramNo,
 };
+use profile_machine::world::{Entering, Handed, Part, Purpose, ResultTo, World};
 use std::alloc::Global;
 use trace_text::{Mode, Who};
 

@@ -2,7 +2,7 @@
 ghost use Rattle.std.specs.Prelude.{◌≡◌, OnOk};
 ghost use Rattle.profile_machine.specs.Protected.{is_action_of};
 ghost use Rattle.profile_machine.specs.Serving.{serves_nothing, is_served_now, serve_ends, end_release, close_action, may_open_abortable, wait_or_unwind, wait_for_own, resume_own, behind_action, release_object};
-ghost use Rattle.profile_machine.specs.Words.{without};
+ghost use Rattle.profile_image.specs.Words.{without};
 ghost use Rattle.machine_frames.specs.Did.{Did};
 
 use ann_base::{CallNo, NoMemory, ObjectNo};

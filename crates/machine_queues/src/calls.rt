@@ -5,16 +5,17 @@ ghost use Rattle.std.specs.List.{position_from};
 ghost use Rattle.std.specs.Option.{option_copied_mut};
 ghost use Rattle.std.specs.Borrow.{sem};
 ghost use Rattle.profile_machine.specs.Calls.{is_call, call_of, forget_call, call_drawn, says_call, formals_count, parameters_of, priority_of};
-ghost use Rattle.profile_machine.specs.Program.{entry_of};
-ghost use Rattle.profile_machine.specs.Words.{without};
+ghost use Rattle.profile_image.specs.Program.{entry_of};
+ghost use Rattle.profile_image.specs.Words.{without};
 ghost use Rattle.machine_queues.specs.Lends.{lends_call};
 ghost use Rattle.machine_frames.specs.Did.{Did};
 
 use ann_base::{CallNo, Level, NoMemory};
 use machine_frames::{Effect, says};
 use machine_program::{Program, entry_of};
-use profile_machine::Value;
+use profile_image::Value;
 use profile_machine::world::{Call, Drawn, Line, Part, World};
+use rosters::Roster;
 use std::alloc::Global;
 use world_tables::List;
 
@@ -25,10 +26,10 @@ pub fn is_call(c: CallNo, call: &Call) -> bool
     c.0 == call.number.0
 }
 
-pub(crate) fn found_call(calls: &List<Call>, c: CallNo) -> Option<&Call>
+pub(crate) fn found_call(calls: &Roster<Call>, c: CallNo) -> Option<&Call>
     ensures { option_copied result ≡ find (is_call c) calls.now }
 {
-    calls.iter().find(|call| is_call(c, call))
+    calls.find(c.0)
 }
 
 /// The call with this number, if it is there.
@@ -39,14 +40,14 @@ pub fn call_of(world: &World, c: CallNo) -> Option<&Call>
 }
 
 // Where the first call with this number stands.
-fn place_of(calls: &List<Call>, c: CallNo) -> Option<usize>
+fn place_of(calls: &Roster<Call>, c: CallNo) -> Option<usize>
     ensures { result ≡ position_from (is_call c) 0 calls.now }
 {
-    calls.iter().position(|call| is_call(c, call))
+    calls.place_of(c.0)
 }
 
 // The call in this place, where the first one with this number stands, for writing.
-fn call_in_place(calls: &mut List<Call>, c: CallNo, place: usize) -> Option<&mut Call>
+fn call_in_place(calls: &mut Roster<Call>, c: CallNo, place: usize) -> Option<&mut Call>
     requires { position_from (is_call c) 0 calls.old ≡ Some place }
     ensures* writes_back { sem 𝓛 (lends_call calls.entry c result) }
     ensures value { option_copied_mut result ≡ find (is_call c) calls.old }
@@ -55,7 +56,7 @@ fn call_in_place(calls: &mut List<Call>, c: CallNo, place: usize) -> Option<&mut
 }
 
 /// The call with this number for writing, if it is there.
-pub fn call_mut(calls: &mut List<Call>, c: CallNo) -> Option<&mut Call>
+pub fn call_mut(calls: &mut Roster<Call>, c: CallNo) -> Option<&mut Call>
     ensures* writes_back { sem 𝓛 (lends_call calls.entry c result) }
     ensures value { option_copied_mut result ≡ find (is_call c) calls.old }
 {
@@ -104,10 +105,10 @@ pub fn copied_call(world: &World, c: CallNo) -> Result<Option<Call>, NoMemory>
     }
 }
 
-fn forget_in(calls: &mut List<Call>, c: CallNo)
+fn forget_in(calls: &mut Roster<Call>, c: CallNo)
     ensures { calls.new ≡ without (is_call c) calls.old }
 {
-    calls.retain(|call| !is_call(c, call));
+    calls.forget(c.0);
 }
 
 /// The call is no longer among the calls.

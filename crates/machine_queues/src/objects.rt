@@ -8,20 +8,18 @@ ghost use Rattle.machine_queues.specs.Lends.{lends_object};
 
 use ann_base::ObjectNo;
 use profile_machine::world::Object;
-use world_tables::List;
+use rosters::Roster;
 
 // Where the first object with this number stands.
-fn place_of(objects: &List<Object>, number: ObjectNo) -> Option<usize>
+fn place_of(objects: &Roster<Object>, number: ObjectNo) -> Option<usize>
     ensures { result ≡ position_from (is_object number) 0 objects.now }
 {
-    objects
-        .iter()
-        .position(|object| number.0 == object.number.0)
+    objects.place_of(number.0)
 }
 
 // The object in this place, where the first one with this number stands, for writing.
 fn object_in_place(
-    objects: &mut List<Object>,
+    objects: &mut Roster<Object>,
     number: ObjectNo,
     place: usize,
 ) -> Option<&mut Object>
@@ -33,7 +31,7 @@ fn object_in_place(
 }
 
 /// The protected object with this number for writing, if it is there.
-pub fn object_mut(objects: &mut List<Object>, number: ObjectNo) -> Option<&mut Object>
+pub fn object_mut(objects: &mut Roster<Object>, number: ObjectNo) -> Option<&mut Object>
     ensures* writes_back { sem 𝓛 (lends_object objects.entry number result) }
     ensures value { option_copied_mut result ≡ find (is_object number) objects.old }
 {

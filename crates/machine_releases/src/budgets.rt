@@ -1,7 +1,7 @@
 //! Group budgets by number: what is left of one, and its handler (ISO/IEC 8652:2012, D.14.2).
 ghost use Rattle.std.specs.Prelude.{◌≡◌};
 ghost use Rattle.profile_machine.specs.Handlers.{loaded, raised_by, with_handler};
-ghost use Rattle.profile_machine.specs.Words.{edit_at};
+ghost use Rattle.profile_image.specs.Words.{edit_at};
 
 use ann_base::Moment;
 use machine_operators::held_sum;

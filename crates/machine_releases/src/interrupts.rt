@@ -9,9 +9,9 @@ use crate::releases::release;
 use ann_base::NoMemory;
 use machine_frames::{Effect, says};
 use machine_program::{Program, protected_unit_of};
+use profile_image::{Attachment, SubprogramNo};
 use profile_machine::world::{HandlerOf, Line, Object, Part};
-use profile_machine::{Attachment, SubprogramNo};
-use world_tables::List;
+use rosters::Roster;
 
 // The procedure that is attached to the interrupt with this number.
 fn attached_in(n: u8, attached: &[Attachment]) -> Option<SubprogramNo>
@@ -37,7 +37,7 @@ fn handler_in(p: &Program, n: u8, object: &Object) -> Option<HandlerOf>
 }
 
 // The handler of the first object that has one for the interrupt.
-fn handler_attached(p: &Program, n: u8, objects: &List<Object>) -> Option<HandlerOf>
+fn handler_attached(p: &Program, n: u8, objects: &Roster<Object>) -> Option<HandlerOf>
     ensures { result ≡ handler_attached p.now n objects.now }
 {
     for object in objects.iter() {

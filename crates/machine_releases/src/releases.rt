@@ -8,7 +8,7 @@ use ann_base::{NoMemory, next_number};
 use machine_dispatching::ready;
 use machine_frames::{Effect, says};
 use machine_program::Program;
-use profile_machine::MOST_RELEASES;
+use profile_image::MOST_RELEASES;
 use profile_machine::world::{HandlerOf, Line, Part, Release, State, World};
 use trace_text::Who;
 

@@ -1,7 +1,7 @@
 //! Timers by number, and those that are set and due (ISO/IEC 8652:2012, D.14.1).
 ghost use Rattle.std.specs.Prelude.{◌≡◌};
 ghost use Rattle.profile_machine.specs.Handlers.{without_number, with_setting, clear_timer};
-ghost use Rattle.profile_machine.specs.Words.{edit_at};
+ghost use Rattle.profile_image.specs.Words.{edit_at};
 
 use profile_machine::world::{Timer, TimerSetting, World};
 use world_tables::List;

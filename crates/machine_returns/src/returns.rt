@@ -12,8 +12,9 @@ use machine_program::{Program, scope_of, subprogram_of};
 use machine_queues::call_mut;
 use machine_scopes::{home, innermost, store, write_cell};
 use machine_values::{or_raised, seen_by, value};
+use profile_image::{ExprNo, SubprogramNo, Value};
+use profile_machine::Leaving;
 use profile_machine::world::{Call, CopyBack, Part, ResultTo, World};
-use profile_machine::{ExprNo, Leaving, SubprogramNo, Value};
 use trace_text::Who;
 use world_tables::List;
 

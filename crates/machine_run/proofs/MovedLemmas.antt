@@ -1,6 +1,6 @@
 -- Parts of an instant, one after the other.
 use Rattle.std.proofs.Common.{◌++◌, List, Result, Ok, Err, OnOk, ap, ◌∙◌, append_assoc}
-use Rattle.profile_machine.specs.declared.image.Image.{Image}
+use Rattle.profile_image.specs.declared.image.Image.{Image}
 use Rattle.profile_machine.specs.declared.world.lines.Line.{Line}
 use Rattle.profile_machine.specs.Steps.{Move, ◌▶◌}
 use Rattle.machine_frames.specs.declared.effects.Effect.{Effect}

@@ -1,7 +1,7 @@
 -- The end of the top construct of somebody, in whichever way it is left.
 use Rattle.std.specs.Prelude.{Option, Some, None}
 use Rattle.trace_text.specs.declared.events.Who.{Who}
-use Rattle.profile_machine.specs.declared.image.Image.{Image}
+use Rattle.profile_image.specs.declared.image.Image.{Image}
 use Rattle.profile_machine.specs.declared.world.marks.Frame.{Frame}
 use Rattle.profile_machine.specs.Steps.{Step, looks, nothing}
 use Rattle.profile_machine.specs.Frames.{top_of}

@@ -8,14 +8,13 @@ ghost use Rattle.profile_machine.specs.declared.world.lines.Part.TheVariants.{Ow
 ghost use Rattle.machine_frames.specs.Did.{Did};
 
 use ann_base::NoMemory;
-use machine_appointments::{DueOf, drop_appointment};
 use machine_calls::{end_top_abortable, set_waits};
 use machine_dispatching::block;
-use machine_frames::{Effect, frame_count, task_mut};
+use machine_frames::{Effect, drop_appointment, frame_count, task_mut};
 use machine_program::Program;
 use machine_queues::{attempt_on, copied_call, is_cancellable};
 use profile_machine::Leaving;
-use profile_machine::world::{AbortableMark, Call, Part, Waiting, World};
+use profile_machine::world::{AbortableMark, Call, DueOf, Part, Waiting, World};
 use trace_text::Who;
 
 #[tactic(auto, unfolding(profile_machine::specs::Act::end_top))]

@@ -27,8 +27,8 @@ use machine_statements::{
     while_turn,
 };
 use machine_tasking::{abort_statement, activate, end_own_activation};
+use profile_image::{StatementForm, StatementNo};
 use profile_machine::world::{CallKind, Part};
-use profile_machine::{StatementForm, StatementNo};
 use std::alloc::Global;
 use trace_text::Who;
 

@@ -9,8 +9,9 @@ ghost use Rattle.machine_frames.specs.Did.{Did};
 use ann_base::Raised;
 use machine_frames::{Effect, goes, pass_on, pop, task_mut};
 use machine_program::{Program, form_of};
+use profile_image::{ExceptionChoice, Handler, StatementForm, StatementNo};
+use profile_machine::Leaving;
 use profile_machine::world::{Mark, World};
-use profile_machine::{ExceptionChoice, Handler, Leaving, StatementForm, StatementNo};
 use trace_text::Who;
 
 /// Whether both are the same exception.

@@ -2,7 +2,7 @@
 use Rattle.std.specs.Prelude.{Bool}
 use Rattle.profile_machine.specs.declared.world.World.{World}
 use Rattle.profile_machine.specs.declared.world.scopes.ScopeInUse.{ScopeInUse}
-use Rattle.profile_machine.specs.Words.{same_scope}
+use Rattle.profile_image.specs.Words.{same_scope}
 use Rattle.profile_machine.specs.Values.{works_on_unit}
 use Rattle.machine_scopes.specs.declared.scopes.Sought.{Sought}
 use Rattle.machine_scopes.specs.declared.scopes.Sought.TheVariants.{Scope, BodyOf}

@@ -1,19 +1,20 @@
 //! How a scope begins, and how it ends (ISO/IEC 8652:2012, 3.1, 7.6.1).
 ghost use Rattle.std.specs.Prelude.{◌≡◌, ◌+◌, ◌^◌, ◌≤◌, IfOk, OnOk, OnErr};
 ghost use Rattle.std.specs.List.{list_all};
-ghost use Rattle.profile_machine.specs.Program.{initial_cells};
+ghost use Rattle.profile_image.specs.Program.{initial_cells};
 ghost use Rattle.profile_machine.specs.Scopes.{plainly, put_cells, next_id, scope_drawn, begin_scope, region_drawn, draw_region, region_of_next, new_scope_mark, open_scope, is_id, is_library, goes_with, end_scope};
-ghost use Rattle.profile_machine.specs.Words.{without};
+ghost use Rattle.profile_image.specs.Words.{without};
 ghost use Rattle.ann_base.specs.Lists.{is_empty};
 
 use crate::scopes::{put_cells, same_id};
 use ann_base::{CallNo, NoMemory, RegionNo, next_number};
 use machine_frames::{new_frame, push};
 use machine_program::{Program, initial_cells, scope_of};
+use profile_image::{Scope, ScopeNo, Value};
 use profile_machine::world::{
     Beginning, Drawn, Mark, Object, Purpose, ScopeId, ScopeInUse, ScopeMark, World,
 };
-use profile_machine::{Scope, ScopeNo, Value};
+use rosters::Roster;
 use std::alloc::Global;
 use trace_text::Who;
 use world_tables::List;
@@ -183,13 +184,13 @@ fn goes_with(id: ScopeId, object: &Object) -> bool
     same_id(id, object.located.within) && !is_library(id) && are_empty(&object.queues)
 }
 
-fn leave_scopes(scopes: &mut List<ScopeInUse>, id: ScopeId)
+fn leave_scopes(scopes: &mut Roster<ScopeInUse>, id: ScopeId)
     ensures { scopes.new ≡ without (is_id id) scopes.old }
 {
-    scopes.retain(|scope| !same_id(id, scope.id));
+    scopes.forget(id.0);
 }
 
-fn leave_objects(objects: &mut List<Object>, id: ScopeId)
+fn leave_objects(objects: &mut Roster<Object>, id: ScopeId)
     ensures { objects.new ≡ without (goes_with id) objects.old }
 {
     objects.retain(|object| !goes_with(id, object));

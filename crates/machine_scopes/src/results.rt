@@ -7,7 +7,7 @@ use crate::write_cell;
 use ann_base::{OrMemory, Raised};
 use machine_operators::checked;
 use machine_program::{Program, declaration_of};
-use profile_machine::Value;
+use profile_image::Value;
 use profile_machine::world::{Call, Outcome, Variable, World};
 use world_tables::List;
 

@@ -5,15 +5,16 @@ ghost use Rattle.std.specs.Option.{option_copied_mut};
 ghost use Rattle.std.specs.Borrow.{sem};
 ghost use Rattle.profile_machine.specs.Scopes.{is_id, scope_in_use, id_in, first_id, innermost, outwards, first_outwards, home, read_cell, write_cell, put_cells};
 ghost use Rattle.profile_machine.specs.Values.{object_of, is_of_unit, works_on_unit};
-ghost use Rattle.profile_machine.specs.Words.{same_id};
-ghost use Rattle.profile_machine.specs.declared.values.Value.TheVariants.{Whole};
+ghost use Rattle.profile_machine.specs.ScopeNumbers.{same_id};
+ghost use Rattle.profile_image.specs.declared.values.Value.TheVariants.{Whole};
 ghost use Rattle.machine_scopes.specs.Lends.{lends_scope};
 ghost use Rattle.machine_scopes.specs.Sought.{is_sought};
 
 use ann_base::ObjectNo;
 use machine_frames::{object_of, task_at};
-use profile_machine::world::{Frame, Mark, ScopeId, ScopeInUse, World};
-use profile_machine::{ProtectedUnitNo, ScopeNo, Value};
+use profile_image::{ProtectedUnitNo, ScopeNo, Value};
+use profile_machine::world::{FrameStack, Mark, ScopeId, ScopeInUse, World};
+use rosters::Roster;
 use trace_text::Who;
 use world_tables::List;
 
@@ -24,10 +25,10 @@ pub fn same_id(a: ScopeId, b: ScopeId) -> bool
     a.0 == b.0
 }
 
-fn found_scope(scopes: &List<ScopeInUse>, id: ScopeId) -> Option<&ScopeInUse>
+fn found_scope(scopes: &Roster<ScopeInUse>, id: ScopeId) -> Option<&ScopeInUse>
     ensures { option_copied result ≡ find (is_id id) scopes.now }
 {
-    scopes.iter().find(|scope| same_id(id, scope.id))
+    scopes.find(id.0)
 }
 
 /// The scope in use with this id, if it is there.
@@ -54,7 +55,7 @@ pub fn id_in(mark: &Mark) -> Option<ScopeId>
 }
 
 /// The scope in use of the topmost mark that has one.
-pub fn first_id(frames: &List<Frame>) -> Option<ScopeId>
+pub fn first_id(frames: &FrameStack) -> Option<ScopeId>
     ensures { result ≡ first_id frames.now }
 {
     for frame in frames.iter() {
@@ -157,15 +158,15 @@ fn cell_at(cells: &List<Value>, place: u32) -> Value
 }
 
 // Where the first scope with this id stands.
-fn place_of(scopes: &List<ScopeInUse>, id: ScopeId) -> Option<usize>
+fn place_of(scopes: &Roster<ScopeInUse>, id: ScopeId) -> Option<usize>
     ensures { result ≡ position_from (is_id id) 0 scopes.now }
 {
-    scopes.iter().position(|scope| same_id(id, scope.id))
+    scopes.place_of(id.0)
 }
 
 // The scope in this place, where the first one with this id stands, for writing.
 fn scope_in_place(
-    scopes: &mut List<ScopeInUse>,
+    scopes: &mut Roster<ScopeInUse>,
     id: ScopeId,
     place: usize,
 ) -> Option<&mut ScopeInUse>
@@ -177,7 +178,7 @@ fn scope_in_place(
 }
 
 /// The scope in use with this id for writing, if it is there.
-pub fn scope_mut(scopes: &mut List<ScopeInUse>, id: ScopeId) -> Option<&mut ScopeInUse>
+pub fn scope_mut(scopes: &mut Roster<ScopeInUse>, id: ScopeId) -> Option<&mut ScopeInUse>
     ensures* writes_back { sem 𝓛 (lends_scope scopes.entry id result) }
     ensures value { option_copied_mut result ≡ find (is_id id) scopes.old }
 {

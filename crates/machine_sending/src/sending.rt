@@ -12,7 +12,7 @@ use machine_dispatching::ready;
 use machine_frames::{Effect, has_room, says};
 use machine_program::Program;
 use machine_queues::{call_mut, call_of, copied_call, unqueued};
-use profile_machine::StatementNo;
+use profile_image::StatementNo;
 use profile_machine::world::{Call, CallKind, Line, Outcome, Part, Sending, World};
 use trace_text::Who;
 

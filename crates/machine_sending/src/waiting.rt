@@ -6,16 +6,15 @@ ghost use Rattle.profile_machine.specs.Calls.{call_of};
 ghost use Rattle.machine_frames.specs.Did.{Did};
 
 use ann_base::{CallNo, Moment, NoMemory};
-use machine_appointments::appoint;
 use machine_calls::resume;
 use machine_dispatching::block;
-use machine_frames::{Effect, new_frame, push, task_at};
+use machine_frames::{Effect, appoint, new_frame, push, task_at};
 use machine_program::{Program, form_of};
 use machine_queues::{attempt_on, call_of, is_cancellable, place_of_entry, queue_of};
+use profile_image::{StatementForm, StatementNo};
 use profile_machine::world::{
     AbortableMark, Call, CallKind, Due, Mark, Outcome, Owner, Part, Waiting, World,
 };
-use profile_machine::{StatementForm, StatementNo};
 use trace_text::Who;
 
 fn abortable_in(form: &StatementForm) -> Option<StatementNo>

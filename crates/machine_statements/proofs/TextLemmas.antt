@@ -6,7 +6,7 @@ use Rattle.ann_base.specs.Answers.{Answers, AnswersAs}
 use Rattle.ann_base.specs.declared.exceptions.Raised.{Raised}
 use Rattle.ann_base.specs.declared.faults.OrMemory.{OrMemory}
 use Rattle.ann_base.specs.declared.faults.OrMemory.TheVariants as answer
-use Rattle.profile_machine.specs.declared.statements.Piece.{Piece}
+use Rattle.profile_image.specs.declared.statements.Piece.{Piece}
 use Rattle.profile_machine.specs.Operators.{Valued}
 use Rattle.profile_machine.specs.Values.{Seen}
 use Rattle.profile_machine.specs.Statements.{piece_text, text_of_pieces}

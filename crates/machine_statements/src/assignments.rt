@@ -12,8 +12,8 @@ use machine_parameters::copy_cells;
 use machine_program::{Program, next_of};
 use machine_scopes::store;
 use machine_values::{object_cell, seen_by, value, variable};
+use profile_image::{ExprNo, ObjectName, StatementNo, VariableName};
 use profile_machine::world::World;
-use profile_machine::{ExprNo, ObjectName, StatementNo, VariableName};
 use std::alloc::Global;
 use trace_text::Who;
 

@@ -11,8 +11,8 @@ use machine_parameters::{begin_body, handed, result_to};
 use machine_program::{Program, marks_of, scope_of, subprogram_of};
 use machine_scopes::home;
 use machine_values::{Seen, seen_by};
+use profile_image::{Actual, Destination, StatementNo, SubprogramNo};
 use profile_machine::world::{Handed, Part, ResultTo, ScopeId};
-use profile_machine::{Actual, Destination, StatementNo, SubprogramNo};
 use std::alloc::Global;
 use trace_text::Who;
 

@@ -8,8 +8,8 @@ use machine_frames::{Effect, goes, raises, refused};
 use machine_operators::{is_less, same_value};
 use machine_program::Program;
 use machine_values::{condition, seen_by, value};
+use profile_image::{CaseAlternative, Choice, ExprNo, StatementNo, Value};
 use profile_machine::world::Part;
-use profile_machine::{CaseAlternative, Choice, ExprNo, StatementNo, Value};
 use trace_text::Who;
 
 /// Where a condition leads.

@@ -10,8 +10,8 @@ use machine_dispatching::delay_to;
 use machine_frames::{Effect, goes, in_protected, raises, refused};
 use machine_program::{Program, next_of};
 use machine_values::{moment, relative_moment, seen_by};
+use profile_image::{ExprNo, StatementNo};
 use profile_machine::world::Part;
-use profile_machine::{ExprNo, StatementNo};
 use trace_text::Who;
 
 fn delayed(

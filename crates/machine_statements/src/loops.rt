@@ -3,7 +3,7 @@
 ghost use Rattle.std.specs.Prelude.{◌≡◌, IfOk, OnOk};
 ghost use Rattle.ann_base.specs.Answers.{Answers};
 ghost use Rattle.machine_scopes.specs.Stored.{Stores};
-ghost use Rattle.profile_machine.specs.declared.values.Value.TheVariants.{Literal};
+ghost use Rattle.profile_image.specs.declared.values.Value.TheVariants.{Literal};
 ghost use Rattle.profile_machine.specs.Statements.{while_turn, loop_cell, put, first_bound, last_bound, bounds_set, for_bounds, is_past, first_turn, stepped, advance, later_turn, exit_where, exit_statement};
 ghost use Rattle.profile_machine.specs.Values.{seen_by};
 ghost use Rattle.machine_frames.specs.Did.{Did};
@@ -16,8 +16,8 @@ use machine_operators::{is_less, same_value};
 use machine_program::{Program, declaration_of, next_of};
 use machine_scopes::write_cell;
 use machine_values::{Seen, condition, home_of, or_raised, read, seen_by, value};
+use profile_image::{DeclNo, ExprNo, StatementNo, Value};
 use profile_machine::world::{Variable, World};
-use profile_machine::{DeclNo, ExprNo, StatementNo, Value};
 use trace_text::Who;
 
 /// A turn of a while loop: into the body, or past the loop.

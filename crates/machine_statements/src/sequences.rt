@@ -8,11 +8,10 @@ use machine_frames::{Effect, goes, has_room, raises, task_at};
 use machine_program::{Program, marks_of, next_of, scope_of};
 use machine_scopes::{home, innermost, open_scope, plainly, same_id};
 use machine_values::{Seen, seen_by};
-use profile_machine::world::{Frame, Mark, Part, Purpose, ScopeId};
-use profile_machine::{ScopeNo, StatementNo};
+use profile_image::{ScopeNo, StatementNo};
+use profile_machine::world::{FrameStack, Mark, Part, Purpose, ScopeId};
 use std::alloc::Global;
 use trace_text::Who;
-use world_tables::List;
 
 /// A null statement.
 #[tactic(auto, unfolding(profile_machine::specs::Statements::null))]
@@ -74,7 +73,7 @@ fn handled_by(id: ScopeId, mark: &Mark) -> Option<Raised>
     }
 }
 
-fn handled_in(id: ScopeId, frames: &List<Frame>) -> Option<Raised>
+fn handled_in(id: ScopeId, frames: &FrameStack) -> Option<Raised>
     ensures { result ≡ handled_in id frames.now }
 {
     for frame in frames.iter() {

@@ -1,3 +1,4 @@
+mod CalmLemmas
 mod KeptLemmas
 mod NamedLemmas
 mod StepLemmas

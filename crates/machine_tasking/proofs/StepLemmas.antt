@@ -2,10 +2,10 @@
 use Rattle.std.proofs.Common.{◌≡◌, ℕ, Bool, true, false, List, filter, map, ap, sym, ◌∙◌}
 use Rattle.ann_base.specs.declared.identities.RegionNo.{RegionNo}
 use Rattle.trace_text.specs.declared.events.Who.{Who}
-use Rattle.profile_machine.specs.declared.image.Image.{Image}
-use Rattle.profile_machine.specs.declared.numbers.StatementNo.{StatementNo}
+use Rattle.profile_image.specs.declared.image.Image.{Image}
+use Rattle.profile_image.specs.declared.numbers.StatementNo.{StatementNo}
 use Rattle.profile_machine.specs.declared.run_data.Leaving.{Leaving}
-use Rattle.profile_machine.specs.declared.values.Value.{Value}
+use Rattle.profile_image.specs.declared.values.Value.{Value}
 use Rattle.profile_machine.specs.declared.world.World.{World}
 use Rattle.profile_machine.specs.declared.world.lines.Part.TheVariants.{OfOther}
 use Rattle.profile_machine.specs.declared.world.lines.Said.{Said}
@@ -16,7 +16,7 @@ use Rattle.profile_machine.specs.declared.world.tasks.Task.{Task}
 use Rattle.profile_machine.specs.Dispatching.{active_of, ready}
 use Rattle.profile_machine.specs.Frames.{goes, pop}
 use Rattle.profile_machine.specs.Inheritance.{inherit}
-use Rattle.profile_machine.specs.Program.{next_of}
+use Rattle.profile_image.specs.Program.{next_of}
 use Rattle.profile_machine.specs.Scopes.{open_scope, plainly, end_scope, cells_of, scope_in_use}
 use Rattle.profile_machine.specs.Steps.{Done, done, goes_on_with, changes, looks, for_each, ◌▷◌}
 use Rattle.profile_machine.specs.Tasks.{task_of, edit_task}

@@ -13,13 +13,14 @@ use crate::kept::{Kept, kept_of};
 use crate::leaving::end_made;
 use crate::settling::unwind_kept;
 use ann_base::{NoMemory, OrMemory, Raised, TaskNo};
-use machine_frames::{Effect, goes, in_protected, raises, refused, same_who, says, task_mut};
+use machine_frames::{
+    Effect, goes, in_protected, raises, refused, says, strike_outermost, task_mut,
+};
 use machine_masters::depends_on_task;
 use machine_program::{Program, next_of};
-use machine_striking::strike_outermost;
 use machine_values::{Seen, seen_by, task_in, thing};
-use profile_machine::world::{Line, Part, Task, World};
-use profile_machine::{DeclNo, StatementNo};
+use profile_image::{DeclNo, StatementNo};
+use profile_machine::world::{Line, Part, Task, World, same_who};
 use std::alloc::Global;
 use trace_text::Who;
 use world_tables::List;

@@ -12,14 +12,13 @@ use machine_dispatching::{active_of, block};
 use machine_frames::{Effect, bars_tasks, goes, raises, region_of_mark, task_at, task_mut};
 use machine_masters::{end_activation, has_activating, has_group_failed};
 use machine_program::{Program, next_of};
-use profile_machine::StatementNo;
-use profile_machine::world::{Frame, Part, Waiting, World};
+use profile_image::StatementNo;
+use profile_machine::world::{FrameStack, Part, Waiting, World};
 use std::alloc::Global;
 use trace_text::Who;
-use world_tables::List;
 
 // The region of the topmost mark that has one.
-fn region_of_frames(frames: &List<Frame>) -> Option<RegionNo>
+fn region_of_frames(frames: &FrameStack) -> Option<RegionNo>
     ensures { result ≡ region_of_frames frames.now }
 {
     for frame in frames.iter() {

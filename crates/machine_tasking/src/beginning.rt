@@ -18,8 +18,9 @@ use machine_masters::terminate;
 use machine_operators::held_moment;
 use machine_program::{Program, scope_of, task_unit_of};
 use machine_scopes::{open_scope, plainly};
+use profile_image::{TaskUnit, TaskUnitNo};
 use profile_machine::world::{Cause, Line, Part, Purpose, Task, World};
-use profile_machine::{TaskUnit, TaskUnitNo};
+use rosters::Roster;
 use std::alloc::Global;
 use trace_text::Who;
 use world_tables::List;
@@ -38,7 +39,7 @@ pub fn is_to_activate(region: RegionNo, declarative_part: u32, task: &Task) -> b
 /// The tasks that are to be activated, in order of number.
 pub(crate) fn all_to_activate(
     alloc: Global,
-    tasks: &List<Task>,
+    tasks: &Roster<Task>,
     region: RegionNo,
     declarative_part: u32,
 ) -> Result<List<Kept>, NoMemory>

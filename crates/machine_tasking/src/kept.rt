@@ -3,7 +3,7 @@ ghost use Rattle.std.specs.Prelude.{◌≡◌};
 ghost use Rattle.machine_tasking.specs.KeptTasks.{kept_of};
 
 use machine_frames::is_made;
-use profile_machine::TaskUnitNo;
+use profile_image::TaskUnitNo;
 use profile_machine::world::{ScopeId, Task};
 use trace_text::Who;
 

@@ -18,6 +18,7 @@ use machine_masters::{complete, has_dependents, terminate};
 use machine_program::Program;
 use profile_machine::Leaving;
 use profile_machine::world::{Line, Part, Purpose, ScopeMark, Task, Waiting, World};
+use rosters::Roster;
 use std::alloc::Global;
 use trace_text::{Leaves, Who};
 use world_tables::List;
@@ -47,7 +48,11 @@ fn is_made_in(region: RegionNo, task: &Task) -> bool
 }
 
 // The tasks that were made in the region's scope and are not activated.
-fn all_made_in(alloc: Global, tasks: &List<Task>, region: RegionNo) -> Result<List<Kept>, NoMemory>
+fn all_made_in(
+    alloc: Global,
+    tasks: &Roster<Task>,
+    region: RegionNo,
+) -> Result<List<Kept>, NoMemory>
     ensures { IfOk result (λ kept. kept ≡ map kept_of (filter (is_made_in region) tasks.now)) }
 {
     let mut kept = List::new(alloc);

@@ -13,11 +13,11 @@ use crate::kept::{Kept, kept_of};
 use ann_base::NoMemory;
 use machine_calls::unwind;
 use machine_dispatching::{says_waits, word_of};
-use machine_frames::{Effect, may_run, same_who, waiting_of};
+use machine_frames::{Effect, may_run, waiting_of};
 use machine_masters::{leave_by_terminate, may_terminate, waits_at_terminate};
 use machine_program::Program;
-use machine_striking::any_struck;
-use profile_machine::world::{Part, Task, World};
+use profile_machine::world::{Part, Task, World, same_who};
+use rosters::Roster;
 use std::alloc::Global;
 use trace_text::Who;
 use world_tables::List;
@@ -37,8 +37,8 @@ fn block_at_terminate(effect: &mut Effect, name: Who) -> Result<(), NoMemory>
     }
 }
 
-// The tasks that may terminate by their open terminate alternatives.
-fn all_that_may_terminate(alloc: Global, world: &World) -> Result<List<Kept>, NoMemory>
+// The tasks that may terminate by their open terminate alternatives, found by a walk over all.
+fn found_that_may_terminate(alloc: Global, world: &World) -> Result<List<Kept>, NoMemory>
     ensures { IfOk result
         (λ kept. kept ≡ map kept_of (filter (may_terminate world.now) world.now.tasks)) }
 {
@@ -49,6 +49,19 @@ fn all_that_may_terminate(alloc: Global, world: &World) -> Result<List<Kept>, No
         }
     }
     Ok(kept)
+}
+
+// The tasks that may terminate by their open terminate alternatives.
+#[tactic(auto, using(crate::proofs::CalmLemmas::calm_laws))]
+fn all_that_may_terminate(alloc: Global, world: &World) -> Result<List<Kept>, NoMemory>
+    ensures { IfOk result
+        (λ kept. kept ≡ map kept_of (filter (may_terminate world.now) world.now.tasks)) }
+{
+    if world.tasks.is_calm() {
+        Ok(List::new(alloc))
+    } else {
+        found_that_may_terminate(alloc, world)
+    }
 }
 
 // Each of these tasks leaves its select by the terminate alternative.
@@ -137,18 +150,31 @@ pub(crate) fn unwind_kept(
     Ok(())
 }
 
-// The tasks with struck constructs.
-fn all_struck(alloc: Global, tasks: &List<Task>) -> Result<List<Kept>, NoMemory>
+// The tasks with struck constructs, found by a walk over all.
+fn found_struck(alloc: Global, tasks: &Roster<Task>) -> Result<List<Kept>, NoMemory>
     ensures { IfOk result
         (λ kept. kept ≡ map kept_of (filter (λ t. any_struck t.frames) tasks.now)) }
 {
     let mut kept = List::new(alloc);
     for task in tasks.iter() {
-        if any_struck(&task.frames) {
+        if task.frames.any_struck() {
             kept.push_back(kept_of(task))?;
         }
     }
     Ok(kept)
+}
+
+// The tasks with struck constructs.
+#[tactic(auto, using(crate::proofs::CalmLemmas::calm_laws))]
+fn all_struck(alloc: Global, tasks: &Roster<Task>) -> Result<List<Kept>, NoMemory>
+    ensures { IfOk result
+        (λ kept. kept ≡ map kept_of (filter (λ t. any_struck t.frames) tasks.now)) }
+{
+    if tasks.is_calm() {
+        Ok(List::new(alloc))
+    } else {
+        found_struck(alloc, tasks)
+    }
 }
 
 /// The tasks whose struck constructs may be left now are unwound (9.8).

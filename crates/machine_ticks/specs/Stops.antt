@@ -2,7 +2,7 @@
 use Rattle.std.specs.Prelude.{Option, option_map}
 use Rattle.trace_text.specs.declared.events.Ended.{Ended}
 use Rattle.trace_text.specs.declared.events.Ended.TheVariants as why
-use Rattle.profile_machine.specs.declared.image.Image.{Image}
+use Rattle.profile_image.specs.declared.image.Image.{Image}
 use Rattle.profile_machine.specs.Lines.{exception_name}
 use Rattle.machine_ticks.specs.declared.stops.Stopped.{Stopped}
 use Rattle.machine_ticks.specs.declared.stops.Stopped.TheVariants as stopped

@@ -11,8 +11,11 @@ use machine_program::{
     Program, environment as environment_scope, interrupt_priority, main_procedure,
 };
 use machine_scopes::{open_scope, plainly};
-use profile_machine::world::{Drawn, Line, Part, Purpose, State, Task, Waiting, World};
-use profile_machine::{DEFAULT_QUANTUM, Item, LAST_OUTSIDE_LINE};
+use profile_image::{DEFAULT_QUANTUM, Item, LAST_OUTSIDE_LINE};
+use profile_machine::world::{
+    Agenda, Drawn, Line, Part, Purpose, ReadyQueues, State, Task, Waiting, World,
+};
+use rosters::Roster;
 use std::alloc::Global;
 use trace_text::{Created, Who};
 use world_tables::List;
@@ -86,10 +89,10 @@ fn quanta(alloc: Global, quantum: u64, count: u32) -> Result<List<u64>, NoMemory
     Ok(quanta)
 }
 
-fn tasks_at_first(alloc: Global, p: &Program) -> Result<List<Task>, NoMemory>
+fn tasks_at_first(alloc: Global, p: &Program) -> Result<Roster<Task>, NoMemory>
     ensures { IfOk result (λ tasks. tasks ≡ environment_task p.now ∷ []) }
 {
-    let mut tasks = List::new(alloc);
+    let mut tasks = Roster::new(alloc);
     tasks.push_back(environment_task(alloc, p))?;
     Ok(tasks)
 }
@@ -107,13 +110,13 @@ fn blank_world(alloc: Global, p: &Program, script: List<(Moment, Item)>) -> Resu
         kept_interrupts: flags(alloc, false, LAST_OUTSIDE_LINE + 1)?,
         tasks: tasks_at_first(alloc, p)?,
         agent: agent_at_first(alloc, p)?,
-        places: List::new(alloc),
+        places: ReadyQueues::new(alloc),
         quanta: quanta(alloc, DEFAULT_QUANTUM, interrupt_priority(p) + 1)?,
         ended: None,
-        scopes: List::new(alloc),
-        objects: List::new(alloc),
-        calls: List::new(alloc),
-        appointments: List::new(alloc),
+        scopes: Roster::new(alloc),
+        objects: Roster::new(alloc),
+        calls: Roster::new(alloc),
+        appointments: Agenda::new(alloc),
         timers: List::new(alloc),
         timers_set: List::new(alloc),
         timers_due: List::new(alloc),

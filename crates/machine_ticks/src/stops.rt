@@ -1,7 +1,7 @@
 //! Why a run stops (docs/LANGUAGE.md).
 ghost use Rattle.std.specs.Prelude.{◌≡◌, ◌≢◌, ◌&&◌, None};
 ghost use Rattle.ann_base.specs.Lists.{is_empty};
-ghost use Rattle.profile_machine.specs.declared.image.Image.{Image};
+ghost use Rattle.profile_image.specs.declared.image.Image.{Image};
 ghost use Rattle.profile_machine.specs.Run.{stop_by_end, stop};
 ghost use Rattle.machine_ticks.specs.Stops.{why_ended};
 

@@ -3,17 +3,17 @@ ghost use Rattle.std.specs.Prelude.{◌≡◌, Some, None, OnOk, unwrap_or};
 ghost use Rattle.profile_machine.specs.Run.{says_run, serve_first, serve, begin_action, one_tick_less, spend_tick, next_tick, tick_of, idle_tick, tock};
 ghost use Rattle.profile_machine.specs.Cost.{cost};
 ghost use Rattle.profile_machine.specs.Tasks.{task_of};
-ghost use Rattle.profile_machine.specs.Words.{same_option, same_who};
+ghost use Rattle.profile_image.specs.Words.{same_option, same_who};
 ghost use Rattle.profile_machine.specs.Steps.{watches};
 ghost use Rattle.machine_ticks.specs.Ticks.{Ticks};
 
 use ann_base::NoMemory;
 use machine_costs::cost;
 use machine_dispatching::choose;
-use machine_frames::{same_who, set_ticks, task_at, task_mut};
+use machine_frames::{set_ticks, task_at, task_mut};
 use machine_program::Program;
 use machine_releases::charge;
-use profile_machine::world::World;
+use profile_machine::world::{World, same_who};
 use trace_text::Who;
 use world_tables::List;
 

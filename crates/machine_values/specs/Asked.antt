@@ -1,10 +1,10 @@
 -- What an expression may ask, in parts of the machine's own words.
 use Rattle.std.specs.Prelude.{Option, Some, Ok, int_le, pos}
 use Rattle.ann_base.specs.Results.{◌>>=◌}
-use Rattle.profile_machine.specs.declared.numbers.DeclNo.{DeclNo}
-use Rattle.profile_machine.specs.declared.numbers.ExprNo.{ExprNo}
-use Rattle.profile_machine.specs.declared.values.Value.{Value}
-use Rattle.profile_machine.specs.declared.values.Value.TheVariants.{Ticks, Truth}
+use Rattle.profile_image.specs.declared.numbers.DeclNo.{DeclNo}
+use Rattle.profile_image.specs.declared.numbers.ExprNo.{ExprNo}
+use Rattle.profile_image.specs.declared.values.Value.{Value}
+use Rattle.profile_image.specs.declared.values.Value.TheVariants.{Ticks, Truth}
 use Rattle.profile_machine.specs.declared.world.tasks.Task as world
 use Rattle.profile_machine.specs.Operators.{Valued}
 use Rattle.profile_machine.specs.Values.{Seen, named_task, live_task, number_of_thing, event_moment, timer_of, time_left, budget_of}

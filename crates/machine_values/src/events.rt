@@ -3,8 +3,8 @@ ghost use Rattle.std.specs.Prelude.{◌≡◌, ◌<ℤ◌, negsuc, OnErr, IfOk, 
 ghost use Rattle.profile_machine.specs.Values.{is_event, event_moment, timer_of, time_left, budget_of, port_value};
 
 use ann_base::{Moment, NoMemory, Raised, TaskNo};
-use profile_machine::world::{Appointment, Budget, Due, Timer, TimerSetting, World};
-use profile_machine::{LAST_OUTSIDE_LINE, Value};
+use profile_image::{LAST_OUTSIDE_LINE, Value};
+use profile_machine::world::{Agenda, Appointment, Budget, Due, DueOf, Timer, TimerSetting, World};
 use world_tables::List;
 
 /// Whether an appointment is that of the event.
@@ -17,10 +17,10 @@ pub fn is_event(event: u32, due: Due) -> bool
     }
 }
 
-fn found_event(appointments: &List<Appointment>, event: u32) -> Option<&Appointment>
+fn found_event(appointments: &Agenda, event: u32) -> Option<&Appointment>
     ensures { option_copied result ≡ find (λ a. is_event event a.due) appointments.now }
 {
-    appointments.iter().find(|a| is_event(event, a.due))
+    appointments.appointment_for(DueOf::Event(event))
 }
 
 /// The moment for which an event is set, or 0.

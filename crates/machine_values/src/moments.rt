@@ -7,7 +7,7 @@ use crate::seen::Seen;
 use crate::values::moment;
 use ann_base::{Moment, OrMemory, Raised};
 use machine_operators::held_behind;
-use profile_machine::ExprNo;
+use profile_image::ExprNo;
 use profile_machine::world::World;
 
 fn from_now(world: &World, span: Moment) -> Moment

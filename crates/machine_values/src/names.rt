@@ -1,7 +1,7 @@
 //! Names: the objects, tasks and cells that they denote (ISO/IEC 8652:2012, 4.1).
 ghost use Rattle.std.specs.Prelude.{◌≡◌, ◌+◌, ◌^◌, ◌≤◌, IfOk, OnErr, option_and_then};
 ghost use Rattle.ann_base.specs.Answers.{Answers};
-ghost use Rattle.profile_machine.specs.declared.expressions.ObjectName.TheVariants.{Declared, Component};
+ghost use Rattle.profile_image.specs.declared.expressions.ObjectName.TheVariants.{Declared, Component};
 ghost use Rattle.profile_machine.specs.Scopes.{scope_in_use};
 ghost use Rattle.profile_machine.specs.Values.{own_object, home_of, first_cell, declared_already, thing, thing_number, number_of_thing, task_in, object_number, located_in, subject_of, is_parameter_kind, is_parameter, located, component_at, object_of, component_of_own, object_cell, shifted, component_cell, read};
 
@@ -12,10 +12,10 @@ use machine_frames::object_of;
 use machine_operators::component_place;
 use machine_program::{Program, declaration_of};
 use machine_scopes::{Sought, first_outwards, home, is_of_unit, read_cell, scope_in_use};
-use profile_machine::world::{Located, ScopeId, Variable, World};
-use profile_machine::{
+use profile_image::{
     CONTROLLED_CELLS, DeclNo, DeclarationKind, ObjectName, PROTECTED_CELLS, ProtectedUnitNo, Value,
 };
+use profile_machine::world::{Located, ScopeId, Variable, World};
 
 /// The object of the unit in whose body a name stands: the barrier's, or that of the nearest such body round it.
 pub fn own_object(q: &Seen<'_>, unit: ProtectedUnitNo) -> Option<ObjectNo>

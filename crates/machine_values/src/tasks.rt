@@ -8,8 +8,8 @@ use crate::names::own_object;
 use crate::seen::Seen;
 use ann_base::{CallNo, Moment, NoMemory, ObjectNo, Raised, TaskNo};
 use machine_frames::{object_of, task_at};
+use profile_image::{Entry, EntryUnit, Value};
 use profile_machine::world::{Task, World};
-use profile_machine::{Entry, EntryUnit, Value};
 use trace_text::Who;
 use world_tables::List;
 

@@ -13,8 +13,8 @@ use crate::tasks::{count_of_entry, live_task, moment_at, number_of};
 use ann_base::{Moment, OrMemory, Raised, TaskNo};
 use machine_operators::{binary_value, decides, ticks, unary_value};
 use machine_program::{entry_of, expression_count, expression_of};
+use profile_image::{BinaryOperator, DeclNo, ExprNo, Expression, Value, VariableName};
 use profile_machine::world::{Task, Variable};
-use profile_machine::{BinaryOperator, DeclNo, ExprNo, Expression, Value, VariableName};
 
 // The span of a number of units of so many ticks.
 fn span(factor: Moment, count: Value) -> Result<Value, Raised>

@@ -4,19 +4,19 @@ use Rattle.ann_base.specs.declared.identities.CallNo.{CallNo}
 use Rattle.ann_base.specs.declared.identities.ObjectNo.{ObjectNo}
 use Rattle.profile_machine.specs.declared.world.lines.Line.TheVariants as line
 use Rattle.trace_text.specs.declared.events.Who.TheVariants as who
-use Rattle.profile_machine.specs.declared.image.Image.{Image}
-use Rattle.profile_machine.specs.declared.image.Queuing.{Queuing}
-use Rattle.profile_machine.specs.declared.image.Queuing.TheVariants as queuing
-use Rattle.profile_machine.specs.declared.numbers.EntryNo.{EntryNo}
-use Rattle.profile_machine.specs.declared.values.Value.{Value}
+use Rattle.profile_image.specs.declared.image.Image.{Image}
+use Rattle.profile_image.specs.declared.image.Queuing.{Queuing}
+use Rattle.profile_image.specs.declared.image.Queuing.TheVariants as queuing
+use Rattle.profile_image.specs.declared.numbers.EntryNo.{EntryNo}
+use Rattle.profile_image.specs.declared.values.Value.{Value}
 use Rattle.profile_machine.specs.declared.world.World.{World}
 use Rattle.profile_machine.specs.declared.world.objects.Object.{Object}
 use Rattle.profile_machine.specs.declared.world.calls.Call.{Call}
 use Rattle.profile_machine.specs.declared.world.calls.Owner.{Owner}
 use Rattle.profile_machine.specs.declared.world.Drawn.{Drawn}
 use Rattle.profile_machine.specs.declared.world.calls.Owner.TheVariants as owned_by
-use Rattle.profile_machine.specs.Words.{same_call, without, edit_where, edit_at}
-use Rattle.profile_machine.specs.Program.{entry_of}
+use Rattle.profile_image.specs.Words.{same_call, without, edit_where, edit_at}
+use Rattle.profile_image.specs.Program.{entry_of}
 use Rattle.profile_machine.specs.declared.world.lines.Part.{Part}
 use Rattle.profile_machine.specs.Steps.{Step, says, changes, looks, for_some, ◌▷◌}
 use Rattle.profile_machine.specs.Tasks.{task_of, edit_task}

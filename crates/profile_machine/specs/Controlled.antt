@@ -5,17 +5,17 @@ use Rattle.ann_base.specs.declared.identities.RegionNo.{RegionNo}
 use Rattle.ann_base.specs.declared.exceptions.Raised.TheVariants as exception
 use Rattle.profile_machine.specs.declared.world.lines.Line.TheVariants as line
 use Rattle.trace_text.specs.declared.events.Who.{Who}
-use Rattle.profile_machine.specs.declared.limits.TheConstants.{CONTROLLED_CELLS}
-use Rattle.profile_machine.specs.declared.image.Image.{Image}
-use Rattle.profile_machine.specs.declared.numbers.DeclNo.{DeclNo}
-use Rattle.profile_machine.specs.declared.numbers.StatementNo.{StatementNo}
-use Rattle.profile_machine.specs.declared.numbers.SubprogramNo.{SubprogramNo}
-use Rattle.profile_machine.specs.declared.declarations.ControlledType.{ControlledType}
-use Rattle.profile_machine.specs.declared.declarations.DeclarationKind.{DeclarationKind}
-use Rattle.profile_machine.specs.declared.declarations.DeclarationKind.TheVariants as kind
+use Rattle.profile_image.specs.declared.limits.TheConstants.{CONTROLLED_CELLS}
+use Rattle.profile_image.specs.declared.image.Image.{Image}
+use Rattle.profile_image.specs.declared.numbers.DeclNo.{DeclNo}
+use Rattle.profile_image.specs.declared.numbers.StatementNo.{StatementNo}
+use Rattle.profile_image.specs.declared.numbers.SubprogramNo.{SubprogramNo}
+use Rattle.profile_image.specs.declared.declarations.ControlledType.{ControlledType}
+use Rattle.profile_image.specs.declared.declarations.DeclarationKind.{DeclarationKind}
+use Rattle.profile_image.specs.declared.declarations.DeclarationKind.TheVariants as kind
 use Rattle.profile_machine.specs.declared.run_data.Leaving.{Leaving}
 use Rattle.profile_machine.specs.declared.run_data.Leaving.TheVariants as how
-use Rattle.profile_machine.specs.declared.values.Value.TheVariants.{Thing}
+use Rattle.profile_image.specs.declared.values.Value.TheVariants.{Thing}
 use Rattle.profile_machine.specs.declared.world.World.{World}
 use Rattle.profile_machine.specs.declared.world.tasks.Task.{Task}
 use Rattle.profile_machine.specs.declared.world.scopes.Located.{Located}
@@ -31,8 +31,9 @@ use Rattle.profile_machine.specs.declared.world.marks.AssignStep.TheVariants as 
 use Rattle.profile_machine.specs.declared.world.marks.Purpose.TheVariants as opened_for
 use Rattle.profile_machine.specs.declared.world.marks.ResultTo.TheVariants as bound_for
 use Rattle.profile_machine.specs.declared.world.marks.Mark.TheVariants.{Scope, Handled, InProtected, InAccept, Abortable, InInitialize, InFinalize, InAssign}
-use Rattle.profile_machine.specs.Words.{same_id, without}
-use Rattle.profile_machine.specs.Program.{declaration_of, next_of, scope_of, marks_of, subprogram_of, controlled_of, no_controlled, size_of_body}
+use Rattle.profile_image.specs.Words.{without}
+use Rattle.profile_machine.specs.ScopeNumbers.{same_id}
+use Rattle.profile_image.specs.Program.{declaration_of, next_of, scope_of, marks_of, subprogram_of, controlled_of, no_controlled, size_of_body}
 use Rattle.profile_machine.specs.declared.world.lines.Part.TheVariants.{Own}
 use Rattle.profile_machine.specs.Steps.{Step, says, changes, looks, when, nothing, ◌▷◌}
 use Rattle.profile_machine.specs.Frames.{top_of, edit_top, push, pop, new_frame, goes, leaves, raises, given, with_room, has_room, with_mark, pass_on}

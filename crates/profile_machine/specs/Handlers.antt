@@ -3,25 +3,25 @@ use Rattle.std.specs.Prelude.{ℕ, suc, ◌+◌, ◌-◌, ℤ, pos, negsuc, ◌+
 use Rattle.ann_base.specs.Results.{◌>>=◌}
 use Rattle.ann_base.specs.declared.identities.TaskNo.{TaskNo}
 use Rattle.ann_base.specs.declared.exceptions.Raised.TheVariants as exception
-use Rattle.profile_machine.specs.declared.limits.TheConstants.{MOST_RELEASES}
+use Rattle.profile_image.specs.declared.limits.TheConstants.{MOST_RELEASES}
 use Rattle.profile_machine.specs.declared.world.objects.Entering.{Entering}
 use Rattle.profile_machine.specs.declared.world.objects.Entering.TheVariants as entering_is
 use Rattle.profile_machine.specs.declared.world.lines.Line.TheVariants as line
 use Rattle.trace_text.specs.declared.events.Mode.TheVariants.{Write}
 use Rattle.trace_text.specs.declared.events.Who.{Who}
 use Rattle.trace_text.specs.declared.events.Who.TheVariants as who
-use Rattle.profile_machine.specs.declared.image.Image.{Image}
-use Rattle.profile_machine.specs.declared.numbers.DeclNo.{DeclNo}
-use Rattle.profile_machine.specs.declared.numbers.ExprNo.{ExprNo}
-use Rattle.profile_machine.specs.declared.numbers.StatementNo.{StatementNo}
-use Rattle.profile_machine.specs.declared.numbers.SubprogramNo.{SubprogramNo}
-use Rattle.profile_machine.specs.declared.declarations.Attachment.{Attachment}
-use Rattle.profile_machine.specs.declared.expressions.VariableName.{VariableName}
-use Rattle.profile_machine.specs.declared.statements.HandlerName.{HandlerName}
-use Rattle.profile_machine.specs.declared.statements.Setting.{Setting}
-use Rattle.profile_machine.specs.declared.statements.Setting.TheVariants as setting
-use Rattle.profile_machine.specs.declared.values.Value.{Value}
-use Rattle.profile_machine.specs.declared.values.Value.TheVariants.{Truth, Thing}
+use Rattle.profile_image.specs.declared.image.Image.{Image}
+use Rattle.profile_image.specs.declared.numbers.DeclNo.{DeclNo}
+use Rattle.profile_image.specs.declared.numbers.ExprNo.{ExprNo}
+use Rattle.profile_image.specs.declared.numbers.StatementNo.{StatementNo}
+use Rattle.profile_image.specs.declared.numbers.SubprogramNo.{SubprogramNo}
+use Rattle.profile_image.specs.declared.declarations.Attachment.{Attachment}
+use Rattle.profile_image.specs.declared.expressions.VariableName.{VariableName}
+use Rattle.profile_image.specs.declared.statements.HandlerName.{HandlerName}
+use Rattle.profile_image.specs.declared.statements.Setting.{Setting}
+use Rattle.profile_image.specs.declared.statements.Setting.TheVariants as setting
+use Rattle.profile_image.specs.declared.values.Value.{Value}
+use Rattle.profile_image.specs.declared.values.Value.TheVariants.{Truth, Thing}
 use Rattle.profile_machine.specs.declared.world.World.{World}
 use Rattle.profile_machine.specs.declared.world.appointments.HandlerOf.{HandlerOf}
 use Rattle.profile_machine.specs.declared.world.appointments.Release.{Release}
@@ -37,8 +37,8 @@ use Rattle.profile_machine.specs.declared.world.marks.Purpose.TheVariants as ope
 use Rattle.profile_machine.specs.declared.world.marks.ResultTo.TheVariants as bound_for
 use Rattle.profile_machine.specs.declared.world.tasks.State.TheVariants.{Made, Runnable, Blocked}
 use Rattle.profile_machine.specs.declared.world.tasks.Task as world
-use Rattle.profile_machine.specs.Words.{same_task, edit_at, without}
-use Rattle.profile_machine.specs.Program.{is_robin_level, next_of, marks_of, subprogram_of, protected_unit_of, interrupt_priority, size_of_body}
+use Rattle.profile_image.specs.Words.{same_task, edit_at, without}
+use Rattle.profile_image.specs.Program.{is_robin_level, next_of, marks_of, subprogram_of, protected_unit_of, interrupt_priority, size_of_body}
 use Rattle.profile_machine.specs.declared.world.lines.Part.{Part}
 use Rattle.profile_machine.specs.declared.world.lines.Part.TheVariants.{Own}
 use Rattle.profile_machine.specs.Steps.{Step, says, changes, looks, nothing, for_some, ◌▷◌}

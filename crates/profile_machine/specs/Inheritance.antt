@@ -1,11 +1,11 @@
 -- Inherited priorities (D.1, D.3): each under its cause.
 use Rattle.std.specs.Prelude.{ℕ, Bool, true, false, ◌∷◌, ltb}
 use Rattle.trace_text.specs.declared.events.Who.{Who}
-use Rattle.profile_machine.specs.declared.image.Image.{Image}
+use Rattle.profile_image.specs.declared.image.Image.{Image}
 use Rattle.profile_machine.specs.declared.world.World.{World}
 use Rattle.profile_machine.specs.declared.world.tasks.Cause.{Cause}
 use Rattle.profile_machine.specs.declared.world.tasks.Cause.TheVariants as inherited_by
-use Rattle.profile_machine.specs.Words.{same_call, same_object, without}
+use Rattle.profile_image.specs.Words.{same_call, same_object, without}
 use Rattle.profile_machine.specs.declared.world.lines.Part.TheVariants.{ThePlacing}
 use Rattle.profile_machine.specs.Steps.{Step, changes, looks, when, ◌▷◌}
 use Rattle.profile_machine.specs.Tasks.{edit_task}

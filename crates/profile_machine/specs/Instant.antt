@@ -4,9 +4,9 @@ use Rattle.ann_base.specs.declared.identities.CallNo.{CallNo}
 use Rattle.profile_machine.specs.declared.world.lines.Line.TheVariants as line
 use Rattle.trace_text.specs.declared.events.Who.{Who}
 use Rattle.trace_text.specs.declared.events.Who.TheVariants as who
-use Rattle.profile_machine.specs.declared.image.Image.{Image}
-use Rattle.profile_machine.specs.declared.run_data.Item.{Item}
-use Rattle.profile_machine.specs.declared.run_data.Item.TheVariants as item
+use Rattle.profile_image.specs.declared.image.Image.{Image}
+use Rattle.profile_image.specs.declared.script_items.Item.{Item}
+use Rattle.profile_image.specs.declared.script_items.Item.TheVariants as item
 use Rattle.profile_machine.specs.declared.world.World.{World}
 use Rattle.profile_machine.specs.declared.world.tasks.Task.{Task}
 use Rattle.profile_machine.specs.declared.world.tasks.Waiting.{Waiting}
@@ -16,9 +16,9 @@ use Rattle.profile_machine.specs.declared.world.appointments.TimerSetting.{Timer
 use Rattle.profile_machine.specs.declared.world.appointments.Due.TheVariants as due_for
 use Rattle.profile_machine.specs.declared.world.calls.Outcome.TheVariants as call_ended
 use Rattle.profile_machine.specs.declared.world.tasks.Waiting.TheVariants as waits_for
-use Rattle.profile_machine.specs.Words.{edit_at, is_flag}
+use Rattle.profile_image.specs.Words.{edit_at, is_flag}
 use Rattle.ann_base.specs.Lists.{is_empty}
-use Rattle.profile_machine.specs.Program.{next_of, is_robin_level}
+use Rattle.profile_image.specs.Program.{next_of, is_robin_level}
 use Rattle.profile_machine.specs.declared.world.lines.Part.TheVariants.{Own}
 use Rattle.profile_machine.specs.Steps.{Step, Move, says, changes, looks, when, nothing, for_some, for_each, settles, rests, watches, ◌▷◌, ◌▶◌}
 use Rattle.profile_machine.specs.Tasks.{task_of, edit_task, with_ticks, is_runnable, waiting_of}

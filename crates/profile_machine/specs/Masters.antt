@@ -6,7 +6,7 @@ use Rattle.ann_base.specs.declared.identities.RegionNo.{RegionNo}
 use Rattle.ann_base.specs.declared.exceptions.Raised.TheVariants as exception
 use Rattle.trace_text.specs.declared.events.Who.{Who}
 use Rattle.trace_text.specs.declared.events.Who.TheVariants as who
-use Rattle.profile_machine.specs.declared.image.Image.{Image}
+use Rattle.profile_image.specs.declared.image.Image.{Image}
 use Rattle.profile_machine.specs.declared.run_data.Leaving.{Leaving}
 use Rattle.profile_machine.specs.declared.run_data.Leaving.TheVariants as how
 use Rattle.profile_machine.specs.declared.world.World.{World}
@@ -20,7 +20,7 @@ use Rattle.profile_machine.specs.declared.world.calls.Outcome.TheVariants as cal
 use Rattle.profile_machine.specs.declared.world.tasks.Waiting.TheVariants as waits_for
 use Rattle.profile_machine.specs.declared.world.marks.Mark.TheVariants.{Scope, Handled, InProtected, InAccept, Abortable, InInitialize, InFinalize, InAssign}
 use Rattle.profile_machine.specs.declared.world.tasks.State.TheVariants.{Runnable}
-use Rattle.profile_machine.specs.Words.{same_who, same_region, is_the, has, without}
+use Rattle.profile_image.specs.Words.{same_who, same_region, is_the, has, without}
 use Rattle.profile_machine.specs.declared.world.lines.Part.{Part}
 use Rattle.profile_machine.specs.declared.world.lines.Part.TheVariants.{Own, OfOther}
 use Rattle.profile_machine.specs.Steps.{Step, changes, looks, when, nothing, for_some, for_each, ◌▷◌}

@@ -3,16 +3,16 @@ use Rattle.std.specs.Prelude.{ℕ, suc, ℤ, pos, negsuc, ◌+ℤ◌, ◌-ℤ◌
 use Rattle.ann_base.specs.Results.{◌>>=◌}
 use Rattle.ann_base.specs.declared.exceptions.Raised.{Raised}
 use Rattle.ann_base.specs.declared.exceptions.Raised.TheVariants as exception
-use Rattle.profile_machine.specs.declared.values.Value.{Value}
-use Rattle.profile_machine.specs.declared.values.Value.TheVariants.{Whole, Truth, Literal, Ticks, Task}
-use Rattle.profile_machine.specs.declared.values.Constraint.{Constraint}
-use Rattle.profile_machine.specs.declared.values.Constraint.TheVariants as range
-use Rattle.profile_machine.specs.declared.expressions.UnaryOperator.{UnaryOperator}
-use Rattle.profile_machine.specs.declared.expressions.UnaryOperator.TheVariants as unary
-use Rattle.profile_machine.specs.declared.expressions.BinaryOperator.{BinaryOperator}
-use Rattle.profile_machine.specs.declared.expressions.BinaryOperator.TheVariants as binary
-use Rattle.profile_machine.specs.Words.{same_option, same_task, same_bool, same_number}
-use Rattle.profile_machine.specs.declared.limits.TheConstants.{INTEGER_FIRST, INTEGER_LAST, TIME_FIRST, TIME_LAST}
+use Rattle.profile_image.specs.declared.values.Value.{Value}
+use Rattle.profile_image.specs.declared.values.Value.TheVariants.{Whole, Truth, Literal, Ticks, Task}
+use Rattle.profile_image.specs.declared.values.Constraint.{Constraint}
+use Rattle.profile_image.specs.declared.values.Constraint.TheVariants as range
+use Rattle.profile_image.specs.declared.expressions.UnaryOperator.{UnaryOperator}
+use Rattle.profile_image.specs.declared.expressions.UnaryOperator.TheVariants as unary
+use Rattle.profile_image.specs.declared.expressions.BinaryOperator.{BinaryOperator}
+use Rattle.profile_image.specs.declared.expressions.BinaryOperator.TheVariants as binary
+use Rattle.profile_image.specs.Words.{same_option, same_task, same_bool, same_number}
+use Rattle.profile_image.specs.declared.limits.TheConstants.{INTEGER_FIRST, INTEGER_LAST, TIME_FIRST, TIME_LAST}
 
 -- ---- a value or an exception
 

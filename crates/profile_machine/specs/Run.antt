@@ -9,9 +9,9 @@ use Rattle.trace_text.specs.declared.events.Ended.{Ended}
 use Rattle.trace_text.specs.declared.events.Ended.TheVariants as why
 use Rattle.trace_text.specs.declared.events.Who.{Who}
 use Rattle.trace_text.specs.declared.events.Who.TheVariants as who
-use Rattle.profile_machine.specs.declared.limits.TheConstants.{DEFAULT_QUANTUM, LAST_OUTSIDE_LINE}
-use Rattle.profile_machine.specs.declared.image.Image.{Image}
-use Rattle.profile_machine.specs.declared.run_data.Item.{Item}
+use Rattle.profile_image.specs.declared.limits.TheConstants.{DEFAULT_QUANTUM, LAST_OUTSIDE_LINE}
+use Rattle.profile_image.specs.declared.image.Image.{Image}
+use Rattle.profile_image.specs.declared.script_items.Item.{Item}
 use Rattle.profile_machine.specs.declared.world.World.{World}
 use Rattle.profile_machine.specs.declared.world.tasks.Task.{Task}
 use Rattle.profile_machine.specs.declared.world.marks.Frame.{Frame}
@@ -20,9 +20,9 @@ use Rattle.profile_machine.specs.declared.world.appointments.Release.{Release}
 use Rattle.profile_machine.specs.declared.world.marks.Purpose.TheVariants as opened_for
 use Rattle.profile_machine.specs.declared.world.tasks.Waiting.TheVariants as waits_for
 use Rattle.profile_machine.specs.declared.world.tasks.State.TheVariants.{Runnable, Blocked}
-use Rattle.profile_machine.specs.Words.{same_who, same_option}
+use Rattle.profile_image.specs.Words.{same_who, same_option}
 use Rattle.ann_base.specs.Lists.{is_empty}
-use Rattle.profile_machine.specs.Program.{interrupt_priority}
+use Rattle.profile_image.specs.Program.{interrupt_priority}
 use Rattle.profile_machine.specs.declared.world.lines.Line.TheVariants.{New}
 use Rattle.profile_machine.specs.declared.world.lines.Part.TheVariants.{Own}
 use Rattle.profile_machine.specs.Steps.{Step, Move, says, changes, settles, rests, watches, ◌▷◌, ◌▶◌}

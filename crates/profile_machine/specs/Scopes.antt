@@ -4,24 +4,25 @@ use Rattle.std.specs.Bool.{then_some}
 use Rattle.std.specs.List.{list_all}
 use Rattle.ann_base.specs.declared.identities.RegionNo.{RegionNo}
 use Rattle.trace_text.specs.declared.events.Who.{Who}
-use Rattle.profile_machine.specs.declared.image.Image.{Image}
-use Rattle.profile_machine.specs.declared.numbers.ScopeNo.{ScopeNo}
-use Rattle.profile_machine.specs.declared.values.Value.{Value}
-use Rattle.profile_machine.specs.declared.values.Value.TheVariants.{Whole}
+use Rattle.profile_image.specs.declared.image.Image.{Image}
+use Rattle.profile_image.specs.declared.numbers.ScopeNo.{ScopeNo}
+use Rattle.profile_image.specs.declared.values.Value.{Value}
+use Rattle.profile_image.specs.declared.values.Value.TheVariants.{Whole}
 use Rattle.profile_machine.specs.declared.world.World.{World}
 use Rattle.profile_machine.specs.declared.world.marks.Frame.{Frame}
 use Rattle.profile_machine.specs.declared.world.marks.Mark.{Mark}
 use Rattle.profile_machine.specs.declared.world.marks.Purpose.{Purpose}
 use Rattle.profile_machine.specs.declared.world.scopes.ScopeId.{ScopeId}
-use Rattle.profile_machine.specs.Words.{scope_id}
+use Rattle.profile_machine.specs.ScopeNumbers.{scope_id}
 use Rattle.profile_machine.specs.declared.world.scopes.ScopeInUse.{ScopeInUse}
 use Rattle.profile_machine.specs.declared.world.scopes.Beginning.{Beginning}
 use Rattle.profile_machine.specs.declared.world.objects.Object.{Object}
 use Rattle.profile_machine.specs.declared.world.Drawn.{Drawn}
 use Rattle.profile_machine.specs.declared.world.marks.Mark.TheVariants.{Scope, Handled, InProtected, InAccept, Abortable, InInitialize, InFinalize, InAssign}
-use Rattle.profile_machine.specs.Words.{same_id, same_scope, without, edit_where}
+use Rattle.profile_image.specs.Words.{same_scope, without, edit_where}
+use Rattle.profile_machine.specs.ScopeNumbers.{same_id}
 use Rattle.ann_base.specs.Lists.{is_empty}
-use Rattle.profile_machine.specs.Program.{scope_of, initial_cells}
+use Rattle.profile_image.specs.Program.{scope_of, initial_cells}
 use Rattle.profile_machine.specs.Frames.{push, new_frame, frames_of}
 
 -- ---- looking

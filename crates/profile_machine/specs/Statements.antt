@@ -7,20 +7,20 @@ use Rattle.ann_base.specs.declared.exceptions.Raised.TheVariants as exception
 use Rattle.profile_machine.specs.declared.world.lines.Line.TheVariants as line
 use Rattle.trace_text.specs.declared.events.Who.{Who}
 use Rattle.trace_text.specs.declared.events.Who.TheVariants as who
-use Rattle.profile_machine.specs.declared.image.Image.{Image}
-use Rattle.profile_machine.specs.declared.numbers.DeclNo.{DeclNo}
-use Rattle.profile_machine.specs.declared.numbers.ExprNo.{ExprNo}
-use Rattle.profile_machine.specs.declared.numbers.ScopeNo.{ScopeNo}
-use Rattle.profile_machine.specs.declared.numbers.StatementNo.{StatementNo}
-use Rattle.profile_machine.specs.declared.expressions.ObjectName.{ObjectName}
-use Rattle.profile_machine.specs.declared.expressions.VariableName.{VariableName}
-use Rattle.profile_machine.specs.declared.statements.Choice.{Choice}
-use Rattle.profile_machine.specs.declared.statements.Choice.TheVariants as choice
-use Rattle.profile_machine.specs.declared.statements.CaseAlternative.{CaseAlternative}
-use Rattle.profile_machine.specs.declared.statements.Piece.{Piece}
-use Rattle.profile_machine.specs.declared.statements.Piece.TheVariants as piece
-use Rattle.profile_machine.specs.declared.values.Value.{Value}
-use Rattle.profile_machine.specs.declared.values.Value.TheVariants.{Whole, Truth, Literal, Ticks, Task, Thing}
+use Rattle.profile_image.specs.declared.image.Image.{Image}
+use Rattle.profile_image.specs.declared.numbers.DeclNo.{DeclNo}
+use Rattle.profile_image.specs.declared.numbers.ExprNo.{ExprNo}
+use Rattle.profile_image.specs.declared.numbers.ScopeNo.{ScopeNo}
+use Rattle.profile_image.specs.declared.numbers.StatementNo.{StatementNo}
+use Rattle.profile_image.specs.declared.expressions.ObjectName.{ObjectName}
+use Rattle.profile_image.specs.declared.expressions.VariableName.{VariableName}
+use Rattle.profile_image.specs.declared.statements.Choice.{Choice}
+use Rattle.profile_image.specs.declared.statements.Choice.TheVariants as choice
+use Rattle.profile_image.specs.declared.statements.CaseAlternative.{CaseAlternative}
+use Rattle.profile_image.specs.declared.statements.Piece.{Piece}
+use Rattle.profile_image.specs.declared.statements.Piece.TheVariants as piece
+use Rattle.profile_image.specs.declared.values.Value.{Value}
+use Rattle.profile_image.specs.declared.values.Value.TheVariants.{Whole, Truth, Literal, Ticks, Task, Thing}
 use Rattle.profile_machine.specs.declared.world.World.{World}
 use Rattle.profile_machine.specs.declared.world.scopes.Variable.{Variable}
 use Rattle.profile_machine.specs.declared.world.marks.Frame.{Frame}
@@ -30,8 +30,8 @@ use Rattle.profile_machine.specs.declared.world.appointments.Due.TheVariants as 
 use Rattle.profile_machine.specs.declared.world.marks.Purpose.TheVariants as opened_for
 use Rattle.profile_machine.specs.declared.world.tasks.Waiting.TheVariants as waits_for
 use Rattle.profile_machine.specs.declared.world.marks.Mark.TheVariants.{Scope, Handled, InProtected, InAccept, Abortable, InInitialize, InFinalize, InAssign}
-use Rattle.profile_machine.specs.Words.{same_id}
-use Rattle.profile_machine.specs.Program.{declaration_of, next_of, scope_of, marks_of, literals_of}
+use Rattle.profile_machine.specs.ScopeNumbers.{same_id}
+use Rattle.profile_image.specs.Program.{declaration_of, next_of, scope_of, marks_of, literals_of}
 use Rattle.profile_machine.specs.declared.world.lines.Part.{Part}
 use Rattle.profile_machine.specs.declared.world.lines.Part.TheVariants.{Own, ThePlacing, TheBlock}
 use Rattle.profile_machine.specs.Steps.{Step, says, changes, looks, nothing, ◌▷◌}

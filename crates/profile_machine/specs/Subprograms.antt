@@ -4,20 +4,20 @@ use Rattle.ann_base.specs.Results.{◌>>=◌}
 use Rattle.ann_base.specs.declared.exceptions.Raised.TheVariants as exception
 use Rattle.ann_base.specs.declared.identities.CallNo.{CallNo}
 use Rattle.trace_text.specs.declared.events.Who.{Who}
-use Rattle.profile_machine.specs.declared.image.Image.{Image}
-use Rattle.profile_machine.specs.declared.numbers.ExprNo.{ExprNo}
-use Rattle.profile_machine.specs.declared.numbers.StatementNo.{StatementNo}
-use Rattle.profile_machine.specs.declared.numbers.SubprogramNo.{SubprogramNo}
+use Rattle.profile_image.specs.declared.image.Image.{Image}
+use Rattle.profile_image.specs.declared.numbers.ExprNo.{ExprNo}
+use Rattle.profile_image.specs.declared.numbers.StatementNo.{StatementNo}
+use Rattle.profile_image.specs.declared.numbers.SubprogramNo.{SubprogramNo}
 use Rattle.profile_machine.specs.declared.run_data.Leaving.{Leaving}
 use Rattle.profile_machine.specs.declared.run_data.Leaving.TheVariants as how
-use Rattle.profile_machine.specs.declared.declarations.Formal.{Formal}
-use Rattle.profile_machine.specs.declared.expressions.ObjectName.TheVariants.{Declared}
-use Rattle.profile_machine.specs.declared.statements.Actual.{Actual}
-use Rattle.profile_machine.specs.declared.statements.Actual.TheVariants as actual
-use Rattle.profile_machine.specs.declared.statements.Destination.{Destination}
-use Rattle.profile_machine.specs.declared.statements.Destination.TheVariants as destination
-use Rattle.profile_machine.specs.declared.values.Value.{Value}
-use Rattle.profile_machine.specs.declared.values.Value.TheVariants.{Whole}
+use Rattle.profile_image.specs.declared.declarations.Formal.{Formal}
+use Rattle.profile_image.specs.declared.expressions.ObjectName.TheVariants.{Declared}
+use Rattle.profile_image.specs.declared.statements.Actual.{Actual}
+use Rattle.profile_image.specs.declared.statements.Actual.TheVariants as actual
+use Rattle.profile_image.specs.declared.statements.Destination.{Destination}
+use Rattle.profile_image.specs.declared.statements.Destination.TheVariants as destination
+use Rattle.profile_image.specs.declared.values.Value.{Value}
+use Rattle.profile_image.specs.declared.values.Value.TheVariants.{Whole}
 use Rattle.profile_machine.specs.declared.world.World.{World}
 use Rattle.profile_machine.specs.declared.world.scopes.Variable.{Variable}
 use Rattle.profile_machine.specs.declared.world.scopes.Located.{Located}
@@ -30,7 +30,7 @@ use Rattle.profile_machine.specs.declared.world.calls.Call.{Call}
 use Rattle.profile_machine.specs.declared.world.marks.Purpose.TheVariants as opened_for
 use Rattle.profile_machine.specs.declared.world.marks.ResultTo.TheVariants as bound_for
 use Rattle.profile_machine.specs.declared.world.marks.Mark.TheVariants.{Scope, Handled, InProtected, InAccept, Abortable, InInitialize, InFinalize, InAssign}
-use Rattle.profile_machine.specs.Program.{next_of, scope_of, marks_of, subprogram_of}
+use Rattle.profile_image.specs.Program.{next_of, scope_of, marks_of, subprogram_of}
 use Rattle.profile_machine.specs.declared.world.lines.Part.TheVariants.{Own}
 use Rattle.profile_machine.specs.Steps.{Step, changes, looks, nothing, ◌▷◌}
 use Rattle.profile_machine.specs.Frames.{frames_of, goes, leaves, given, raise_if, with_room}

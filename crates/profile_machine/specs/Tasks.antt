@@ -9,8 +9,8 @@ use Rattle.profile_machine.specs.declared.world.tasks.State.{State}
 use Rattle.profile_machine.specs.declared.world.tasks.Waiting.{Waiting}
 use Rattle.profile_machine.specs.declared.world.marks.Frame.{Frame}
 use Rattle.profile_machine.specs.declared.world.tasks.State.TheVariants.{Made, Runnable, Blocked}
-use Rattle.profile_machine.specs.declared.limits.TheConstants.{TIME_LAST}
-use Rattle.profile_machine.specs.Words.{same_who, set_where}
+use Rattle.profile_image.specs.declared.limits.TheConstants.{TIME_LAST}
+use Rattle.profile_image.specs.Words.{same_who, set_where}
 
 -- a task, or the agent, as it begins
 abbrev pub new_task : Who → ℕ → State → Task

@@ -1,6 +1,6 @@
 -- The value of an expression, or its exception (clause 4).
 use Rattle.std.specs.Prelude.{ℕ, zero, suc, ◌+◌, ℤ, pos, ◌-ℤ◌, ◌*ℤ◌, int_le, nat_abs, Bool, true, false, cond, ◌&&◌, List, [], Option, Some, None, Ok, Err, eqb, find, length, option_and_then, slice_index_or}
-use Rattle.profile_machine.specs.declared.limits.TheConstants.{LAST_OUTSIDE_LINE}
+use Rattle.profile_image.specs.declared.limits.TheConstants.{LAST_OUTSIDE_LINE}
 use Rattle.ann_base.specs.Results.{◌>>=◌}
 use Rattle.ann_base.specs.declared.identities.TaskNo.{TaskNo}
 use Rattle.ann_base.specs.declared.identities.ObjectNo.{ObjectNo}
@@ -8,24 +8,24 @@ use Rattle.ann_base.specs.declared.identities.CallNo.{CallNo}
 use Rattle.ann_base.specs.declared.exceptions.Raised.TheVariants as exception
 use Rattle.trace_text.specs.declared.events.Who.{Who}
 use Rattle.trace_text.specs.declared.events.Who.TheVariants as who
-use Rattle.profile_machine.specs.declared.limits.TheConstants.{PROTECTED_CELLS, CONTROLLED_CELLS}
-use Rattle.profile_machine.specs.declared.numbers.DeclNo.{DeclNo}
-use Rattle.profile_machine.specs.declared.numbers.ExprNo.{ExprNo}
-use Rattle.profile_machine.specs.declared.numbers.ProtectedUnitNo.{ProtectedUnitNo}
-use Rattle.profile_machine.specs.declared.image.Image.{Image}
-use Rattle.profile_machine.specs.declared.declarations.DeclarationKind.{DeclarationKind}
-use Rattle.profile_machine.specs.declared.declarations.DeclarationKind.TheVariants as kind
-use Rattle.profile_machine.specs.declared.declarations.Entry.{Entry}
-use Rattle.profile_machine.specs.declared.declarations.EntryUnit.{EntryUnit}
-use Rattle.profile_machine.specs.declared.declarations.EntryUnit.TheVariants as unit
-use Rattle.profile_machine.specs.declared.expressions.Expression.{Expression}
-use Rattle.profile_machine.specs.declared.expressions.Expression.TheVariants as of
-use Rattle.profile_machine.specs.declared.expressions.ObjectName.{ObjectName}
-use Rattle.profile_machine.specs.declared.expressions.ObjectName.TheVariants.{Declared, OwnComponent, Component}
-use Rattle.profile_machine.specs.declared.expressions.VariableName.{VariableName}
-use Rattle.profile_machine.specs.declared.expressions.BinaryOperator.{BinaryOperator}
-use Rattle.profile_machine.specs.declared.values.Value.{Value}
-use Rattle.profile_machine.specs.declared.values.Value.TheVariants.{Whole, Truth, Literal, Ticks, Task, Thing}
+use Rattle.profile_image.specs.declared.limits.TheConstants.{PROTECTED_CELLS, CONTROLLED_CELLS}
+use Rattle.profile_image.specs.declared.numbers.DeclNo.{DeclNo}
+use Rattle.profile_image.specs.declared.numbers.ExprNo.{ExprNo}
+use Rattle.profile_image.specs.declared.numbers.ProtectedUnitNo.{ProtectedUnitNo}
+use Rattle.profile_image.specs.declared.image.Image.{Image}
+use Rattle.profile_image.specs.declared.declarations.DeclarationKind.{DeclarationKind}
+use Rattle.profile_image.specs.declared.declarations.DeclarationKind.TheVariants as kind
+use Rattle.profile_image.specs.declared.declarations.Entry.{Entry}
+use Rattle.profile_image.specs.declared.declarations.EntryUnit.{EntryUnit}
+use Rattle.profile_image.specs.declared.declarations.EntryUnit.TheVariants as unit
+use Rattle.profile_image.specs.declared.expressions.Expression.{Expression}
+use Rattle.profile_image.specs.declared.expressions.Expression.TheVariants as of
+use Rattle.profile_image.specs.declared.expressions.ObjectName.{ObjectName}
+use Rattle.profile_image.specs.declared.expressions.ObjectName.TheVariants.{Declared, OwnComponent, Component}
+use Rattle.profile_image.specs.declared.expressions.VariableName.{VariableName}
+use Rattle.profile_image.specs.declared.expressions.BinaryOperator.{BinaryOperator}
+use Rattle.profile_image.specs.declared.values.Value.{Value}
+use Rattle.profile_image.specs.declared.values.Value.TheVariants.{Whole, Truth, Literal, Ticks, Task, Thing}
 use Rattle.profile_machine.specs.declared.world.World.{World}
 use Rattle.profile_machine.specs.declared.world.scopes.ScopeId.{ScopeId}
 use Rattle.profile_machine.specs.declared.world.scopes.ScopeInUse.{ScopeInUse}
@@ -39,8 +39,8 @@ use Rattle.profile_machine.specs.declared.world.appointments.TimerSetting.{Timer
 use Rattle.profile_machine.specs.declared.world.appointments.Budget.{Budget}
 use Rattle.profile_machine.specs.declared.world.appointments.Due.TheVariants as due_for
 use Rattle.profile_machine.specs.declared.world.tasks.Task as world
-use Rattle.profile_machine.specs.Words.{same_object}
-use Rattle.profile_machine.specs.Program.{declaration_of, expression_of, entry_of}
+use Rattle.profile_image.specs.Words.{same_object}
+use Rattle.profile_image.specs.Program.{declaration_of, expression_of, entry_of}
 use Rattle.profile_machine.specs.Tasks.{task_of, found_task, number_of}
 use Rattle.profile_machine.specs.Scopes.{home, read_cell, scope_in_use, first_outwards, innermost}
 use Rattle.profile_machine.specs.Operators.{Valued, unless, misfit, ticks, component_place, unary_value, binary_value, decides}

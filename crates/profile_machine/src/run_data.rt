@@ -1,6 +1,6 @@
 //! Small types of a run that the machine and the interpreter share.
-use crate::numbers::StatementNo;
 use ann_base::Raised;
+use profile_image::StatementNo;
 
 /// How an open construct is left (7.6.1).
 #[derive(Clone, Copy, PartialEq, Eq)]
@@ -17,17 +17,4 @@ pub enum Leaving {
     Abort,
     /// By a terminate alternative.
     Terminate,
-}
-
-/// An item of a script.
-#[derive(Clone, Copy, PartialEq, Eq)]
-pub enum Item {
-    /// An interrupt comes, 0 to 15.
-    Interrupt(u8),
-    /// A port, 0 to 15, is set to a value.
-    Port(u8, i32),
-    /// From here on an interrupt is kept.
-    Mask(u8),
-    /// It is delivered again.
-    Unmask(u8),
 }

@@ -1,25 +1,32 @@
 //! The world of a run: everything that decides how the run goes on. It is plain data: structs, enums, lists and
 //! numbers, and the definitions of the machine speak of just these types.
+mod agenda;
 mod appointments;
 mod calls;
+mod frame_stack;
 mod lines;
 mod marks;
 mod objects;
+mod ready_queues;
 mod scopes;
 mod tasks;
 
-use crate::run_data::Item;
+pub use agenda::{Agenda, DueOf, has_come};
 use ann_base::{Moment, Raised};
 pub use appointments::{
     Appointment, Budget, Due, HandlerOf, Registered, Release, Timer, TimerSetting,
 };
 pub use calls::{Call, CallKind, DelayMoment, EntryCallNamed, Outcome, Owner, Sending};
+pub use frame_stack::{FrameStack, defers, is_protected};
 pub use lines::{Line, MeetingEnd, Part, Said};
 pub use marks::{
     AbortableMark, AcceptMark, AssignMark, AssignStep, CopyBack, Frame, Mark, ProtectedMark,
     Purpose, ResultTo, ScopeMark,
 };
 pub use objects::{Action, Entering, Object};
+use profile_image::Item;
+pub use ready_queues::{ReadyQueues, same_who};
+use rosters::Roster;
 pub use scopes::{Beginning, Handed, Located, ScopeId, ScopeInUse, Variable};
 pub use tasks::{Cause, Inherited, Placed, Rival, State, Task, Waiting};
 use trace_text::Who;
@@ -53,23 +60,23 @@ pub struct World {
     pub masked: List<bool>,
     pub kept_interrupts: List<bool>,
     /// The tasks that have not terminated, by number.
-    pub tasks: List<Task>,
+    pub tasks: Roster<Task>,
     /// The agent that runs handlers.
     pub agent: Task,
     /// The ready queues: the head of the highest level first (D.2.1).
-    pub places: List<Placed>,
+    pub places: ReadyQueues,
     /// The quantum of each level, in ticks (D.2.5).
     pub quanta: List<u64>,
     /// How the environment task ended: by an exception or not; none while it has not.
     pub ended: Option<Option<Raised>>,
     /// The scopes in use, the newest first.
-    pub scopes: List<ScopeInUse>,
+    pub scopes: Roster<ScopeInUse>,
     /// The protected objects that are there.
-    pub objects: List<Object>,
+    pub objects: Roster<Object>,
     /// The entry calls that have not been resumed by their callers.
-    pub calls: List<Call>,
+    pub calls: Roster<Call>,
     /// By moment, and of one moment in the order in which they were set.
-    pub appointments: List<Appointment>,
+    pub appointments: Agenda,
     /// The timers by number.
     pub timers: List<Timer>,
     /// The timers that are set, in the order in which they were set.

@@ -1,14 +1,14 @@
 -- Cells that are written: each change keeps a relation that its parts keep.
 use Rattle.std.specs.Prelude.{ℕ, List, Ok, slice_set}
-use Rattle.profile_machine.specs.declared.image.Image.{Image}
-use Rattle.profile_machine.specs.declared.values.Value.{Value}
+use Rattle.profile_image.specs.declared.image.Image.{Image}
+use Rattle.profile_image.specs.declared.values.Value.{Value}
 use Rattle.profile_machine.specs.declared.world.scopes.ScopeId.{ScopeId}
 use Rattle.profile_machine.specs.Scopes.{edit_cells, write_cell, put_cells}
 use Rattle.machine_laws.proofs.Moves.{StepRelation}
 use Rattle.machine_laws.proofs.FineMoves.{GoodWorld, Naming}
 use Rattle.profile_machine.specs.declared.world.World.{World}
 use Rattle.profile_machine.specs.declared.world.scopes.Variable.{Variable}
-use Rattle.profile_machine.specs.Program.{declaration_of}
+use Rattle.profile_image.specs.Program.{declaration_of}
 use Rattle.profile_machine.specs.Operators.{checked}
 use Rattle.profile_machine.specs.CallEnds.{store}
 use Rattle.profile_machine.specs.Values.{value}

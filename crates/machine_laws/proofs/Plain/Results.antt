@@ -9,9 +9,9 @@ use Rattle.profile_machine.specs.Serving.{end_body_of_entry, keep_values, keeps_
 use Rattle.std.proofs.Common.{◌≡◌, refl}
 use Rattle.trace_text.specs.declared.events.Who.{Who}
 use Rattle.trace_text.specs.declared.events.Who.TheVariants as who
-use Rattle.profile_machine.specs.declared.image.Image.{Image}
-use Rattle.profile_machine.specs.declared.numbers.StatementNo.{StatementNo}
-use Rattle.profile_machine.specs.declared.values.Value.{Value}
+use Rattle.profile_image.specs.declared.image.Image.{Image}
+use Rattle.profile_image.specs.declared.numbers.StatementNo.{StatementNo}
+use Rattle.profile_image.specs.declared.values.Value.{Value}
 use Rattle.profile_machine.specs.declared.world.World.{World}
 use Rattle.profile_machine.specs.declared.world.calls.Call.{Call}
 use Rattle.profile_machine.specs.declared.world.calls.Outcome.{Outcome}

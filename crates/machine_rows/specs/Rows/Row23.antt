@@ -7,24 +7,24 @@ use Rattle.trace_text.specs.declared.events.Leaves.TheVariants as leaves
 use Rattle.trace_text.specs.declared.events.Mode.TheVariants.{Write}
 use Rattle.trace_text.specs.declared.events.QueueEnd.TheVariants.{Head, Tail}
 use Rattle.trace_text.specs.declared.events.Waits.TheVariants as waits
-use Rattle.profile_machine.specs.declared.run_data.Item.{Item}
-use Rattle.profile_machine.specs.declared.run_data.Item.TheVariants as item
-use Rattle.profile_machine.specs.declared.image.Image.{Image}
-use Rattle.profile_machine.specs.declared.image.Queuing.TheVariants as queuing
-use Rattle.profile_machine.specs.declared.values.Value.TheVariants.{Whole, Truth, Ticks}
-use Rattle.profile_machine.specs.declared.values.Constraint.TheVariants.{Free, Whole, Truth, Ticks}
-use Rattle.profile_machine.specs.declared.expressions.Expression.TheVariants.{Known, Variable, Binary, Clock, Span}
-use Rattle.profile_machine.specs.declared.expressions.ObjectName.TheVariants.{Declared, OwnComponent}
-use Rattle.profile_machine.specs.declared.expressions.BinaryOperator.TheVariants as binary
-use Rattle.profile_machine.specs.declared.declarations.DeclarationKind.TheVariants as kind
-use Rattle.profile_machine.specs.declared.declarations.Initial.TheVariants as initial
-use Rattle.profile_machine.specs.declared.declarations.EntryUnit.TheVariants as unit
-use Rattle.profile_machine.specs.declared.statements.StatementForm.TheVariants as form
-use Rattle.profile_machine.specs.declared.statements.Actual.TheVariants as actual
-use Rattle.profile_machine.specs.declared.statements.Callee.TheVariants as callee
-use Rattle.profile_machine.specs.declared.statements.Destination.TheVariants as destination
-use Rattle.profile_machine.specs.declared.statements.EntryOwner.TheVariants as owner
-use Rattle.profile_machine.specs.declared.statements.Setting.TheVariants as setting
+use Rattle.profile_image.specs.declared.script_items.Item.{Item}
+use Rattle.profile_image.specs.declared.script_items.Item.TheVariants as item
+use Rattle.profile_image.specs.declared.image.Image.{Image}
+use Rattle.profile_image.specs.declared.image.Queuing.TheVariants as queuing
+use Rattle.profile_image.specs.declared.values.Value.TheVariants.{Whole, Truth, Ticks}
+use Rattle.profile_image.specs.declared.values.Constraint.TheVariants.{Free, Whole, Truth, Ticks}
+use Rattle.profile_image.specs.declared.expressions.Expression.TheVariants.{Known, Variable, Binary, Clock, Span}
+use Rattle.profile_image.specs.declared.expressions.ObjectName.TheVariants.{Declared, OwnComponent}
+use Rattle.profile_image.specs.declared.expressions.BinaryOperator.TheVariants as binary
+use Rattle.profile_image.specs.declared.declarations.DeclarationKind.TheVariants as kind
+use Rattle.profile_image.specs.declared.declarations.Initial.TheVariants as initial
+use Rattle.profile_image.specs.declared.declarations.EntryUnit.TheVariants as unit
+use Rattle.profile_image.specs.declared.statements.StatementForm.TheVariants as form
+use Rattle.profile_image.specs.declared.statements.Actual.TheVariants as actual
+use Rattle.profile_image.specs.declared.statements.Callee.TheVariants as callee
+use Rattle.profile_image.specs.declared.statements.Destination.TheVariants as destination
+use Rattle.profile_image.specs.declared.statements.EntryOwner.TheVariants as owner
+use Rattle.profile_image.specs.declared.statements.Setting.TheVariants as setting
 use Rattle.profile_machine.specs.Notation.{decl, expr, stmt, scope, subprogram, task_unit, protected_unit, entry, task, p, region, t, declaration, variable, statement, handler_name, cell_run, scope_text, formal, subprogram_text, task_unit_text, attachment, protected_unit_text, entry_body, entry_text, policies, main_procedure}
 use Rattle.profile_machine.specs.Run.{run_of}
 use Rattle.profile_machine.specs.Computing.{computing}
@@ -174,7 +174,7 @@ row_23_script =
     (pos 55000, item.Interrupt 3)
     ∷ []
 
--- the lines of its run up to tick 20300
+-- the lines of its run up to tick 10300
 unfoldable pub row_23_lines : List (ℕ × Event)
 row_23_lines = run_of row_23_program row_23_script 10300
 

@@ -7,19 +7,19 @@ use Rattle.trace_text.specs.declared.events.Ended.TheVariants as end
 use Rattle.trace_text.specs.declared.events.Leaves.TheVariants as leaves
 use Rattle.trace_text.specs.declared.events.QueueEnd.TheVariants.{Tail}
 use Rattle.trace_text.specs.declared.events.Waits.TheVariants as waits
-use Rattle.profile_machine.specs.declared.run_data.Item.{Item}
-use Rattle.profile_machine.specs.declared.image.Image.{Image}
-use Rattle.profile_machine.specs.declared.image.Queuing.TheVariants as queuing
-use Rattle.profile_machine.specs.declared.values.Value.TheVariants.{Whole, Ticks, Thing}
-use Rattle.profile_machine.specs.declared.values.Constraint.TheVariants.{Free, Whole, Ticks}
-use Rattle.profile_machine.specs.declared.expressions.Expression.TheVariants.{Known, Variable, Thing, Priority}
-use Rattle.profile_machine.specs.declared.expressions.ObjectName.TheVariants.{Declared}
-use Rattle.profile_machine.specs.declared.declarations.DeclarationKind.TheVariants as kind
-use Rattle.profile_machine.specs.declared.declarations.Initial.TheVariants as initial
-use Rattle.profile_machine.specs.declared.declarations.ExceptionChoice.TheVariants as exception_choice
-use Rattle.profile_machine.specs.declared.statements.StatementForm.TheVariants as form
-use Rattle.profile_machine.specs.declared.statements.Callee.TheVariants as callee
-use Rattle.profile_machine.specs.declared.statements.Destination.TheVariants as destination
+use Rattle.profile_image.specs.declared.script_items.Item.{Item}
+use Rattle.profile_image.specs.declared.image.Image.{Image}
+use Rattle.profile_image.specs.declared.image.Queuing.TheVariants as queuing
+use Rattle.profile_image.specs.declared.values.Value.TheVariants.{Whole, Ticks, Thing}
+use Rattle.profile_image.specs.declared.values.Constraint.TheVariants.{Free, Whole, Ticks}
+use Rattle.profile_image.specs.declared.expressions.Expression.TheVariants.{Known, Variable, Thing, Priority}
+use Rattle.profile_image.specs.declared.expressions.ObjectName.TheVariants.{Declared}
+use Rattle.profile_image.specs.declared.declarations.DeclarationKind.TheVariants as kind
+use Rattle.profile_image.specs.declared.declarations.Initial.TheVariants as initial
+use Rattle.profile_image.specs.declared.declarations.ExceptionChoice.TheVariants as exception_choice
+use Rattle.profile_image.specs.declared.statements.StatementForm.TheVariants as form
+use Rattle.profile_image.specs.declared.statements.Callee.TheVariants as callee
+use Rattle.profile_image.specs.declared.statements.Destination.TheVariants as destination
 use Rattle.profile_machine.specs.Notation.{decl, expr, stmt, scope, subprogram, task_unit, task, region, t, declaration, variable, statement, handler, scope_text, subprogram_text, task_unit_text, policies, main_procedure}
 use Rattle.profile_machine.specs.Run.{run_of}
 use Rattle.profile_machine.specs.Computing.{computing}

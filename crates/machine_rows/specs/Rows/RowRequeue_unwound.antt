@@ -8,18 +8,18 @@ use Rattle.trace_text.specs.declared.events.Leaves.TheVariants as leaves
 use Rattle.trace_text.specs.declared.events.Mode.TheVariants.{Write}
 use Rattle.trace_text.specs.declared.events.QueueEnd.TheVariants.{Head, Tail}
 use Rattle.trace_text.specs.declared.events.Waits.TheVariants as waits
-use Rattle.profile_machine.specs.declared.run_data.Item.{Item}
-use Rattle.profile_machine.specs.declared.image.Image.{Image}
-use Rattle.profile_machine.specs.declared.image.Queuing.TheVariants as queuing
-use Rattle.profile_machine.specs.declared.values.Value.TheVariants.{Truth, Ticks}
-use Rattle.profile_machine.specs.declared.values.Constraint.TheVariants.{Free, Truth, Ticks}
-use Rattle.profile_machine.specs.declared.expressions.Expression.TheVariants.{Known, Variable}
-use Rattle.profile_machine.specs.declared.expressions.ObjectName.TheVariants.{OwnComponent}
-use Rattle.profile_machine.specs.declared.declarations.DeclarationKind.TheVariants as kind
-use Rattle.profile_machine.specs.declared.declarations.Initial.TheVariants as initial
-use Rattle.profile_machine.specs.declared.declarations.EntryUnit.TheVariants as unit
-use Rattle.profile_machine.specs.declared.statements.StatementForm.TheVariants as form
-use Rattle.profile_machine.specs.declared.statements.EntryOwner.TheVariants as owner
+use Rattle.profile_image.specs.declared.script_items.Item.{Item}
+use Rattle.profile_image.specs.declared.image.Image.{Image}
+use Rattle.profile_image.specs.declared.image.Queuing.TheVariants as queuing
+use Rattle.profile_image.specs.declared.values.Value.TheVariants.{Truth, Ticks}
+use Rattle.profile_image.specs.declared.values.Constraint.TheVariants.{Free, Truth, Ticks}
+use Rattle.profile_image.specs.declared.expressions.Expression.TheVariants.{Known, Variable}
+use Rattle.profile_image.specs.declared.expressions.ObjectName.TheVariants.{OwnComponent}
+use Rattle.profile_image.specs.declared.declarations.DeclarationKind.TheVariants as kind
+use Rattle.profile_image.specs.declared.declarations.Initial.TheVariants as initial
+use Rattle.profile_image.specs.declared.declarations.EntryUnit.TheVariants as unit
+use Rattle.profile_image.specs.declared.statements.StatementForm.TheVariants as form
+use Rattle.profile_image.specs.declared.statements.EntryOwner.TheVariants as owner
 use Rattle.profile_machine.specs.Notation.{decl, expr, stmt, scope, task_unit, protected_unit, entry, task, call, p, region, t, of_object, declaration, variable, statement, cell_run, scope_text, task_unit_text, protected_unit_text, entry_body, entry_text, policies, main_procedure}
 use Rattle.profile_machine.specs.Run.{run_of}
 use Rattle.profile_machine.specs.Computing.{computing}

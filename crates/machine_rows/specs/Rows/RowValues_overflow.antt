@@ -5,21 +5,21 @@ use Rattle.trace_text.specs.declared.events.Event.TheVariants as line
 use Rattle.trace_text.specs.declared.events.Created.TheVariants as created
 use Rattle.trace_text.specs.declared.events.Ended.TheVariants as end
 use Rattle.trace_text.specs.declared.events.QueueEnd.TheVariants.{Tail}
-use Rattle.profile_machine.specs.declared.run_data.Item.{Item}
-use Rattle.profile_machine.specs.declared.image.Image.{Image}
-use Rattle.profile_machine.specs.declared.image.Queuing.TheVariants as queuing
-use Rattle.profile_machine.specs.declared.values.Value.TheVariants.{Whole, Ticks}
-use Rattle.profile_machine.specs.declared.values.Constraint.TheVariants.{Whole, Ticks}
-use Rattle.profile_machine.specs.declared.expressions.Expression.TheVariants.{Known, Variable, Unary, Binary}
-use Rattle.profile_machine.specs.declared.expressions.ObjectName.TheVariants.{Declared}
-use Rattle.profile_machine.specs.declared.expressions.UnaryOperator.TheVariants as unary
-use Rattle.profile_machine.specs.declared.expressions.BinaryOperator.TheVariants as binary
-use Rattle.profile_machine.specs.declared.declarations.DeclarationKind.TheVariants as kind
-use Rattle.profile_machine.specs.declared.declarations.Initial.TheVariants as initial
-use Rattle.profile_machine.specs.declared.declarations.ExceptionChoice.TheVariants as exception_choice
-use Rattle.profile_machine.specs.declared.statements.StatementForm.TheVariants as form
-use Rattle.profile_machine.specs.declared.statements.Callee.TheVariants as callee
-use Rattle.profile_machine.specs.declared.statements.Destination.TheVariants as destination
+use Rattle.profile_image.specs.declared.script_items.Item.{Item}
+use Rattle.profile_image.specs.declared.image.Image.{Image}
+use Rattle.profile_image.specs.declared.image.Queuing.TheVariants as queuing
+use Rattle.profile_image.specs.declared.values.Value.TheVariants.{Whole, Ticks}
+use Rattle.profile_image.specs.declared.values.Constraint.TheVariants.{Whole, Ticks}
+use Rattle.profile_image.specs.declared.expressions.Expression.TheVariants.{Known, Variable, Unary, Binary}
+use Rattle.profile_image.specs.declared.expressions.ObjectName.TheVariants.{Declared}
+use Rattle.profile_image.specs.declared.expressions.UnaryOperator.TheVariants as unary
+use Rattle.profile_image.specs.declared.expressions.BinaryOperator.TheVariants as binary
+use Rattle.profile_image.specs.declared.declarations.DeclarationKind.TheVariants as kind
+use Rattle.profile_image.specs.declared.declarations.Initial.TheVariants as initial
+use Rattle.profile_image.specs.declared.declarations.ExceptionChoice.TheVariants as exception_choice
+use Rattle.profile_image.specs.declared.statements.StatementForm.TheVariants as form
+use Rattle.profile_image.specs.declared.statements.Callee.TheVariants as callee
+use Rattle.profile_image.specs.declared.statements.Destination.TheVariants as destination
 use Rattle.profile_machine.specs.Notation.{decl, expr, stmt, scope, subprogram, task, t, declaration, variable, statement, handler, cell_run, scope_text, subprogram_text, policies, main_procedure}
 use Rattle.profile_machine.specs.Run.{run_of}
 use Rattle.profile_machine.specs.Computing.{computing}

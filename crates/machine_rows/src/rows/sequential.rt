@@ -5,16 +5,20 @@ ghost use Rattle.machine_rows.specs.Rows.RowAdjust_2.{row_adjust_2_lines, row_ad
 ghost use Rattle.machine_rows.specs.Rows.RowBodies_left.{row_bodies_left_lines, row_bodies_left_trace, row_bodies_left_worlds, row_bodies_left_handlers};
 ghost use Rattle.machine_rows.specs.Rows.RowControlled_1.{row_controlled_1_lines, row_controlled_1_trace, row_controlled_1_worlds, row_controlled_1_handlers};
 ghost use Rattle.machine_rows.specs.Rows.RowControlled_assign.{row_controlled_assign_lines, row_controlled_assign_trace, row_controlled_assign_worlds, row_controlled_assign_handlers};
+ghost use Rattle.machine_rows.specs.Rows.RowControlled_beside.{row_controlled_beside_lines, row_controlled_beside_trace, row_controlled_beside_worlds, row_controlled_beside_handlers};
 ghost use Rattle.machine_rows.specs.Rows.RowControlled_dropped.{row_controlled_dropped_lines, row_controlled_dropped_trace, row_controlled_dropped_worlds, row_controlled_dropped_handlers};
 ghost use Rattle.machine_rows.specs.Rows.RowControlled_initialize.{row_controlled_initialize_lines, row_controlled_initialize_trace, row_controlled_initialize_worlds, row_controlled_initialize_handlers};
 ghost use Rattle.machine_rows.specs.Rows.RowControlled_named.{row_controlled_named_lines, row_controlled_named_trace, row_controlled_named_worlds, row_controlled_named_handlers};
 ghost use Rattle.machine_rows.specs.Rows.RowExceptions_named.{row_exceptions_named_lines, row_exceptions_named_trace, row_exceptions_named_worlds, row_exceptions_named_handlers};
 ghost use Rattle.machine_rows.specs.Rows.RowExceptions_raised.{row_exceptions_raised_lines, row_exceptions_raised_trace, row_exceptions_raised_worlds, row_exceptions_raised_handlers};
 ghost use Rattle.machine_rows.specs.Rows.RowLoops_kinds.{row_loops_kinds_lines, row_loops_kinds_trace, row_loops_kinds_worlds, row_loops_kinds_handlers};
+ghost use Rattle.machine_rows.specs.Rows.RowRoom_accept.{row_room_accept_lines, row_room_accept_trace, row_room_accept_worlds, row_room_accept_handlers};
 ghost use Rattle.machine_rows.specs.Rows.RowRoom_activation.{row_room_activation_lines, row_room_activation_trace, row_room_activation_worlds, row_room_activation_handlers};
 ghost use Rattle.machine_rows.specs.Rows.RowRoom_adjust.{row_room_adjust_lines, row_room_adjust_trace, row_room_adjust_worlds, row_room_adjust_handlers};
 ghost use Rattle.machine_rows.specs.Rows.RowRoom_bodies.{row_room_bodies_lines, row_room_bodies_trace, row_room_bodies_worlds, row_room_bodies_handlers};
+ghost use Rattle.machine_rows.specs.Rows.RowRoom_handled.{row_room_handled_lines, row_room_handled_trace};
 ghost use Rattle.machine_rows.specs.Rows.RowRoom_operations.{row_room_operations_lines, row_room_operations_trace, row_room_operations_worlds, row_room_operations_handlers};
+ghost use Rattle.machine_rows.specs.Rows.RowRoom_tasks.{row_room_tasks_lines, row_room_tasks_trace};
 ghost use Rattle.machine_rows.specs.Rows.RowScopes_exits.{row_scopes_exits_lines, row_scopes_exits_trace, row_scopes_exits_worlds, row_scopes_exits_handlers};
 ghost use Rattle.machine_rows.specs.Rows.RowValues_bounds.{row_values_bounds_lines, row_values_bounds_trace, row_values_bounds_worlds, row_values_bounds_handlers};
 ghost use Rattle.machine_rows.specs.Rows.RowValues_case.{row_values_case_lines, row_values_case_trace, row_values_case_worlds, row_values_case_handlers};
@@ -67,6 +71,14 @@ pub fn row_controlled_assign()
     ensures releases { IsTrue row_controlled_assign_handlers }
 {}
 
+/// Row controlled.beside, up to tick 40.
+#[tactic(auto, using(crate::specs::Rows::RowControlled_beside::row_controlled_beside_runs, crate::specs::Rows::RowControlled_beside::row_controlled_beside_keeps, crate::specs::Rows::RowControlled_beside::row_controlled_beside_releases))]
+pub fn row_controlled_beside()
+    ensures runs { row_controlled_beside_lines ≡ row_controlled_beside_trace }
+    ensures keeps { IsTrue row_controlled_beside_worlds }
+    ensures releases { IsTrue row_controlled_beside_handlers }
+{}
+
 /// Row controlled.dropped, up to tick 39.
 #[tactic(auto, using(crate::specs::Rows::RowControlled_dropped::row_controlled_dropped_runs, crate::specs::Rows::RowControlled_dropped::row_controlled_dropped_keeps, crate::specs::Rows::RowControlled_dropped::row_controlled_dropped_releases))]
 pub fn row_controlled_dropped()
@@ -115,6 +127,14 @@ pub fn row_loops_kinds()
     ensures releases { IsTrue row_loops_kinds_handlers }
 {}
 
+/// Row room.accept, up to tick 37.
+#[tactic(auto, using(crate::specs::Rows::RowRoom_accept::row_room_accept_runs, crate::specs::Rows::RowRoom_accept::row_room_accept_keeps, crate::specs::Rows::RowRoom_accept::row_room_accept_releases))]
+pub fn row_room_accept()
+    ensures runs { row_room_accept_lines ≡ row_room_accept_trace }
+    ensures keeps { IsTrue row_room_accept_worlds }
+    ensures releases { IsTrue row_room_accept_handlers }
+{}
+
 /// Row room.activation, up to tick 12.
 #[tactic(auto, using(crate::specs::Rows::RowRoom_activation::row_room_activation_runs, crate::specs::Rows::RowRoom_activation::row_room_activation_keeps, crate::specs::Rows::RowRoom_activation::row_room_activation_releases))]
 pub fn row_room_activation()
@@ -139,12 +159,24 @@ pub fn row_room_bodies()
     ensures releases { IsTrue row_room_bodies_handlers }
 {}
 
+/// Row room.handled, up to tick 521.
+#[tactic(auto, using(crate::specs::Rows::RowRoom_handled::row_room_handled_runs))]
+pub fn row_room_handled()
+    ensures { row_room_handled_lines ≡ row_room_handled_trace }
+{}
+
 /// Row room.operations, up to tick 33.
 #[tactic(auto, using(crate::specs::Rows::RowRoom_operations::row_room_operations_runs, crate::specs::Rows::RowRoom_operations::row_room_operations_keeps, crate::specs::Rows::RowRoom_operations::row_room_operations_releases))]
 pub fn row_room_operations()
     ensures runs { row_room_operations_lines ≡ row_room_operations_trace }
     ensures keeps { IsTrue row_room_operations_worlds }
     ensures releases { IsTrue row_room_operations_handlers }
+{}
+
+/// Row room.tasks, up to tick 522.
+#[tactic(auto, using(crate::specs::Rows::RowRoom_tasks::row_room_tasks_runs))]
+pub fn row_room_tasks()
+    ensures { row_room_tasks_lines ≡ row_room_tasks_trace }
 {}
 
 /// Row scopes.exits, up to tick 94.

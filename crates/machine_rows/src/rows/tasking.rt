@@ -8,6 +8,7 @@ ghost use Rattle.machine_rows.specs.Rows.RowCalls_gone.{row_calls_gone_lines, ro
 ghost use Rattle.machine_rows.specs.Rows.RowCalls_inside.{row_calls_inside_lines, row_calls_inside_trace, row_calls_inside_worlds, row_calls_inside_handlers};
 ghost use Rattle.machine_rows.specs.Rows.RowCalls_order.{row_calls_order_lines, row_calls_order_trace, row_calls_order_worlds, row_calls_order_handlers};
 ghost use Rattle.machine_rows.specs.Rows.RowCalls_results.{row_calls_results_lines, row_calls_results_trace, row_calls_results_worlds, row_calls_results_handlers};
+ghost use Rattle.machine_rows.specs.Rows.RowCalls_undeclared.{row_calls_undeclared_lines, row_calls_undeclared_trace, row_calls_undeclared_worlds, row_calls_undeclared_handlers};
 ghost use Rattle.machine_rows.specs.Rows.RowDeferred_inside.{row_deferred_inside_lines, row_deferred_inside_trace, row_deferred_inside_worlds, row_deferred_inside_handlers};
 ghost use Rattle.machine_rows.specs.Rows.RowMasters_completion.{row_masters_completion_lines, row_masters_completion_trace, row_masters_completion_worlds, row_masters_completion_handlers};
 ghost use Rattle.machine_rows.specs.Rows.RowProtected_forbidden.{row_protected_forbidden_lines, row_protected_forbidden_trace, row_protected_forbidden_worlds, row_protected_forbidden_handlers};
@@ -38,6 +39,7 @@ ghost use Rattle.machine_rows.specs.Rows.RowSelect_ended.{row_select_ended_lines
 ghost use Rattle.machine_rows.specs.Rows.RowSelect_left.{row_select_left_lines, row_select_left_trace, row_select_left_worlds, row_select_left_handlers};
 ghost use Rattle.machine_rows.specs.Rows.RowSelect_moments.{row_select_moments_lines, row_select_moments_trace, row_select_moments_worlds, row_select_moments_handlers};
 ghost use Rattle.machine_rows.specs.Rows.RowSelect_outer.{row_select_outer_lines, row_select_outer_trace, row_select_outer_worlds, row_select_outer_handlers};
+ghost use Rattle.machine_rows.specs.Rows.RowSelect_own.{row_select_own_lines, row_select_own_trace, row_select_own_worlds, row_select_own_handlers};
 ghost use Rattle.machine_rows.specs.Rows.RowSelect_past.{row_select_past_lines, row_select_past_trace, row_select_past_worlds, row_select_past_handlers};
 ghost use Rattle.machine_rows.specs.Rows.RowSelect_raised.{row_select_raised_lines, row_select_raised_trace, row_select_raised_worlds, row_select_raised_handlers};
 ghost use Rattle.machine_rows.specs.Rows.RowSelect_wait.{row_select_wait_lines, row_select_wait_trace, row_select_wait_worlds, row_select_wait_handlers};
@@ -108,6 +110,14 @@ pub fn row_calls_results()
     ensures runs { row_calls_results_lines ≡ row_calls_results_trace }
     ensures keeps { IsTrue row_calls_results_worlds }
     ensures releases { IsTrue row_calls_results_handlers }
+{}
+
+/// Row calls.undeclared, up to tick 33.
+#[tactic(auto, using(crate::specs::Rows::RowCalls_undeclared::row_calls_undeclared_runs, crate::specs::Rows::RowCalls_undeclared::row_calls_undeclared_keeps, crate::specs::Rows::RowCalls_undeclared::row_calls_undeclared_releases))]
+pub fn row_calls_undeclared()
+    ensures runs { row_calls_undeclared_lines ≡ row_calls_undeclared_trace }
+    ensures keeps { IsTrue row_calls_undeclared_worlds }
+    ensures releases { IsTrue row_calls_undeclared_handlers }
 {}
 
 /// Row deferred.inside, up to tick 38.
@@ -348,6 +358,14 @@ pub fn row_select_outer()
     ensures runs { row_select_outer_lines ≡ row_select_outer_trace }
     ensures keeps { IsTrue row_select_outer_worlds }
     ensures releases { IsTrue row_select_outer_handlers }
+{}
+
+/// Row select.own, up to tick 19.
+#[tactic(auto, using(crate::specs::Rows::RowSelect_own::row_select_own_runs, crate::specs::Rows::RowSelect_own::row_select_own_keeps, crate::specs::Rows::RowSelect_own::row_select_own_releases))]
+pub fn row_select_own()
+    ensures runs { row_select_own_lines ≡ row_select_own_trace }
+    ensures keeps { IsTrue row_select_own_worlds }
+    ensures releases { IsTrue row_select_own_handlers }
 {}
 
 /// Row select.past, up to tick 43.

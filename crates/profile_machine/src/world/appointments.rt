@@ -1,8 +1,8 @@
 //! What comes at a moment, and handlers: appointments, timers, budgets, controlled objects and releases (7.6.1, 9.6,
 //! C.3, D.14, D.15).
-use crate::numbers::SubprogramNo;
 use crate::world::scopes::Located;
 use ann_base::{CallNo, Moment, ObjectNo, RegionNo, TaskNo};
+use profile_image::SubprogramNo;
 
 /// A handler: an object and its procedure.
 #[derive(Clone, Copy)]

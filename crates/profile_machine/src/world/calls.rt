@@ -1,10 +1,8 @@
 //! Entry calls (9.5.3, 9.5.4, 9.7).
-use crate::numbers::{EntryNo, StatementNo};
-use crate::short::Actuals;
-use crate::statements::EntryOwner;
-use crate::values::Value;
 use crate::world::scopes::Variable;
 use ann_base::{CallNo, Level, Moment, ObjectNo, Raised, TaskNo};
+use profile_image::{Actuals, EntryNo, EntryOwner, StatementNo, Value};
+use rosters::Numbered;
 use world_tables::List;
 
 /// Whose entry is called.
@@ -94,6 +92,28 @@ impl Drop for Call {
             sending: _,
             outcome: _,
         } = self;
+    }
+}
+
+impl Numbered for Call {
+    ghost use Rattle.std.specs.Prelude.{false, Some};
+
+    ghost number = { λ x. Some x.number.0 };
+
+    ghost size = { λ x. 0 };
+
+    ghost stirs = { λ x. false };
+
+    fn number(&self) -> Option<u32> {
+        Some(self.number.0)
+    }
+
+    fn size(&self) -> usize {
+        0
+    }
+
+    fn stirs(&self) -> bool {
+        false
     }
 }
 

@@ -1,8 +1,8 @@
 //! What an effect says: lines with numbers in them. Their names become text when they are written.
-use crate::numbers::{DeclNo, EntryNo};
 use crate::world::appointments::HandlerOf;
 use crate::world::calls::Owner;
 use ann_base::{CallNo, Level, Moment, ObjectNo, Raised, RegionNo, TaskNo};
+use profile_image::{DeclNo, EntryNo};
 use trace_text::{Created, Leaves, Mode, QueueEnd, Waits, Who};
 use world_tables::List;
 

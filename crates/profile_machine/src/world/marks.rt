@@ -1,8 +1,8 @@
 //! Open constructs: what a task still has to end (5.6, 6, 7.6.1, 9.5, 9.7.4, 11.2).
-use crate::numbers::{StatementNo, SubprogramNo};
 use crate::run_data::Leaving;
 use crate::world::scopes::{Located, ScopeId, Variable};
 use ann_base::{CallNo, ObjectNo, Raised, RegionNo};
+use profile_image::{StatementNo, SubprogramNo};
 use trace_text::Mode;
 use world_tables::List;
 

@@ -1,7 +1,8 @@
 //! Protected objects and the actions that are open on them (9.4, 9.5.1).
-use crate::numbers::ProtectedUnitNo;
 use crate::world::scopes::Located;
 use ann_base::{CallNo, Level, ObjectNo};
+use profile_image::ProtectedUnitNo;
+use rosters::Numbered;
 use trace_text::{Mode, Who};
 use world_tables::List;
 
@@ -36,6 +37,28 @@ impl Drop for Object {
             actions: _,
             queues: _,
         } = self;
+    }
+}
+
+impl Numbered for Object {
+    ghost use Rattle.std.specs.Prelude.{false, Some};
+
+    ghost number = { λ x. Some x.number.0 };
+
+    ghost size = { λ x. 0 };
+
+    ghost stirs = { λ x. false };
+
+    fn number(&self) -> Option<u32> {
+        Some(self.number.0)
+    }
+
+    fn size(&self) -> usize {
+        0
+    }
+
+    fn stirs(&self) -> bool {
+        false
     }
 }
 

@@ -1,8 +1,8 @@
 //! Scopes in use and their cells (3.1, 8.2).
-use crate::numbers::{DeclNo, ScopeNo};
-use crate::values::Value;
 use crate::world::marks::CopyBack;
 use ann_base::ObjectNo;
+use profile_image::{DeclNo, ScopeNo, Value};
+use rosters::Numbered;
 use trace_text::Who;
 use world_tables::List;
 
@@ -52,6 +52,28 @@ impl Drop for ScopeInUse {
             subject: _,
             cells: _,
         } = self;
+    }
+}
+
+impl Numbered for ScopeInUse {
+    ghost use Rattle.std.specs.Prelude.{length, false, Some};
+
+    ghost number = { λ x. Some x.id.0 };
+
+    ghost size = { λ x. length x.cells };
+
+    ghost stirs = { λ x. false };
+
+    fn number(&self) -> Option<u32> {
+        Some(self.id.0)
+    }
+
+    fn size(&self) -> usize {
+        self.cells.len()
+    }
+
+    fn stirs(&self) -> bool {
+        false
     }
 }
 

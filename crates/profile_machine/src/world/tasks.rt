@@ -1,8 +1,13 @@
 //! Tasks, what they wait for, and the priorities that they inherit (clause 9, D.1, D.2).
-use crate::numbers::{DeclNo, StatementNo, TaskUnitNo};
-use crate::world::marks::Frame;
+ghost use Rattle.std.specs.Prelude.{◌≡◌};
+ghost use Rattle.profile_machine.specs.Masters.{waits_at_terminate};
+ghost use Rattle.profile_machine.specs.Tasks.{waiting_in};
+
+use crate::world::frame_stack::FrameStack;
 use crate::world::scopes::ScopeId;
 use ann_base::{CallNo, Level, Moment, ObjectNo, RegionNo};
+use profile_image::{DeclNo, StatementNo, TaskUnitNo};
+use rosters::Numbered;
 use trace_text::Who;
 use world_tables::List;
 
@@ -66,7 +71,7 @@ pub struct Task {
     pub outer: Option<ScopeId>,
     pub state: State,
     /// Its open constructs, the top one first.
-    pub frames: List<Frame>,
+    pub frames: FrameStack,
     /// Ticks that are left of the action that has begun.
     pub ticks_left: Option<u64>,
     /// The base priority (D.1).
@@ -130,6 +135,44 @@ impl Drop for Task {
             budget: _,
             queues: _,
         } = self;
+    }
+}
+
+// Whether somebody waits at a select with an open terminate alternative.
+fn is_at_terminate(state: &State) -> bool
+    ensures { result ≡ waits_at_terminate (waiting_in state.now) }
+{
+    match state {
+        State::Blocked(Waiting::Select(_, _, terminate)) => *terminate,
+        _ => false,
+    }
+}
+
+impl Numbered for Task {
+    ghost use Rattle.std.specs.Prelude.{length, ◌||◌};
+    ghost use Rattle.profile_machine.specs.Numbered.{number_in_roster};
+    ghost use Rattle.profile_machine.specs.Masters.{is_at_terminate};
+    ghost use Rattle.profile_machine.specs.Unwinding.{any_struck};
+
+    ghost number = { λ t. number_in_roster t.who };
+
+    ghost size = { λ t. length t.frames };
+
+    ghost stirs = { λ t. any_struck t.frames || is_at_terminate t };
+
+    fn number(&self) -> Option<u32> {
+        match self.who {
+            Who::Task(number) => Some(number.0),
+            Who::Agent => None,
+        }
+    }
+
+    fn size(&self) -> usize {
+        self.frames.len()
+    }
+
+    fn stirs(&self) -> bool {
+        self.frames.any_struck() || is_at_terminate(&self.state)
     }
 }
 

@@ -1,7 +1,7 @@
 use Rattle.std.proofs.Common.{length, sym, ap, ◌∙◌, arith}
 use Rattle.profile_machine.specs.Inheritance.{same_cause}
-use Rattle.profile_machine.specs.Words.{without}
-use Rattle.machine_appointments.proofs.PlaceLemmas.{remove-lt, without-found, without-none}
+use Rattle.profile_image.specs.Words.{without}
+use Rattle.rosters.proofs.PlaceLemmas.{remove-lt, without-found, without-none}
 use Rattle.machine_dispatching.proofs.inheritance.drop_cause.Goals as goal
 
 pub loop-place-smaller : goal.loop-place-smaller

@@ -1,5 +1,5 @@
 use Rattle.std.proofs.Common.{◌≡◌, length}
-use Rattle.profile_machine.specs.Words.{without}
+use Rattle.profile_image.specs.Words.{without}
 use Rattle.profile_machine.specs.Inheritance.{same_cause}
 use Rattle.machine_dispatching.proofs.inheritance.drop_cause.Given as goal
 

@@ -1,6 +1,6 @@
 use Rattle.std.proofs.Common.{◌≡◌, map}
 use Rattle.std.specs.VecDeque.Iter.{deque_iter_rest}
-use Rattle.profile_machine.specs.Words.{greatest_of}
+use Rattle.profile_image.specs.Words.{greatest_of}
 use Rattle.machine_dispatching.proofs.levels.greatest_inherited.Given as goal
 
 -- the levels that are to come and the greatest so far give what all give

@@ -1,5 +1,5 @@
 use Rattle.std.proofs.Common.{◌≡◌, ◌++◌, length}
-use Rattle.profile_machine.specs.declared.image.Image.{Image}
+use Rattle.profile_image.specs.declared.image.Image.{Image}
 use Rattle.profile_machine.specs.Steps.{places_after_all}
 use Rattle.machine_dispatching.specs.Settling.{written, said_as}
 use Rattle.machine_dispatching.proofs.settling.follow.Given as goal

@@ -1,6 +1,6 @@
 use Rattle.std.proofs.Common.{refl, sym}
 use Rattle.profile_machine.specs.Tasks.{is_who}
-use Rattle.machine_frames.proofs.FoundLemmas.{find_none}
+use Rattle.rosters.proofs.FoundLemmas.{find_none}
 use Rattle.machine_frames.proofs.tasks.found_task_mut.Goals as goal
 
 pub returns-in-None : goal.returns-in-None

@@ -1,6 +1,6 @@
 use Rattle.std.proofs.Common.{ap, ◌∙◌}
 use Rattle.profile_machine.specs.Tasks.{is_who}
-use Rattle.machine_frames.proofs.FoundLemmas.{set_at_position, get_at_position}
+use Rattle.rosters.proofs.FoundLemmas.{set_at_position, get_at_position}
 use Rattle.machine_frames.proofs.tasks.task_in_place.Goals as goal
 
 pub returns : goal.returns

@@ -1,5 +1,5 @@
 use Rattle.std.proofs.Common.{◌≡◌, take, length}
-use Rattle.profile_machine.specs.Program.{with_runs}
+use Rattle.profile_image.specs.Program.{with_runs}
 use Rattle.machine_program.proofs.cells.begin_runs.Given as goal
 
 -- the cells so far are those of the runs so far

@@ -1,5 +1,5 @@
 use Rattle.std.proofs.Common.{◌≡◌, drop}
-use Rattle.profile_machine.specs.Program.{range_of}
+use Rattle.profile_image.specs.Program.{range_of}
 use Rattle.machine_program.proofs.levels.range_of.Given as goal
 
 -- the ranges that are left give what all of them give

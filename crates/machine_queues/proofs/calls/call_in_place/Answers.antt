@@ -1,6 +1,6 @@
 use Rattle.std.proofs.Common.{ap, ◌∙◌}
 use Rattle.profile_machine.specs.Calls.{is_call}
-use Rattle.machine_frames.proofs.FoundLemmas.{set_at_position, get_at_position}
+use Rattle.rosters.proofs.FoundLemmas.{set_at_position, get_at_position}
 use Rattle.machine_queues.proofs.calls.call_in_place.Goals as goal
 
 pub returns : goal.returns

@@ -1,6 +1,6 @@
 use Rattle.std.proofs.Common.{refl, sym}
 use Rattle.profile_machine.specs.Values.{is_object}
-use Rattle.machine_frames.proofs.FoundLemmas.{find_none}
+use Rattle.rosters.proofs.FoundLemmas.{find_none}
 use Rattle.machine_queues.proofs.objects.object_mut.Goals as goal
 
 pub returns-in-None : goal.returns-in-None

@@ -1,6 +1,6 @@
 use Rattle.std.proofs.Common.{ap, ◌∙◌}
 use Rattle.profile_machine.specs.Scopes.{is_id}
-use Rattle.machine_frames.proofs.FoundLemmas.{set_at_position, get_at_position}
+use Rattle.rosters.proofs.FoundLemmas.{set_at_position, get_at_position}
 use Rattle.machine_scopes.proofs.scopes.scope_in_place.Goals as goal
 
 pub returns : goal.returns

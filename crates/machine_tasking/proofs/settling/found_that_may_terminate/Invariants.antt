@@ -1,0 +1,9 @@
+use Rattle.std.proofs.Common.{◌≡◌, ◌++◌, filter, map}
+use Rattle.std.specs.VecDeque.Iter.{deque_iter_rest}
+use Rattle.profile_machine.specs.Masters.{may_terminate}
+use Rattle.machine_tasking.specs.KeptTasks.{kept_of}
+use Rattle.machine_tasking.proofs.settling.found_that_may_terminate.Given as goal
+
+-- what is kept so far stands before what is to be kept of those that are to come
+abbrev pub invariant-loop-task : goal.invariant-loop-task
+invariant-loop-task l = l.kept ++ map kept_of (filter (may_terminate l.world) (deque_iter_rest l.task-iterator)) ≡ map kept_of (filter (may_terminate l.world) l.world.tasks)

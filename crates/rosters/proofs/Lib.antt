@@ -1,0 +1,4 @@
+pub mod PlaceLemmas
+pub mod FoundLemmas
+pub mod RosterOrderLemmas
+pub mod RosterNotesLemmas

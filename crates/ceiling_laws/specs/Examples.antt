@@ -4,14 +4,14 @@ use Rattle.std.specs.Prelude.{ℕ, ℤ, pos, Bool, List, [], ◌∷◌, Some, No
 use Rattle.std.specs.List.{list_any}
 use Rattle.trace_text.specs.declared.events.Event.{Event}
 use Rattle.trace_text.specs.declared.events.Event.TheVariants as line
-use Rattle.profile_machine.specs.declared.image.Image.{Image}
-use Rattle.profile_machine.specs.declared.image.Dispatching.TheVariants.{EdfAcrossPriorities}
-use Rattle.profile_machine.specs.declared.image.Queuing.TheVariants as queuing
-use Rattle.profile_machine.specs.declared.run_data.Item.{Item}
-use Rattle.profile_machine.specs.declared.run_data.Item.TheVariants.{Interrupt}
-use Rattle.profile_machine.specs.declared.values.Constraint.TheVariants.{Free}
-use Rattle.profile_machine.specs.declared.declarations.DeclarationKind.TheVariants as kind
-use Rattle.profile_machine.specs.declared.statements.StatementForm.TheVariants as form
+use Rattle.profile_image.specs.declared.image.Image.{Image}
+use Rattle.profile_image.specs.declared.image.Dispatching.TheVariants.{EdfAcrossPriorities}
+use Rattle.profile_image.specs.declared.image.Queuing.TheVariants as queuing
+use Rattle.profile_image.specs.declared.script_items.Item.{Item}
+use Rattle.profile_image.specs.declared.script_items.Item.TheVariants.{Interrupt}
+use Rattle.profile_image.specs.declared.values.Constraint.TheVariants.{Free}
+use Rattle.profile_image.specs.declared.declarations.DeclarationKind.TheVariants as kind
+use Rattle.profile_image.specs.declared.statements.StatementForm.TheVariants as form
 use Rattle.profile_machine.specs.Notation.{decl, stmt, scope, subprogram, protected_unit, declaration, statement, scope_text, subprogram_text, protected_unit_text, attachment, dispatching_range, policies, main_procedure}
 use Rattle.profile_machine.specs.Run.{run_of}
 use Rattle.trace_text.specs.Laws.{follows_ceilings}

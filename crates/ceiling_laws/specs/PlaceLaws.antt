@@ -7,8 +7,8 @@ use Rattle.profile_machine.specs.Instant.{budgets_due, events_due, is_over, mome
 use Rattle.profile_machine.specs.Run.{run_of, tock}
 use Rattle.profile_machine.specs.Steps.{Done, done, settled, ◌▶◌}
 use Rattle.profile_machine.specs.Tasks.{is_runnable, task_at, task_of, waiting_of}
-use Rattle.profile_machine.specs.declared.image.Image.{Image}
-use Rattle.profile_machine.specs.declared.run_data.Item.{Item}
+use Rattle.profile_image.specs.declared.image.Image.{Image}
+use Rattle.profile_image.specs.declared.script_items.Item.{Item}
 use Rattle.profile_machine.specs.declared.world.World.{World}
 use Rattle.profile_machine.specs.declared.world.lines.Part.{Part}
 use Rattle.profile_machine.specs.declared.world.lines.Said.{Said}

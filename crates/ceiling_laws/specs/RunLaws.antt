@@ -4,11 +4,11 @@ use Rattle.ceiling_laws.specs.CeilingLaws.{edf_is_below_interrupts}
 use Rattle.machine_laws.specs.Reached.{Reached}
 use Rattle.profile_machine.specs.Dispatching.{active_of}
 use Rattle.profile_machine.specs.Instant.{instant, is_over}
-use Rattle.profile_machine.specs.Program.{has_edf, interrupt_priority}
+use Rattle.profile_image.specs.Program.{has_edf, interrupt_priority}
 use Rattle.profile_machine.specs.Run.{opening, run_of, stop, tock}
 use Rattle.profile_machine.specs.Tasks.{found_task, task_at, task_of}
-use Rattle.profile_machine.specs.declared.image.Image.{Image}
-use Rattle.profile_machine.specs.declared.run_data.Item.{Item}
+use Rattle.profile_image.specs.declared.image.Image.{Image}
+use Rattle.profile_image.specs.declared.script_items.Item.{Item}
 use Rattle.profile_machine.specs.declared.world.World.{World}
 use Rattle.profile_machine.specs.declared.world.objects.Object.{Object}
 use Rattle.profile_machine.specs.declared.world.tasks.Task.{Task}

@@ -2,8 +2,8 @@
 use Rattle.std.specs.Prelude.{ℕ, ℤ, IsTrue, List}
 use Rattle.trace_text.specs.Queue.{TraceLine, AtEachLine}
 use Rattle.trace_text.specs.Laws.{no_releases, see_releases, is_in_order, HandlersOk}
-use Rattle.profile_machine.specs.declared.image.Image.{Image}
-use Rattle.profile_machine.specs.declared.run_data.Item.{Item}
+use Rattle.profile_image.specs.declared.image.Image.{Image}
+use Rattle.profile_image.specs.declared.script_items.Item.{Item}
 use Rattle.profile_machine.specs.Run.{run_of}
 
 -- `release`, `serve` and `served` lines each bear the numbers 1, 2, 3 and so on. No release is served before it was

@@ -5,8 +5,8 @@ use Rattle.trace_text.specs.declared.events.Event.{Event}
 use Rattle.trace_text.specs.declared.events.Event.TheVariants as line
 use Rattle.trace_text.specs.Queue.{TraceLine, AtEachLine}
 use Rattle.trace_text.specs.Laws.{is_left_before, is_leaving, inits_of, regions_of, is_final_before, remember, LeftOk}
-use Rattle.profile_machine.specs.declared.image.Image.{Image}
-use Rattle.profile_machine.specs.declared.run_data.Item.{Item}
+use Rattle.profile_image.specs.declared.image.Image.{Image}
+use Rattle.profile_image.specs.declared.script_items.Item.{Item}
 use Rattle.profile_machine.specs.Run.{run_of}
 
 -- ---- in turn

@@ -8,8 +8,8 @@ use Rattle.trace_text.specs.declared.events.Event.TheVariants as line
 use Rattle.trace_text.specs.declared.events.Ended.TheVariants as why
 use Rattle.trace_text.specs.declared.events.Entry.{Entry}
 use Rattle.trace_text.specs.Queue.{TraceLine, AtEachLine, follows_lines, queue_after, runner_after, somebody_eq}
-use Rattle.profile_machine.specs.declared.image.Image.{Image}
-use Rattle.profile_machine.specs.declared.run_data.Item.{Item}
+use Rattle.profile_image.specs.declared.image.Image.{Image}
+use Rattle.profile_image.specs.declared.script_items.Item.{Item}
 use Rattle.ann_base.specs.Lists.{is_empty}
 use Rattle.profile_machine.specs.WellFormed.{all_adjacent}
 use Rattle.profile_machine.specs.Run.{run_of}
@@ -48,8 +48,8 @@ is_next_release counts (line.Release number object handler) = number == suc coun
 is_next_release counts (line.Serve number) = number == suc counts.begun && nat_le number counts.released
 is_next_release counts _ = true
 
-abbrev pub ReleasesOk : List TraceLine → Type 0
-ReleasesOk = AtEachLine counts_after no_counts (λ counts event. IsTrue (is_next_release counts event))
+abbrev pub ReleasesInOrder : List TraceLine → Type 0
+ReleasesInOrder = AtEachLine counts_after no_counts (λ counts event. IsTrue (is_next_release counts event))
 
 abbrev pub follows_releases : List TraceLine → Bool
 follows_releases = follows_lines counts_after is_next_release no_counts
@@ -91,7 +91,7 @@ abbrev pub RunsSwitch : Type 0
 RunsSwitch = (p : Image) (script : List (ℤ × Item)) (bound : ℕ) → SwitchesOk (run_of p script bound)
 
 abbrev pub RunsReleaseInOrder : Type 0
-RunsReleaseInOrder = (p : Image) (script : List (ℤ × Item)) (bound : ℕ) → ReleasesOk (run_of p script bound)
+RunsReleaseInOrder = (p : Image) (script : List (ℤ × Item)) (bound : ℕ) → ReleasesInOrder (run_of p script bound)
 
 abbrev pub RunsAreInTickOrder : Type 0
 RunsAreInTickOrder = (p : Image) (script : List (ℤ × Item)) (bound : ℕ)

@@ -5,7 +5,7 @@
 //! show, every run keeps.
 ghost use Rattle.std.specs.Prelude.{◌≡◌, ◌↔◌, IsTrue, List, false};
 ghost use Rattle.trace_text.specs.Queue.{TraceLine};
-ghost use Rattle.line_laws.specs.TickLaws.{SwitchesOk, ReleasesOk, StuckOk, follows_switches, follows_releases, follows_tick_order, follows_stuck, RunsSwitch, RunsReleaseInOrder, RunsAreInTickOrder, RunsAreRightlyStuck};
+ghost use Rattle.line_laws.specs.TickLaws.{SwitchesOk, ReleasesInOrder, StuckOk, follows_switches, follows_releases, follows_tick_order, follows_stuck, RunsSwitch, RunsReleaseInOrder, RunsAreInTickOrder, RunsAreRightlyStuck};
 ghost use Rattle.line_laws.specs.Examples.{kept_lines, told_twice, passed_over, served_early, chosen_early, not_stuck};
 
 /// In every run each `run` line names another than who ran before it, an `idle` line stands only where somebody ran, and a
@@ -41,7 +41,7 @@ pub fn tests_tell()
     ensures switches { (lines : List TraceLine)
         → (IsTrue (follows_switches lines) ↔ SwitchesOk lines) }
     ensures releases { (lines : List TraceLine)
-        → (IsTrue (follows_releases lines) ↔ ReleasesOk lines) }
+        → (IsTrue (follows_releases lines) ↔ ReleasesInOrder lines) }
     ensures stuck { (lines : List TraceLine) → (IsTrue (follows_stuck lines) ↔ StuckOk lines) }
 {}
 

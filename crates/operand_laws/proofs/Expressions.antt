@@ -16,14 +16,14 @@ use Rattle.ada_tree.specs.declared.expressions.Addend.{Addend}
 use Rattle.ada_tree.specs.declared.expressions.Multiplied.{Multiplied}
 use Rattle.ada_tree.specs.declared.expressions.Argument.{Argument}
 use Rattle.ada_tree.specs.declared.expressions.AttributeDesignator.{AttributeDesignator}
-use Rattle.profile_machine.specs.declared.numbers.DeclNo.{DeclNo}
-use Rattle.profile_machine.specs.declared.numbers.ExprNo.{ExprNo}
-use Rattle.profile_machine.specs.declared.values.Value.{Value}
-use Rattle.profile_machine.specs.declared.expressions.Expression.{Expression as Valuation}
-use Rattle.profile_machine.specs.declared.expressions.Expression.TheVariants as valuation
-use Rattle.profile_machine.specs.declared.expressions.UnaryOperator.{UnaryOperator}
-use Rattle.profile_machine.specs.declared.expressions.UnaryOperator.TheVariants as unary
-use Rattle.profile_machine.specs.declared.expressions.BinaryOperator.{BinaryOperator}
+use Rattle.profile_image.specs.declared.numbers.DeclNo.{DeclNo}
+use Rattle.profile_image.specs.declared.numbers.ExprNo.{ExprNo}
+use Rattle.profile_image.specs.declared.values.Value.{Value}
+use Rattle.profile_image.specs.declared.expressions.Expression.{Expression as Valuation}
+use Rattle.profile_image.specs.declared.expressions.Expression.TheVariants as valuation
+use Rattle.profile_image.specs.declared.expressions.UnaryOperator.{UnaryOperator}
+use Rattle.profile_image.specs.declared.expressions.UnaryOperator.TheVariants as unary
+use Rattle.profile_image.specs.declared.expressions.BinaryOperator.{BinaryOperator}
 use Rattle.ada_regions.specs.declared.predefined.Operation.{Operation}
 use Rattle.ada_regions.specs.declared.predefined.Operation.TheVariants as operations
 use Rattle.ada_regions.specs.declared.predefined.Predefined.{Predefined}

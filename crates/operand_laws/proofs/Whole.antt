@@ -3,8 +3,8 @@ use Rattle.std.proofs.Common.{ℕ, suc, Bool, true, false, cond, ◌++◌, List,
 use Rattle.std.specs.Prelude.{codes}
 use Rattle.ada_tree.specs.declared.expressions.Expression.{Expression}
 use Rattle.ada_tree.specs.declared.units.Unit.{Unit as Tree}
-use Rattle.profile_machine.specs.declared.declarations.EntryBody.{EntryBody}
-use Rattle.profile_machine.specs.declared.declarations.Initial.TheVariants as initial
+use Rattle.profile_image.specs.declared.declarations.EntryBody.{EntryBody}
+use Rattle.profile_image.specs.declared.declarations.Initial.TheVariants as initial
 use Rattle.ada_regions.specs.declared.types.Subtype.{Subtype}
 use Rattle.ada_regions.specs.declared.table.NumberedDeclaration.{NumberedDeclaration}
 use Rattle.ada_regions.specs.declared.table.NumberedEntry.{NumberedEntry}

@@ -1,7 +1,7 @@
 -- In the image of a source, operands are made first.
 use Rattle.std.specs.Prelude.{◌≡◌, ℕ, suc, ◌+◌, length, IsTrue}
 use Rattle.ada_tree.specs.declared.units.Unit.{Unit as Tree}
-use Rattle.profile_machine.specs.declared.numbers.ExprNo.{ExprNo}
+use Rattle.profile_image.specs.declared.numbers.ExprNo.{ExprNo}
 use Rattle.profile_machine.specs.Values.{Seen, value_by, value}
 use Rattle.ada_image.specs.ImageOfUnits.{program_of}
 use Rattle.world_laws.specs.ValueLaws.{operands_rise}

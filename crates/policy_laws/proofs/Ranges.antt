@@ -6,10 +6,10 @@ use Rattle.std.proofs.lemmas.Bool.{and_parts, le-leb}
 use Rattle.std.proofs.lemmas.List.Folds.{list_all-append}
 use Rattle.ann_base.specs.declared.places.Place.{Place}
 use Rattle.ada_tree.specs.declared.units.Pragma.{Pragma}
-use Rattle.profile_machine.specs.declared.image.Dispatching.{Dispatching}
-use Rattle.profile_machine.specs.declared.image.Dispatching.TheVariants.{FifoWithinPriorities, RoundRobinWithinPriorities, EdfAcrossPriorities}
-use Rattle.profile_machine.specs.declared.image.DispatchingRange.{DispatchingRange}
-use Rattle.profile_machine.specs.Program.{is_edf_policy}
+use Rattle.profile_image.specs.declared.image.Dispatching.{Dispatching}
+use Rattle.profile_image.specs.declared.image.Dispatching.TheVariants.{FifoWithinPriorities, RoundRobinWithinPriorities, EdfAcrossPriorities}
+use Rattle.profile_image.specs.declared.image.DispatchingRange.{DispatchingRange}
+use Rattle.profile_image.specs.Program.{is_edf_policy}
 use Rattle.ada_image.specs.PoliciesOfImage.{policy_of, range_with, whole_range_with, specific_range, ranges_of_pragma, range_inserted, ranges_sorted}
 use Rattle.ada_legality.specs.declared.findings.DeadlineRange.{DeadlineRange}
 use Rattle.ada_legality.specs.InForce.{is_by_deadline, deadline_ranges_of_pragma}

@@ -3,14 +3,14 @@ use Rattle.std.proofs.Common.{◌≡◌, ℕ, Bool, true, false, cond, ◌&&◌,
 use Rattle.std.specs.Prelude.{int_lt, pos, option_and_then}
 use Rattle.trace_text.specs.declared.events.Event.{Event}
 use Rattle.trace_text.specs.declared.events.Who.{Who}
-use Rattle.profile_machine.specs.declared.image.Image.{Image}
-use Rattle.profile_machine.specs.declared.numbers.StatementNo.{StatementNo}
-use Rattle.profile_machine.specs.declared.statements.StatementForm.{StatementForm}
-use Rattle.profile_machine.specs.declared.statements.StatementForm.TheVariants as form
+use Rattle.profile_image.specs.declared.image.Image.{Image}
+use Rattle.profile_image.specs.declared.numbers.StatementNo.{StatementNo}
+use Rattle.profile_image.specs.declared.statements.StatementForm.{StatementForm}
+use Rattle.profile_image.specs.declared.statements.StatementForm.TheVariants as form
 use Rattle.profile_machine.specs.declared.world.World.{World}
 use Rattle.profile_machine.specs.declared.world.lines.Said.{Said}
 use Rattle.profile_machine.specs.declared.world.marks.Frame.{Frame}
-use Rattle.profile_machine.specs.Program.{form_of}
+use Rattle.profile_image.specs.Program.{form_of}
 use Rattle.profile_machine.specs.Steps.{Done, done, Move, placed_by, settled, settles, rests, ◌▷◌}
 use Rattle.profile_machine.specs.Tasks.{task_of, with_ticks}
 use Rattle.profile_machine.specs.Frames.{top_of, onward_of, open_if_ready}

@@ -1,6 +1,6 @@
 -- What follows of the law for each cause by itself, and for the test.
 use Rattle.std.proofs.Common.{List, [], ◌∷◌, ◌++◌, sym, ap, ◌∙◌, append_assoc, append-nil}
-use Rattle.profile_machine.specs.declared.image.Image.{Image}
+use Rattle.profile_image.specs.declared.image.Image.{Image}
 use Rattle.profile_machine.specs.Releases.{NamedHandler}
 use Rattle.release_laws.specs.Asked.{asked}
 use Rattle.release_laws.specs.ReleaseLaws.{Passage, Account, first_account, account_behind, history, AtEachInstant, ReleasesAll, ReleasesEvents, ReleasesTimers, ReleasesBudgets, ReleasesInterrupts, OfEveryRun, RunsFollow, owed_at_once, owed_of_interrupts, owed_of_events, owed_of_timers, owed_of_budgets}

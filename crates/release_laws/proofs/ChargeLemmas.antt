@@ -5,12 +5,12 @@ use Rattle.ann_base.specs.declared.identities.TaskNo.{TaskNo}
 use Rattle.trace_text.specs.declared.events.Event.{Event}
 use Rattle.trace_text.specs.declared.events.Who.{Who}
 use Rattle.trace_text.specs.declared.events.Who.TheVariants as who
-use Rattle.profile_machine.specs.declared.image.Image.{Image}
+use Rattle.profile_image.specs.declared.image.Image.{Image}
 use Rattle.profile_machine.specs.declared.world.World.{World}
 use Rattle.profile_machine.specs.declared.world.tasks.Task.{Task}
-use Rattle.profile_machine.specs.Words.{same_who, same_task, same_option, is_the, set_where}
+use Rattle.profile_image.specs.Words.{same_who, same_task, same_option, is_the, set_where}
 use Rattle.profile_machine.specs.Tasks.{nobody, is_who, found_task, task_at, task_of, edit_task_found, with_ticks}
-use Rattle.profile_machine.specs.Program.{is_robin_level}
+use Rattle.profile_image.specs.Program.{is_robin_level}
 use Rattle.profile_machine.specs.Dispatching.{choose}
 use Rattle.profile_machine.specs.Cost.{cost}
 use Rattle.profile_machine.specs.Handlers.{clock_risen, quantum_spent_by, charge_budget, charge_task, charge}

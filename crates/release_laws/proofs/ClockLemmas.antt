@@ -5,7 +5,7 @@ use Rattle.ann_base.specs.declared.identities.TaskNo.{TaskNo}
 use Rattle.trace_text.specs.declared.events.Who.{Who}
 use Rattle.trace_text.specs.declared.events.Who.TheVariants as who
 use Rattle.profile_machine.specs.declared.world.tasks.Task.{Task}
-use Rattle.profile_machine.specs.Words.{same_who, set_where, without}
+use Rattle.profile_image.specs.Words.{same_who, set_where, without}
 use Rattle.profile_machine.specs.Tasks.{nobody, is_who, found_task}
 use Rattle.machine_laws.proofs.Kept.Instant.{or_that}
 

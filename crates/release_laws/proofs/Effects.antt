@@ -7,10 +7,10 @@ use Rattle.ann_base.specs.declared.exceptions.Raised.{Raised}
 use Rattle.ann_base.specs.declared.exceptions.Raised.TheVariants as exception
 use Rattle.trace_text.specs.declared.events.Who.{Who}
 use Rattle.trace_text.specs.declared.events.Who.TheVariants as who
-use Rattle.profile_machine.specs.declared.image.Image.{Image}
-use Rattle.profile_machine.specs.declared.numbers.StatementNo.{StatementNo}
-use Rattle.profile_machine.specs.declared.statements.HandlerName.{HandlerName}
-use Rattle.profile_machine.specs.declared.statements.Setting.{Setting}
+use Rattle.profile_image.specs.declared.image.Image.{Image}
+use Rattle.profile_image.specs.declared.numbers.StatementNo.{StatementNo}
+use Rattle.profile_image.specs.declared.statements.HandlerName.{HandlerName}
+use Rattle.profile_image.specs.declared.statements.Setting.{Setting}
 use Rattle.profile_machine.specs.declared.world.World.{World}
 use Rattle.profile_machine.specs.declared.world.appointments.HandlerOf.{HandlerOf}
 use Rattle.profile_machine.specs.declared.world.lines.Said.{Said}

@@ -6,7 +6,7 @@ use Rattle.std.proofs.lemmas.Bool.{false≢true}
 use Rattle.profile_machine.specs.declared.world.appointments.Due.{Due}
 use Rattle.profile_machine.specs.declared.world.appointments.Due.TheVariants as due_for
 use Rattle.profile_machine.specs.declared.world.appointments.Appointment.{Appointment}
-use Rattle.profile_machine.specs.Words.{without}
+use Rattle.profile_image.specs.Words.{without}
 use Rattle.profile_machine.specs.Values.{is_event}
 use Rattle.profile_machine.specs.Appointments.{put_appointment, is_an_event}
 use Rattle.release_laws.specs.ReleaseLaws.{EventSet, but_event, put_event}

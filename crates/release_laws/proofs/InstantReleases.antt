@@ -1,9 +1,9 @@
 -- Where the account agrees with the world before an instant, the instant releases what it owes, and behind the tock that follows
 -- they agree again.
 use Rattle.std.proofs.Common.{◌≡◌, ℕ, eqb, filter, List, [], ◌∷◌, ◌++◌, map, Option, Some, None, refl, sym, ap, subst, ◌∙◌, append-nil, append_assoc}
-use Rattle.profile_machine.specs.declared.image.Image.{Image}
+use Rattle.profile_image.specs.declared.image.Image.{Image}
 use Rattle.profile_machine.specs.declared.world.World.{World}
-use Rattle.profile_machine.specs.Words.{without}
+use Rattle.profile_image.specs.Words.{without}
 use Rattle.profile_machine.specs.Steps.{Move, ◌▶◌}
 use Rattle.profile_machine.specs.Instant.{finish_action, script_items, events_due, moments_due, timers_due, budgets_due, quantum_spent}
 use Rattle.profile_machine.specs.Run.{tock}

@@ -2,12 +2,12 @@
 use Rattle.std.proofs.Common.{◌≡◌, ℕ, ℤ, Bool, true, false, cond, not, inl, List, [], ◌∷◌, ◌++◌, refl, sym, ap, subst, ◌∙◌, arith}
 use Rattle.std.specs.Prelude.{int_lt, int_le, pos}
 use Rattle.std.proofs.lemmas.Int.{ints}
-use Rattle.profile_machine.specs.declared.image.Image.{Image}
-use Rattle.profile_machine.specs.declared.run_data.Item.{Item}
-use Rattle.profile_machine.specs.declared.run_data.Item.TheVariants as item
+use Rattle.profile_image.specs.declared.image.Image.{Image}
+use Rattle.profile_image.specs.declared.script_items.Item.{Item}
+use Rattle.profile_image.specs.declared.script_items.Item.TheVariants as item
 use Rattle.profile_machine.specs.declared.world.World.{World}
 use Rattle.profile_machine.specs.Releases.{NamedHandler, named_handler, handler_list, attached_to, Flags, flags_after, due_by_item, released}
-use Rattle.profile_machine.specs.Words.{is_flag}
+use Rattle.profile_image.specs.Words.{is_flag}
 use Rattle.release_laws.specs.ReleaseLaws.{Passage, Account, first_account, account_behind, HistoryOk, items_come, items_ahead, flags_behind, due_by_items, owed_of_interrupts}
 use Rattle.release_laws.specs.MomentLaws.{IsAmong, AllBefore, NoneLater, items_of, InterruptsCome}
 use Rattle.release_laws.proofs.RunReleases.{runs_release}

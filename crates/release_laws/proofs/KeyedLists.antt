@@ -1,7 +1,7 @@
 -- Lists in which each item has a number of its own: taking the first that passes a test, again and again, takes all that pass it.
 use Rattle.std.proofs.Common.{◌≡◌, ℕ, Bool, true, false, cond, not, eqb, find, filter, List, [], ◌∷◌, ◌++◌, Some, None, refl, sym, ap, subst, ◌∙◌, eq-eqb, arith}
 use Rattle.std.proofs.lemmas.Bool.{false≢true}
-use Rattle.profile_machine.specs.Words.{without}
+use Rattle.profile_image.specs.Words.{without}
 use Rattle.machine_laws.proofs.Kept.Instant.{is_there, or_that}
 
 pub other_way : (a b : ℕ) → eqb a b ≡ false → eqb b a ≡ false

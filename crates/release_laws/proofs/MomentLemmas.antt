@@ -3,9 +3,9 @@ use Rattle.std.proofs.Common.{◌≡◌, ℕ, ℤ, Bool, true, false, cond, not,
 use Rattle.std.specs.Prelude.{int_lt, int_le, pos}
 use Rattle.std.proofs.lemmas.Int.{ints}
 use Rattle.std.proofs.lemmas.Bool.{and_from, false≢true, not-true}
-use Rattle.profile_machine.specs.declared.image.Image.{Image}
+use Rattle.profile_image.specs.declared.image.Image.{Image}
 use Rattle.profile_machine.specs.declared.world.World.{World}
-use Rattle.profile_machine.specs.Words.{without}
+use Rattle.profile_image.specs.Words.{without}
 use Rattle.profile_machine.specs.Releases.{NamedHandler, named_handler, released}
 use Rattle.release_laws.specs.Asked.{Request, OfEvent, OfTimer, OfBudget, OfNothing, asked}
 use Rattle.release_laws.specs.ReleaseLaws.{Passage, EventSet, TimerSet, Account, first_account, account_behind, AtEachInstant, HistoryOk, StandIn, ReleasesAll, but_event, put_event, events_asked, has_come, but_timer, timers_asked, is_reached, is_number_of, clock_of, owed_of_events, owed_of_timers}

@@ -3,9 +3,9 @@
 use Rattle.std.proofs.Common.{◌≡◌, ℕ, zero, suc, ℤ, ◌≤◌, Bool, true, false, cond, not, length, slice_index_or, List, [], ◌∷◌, ◌++◌, map, Option, Some, None, refl, sym, ap, subst, ◌∙◌, append-nil, append_assoc, le_refl, arith}
 use Rattle.std.specs.Prelude.{int_le, pos}
 use Rattle.trace_text.specs.declared.events.Event.{Event}
-use Rattle.profile_machine.specs.declared.image.Image.{Image}
-use Rattle.profile_machine.specs.declared.run_data.Item.{Item}
-use Rattle.profile_machine.specs.declared.run_data.Item.TheVariants as item
+use Rattle.profile_image.specs.declared.image.Image.{Image}
+use Rattle.profile_image.specs.declared.script_items.Item.{Item}
+use Rattle.profile_image.specs.declared.script_items.Item.TheVariants as item
 use Rattle.profile_machine.specs.declared.world.World.{World}
 use Rattle.profile_machine.specs.declared.world.appointments.HandlerOf.{HandlerOf}
 use Rattle.profile_machine.specs.declared.world.objects.Object.{Object}
@@ -13,7 +13,7 @@ use Rattle.profile_machine.specs.declared.world.lines.Line.{Line}
 use Rattle.profile_machine.specs.declared.world.lines.Line.TheVariants as line
 use Rattle.profile_machine.specs.declared.world.lines.Said.{Said}
 use Rattle.profile_machine.specs.declared.world.lines.Part.TheVariants.{Own}
-use Rattle.profile_machine.specs.Words.{edit_at, is_flag}
+use Rattle.profile_image.specs.Words.{edit_at, is_flag}
 use Rattle.profile_machine.specs.Steps.{Step, Done, done, changes, nothing, for_some, placed_by, ◌▷◌}
 use Rattle.profile_machine.specs.Handlers.{handler_attached, interrupt, release}
 use Rattle.profile_machine.specs.Instant.{interrupt_comes, deliver_kept_interrupt, script_item, with_script, take_item, items_due, script_items}

@@ -2,7 +2,7 @@
 use Rattle.std.proofs.Common.{◌≡◌, false, List, [], ◌∷◌, ◌++◌, map, Option, Some, None, refl, sym, ap, subst, ◌∙◌, append_assoc, append-nil}
 use Rattle.std.proofs.lemmas.Bool.{false≢true}
 use Rattle.trace_text.specs.declared.events.Event.{Event}
-use Rattle.profile_machine.specs.declared.image.Image.{Image}
+use Rattle.profile_image.specs.declared.image.Image.{Image}
 use Rattle.profile_machine.specs.declared.world.appointments.HandlerOf.{HandlerOf}
 use Rattle.profile_machine.specs.declared.world.lines.Line.{Line}
 use Rattle.profile_machine.specs.declared.world.lines.Line.TheVariants as line

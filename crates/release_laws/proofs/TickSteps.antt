@@ -11,7 +11,7 @@ use Rattle.profile_machine.specs.declared.world.appointments.Budget.{Budget}
 use Rattle.profile_machine.specs.declared.world.appointments.Timer.{Timer}
 use Rattle.profile_machine.specs.declared.world.appointments.TimerSetting.{TimerSetting}
 use Rattle.profile_machine.specs.declared.world.tasks.Task.{Task}
-use Rattle.profile_machine.specs.Words.{same_who, same_task, edit_at, set_where}
+use Rattle.profile_image.specs.Words.{same_who, same_task, edit_at, set_where}
 use Rattle.profile_machine.specs.Tasks.{is_who, found_task, edit_task_found}
 use Rattle.profile_machine.specs.Values.{no_budget}
 use Rattle.profile_machine.specs.Handlers.{is_positive, charged_budget, has_run_out, due_by_tick, charge_budget, is_reached_by}

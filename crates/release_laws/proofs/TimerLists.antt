@@ -4,7 +4,7 @@ use Rattle.std.proofs.lemmas.Bool.{false≢true}
 use Rattle.ann_base.specs.declared.identities.TaskNo.{TaskNo}
 use Rattle.profile_machine.specs.declared.world.appointments.Timer.{Timer}
 use Rattle.profile_machine.specs.declared.world.appointments.TimerSetting.{TimerSetting}
-use Rattle.profile_machine.specs.Words.{edit_at}
+use Rattle.profile_image.specs.Words.{edit_at}
 use Rattle.profile_machine.specs.Values.{no_timer}
 use Rattle.profile_machine.specs.Handlers.{with_setting, without_number}
 use Rattle.release_laws.specs.ReleaseLaws.{TimerSet, but_timer, is_number_of}

@@ -7,18 +7,18 @@ use Rattle.ann_base.specs.declared.identities.TaskNo.{TaskNo}
 use Rattle.ann_base.specs.declared.exceptions.Raised.TheVariants as exception
 use Rattle.trace_text.specs.declared.events.Who.{Who}
 use Rattle.trace_text.specs.declared.events.Who.TheVariants as who
-use Rattle.profile_machine.specs.declared.image.Image.{Image}
-use Rattle.profile_machine.specs.declared.numbers.DeclNo.{DeclNo}
-use Rattle.profile_machine.specs.declared.numbers.StatementNo.{StatementNo}
-use Rattle.profile_machine.specs.declared.expressions.VariableName.{VariableName}
-use Rattle.profile_machine.specs.declared.statements.HandlerName.{HandlerName}
-use Rattle.profile_machine.specs.declared.statements.Setting.{Setting}
-use Rattle.profile_machine.specs.declared.statements.StatementForm.TheVariants as form
+use Rattle.profile_image.specs.declared.image.Image.{Image}
+use Rattle.profile_image.specs.declared.numbers.DeclNo.{DeclNo}
+use Rattle.profile_image.specs.declared.numbers.StatementNo.{StatementNo}
+use Rattle.profile_image.specs.declared.expressions.VariableName.{VariableName}
+use Rattle.profile_image.specs.declared.statements.HandlerName.{HandlerName}
+use Rattle.profile_image.specs.declared.statements.Setting.{Setting}
+use Rattle.profile_image.specs.declared.statements.StatementForm.TheVariants as form
 use Rattle.profile_machine.specs.declared.world.World.{World}
 use Rattle.profile_machine.specs.declared.world.appointments.HandlerOf.{HandlerOf}
 use Rattle.profile_machine.specs.declared.world.lines.Part.TheVariants.{Own}
 use Rattle.profile_machine.specs.declared.world.tasks.Task.{Task}
-use Rattle.profile_machine.specs.Program.{next_of}
+use Rattle.profile_image.specs.Program.{next_of}
 use Rattle.profile_machine.specs.Steps.{changes, ◌▷◌}
 use Rattle.profile_machine.specs.Tasks.{found_task}
 use Rattle.profile_machine.specs.Frames.{goes, given}

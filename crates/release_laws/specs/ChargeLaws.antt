@@ -4,10 +4,10 @@ use Rattle.std.specs.Prelude.{◌≡◌, ℕ, suc, Bool, cond, ◌&&◌, List, O
 use Rattle.ann_base.specs.declared.identities.TaskNo.{TaskNo}
 use Rattle.trace_text.specs.declared.events.Who.{Who}
 use Rattle.trace_text.specs.declared.events.Who.TheVariants as who
-use Rattle.profile_machine.specs.declared.image.Image.{Image}
+use Rattle.profile_image.specs.declared.image.Image.{Image}
 use Rattle.profile_machine.specs.declared.world.World.{World}
 use Rattle.profile_machine.specs.declared.world.appointments.Budget.{Budget}
-use Rattle.profile_machine.specs.Words.{same_who, is_the, edit_at}
+use Rattle.profile_image.specs.Words.{same_who, is_the, edit_at}
 use Rattle.profile_machine.specs.Tasks.{found_task, task_of}
 use Rattle.profile_machine.specs.Handlers.{charged_budget}
 use Rattle.profile_machine.specs.Run.{tock}

@@ -3,14 +3,14 @@
 -- moment.
 use Rattle.std.specs.Prelude.{◌≡◌, ℕ, ℤ, pos, int_le, int_lt, Bool, true, not, ◌⊎◌, List, [], ◌∷◌, ◌++◌, Some, eqb, false, map}
 use Rattle.ann_base.specs.declared.identities.TaskNo.{TaskNo}
-use Rattle.profile_machine.specs.declared.image.Image.{Image}
-use Rattle.profile_machine.specs.declared.run_data.Item.{Item}
-use Rattle.profile_machine.specs.declared.run_data.Item.TheVariants as item
+use Rattle.profile_image.specs.declared.image.Image.{Image}
+use Rattle.profile_image.specs.declared.script_items.Item.{Item}
+use Rattle.profile_image.specs.declared.script_items.Item.TheVariants as item
 use Rattle.profile_machine.specs.declared.world.appointments.HandlerOf.{HandlerOf}
 use Rattle.profile_machine.specs.Values.{budget_of}
 use Rattle.profile_machine.specs.Handlers.{has_run_out, handler_attached}
 use Rattle.profile_machine.specs.Releases.{named_handler, released}
-use Rattle.profile_machine.specs.Words.{is_flag}
+use Rattle.profile_image.specs.Words.{is_flag}
 use Rattle.release_laws.specs.Asked.{Request, OfEvent, OfTimer, OfBudget, asked}
 use Rattle.release_laws.specs.ReleaseLaws.{Passage, history, first_account, clock_of, is_number_of, flags_behind}
 

@@ -7,13 +7,13 @@ use Rattle.ann_base.specs.declared.identities.TaskNo.{TaskNo}
 use Rattle.trace_text.specs.declared.events.Event.{Event}
 use Rattle.trace_text.specs.declared.events.Event.TheVariants as line
 use Rattle.trace_text.specs.declared.events.Who.TheVariants as who
-use Rattle.profile_machine.specs.declared.image.Image.{Image}
-use Rattle.profile_machine.specs.declared.run_data.Item.{Item}
+use Rattle.profile_image.specs.declared.image.Image.{Image}
+use Rattle.profile_image.specs.declared.script_items.Item.{Item}
 use Rattle.profile_machine.specs.declared.world.World.{World}
 use Rattle.profile_machine.specs.declared.world.appointments.Budget.{Budget}
 use Rattle.profile_machine.specs.declared.world.appointments.HandlerOf.{HandlerOf}
-use Rattle.profile_machine.specs.declared.limits.TheConstants.{LAST_OUTSIDE_LINE}
-use Rattle.profile_machine.specs.Words.{without}
+use Rattle.profile_image.specs.declared.limits.TheConstants.{LAST_OUTSIDE_LINE}
+use Rattle.profile_image.specs.Words.{without}
 use Rattle.profile_machine.specs.Steps.{Move}
 use Rattle.profile_machine.specs.Tasks.{task_of}
 use Rattle.profile_machine.specs.Handlers.{has_run_out}
@@ -300,7 +300,10 @@ abbrev pub owed_by : Image → Account → List Passage → List (ℕ × NamedHa
 owed_by p a [] = []
 owed_by p a (x ∷ xs) = all_at x.before.time (owed_in_all p a x) ++ owed_by p (account_behind p a x) xs
 
--- the lines tell what is owed, and nothing else
+-- the lines of the run of an image with a script up to a bound tell what its history owes, and nothing else
+abbrev pub ReleasesOk : Image → List (ℤ × Item) → ℕ → List (ℕ × Event) → Type 0
+ReleasesOk p script bound lines = releases_in lines ≡ owed_by p (first_account script) (history p script bound)
+
+-- and so do those of every run
 abbrev pub RunsTellReleases : Type 0
-RunsTellReleases = (p : Image) (script : List (ℤ × Item)) (bound : ℕ)
-    → releases_in (run_of p script bound) ≡ owed_by p (first_account script) (history p script bound)
+RunsTellReleases = (p : Image) (script : List (ℤ × Item)) (bound : ℕ) → ReleasesOk p script bound (run_of p script bound)

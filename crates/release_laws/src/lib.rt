@@ -3,7 +3,7 @@
 #![tactic(auto)]
 
 ghost use Rattle.std.specs.Prelude.{◌≡◌, ◌↔◌, IsTrue, List, false};
-ghost use Rattle.profile_machine.specs.declared.image.Image.{Image};
+ghost use Rattle.profile_image.specs.declared.image.Image.{Image};
 ghost use Rattle.release_laws.specs.ReleaseLaws.{Account, Passage, HistoryOk, follows_releases, OfEveryRun, ReleasesAll, ReleasesEvents, ReleasesTimers, ReleasesBudgets, ReleasesInterrupts, RunsFollow, RunsTellReleases};
 ghost use Rattle.release_laws.specs.MomentLaws.{EventsCome, TimersCome, BudgetsCome, InterruptsCome};
 ghost use Rattle.release_laws.specs.ChargeLaws.{TocksCharge};

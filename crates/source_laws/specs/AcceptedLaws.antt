@@ -1,6 +1,6 @@
 -- What every accepted source keeps.
 use Rattle.std.specs.Prelude.{ℕ, List, IsTrue}
-use Rattle.profile_machine.specs.declared.image.Image.{Image}
+use Rattle.profile_image.specs.declared.image.Image.{Image}
 use Rattle.source_laws.specs.Denoted.{denotes_by_position}
 use Rattle.ada_image.specs.NothingLost.{image_reads}
 use Rattle.ada_verdicts.specs.Accepted.{Accepted}

@@ -1,8 +1,8 @@
 -- The appointments of every world that a run reaches (9.6, 9.7, D.15).
 use Rattle.std.specs.Prelude.{IsTrue, ℕ, ℤ, pos, int_le, Bool, true, List, ◌&&◌}
 use Rattle.std.specs.List.{list_all}
-use Rattle.profile_machine.specs.declared.image.Image.{Image}
-use Rattle.profile_machine.specs.declared.run_data.Item.{Item}
+use Rattle.profile_image.specs.declared.image.Image.{Image}
+use Rattle.profile_image.specs.declared.script_items.Item.{Item}
 use Rattle.profile_machine.specs.declared.world.World.{World}
 use Rattle.machine_laws.specs.Reached.{Reached}
 use Rattle.profile_machine.specs.declared.world.appointments.Due.{Due}

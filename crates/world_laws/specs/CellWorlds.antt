@@ -1,7 +1,7 @@
 -- The cells of the scopes in use in every world that a run reaches (3.1, 3.3.1).
 use Rattle.std.specs.Prelude.{IsTrue, ℕ, ℤ, List}
-use Rattle.profile_machine.specs.declared.image.Image.{Image}
-use Rattle.profile_machine.specs.declared.run_data.Item.{Item}
+use Rattle.profile_image.specs.declared.image.Image.{Image}
+use Rattle.profile_image.specs.declared.script_items.Item.{Item}
 use Rattle.profile_machine.specs.declared.world.World.{World}
 use Rattle.machine_laws.specs.Reached.{Reached}
 use Rattle.profile_machine.specs.WellFormed.{cells_are_right}

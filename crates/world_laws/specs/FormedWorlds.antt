@@ -1,8 +1,8 @@
 -- Every world that a run reaches is well formed: all that is known of its lists, its tasks, its scopes, its protected
 -- objects, its calls, its appointments and its marks.
 use Rattle.std.specs.Prelude.{IsTrue, ℕ, ℤ, List}
-use Rattle.profile_machine.specs.declared.image.Image.{Image}
-use Rattle.profile_machine.specs.declared.run_data.Item.{Item}
+use Rattle.profile_image.specs.declared.image.Image.{Image}
+use Rattle.profile_image.specs.declared.script_items.Item.{Item}
 use Rattle.profile_machine.specs.declared.world.World.{World}
 use Rattle.profile_machine.specs.WellFormed.{is_well_formed, run_is_well_formed}
 use Rattle.machine_laws.specs.Reached.{Reached}

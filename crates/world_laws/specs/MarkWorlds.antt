@@ -1,8 +1,8 @@
 -- The marks of every world that a run reaches, and the triggers that are set for them (7.6.1, 9.7.4, 9.8).
 use Rattle.std.specs.Prelude.{IsTrue, ℕ, ℤ, Bool, true, false, ◌&&◌, List, [], ◌∷◌, eqb}
 use Rattle.std.specs.List.{list_all}
-use Rattle.profile_machine.specs.declared.image.Image.{Image}
-use Rattle.profile_machine.specs.declared.run_data.Item.{Item}
+use Rattle.profile_image.specs.declared.image.Image.{Image}
+use Rattle.profile_image.specs.declared.script_items.Item.{Item}
 use Rattle.profile_machine.specs.declared.world.World.{World}
 use Rattle.profile_machine.specs.declared.world.marks.Frame.{Frame}
 use Rattle.profile_machine.specs.declared.world.marks.Mark.{Mark}

@@ -1,7 +1,7 @@
 -- Who stands in the ready queues in every world that a run reaches (D.2.1).
 use Rattle.std.specs.Prelude.{IsTrue, ℕ, ℤ, List}
-use Rattle.profile_machine.specs.declared.image.Image.{Image}
-use Rattle.profile_machine.specs.declared.run_data.Item.{Item}
+use Rattle.profile_image.specs.declared.image.Image.{Image}
+use Rattle.profile_image.specs.declared.script_items.Item.{Item}
 use Rattle.profile_machine.specs.declared.world.World.{World}
 use Rattle.machine_laws.specs.Reached.{Reached}
 use Rattle.profile_machine.specs.WellFormed.{places_are_right}

@@ -1,14 +1,14 @@
 -- Sequences with handlers in every world that a run reaches (11.2).
 use Rattle.std.specs.Prelude.{IsTrue, ℕ, ℤ, Bool, true, not, List, Option, Some}
 use Rattle.std.specs.List.{list_all}
-use Rattle.profile_machine.specs.declared.image.Image.{Image}
-use Rattle.profile_machine.specs.declared.numbers.StatementNo.{StatementNo}
-use Rattle.profile_machine.specs.declared.run_data.Item.{Item}
-use Rattle.profile_machine.specs.declared.statements.Statement.{Statement}
-use Rattle.profile_machine.specs.declared.statements.StatementForm.{StatementForm}
-use Rattle.profile_machine.specs.declared.statements.StatementForm.TheVariants as form
+use Rattle.profile_image.specs.declared.image.Image.{Image}
+use Rattle.profile_image.specs.declared.numbers.StatementNo.{StatementNo}
+use Rattle.profile_image.specs.declared.script_items.Item.{Item}
+use Rattle.profile_image.specs.declared.statements.Statement.{Statement}
+use Rattle.profile_image.specs.declared.statements.StatementForm.{StatementForm}
+use Rattle.profile_image.specs.declared.statements.StatementForm.TheVariants as form
 use Rattle.profile_machine.specs.declared.world.World.{World}
-use Rattle.profile_machine.specs.Program.{scope_of, task_unit_of}
+use Rattle.profile_image.specs.Program.{scope_of, task_unit_of}
 use Rattle.profile_machine.specs.Tasking.{unit_of_declaration}
 use Rattle.profile_machine.specs.WellFormed.{begins_sequence, sequences_are_open}
 use Rattle.machine_laws.specs.Reached.{Reached}

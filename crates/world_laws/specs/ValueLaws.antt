@@ -1,10 +1,10 @@
 -- The value of an expression is found by those of its operands, which have numbers of their own.
 use Rattle.std.specs.Prelude.{◌≡◌, ℕ, suc, ◌+◌, length, Bool, true, ◌&&◌, List, [], ◌∷◌, ltb, IsTrue, option_to_list}
 use Rattle.std.specs.List.{list_all}
-use Rattle.profile_machine.specs.declared.numbers.ExprNo.{ExprNo}
-use Rattle.profile_machine.specs.declared.image.Image.{Image}
-use Rattle.profile_machine.specs.declared.expressions.Expression.{Expression}
-use Rattle.profile_machine.specs.declared.expressions.Expression.TheVariants as of
+use Rattle.profile_image.specs.declared.numbers.ExprNo.{ExprNo}
+use Rattle.profile_image.specs.declared.image.Image.{Image}
+use Rattle.profile_image.specs.declared.expressions.Expression.{Expression}
+use Rattle.profile_image.specs.declared.expressions.Expression.TheVariants as of
 use Rattle.profile_machine.specs.Values.{Seen, value_by, value}
 
 -- ---- operands

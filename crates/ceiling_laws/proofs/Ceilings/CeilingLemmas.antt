@@ -11,8 +11,8 @@ use Rattle.trace_text.specs.declared.events.Mode.TheVariants.{Write}
 use Rattle.trace_text.specs.declared.events.Who.{Who}
 use Rattle.trace_text.specs.declared.events.Who.TheVariants as who
 use Rattle.trace_text.specs.Laws.{Levels, is_at_most, base_of, level_of, is_base_below, is_entry_below}
-use Rattle.profile_machine.specs.declared.image.Image.{Image}
-use Rattle.profile_machine.specs.declared.image.DispatchingRange.{DispatchingRange}
+use Rattle.profile_image.specs.declared.image.Image.{Image}
+use Rattle.profile_image.specs.declared.image.DispatchingRange.{DispatchingRange}
 use Rattle.profile_machine.specs.declared.world.World.{World}
 use Rattle.profile_machine.specs.declared.world.tasks.Task.{Task}
 use Rattle.profile_machine.specs.declared.world.lines.Part.TheVariants.{Own}
@@ -20,8 +20,8 @@ use Rattle.profile_machine.specs.declared.world.appointments.Release.{Release}
 use Rattle.profile_machine.specs.declared.world.objects.Object.{Object}
 use Rattle.profile_machine.specs.declared.world.objects.Entering.{Entering}
 use Rattle.profile_machine.specs.declared.world.objects.Entering.TheVariants as entering_is
-use Rattle.profile_machine.specs.Words.{greatest_of, without}
-use Rattle.profile_machine.specs.Program.{is_in_range, range_of, policy_of_range, is_edf_policy, is_edf_level, edf_low_of, has_edf_range, has_edf, interrupt_priority}
+use Rattle.profile_image.specs.Words.{greatest_of, without}
+use Rattle.profile_image.specs.Program.{is_in_range, range_of, policy_of_range, is_edf_policy, is_edf_level, edf_low_of, has_edf_range, has_edf, interrupt_priority}
 use Rattle.profile_machine.specs.Steps.{Step}
 use Rattle.profile_machine.specs.Tasks.{task_of}
 use Rattle.profile_machine.specs.Values.{object_of}

@@ -5,7 +5,7 @@ use Rattle.std.proofs.Math.Nat.{le-max_left, le-max_right, max-le}
 use Rattle.trace_text.specs.declared.events.QueueEnd.TheVariants.{Head, Tail}
 use Rattle.trace_text.specs.declared.events.Who.{Who}
 use Rattle.trace_text.specs.declared.events.Who.TheVariants as who
-use Rattle.profile_machine.specs.declared.image.Image.{Image}
+use Rattle.profile_image.specs.declared.image.Image.{Image}
 use Rattle.profile_machine.specs.declared.world.World.{World}
 use Rattle.profile_machine.specs.declared.world.lines.Line.TheVariants as line
 use Rattle.profile_machine.specs.declared.world.lines.Part.{Part}
@@ -16,8 +16,8 @@ use Rattle.profile_machine.specs.declared.world.tasks.Cause.{Cause}
 use Rattle.profile_machine.specs.declared.world.tasks.Inherited.{Inherited}
 use Rattle.profile_machine.specs.declared.world.tasks.State.{State}
 use Rattle.profile_machine.specs.declared.world.tasks.State.TheVariants.{Runnable}
-use Rattle.profile_machine.specs.Words.{greatest_of, without}
-use Rattle.profile_machine.specs.Program.{is_edf_level, is_robin_level, edf_low}
+use Rattle.profile_image.specs.Words.{greatest_of, without}
+use Rattle.profile_image.specs.Program.{is_edf_level, is_robin_level, edf_low}
 use Rattle.profile_machine.specs.Steps.{when}
 use Rattle.profile_machine.specs.Tasks.{task_of, edit_task, with_state}
 use Rattle.profile_machine.specs.Dispatching.{own_level, levels_inherited, active, active_of, deadline_shown, level_kept_by, keep_level, granted, grant_quantum, says_ready, to_tail, to_head, ready}

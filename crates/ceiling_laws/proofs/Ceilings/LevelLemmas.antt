@@ -7,13 +7,13 @@ use Rattle.trace_text.specs.declared.events.Event.{Event}
 use Rattle.trace_text.specs.declared.events.Event.TheVariants as line
 use Rattle.trace_text.specs.declared.events.Who.{Who}
 use Rattle.trace_text.specs.declared.events.Who.TheVariants as who
-use Rattle.profile_machine.specs.declared.image.Image.{Image}
+use Rattle.profile_image.specs.declared.image.Image.{Image}
 use Rattle.profile_machine.specs.declared.world.World.{World}
 use Rattle.profile_machine.specs.declared.world.tasks.Task.{Task}
 use Rattle.profile_machine.specs.declared.world.marks.Frame.{Frame}
 use Rattle.profile_machine.specs.declared.world.appointments.Release.{Release}
-use Rattle.profile_machine.specs.Words.{same_who, same_option, set_where}
-use Rattle.profile_machine.specs.Program.{is_robin_level}
+use Rattle.profile_image.specs.Words.{same_who, same_option, set_where}
+use Rattle.profile_image.specs.Program.{is_robin_level}
 use Rattle.profile_machine.specs.Steps.{rests}
 use Rattle.profile_machine.specs.Tasks.{is_who, nobody, task_at, task_of, edit_task_found, edit_task, with_ticks}
 use Rattle.profile_machine.specs.Cost.{cost}

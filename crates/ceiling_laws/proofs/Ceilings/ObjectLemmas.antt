@@ -5,7 +5,7 @@ use Rattle.ann_base.specs.declared.identities.ObjectNo.{ObjectNo}
 use Rattle.trace_text.specs.declared.events.Created.TheVariants as created
 use Rattle.profile_machine.specs.declared.world.lines.Line.TheVariants as line
 use Rattle.profile_machine.specs.declared.world.lines.Part.TheVariants.{Own}
-use Rattle.profile_machine.specs.Program.{protected_unit_of}
+use Rattle.profile_image.specs.Program.{protected_unit_of}
 use Rattle.profile_machine.specs.Steps.{done}
 use Rattle.profile_machine.specs.Values.{is_object, object_of}
 use Rattle.profile_machine.specs.Protected.{ceiling_of}

@@ -7,7 +7,7 @@ use Rattle.trace_text.specs.declared.events.Who.TheVariants as who
 use Rattle.profile_machine.specs.declared.world.calls.Call.{Call}
 use Rattle.profile_machine.specs.Calls.{is_call}
 use Rattle.profile_machine.specs.EntryCalls.{numbered}
-use Rattle.profile_machine.specs.Words.{edit_where, without}
+use Rattle.profile_image.specs.Words.{edit_where, without}
 use Rattle.ceiling_laws.proofs.Fine.Cores.{CallerIn}
 use Rattle.line_laws.proofs.Leaving.CallLemmas.{edited-before, gone-before, not_newer}
 

@@ -10,12 +10,12 @@ use Rattle.ceiling_laws.proofs.Runs.LevelMoves.{said_so}
 use Rattle.profile_machine.specs.Dispatching.{active, active_of, block, deadline_shown, grant_quantum, granted, keep_level, level_kept_by, ready, says_block, says_ready, to_head, to_tail, without_kept_level, word_of}
 use Rattle.profile_machine.specs.Inheritance.{falls, inherit, inherit_running, lose, lose_running, rises, same_cause}
 use Rattle.profile_machine.specs.Priorities.{replace_in, says_base, set_base}
-use Rattle.profile_machine.specs.Program.{edf_low, is_robin_level}
+use Rattle.profile_image.specs.Program.{edf_low, is_robin_level}
 use Rattle.profile_machine.specs.Steps.{is_part_before, when}
 use Rattle.profile_machine.specs.Tasking.{says_done}
 use Rattle.profile_machine.specs.Tasks.{edit_task, task_of, with_state}
-use Rattle.profile_machine.specs.Words.{same_who, without}
-use Rattle.profile_machine.specs.declared.image.Image.{Image}
+use Rattle.profile_image.specs.Words.{same_who, without}
+use Rattle.profile_image.specs.declared.image.Image.{Image}
 use Rattle.profile_machine.specs.declared.world.World.{World}
 use Rattle.profile_machine.specs.declared.world.lines.Line.{Line}
 use Rattle.profile_machine.specs.declared.world.lines.Line.TheVariants as line

@@ -7,10 +7,10 @@ use Rattle.ceiling_laws.proofs.Places.PartOrder.{by_test}
 use Rattle.ceiling_laws.specs.Cores.{Core, Same}
 use Rattle.profile_machine.specs.Dispatching.{active, active_of, kept_level_or_base}
 use Rattle.profile_machine.specs.Inheritance.{inherit}
-use Rattle.profile_machine.specs.Program.{edf_low}
+use Rattle.profile_image.specs.Program.{edf_low}
 use Rattle.profile_machine.specs.Tasks.{edit_task, edit_task_found, is_who, nobody, task_at, task_of}
-use Rattle.profile_machine.specs.Words.{greatest_of, same_who}
-use Rattle.profile_machine.specs.declared.image.Image.{Image}
+use Rattle.profile_image.specs.Words.{greatest_of, same_who}
+use Rattle.profile_image.specs.declared.image.Image.{Image}
 use Rattle.profile_machine.specs.declared.world.World.{World}
 use Rattle.profile_machine.specs.declared.world.tasks.Cause.{Cause}
 use Rattle.profile_machine.specs.declared.world.tasks.Task.{Task}

@@ -8,13 +8,13 @@ use Rattle.trace_text.specs.declared.events.Who.{Who}
 use Rattle.trace_text.specs.declared.events.Who.TheVariants as who
 use Rattle.trace_text.specs.Queue.{entry_of, placed, queue_after, who_eq, without}
 use Rattle.trace_text.specs.Laws.{Levels, see_levels}
-use Rattle.profile_machine.specs.declared.image.Image.{Image}
+use Rattle.profile_image.specs.declared.image.Image.{Image}
 use Rattle.profile_machine.specs.declared.world.lines.Line.{Line}
 use Rattle.profile_machine.specs.declared.world.lines.Line.TheVariants as line
 use Rattle.profile_machine.specs.declared.world.lines.Said.{Said}
 use Rattle.profile_machine.specs.Lines.{event_of}
 use Rattle.profile_machine.specs.Steps.{in_order}
-use Rattle.profile_machine.specs.Words.{same_who}
+use Rattle.profile_image.specs.Words.{same_who}
 use Rattle.ceiling_laws.specs.RunLaws.{levels_told}
 use Rattle.ceiling_laws.proofs.Places.PartOrder.{place-in_order}
 use Rattle.ceiling_laws.specs.PlaceLaws.{EffectsPlaceByTheLast, level_in, level_shown}

@@ -11,7 +11,7 @@ use Rattle.profile_machine.specs.Masters.{forget_task}
 use Rattle.profile_machine.specs.Tasking.{add_task}
 use Rattle.profile_machine.specs.Tasks.{edit_task, edit_task_found, is_who, nobody, task_at, task_of}
 use Rattle.profile_machine.specs.WellFormed.{number_in}
-use Rattle.profile_machine.specs.Words.{same_task, same_who, without}
+use Rattle.profile_image.specs.Words.{same_task, same_who, without}
 use Rattle.profile_machine.specs.declared.world.World.{World}
 use Rattle.profile_machine.specs.declared.world.appointments.Appointment.{Appointment}
 use Rattle.profile_machine.specs.declared.world.appointments.Due.TheVariants as due_for

@@ -13,8 +13,8 @@ use Rattle.profile_machine.specs.Masters.{part_of, waits_at_terminate}
 use Rattle.profile_machine.specs.Priorities.{placing_of}
 use Rattle.profile_machine.specs.Steps.{is_numbered_before, is_part_before}
 use Rattle.profile_machine.specs.Tasks.{is_runnable_state, nobody, task_of, waiting_in}
-use Rattle.profile_machine.specs.Words.{same_who}
-use Rattle.profile_machine.specs.declared.image.Image.{Image}
+use Rattle.profile_image.specs.Words.{same_who}
+use Rattle.profile_image.specs.declared.image.Image.{Image}
 use Rattle.profile_machine.specs.declared.world.World.{World}
 use Rattle.profile_machine.specs.declared.world.lines.Part.{Part}
 use Rattle.profile_machine.specs.declared.world.lines.Part.TheVariants.{OfOther, Own, TheBlock, TheCall, TheFinish, ThePlacing}

@@ -3,7 +3,7 @@ use Rattle.std.proofs.Common.{cond, List, Some, None, ap, ◌∙◌}
 use Rattle.trace_text.specs.declared.events.QueueEnd.{QueueEnd}
 use Rattle.trace_text.specs.declared.events.QueueEnd.TheVariants.{Head, Tail}
 use Rattle.trace_text.specs.declared.events.Who.{Who}
-use Rattle.profile_machine.specs.declared.image.Image.{Image}
+use Rattle.profile_image.specs.declared.image.Image.{Image}
 use Rattle.profile_machine.specs.declared.world.World.{World}
 use Rattle.profile_machine.specs.declared.world.lines.Line.TheVariants as line
 use Rattle.profile_machine.specs.declared.world.lines.Part.{Part}

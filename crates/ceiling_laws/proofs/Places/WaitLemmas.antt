@@ -23,13 +23,13 @@ use Rattle.machine_laws.proofs.Moves.{lines_of}
 use Rattle.profile_machine.specs.Dispatching.{active, active_of, deadline_shown, grant_quantum, granted, keep_level, level_kept_by, ready, says_ready, to_tail}
 use Rattle.profile_machine.specs.Inheritance.{inherit, same_cause}
 use Rattle.profile_machine.specs.Instant.{budgets_due, events_due, moments_due, quantum_spent, script_items, timers_due}
-use Rattle.profile_machine.specs.Program.{edf_low, is_robin_level}
+use Rattle.profile_image.specs.Program.{edf_low, is_robin_level}
 use Rattle.profile_machine.specs.Run.{tock}
 use Rattle.profile_machine.specs.Scopes.{end_scope}
 use Rattle.profile_machine.specs.Steps.{placed_by, ◌▶◌}
 use Rattle.profile_machine.specs.Tasks.{edit_task, edit_task_found, is_runnable, is_runnable_state, is_who, nobody, task_at, task_of, waiting_in, waiting_of, with_state}
-use Rattle.profile_machine.specs.Words.{same_who}
-use Rattle.profile_machine.specs.declared.image.Image.{Image}
+use Rattle.profile_image.specs.Words.{same_who}
+use Rattle.profile_image.specs.declared.image.Image.{Image}
 use Rattle.profile_machine.specs.declared.world.World.{World}
 use Rattle.profile_machine.specs.declared.world.lines.Line.{Line}
 use Rattle.profile_machine.specs.declared.world.lines.Line.TheVariants as line

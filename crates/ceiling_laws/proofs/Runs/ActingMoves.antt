@@ -17,11 +17,11 @@ use Rattle.profile_machine.specs.Rendezvous.{meet_without_room}
 use Rattle.profile_machine.specs.Steps.{changes, says, ◌▷◌}
 use Rattle.profile_machine.specs.Tasking.{create_task, fall_from, says_done}
 use Rattle.profile_machine.specs.Tasks.{edit_task, is_made, waiting_of, with_state}
-use Rattle.profile_machine.specs.Words.{same_who}
-use Rattle.profile_machine.specs.declared.image.Image.{Image}
-use Rattle.profile_machine.specs.declared.numbers.DeclNo.{DeclNo}
-use Rattle.profile_machine.specs.declared.numbers.ProtectedUnitNo.{ProtectedUnitNo}
-use Rattle.profile_machine.specs.declared.numbers.StatementNo.{StatementNo}
+use Rattle.profile_image.specs.Words.{same_who}
+use Rattle.profile_image.specs.declared.image.Image.{Image}
+use Rattle.profile_image.specs.declared.numbers.DeclNo.{DeclNo}
+use Rattle.profile_image.specs.declared.numbers.ProtectedUnitNo.{ProtectedUnitNo}
+use Rattle.profile_image.specs.declared.numbers.StatementNo.{StatementNo}
 use Rattle.profile_machine.specs.declared.world.World.{World}
 use Rattle.profile_machine.specs.declared.world.appointments.Due.TheVariants as due_for
 use Rattle.profile_machine.specs.declared.world.calls.Call.{Call}

@@ -30,21 +30,21 @@ use Rattle.profile_machine.specs.Instant.{effect, instant}
 use Rattle.profile_machine.specs.Lines.{event_of}
 use Rattle.profile_machine.specs.Masters.{forget_task, part_of}
 use Rattle.profile_machine.specs.Priorities.{says_base, set_base}
-use Rattle.profile_machine.specs.Program.{next_of, protected_unit_of, scope_of}
+use Rattle.profile_image.specs.Program.{next_of, protected_unit_of, scope_of}
 use Rattle.profile_machine.specs.Run.{blank_world, environment, environment_task, opening, opens, tock}
 use Rattle.profile_machine.specs.Scopes.{begin_scope, draw_region, end_scope, new_scope_mark, next_id, open_scope, plainly, region_of_next}
 use Rattle.profile_machine.specs.Steps.{changes, for_some, in_order, is_part_before, looks, placed_by, says, ◌▷◌}
 use Rattle.profile_machine.specs.Tasking.{add_task, create_task, says_created}
 use Rattle.profile_machine.specs.Tasks.{edit_task, edit_task_found, is_who, task_at, task_of, with_frames}
 use Rattle.profile_machine.specs.WellFormed.{number_in}
-use Rattle.profile_machine.specs.Words.{same_who}
-use Rattle.profile_machine.specs.declared.image.Image.{Image}
-use Rattle.profile_machine.specs.declared.numbers.DeclNo.{DeclNo}
-use Rattle.profile_machine.specs.declared.numbers.ProtectedUnitNo.{ProtectedUnitNo}
-use Rattle.profile_machine.specs.declared.numbers.StatementNo.{StatementNo}
-use Rattle.profile_machine.specs.declared.run_data.Item.{Item}
-use Rattle.profile_machine.specs.declared.values.Value.{Value}
-use Rattle.profile_machine.specs.declared.values.Value.TheVariants as value_of
+use Rattle.profile_image.specs.Words.{same_who}
+use Rattle.profile_image.specs.declared.image.Image.{Image}
+use Rattle.profile_image.specs.declared.numbers.DeclNo.{DeclNo}
+use Rattle.profile_image.specs.declared.numbers.ProtectedUnitNo.{ProtectedUnitNo}
+use Rattle.profile_image.specs.declared.numbers.StatementNo.{StatementNo}
+use Rattle.profile_image.specs.declared.script_items.Item.{Item}
+use Rattle.profile_image.specs.declared.values.Value.{Value}
+use Rattle.profile_image.specs.declared.values.Value.TheVariants as value_of
 use Rattle.profile_machine.specs.declared.world.World.{World}
 use Rattle.profile_machine.specs.declared.world.appointments.Due.TheVariants as due_for
 use Rattle.profile_machine.specs.declared.world.lines.Line.{Line}

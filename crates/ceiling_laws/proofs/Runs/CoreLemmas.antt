@@ -4,7 +4,7 @@ use Rattle.ceiling_laws.specs.Cores.{Core, Same, ceiling_in, core}
 use Rattle.ceiling_laws.specs.RunLaws.{AreCeilingsShown}
 use Rattle.profile_machine.specs.Tasks.{is_who, nobody, task_of}
 use Rattle.profile_machine.specs.Values.{is_object}
-use Rattle.profile_machine.specs.Words.{same_object, same_who}
+use Rattle.profile_image.specs.Words.{same_object, same_who}
 use Rattle.profile_machine.specs.declared.world.World.{World}
 use Rattle.profile_machine.specs.declared.world.objects.Object.{Object}
 use Rattle.profile_machine.specs.declared.world.tasks.Task.{Task}

@@ -24,18 +24,18 @@ use Rattle.profile_machine.specs.Dispatching.{active, deadline_shown, says_ready
 use Rattle.profile_machine.specs.Instant.{instant}
 use Rattle.profile_machine.specs.Lines.{event_of}
 use Rattle.profile_machine.specs.Masters.{forget_task, part_of}
-use Rattle.profile_machine.specs.Program.{has_edf, interrupt_priority, is_edf_level, next_of, protected_unit_of}
+use Rattle.profile_image.specs.Program.{has_edf, interrupt_priority, is_edf_level, next_of, protected_unit_of}
 use Rattle.profile_machine.specs.Run.{blank_world, environment, opening, opens, tock}
 use Rattle.profile_machine.specs.Scopes.{plainly}
 use Rattle.profile_machine.specs.Steps.{Step, changes, in_order, is_part_before, put_in_order, says, ◌▷◌}
 use Rattle.profile_machine.specs.Tasking.{add_task, create_task, says_created}
 use Rattle.profile_machine.specs.Tasks.{edit_task, task_at, task_of}
-use Rattle.profile_machine.specs.declared.image.Image.{Image}
-use Rattle.profile_machine.specs.declared.numbers.DeclNo.{DeclNo}
-use Rattle.profile_machine.specs.declared.numbers.ProtectedUnitNo.{ProtectedUnitNo}
-use Rattle.profile_machine.specs.declared.numbers.StatementNo.{StatementNo}
-use Rattle.profile_machine.specs.declared.run_data.Item.{Item}
-use Rattle.profile_machine.specs.declared.values.Value.TheVariants as value_of
+use Rattle.profile_image.specs.declared.image.Image.{Image}
+use Rattle.profile_image.specs.declared.numbers.DeclNo.{DeclNo}
+use Rattle.profile_image.specs.declared.numbers.ProtectedUnitNo.{ProtectedUnitNo}
+use Rattle.profile_image.specs.declared.numbers.StatementNo.{StatementNo}
+use Rattle.profile_image.specs.declared.script_items.Item.{Item}
+use Rattle.profile_image.specs.declared.values.Value.TheVariants as value_of
 use Rattle.profile_machine.specs.declared.world.World.{World}
 use Rattle.profile_machine.specs.declared.world.appointments.Due.TheVariants as due_for
 use Rattle.profile_machine.specs.declared.world.lines.Line.{Line}

@@ -23,7 +23,7 @@ use Rattle.profile_machine.specs.Dispatching.{active, active_of}
 use Rattle.profile_machine.specs.Instant.{budgets_due, effect, effect_of_runner, events_due, finish_action, instant, is_over, moments_due, quantum_spent, script_items, timers_due}
 use Rattle.profile_machine.specs.Masters.{forget_task, part_of}
 use Rattle.profile_machine.specs.Priorities.{says_base, set_base}
-use Rattle.profile_machine.specs.Program.{has_edf, next_of, protected_unit_of}
+use Rattle.profile_image.specs.Program.{has_edf, next_of, protected_unit_of}
 use Rattle.profile_machine.specs.Protected.{entering_option, excludes, has_open, is_above_ceiling, is_action_of}
 use Rattle.profile_machine.specs.Run.{blank_world, environment, opening, opens, tock}
 use Rattle.profile_machine.specs.Scopes.{goes_with, open_scope, plainly}
@@ -31,13 +31,13 @@ use Rattle.profile_machine.specs.Steps.{Done, Move, changes, done, in_order, res
 use Rattle.profile_machine.specs.Tasking.{add_task, create_task, says_created}
 use Rattle.profile_machine.specs.Tasks.{edit_task, found_task, nobody, task_of}
 use Rattle.profile_machine.specs.Values.{object_of}
-use Rattle.profile_machine.specs.Words.{without}
-use Rattle.profile_machine.specs.declared.image.Image.{Image}
-use Rattle.profile_machine.specs.declared.numbers.DeclNo.{DeclNo}
-use Rattle.profile_machine.specs.declared.numbers.ProtectedUnitNo.{ProtectedUnitNo}
-use Rattle.profile_machine.specs.declared.numbers.StatementNo.{StatementNo}
-use Rattle.profile_machine.specs.declared.run_data.Item.{Item}
-use Rattle.profile_machine.specs.declared.values.Value.TheVariants as value_of
+use Rattle.profile_image.specs.Words.{without}
+use Rattle.profile_image.specs.declared.image.Image.{Image}
+use Rattle.profile_image.specs.declared.numbers.DeclNo.{DeclNo}
+use Rattle.profile_image.specs.declared.numbers.ProtectedUnitNo.{ProtectedUnitNo}
+use Rattle.profile_image.specs.declared.numbers.StatementNo.{StatementNo}
+use Rattle.profile_image.specs.declared.script_items.Item.{Item}
+use Rattle.profile_image.specs.declared.values.Value.TheVariants as value_of
 use Rattle.profile_machine.specs.declared.world.World.{World}
 use Rattle.profile_machine.specs.declared.world.appointments.Due.TheVariants as due_for
 use Rattle.profile_machine.specs.declared.world.lines.Line.{Line}

@@ -1,5 +1,5 @@
 -- What touches no deadline and leaves who made a call leaves alone all that ceilings are about: so the finer lemmas serve here too.
-use Rattle.profile_machine.specs.declared.image.Image.{Image}
+use Rattle.profile_image.specs.declared.image.Image.{Image}
 use Rattle.profile_machine.specs.declared.world.World.{World}
 use Rattle.profile_machine.specs.declared.world.tasks.Task.{Task}
 use Rattle.std.proofs.Common.{List, [], ap, map, refl, sym, ◌∙◌, ◌≡◌, ◌∷◌}

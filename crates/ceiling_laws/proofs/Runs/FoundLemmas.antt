@@ -4,7 +4,7 @@ use Rattle.ceiling_laws.proofs.Runs.Kept.Waking.{who-is}
 use Rattle.ceiling_laws.proofs.Runs.SameLemmas.{found_is_who, set_where-found}
 use Rattle.ceiling_laws.proofs.Places.PartOrder.{by_test}
 use Rattle.profile_machine.specs.Tasks.{edit_task_found, is_who}
-use Rattle.profile_machine.specs.Words.{same_who, set_where, without}
+use Rattle.profile_image.specs.Words.{same_who, set_where, without}
 use Rattle.profile_machine.specs.declared.world.World.{World}
 use Rattle.profile_machine.specs.declared.world.tasks.Task.{Task}
 use Rattle.std.proofs.Common.{Bool, List, None, Option, Some, [], ap, cond, false, inl, inr, not, refl, sym, true, ◌++◌, ◌∙◌, ◌∷◌, ◌≡◌, ◌⊎◌}

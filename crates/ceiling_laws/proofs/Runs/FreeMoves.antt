@@ -21,16 +21,16 @@ use Rattle.profile_machine.specs.Frames.{in_protected}
 use Rattle.profile_machine.specs.Inheritance.{falls, inherit, lose, lose_running}
 use Rattle.profile_machine.specs.Masters.{forget_task, part_of}
 use Rattle.profile_machine.specs.Priorities.{defer_base, defer_deadline, is_runnable_at_edf, placing_of, replace_in, says_base, set_base, set_deadline, set_deferred, set_or_defer_base, set_or_defer_deadline, take_base, take_deadline}
-use Rattle.profile_machine.specs.Program.{edf_low, has_edf, is_robin_level}
+use Rattle.profile_image.specs.Program.{edf_low, has_edf, is_robin_level}
 use Rattle.profile_machine.specs.Protected.{entering}
 use Rattle.profile_machine.specs.Rendezvous.{meet_without_room}
 use Rattle.profile_machine.specs.Steps.{changes, is_part_before, nothing, says, ◌▷◌}
 use Rattle.profile_machine.specs.Tasking.{create_task, fall_from, says_done}
 use Rattle.profile_machine.specs.Tasks.{edit_task, task_of, with_state}
-use Rattle.profile_machine.specs.declared.image.Image.{Image}
-use Rattle.profile_machine.specs.declared.numbers.DeclNo.{DeclNo}
-use Rattle.profile_machine.specs.declared.numbers.ProtectedUnitNo.{ProtectedUnitNo}
-use Rattle.profile_machine.specs.declared.numbers.StatementNo.{StatementNo}
+use Rattle.profile_image.specs.declared.image.Image.{Image}
+use Rattle.profile_image.specs.declared.numbers.DeclNo.{DeclNo}
+use Rattle.profile_image.specs.declared.numbers.ProtectedUnitNo.{ProtectedUnitNo}
+use Rattle.profile_image.specs.declared.numbers.StatementNo.{StatementNo}
 use Rattle.profile_machine.specs.declared.world.World.{World}
 use Rattle.profile_machine.specs.declared.world.appointments.Due.TheVariants as due_for
 use Rattle.profile_machine.specs.declared.world.calls.Call.{Call}

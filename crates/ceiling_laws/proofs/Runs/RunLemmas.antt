@@ -9,7 +9,7 @@ use Rattle.machine_laws.proofs.Moves.{lines_of}
 use Rattle.profile_machine.specs.Instant.{budgets_due, effect, effect_of_runner, events_due, finish_action, instant, is_over, moments_due, quantum_spent, script_items, timers_due}
 use Rattle.profile_machine.specs.Steps.{Done, Move, Step, done, placed_by, rests, settled, settles, ◌▶◌}
 use Rattle.profile_machine.specs.Tasks.{task_of}
-use Rattle.profile_machine.specs.declared.image.Image.{Image}
+use Rattle.profile_image.specs.declared.image.Image.{Image}
 use Rattle.profile_machine.specs.declared.world.World.{World}
 use Rattle.profile_machine.specs.declared.world.lines.Said.{Said}
 use Rattle.std.proofs.Common.{inl, inr, refl, subst, sym, ◌≡◌}

@@ -4,7 +4,7 @@ use Rattle.ceiling_laws.specs.Cores.{Same, ceiling_in, core}
 use Rattle.profile_machine.specs.Calls.{edit_object}
 use Rattle.profile_machine.specs.Tasks.{edit_task, edit_task_found, is_who, task_at}
 use Rattle.profile_machine.specs.Values.{is_object}
-use Rattle.profile_machine.specs.Words.{edit_found, same_who, set_where}
+use Rattle.profile_image.specs.Words.{edit_found, same_who, set_where}
 use Rattle.profile_machine.specs.declared.world.World.{World}
 use Rattle.profile_machine.specs.declared.world.objects.Object.{Object}
 use Rattle.profile_machine.specs.declared.world.tasks.Task.{Task}

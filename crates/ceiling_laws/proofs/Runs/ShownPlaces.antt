@@ -9,8 +9,8 @@ use Rattle.profile_machine.specs.Instant.{instant}
 use Rattle.profile_machine.specs.Dispatching as dispatching
 use Rattle.profile_machine.specs.Run.{tock}
 use Rattle.profile_machine.specs.Steps.{is_above, places_after, places_after_all, put_at_head}
-use Rattle.profile_machine.specs.declared.image.Image.{Image}
-use Rattle.profile_machine.specs.declared.run_data.Item.{Item}
+use Rattle.profile_image.specs.declared.image.Image.{Image}
+use Rattle.profile_image.specs.declared.script_items.Item.{Item}
 use Rattle.profile_machine.specs.declared.world.World.{World}
 use Rattle.profile_machine.specs.declared.world.tasks.Placed.{Placed}
 use Rattle.std.proofs.Common.{ap, inl, inr, refl, subst, sym, ◌∙◌, ◌≡◌, ◌⊎◌}

@@ -7,12 +7,12 @@ use Rattle.profile_machine.specs.Appointments.{is_delay_of}
 use Rattle.profile_machine.specs.Cost.{cost}
 use Rattle.profile_machine.specs.Dispatching.{choose}
 use Rattle.profile_machine.specs.Handlers.{charge, charge_budget, charge_clock, charge_group, charge_task, clock_risen, quantum_spent_by}
-use Rattle.profile_machine.specs.Program.{is_robin_level}
+use Rattle.profile_image.specs.Program.{is_robin_level}
 use Rattle.profile_machine.specs.Run.{begin_action, next_tick, one_tick_less, say, says_idle, says_run, serve, serve_if_free, spend_tick, tock, with_serving}
 use Rattle.profile_machine.specs.Steps.{rests}
 use Rattle.profile_machine.specs.Tasks.{edit_task, task_of, with_ticks}
-use Rattle.profile_machine.specs.Words.{same_option, same_who}
-use Rattle.profile_machine.specs.declared.image.Image.{Image}
+use Rattle.profile_image.specs.Words.{same_option, same_who}
+use Rattle.profile_image.specs.declared.image.Image.{Image}
 use Rattle.profile_machine.specs.declared.world.World.{World}
 use Rattle.profile_machine.specs.declared.world.appointments.Release.{Release}
 use Rattle.profile_machine.specs.declared.world.marks.Frame.{Frame}

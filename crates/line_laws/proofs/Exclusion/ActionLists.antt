@@ -11,7 +11,7 @@ use Rattle.trace_text.specs.declared.events.Who.TheVariants as who
 use Rattle.trace_text.specs.Queue.{who_eq}
 use Rattle.trace_text.specs.Laws.{is_write, closed, is_beside}
 use Rattle.profile_machine.specs.declared.world.objects.Action.{Action}
-use Rattle.profile_machine.specs.Words.{same_who, without}
+use Rattle.profile_image.specs.Words.{same_who, without}
 use Rattle.ann_base.specs.Lists.{is_empty}
 use Rattle.profile_machine.specs.Protected.{is_action_of, has_open, is_read, excludes}
 use Rattle.machine_laws.proofs.QueueLemmas.{who_eq-is}

@@ -4,7 +4,7 @@ use Rattle.std.proofs.lemmas.Bool.{eqb-true}
 use Rattle.std.specs.Prelude.{find, filter}
 use Rattle.ann_base.specs.declared.identities.ObjectNo.{ObjectNo}
 use Rattle.profile_machine.specs.declared.world.objects.Object.{Object}
-use Rattle.profile_machine.specs.Words.{edit_where, edit_found, set_where}
+use Rattle.profile_image.specs.Words.{edit_where, edit_found, set_where}
 use Rattle.profile_machine.specs.Values.{is_object}
 use Rattle.machine_laws.proofs.ListLemmas.{Falls}
 use Rattle.machine_laws.proofs.QueueLemmas.{by_test}

@@ -15,8 +15,8 @@ use Rattle.line_laws.proofs.Exits.OpenCounts.{count}
 use Rattle.trace_text.specs.Queue.{TraceLine, follows_lines}
 use Rattle.trace_text.specs.Laws.{actions_after, is_exclusive, ExclusiveOk}
 use Rattle.trace_text.proofs.LawsFollowed.{lines_hold}
-use Rattle.profile_machine.specs.declared.image.Image.{Image}
-use Rattle.profile_machine.specs.declared.run_data.Item.{Item}
+use Rattle.profile_image.specs.declared.image.Image.{Image}
+use Rattle.profile_image.specs.declared.script_items.Item.{Item}
 use Rattle.profile_machine.specs.declared.world.World.{World}
 use Rattle.profile_machine.specs.Dispatching.{choose}
 use Rattle.profile_machine.specs.Instant.{instant}

@@ -13,14 +13,14 @@ use Rattle.trace_text.specs.declared.events.QueueEnd.TheVariants.{Tail}
 use Rattle.trace_text.specs.declared.events.Who.{Who}
 use Rattle.world_tables.specs.Lists.{rest_of}
 use Rattle.trace_text.specs.declared.events.Who.TheVariants as who
-use Rattle.profile_machine.specs.declared.image.Image.{Image}
-use Rattle.profile_machine.specs.declared.numbers.StatementNo.{StatementNo}
+use Rattle.profile_image.specs.declared.image.Image.{Image}
+use Rattle.profile_image.specs.declared.numbers.StatementNo.{StatementNo}
 use Rattle.profile_machine.specs.declared.run_data.Leaving.{Leaving}
 use Rattle.profile_machine.specs.declared.run_data.Leaving.TheVariants as how
-use Rattle.profile_machine.specs.declared.statements.StatementForm.{StatementForm}
-use Rattle.profile_machine.specs.declared.statements.StatementForm.TheVariants as form
+use Rattle.profile_image.specs.declared.statements.StatementForm.{StatementForm}
+use Rattle.profile_image.specs.declared.statements.StatementForm.TheVariants as form
 use Rattle.profile_machine.specs.declared.world.scopes.Variable.{Variable}
-use Rattle.profile_machine.specs.declared.values.Value.{Value}
+use Rattle.profile_image.specs.declared.values.Value.{Value}
 use Rattle.profile_machine.specs.declared.world.World.{World}
 use Rattle.profile_machine.specs.declared.world.marks.Frame.{Frame}
 use Rattle.profile_machine.specs.declared.world.marks.Mark.{Mark}
@@ -43,15 +43,15 @@ use Rattle.profile_machine.specs.declared.world.tasks.State.{State}
 use Rattle.profile_machine.specs.declared.world.tasks.State.TheVariants.{Made, Runnable, Blocked}
 use Rattle.profile_machine.specs.declared.world.tasks.Waiting.{Waiting}
 use Rattle.profile_machine.specs.declared.world.tasks.Waiting.TheVariants as waits_for
-use Rattle.profile_machine.specs.Words.{same_who}
-use Rattle.profile_machine.specs.Program.{next_of, form_of, is_robin_level, edf_low}
+use Rattle.profile_image.specs.Words.{same_who}
+use Rattle.profile_image.specs.Program.{next_of, form_of, is_robin_level, edf_low}
 use Rattle.profile_machine.specs.Steps.{Step, Done, done, goes_on_with, says, changes, looks, when, nothing, for_some, ◌▷◌}
 use Rattle.profile_machine.specs.Tasks.{task_of, edit_task, with_frames, with_state, with_ticks, waiting_in, waiting_of}
 use Rattle.profile_machine.specs.Dispatching.{active, deadline_shown, level_kept_by, keep_level, granted, grant_quantum, says_ready, to_tail, ready}
 use Rattle.profile_machine.specs.Frames.{frames_of, top_of, edit_first, edit_top, goes_on, goes, push, pop, new_frame, left_so, leaving_of, with_mark, leaves, raises, has_room, open_handled, open_at, open_sequence, onward_of, exit_loop, stands_in, pass_on}
 use Rattle.profile_machine.specs.Appointments.{drop_delay, appoint}
 use Rattle.profile_machine.specs.Operators.{Valued, checked}
-use Rattle.profile_machine.specs.Program.{declaration_of}
+use Rattle.profile_image.specs.Program.{declaration_of}
 use Rattle.profile_machine.specs.Scopes.{write_cell}
 use Rattle.profile_machine.specs.Calls.{edit_call, forget_call, with_call, says_call, edit_queue, take_call, put_call, place_of_entry, enqueued, enqueue, unqueued, is_cancellable, attempt_on, attempt, call_of}
 use Rattle.profile_machine.specs.Unwinding.{struck_frame, may_unwind, leave_by_abort, stop_waiting, wake_and_leave, unwind_blocked, unwind_in, unwind}

@@ -4,8 +4,8 @@ use Rattle.std.proofs.lemmas.Bool.{false≢true}
 use Rattle.ann_base.specs.declared.identities.ObjectNo.{ObjectNo}
 use Rattle.trace_text.specs.declared.events.Mode.TheVariants.{Write}
 use Rattle.trace_text.specs.declared.events.Who.TheVariants as who
-use Rattle.profile_machine.specs.declared.image.Image.{Image}
-use Rattle.profile_machine.specs.declared.numbers.StatementNo.{StatementNo}
+use Rattle.profile_image.specs.declared.image.Image.{Image}
+use Rattle.profile_image.specs.declared.numbers.StatementNo.{StatementNo}
 use Rattle.profile_machine.specs.declared.world.World.{World}
 use Rattle.profile_machine.specs.declared.world.appointments.Release.{Release}
 use Rattle.profile_machine.specs.declared.world.marks.Frame.{Frame}
@@ -25,7 +25,7 @@ use Rattle.profile_machine.specs.declared.world.lines.Part.TheVariants.{Own}
 use Rattle.profile_machine.specs.declared.world.lines.Said.{Said}
 use Rattle.world_tables.specs.Lists.{first_of}
 use Rattle.ann_base.specs.Lists.{is_empty}
-use Rattle.profile_machine.specs.Program.{form_of, marks_of, subprogram_of, size_of_body}
+use Rattle.profile_image.specs.Program.{form_of, marks_of, subprogram_of, size_of_body}
 use Rattle.profile_machine.specs.Steps.{Step, says, changes, looks, when, ◌▷◌}
 use Rattle.profile_machine.specs.Tasks.{edit_task, with_ticks, waiting_in, waiting_of, is_runnable}
 use Rattle.profile_machine.specs.Frames.{top_of, push, new_frame, has_room, is_protected, leaving_of, open_at, onward_of, open_sequence, open_if_ready}

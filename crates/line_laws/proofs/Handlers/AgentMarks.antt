@@ -6,7 +6,7 @@ use Rattle.std.proofs.lemmas.Bool.{eqb-true, false_from_ne_true, false≢true, o
 use Rattle.ann_base.specs.declared.identities.RegionNo.{RegionNo}
 use Rattle.profile_machine.specs.declared.world.marks.Frame.{Frame}
 use Rattle.profile_machine.specs.declared.world.tasks.Task.{Task}
-use Rattle.profile_machine.specs.Words.{is_the, same_region}
+use Rattle.profile_image.specs.Words.{is_the, same_region}
 use Rattle.world_tables.specs.Lists.{first_of}
 use Rattle.profile_machine.specs.Frames.{is_protected, any_protected}
 use Rattle.machine_laws.proofs.FineMoves.{Nature, natures}

@@ -12,7 +12,7 @@ use Rattle.trace_text.specs.declared.events.Who.TheVariants as who
 use Rattle.trace_text.specs.Queue as shown
 use Rattle.trace_text.specs.Queue.{who_eq, entry_of, queue_after}
 use Rattle.profile_machine.specs.declared.world.tasks.Placed.{Placed}
-use Rattle.profile_machine.specs.Words.{same_who}
+use Rattle.profile_image.specs.Words.{same_who}
 use Rattle.profile_machine.specs.Steps.{is_above, put_at_tail, put_at_head, put_at, take_out, places_after, places_after_all}
 use Rattle.profile_machine.specs.Dispatching.{head_of}
 use Rattle.machine_laws.specs.LineKinds.{is_of_tock, AllAre}

@@ -8,8 +8,8 @@ use Rattle.trace_text.specs.declared.events.Who.TheVariants as who
 use Rattle.trace_text.specs.Queue.{AtEachTick, entry_of, somebody_eq}
 use Rattle.trace_text.specs.Laws.{Releases, no_releases, see_releases, is_in_order, is_same, is_agent_right, HandlersOk}
 use Rattle.trace_text.proofs.LawsFollowed.{ticks_hold, somebody_is}
-use Rattle.profile_machine.specs.declared.image.Image.{Image}
-use Rattle.profile_machine.specs.declared.run_data.Item.{Item}
+use Rattle.profile_image.specs.declared.image.Image.{Image}
+use Rattle.profile_image.specs.declared.script_items.Item.{Item}
 use Rattle.profile_machine.specs.declared.world.World.{World}
 use Rattle.profile_machine.specs.declared.world.appointments.Release.{Release}
 use Rattle.ann_base.specs.Lists.{is_empty}

@@ -2,7 +2,7 @@
 use Rattle.std.proofs.Common.{◌≡◌, ℕ, suc, Bool, true, false, not, ◌||◌, List, [], ◌∷◌, ◌++◌, Option, is_some, refl, sym, ap, subst, ◌∙◌}
 use Rattle.trace_text.specs.declared.events.QueueEnd.TheVariants.{Tail}
 use Rattle.trace_text.specs.declared.events.Who.TheVariants as who
-use Rattle.profile_machine.specs.declared.image.Image.{Image}
+use Rattle.profile_image.specs.declared.image.Image.{Image}
 use Rattle.profile_machine.specs.declared.world.World.{World}
 use Rattle.profile_machine.specs.declared.world.appointments.HandlerOf.{HandlerOf}
 use Rattle.profile_machine.specs.declared.world.appointments.Release.{Release}
@@ -12,7 +12,7 @@ use Rattle.profile_machine.specs.declared.world.lines.Line.TheVariants as said
 use Rattle.profile_machine.specs.declared.world.lines.Part.TheVariants.{Own}
 use Rattle.profile_machine.specs.declared.world.lines.Said.{Said}
 use Rattle.ann_base.specs.Lists.{is_empty}
-use Rattle.profile_machine.specs.Program.{edf_low}
+use Rattle.profile_image.specs.Program.{edf_low}
 use Rattle.profile_machine.specs.Steps.{changes, looks, ◌▷◌}
 use Rattle.profile_machine.specs.Tasks.{edit_task, with_state, is_runnable_state}
 use Rattle.profile_machine.specs.Dispatching.{level_kept_by, keep_level, grant_quantum, says_ready, to_tail, ready}

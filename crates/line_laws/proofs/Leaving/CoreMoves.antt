@@ -8,8 +8,8 @@ use Rattle.ann_base.specs.declared.identities.TaskNo.{TaskNo}
 use Rattle.trace_text.specs.declared.events.QueueEnd.TheVariants.{Tail}
 use Rattle.trace_text.specs.declared.events.Who.{Who}
 use Rattle.trace_text.specs.declared.events.Who.TheVariants as who
-use Rattle.profile_machine.specs.declared.image.Image.{Image}
-use Rattle.profile_machine.specs.declared.numbers.StatementNo.{StatementNo}
+use Rattle.profile_image.specs.declared.image.Image.{Image}
+use Rattle.profile_image.specs.declared.numbers.StatementNo.{StatementNo}
 use Rattle.profile_machine.specs.declared.world.World.{World}
 use Rattle.profile_machine.specs.declared.world.tasks.Task.{Task}
 use Rattle.profile_machine.specs.declared.world.tasks.State.{State}
@@ -21,12 +21,12 @@ use Rattle.profile_machine.specs.declared.world.lines.Line.{Line}
 use Rattle.profile_machine.specs.declared.world.lines.Line.TheVariants as said
 use Rattle.profile_machine.specs.declared.world.lines.Part.{Part}
 use Rattle.profile_machine.specs.declared.world.lines.Said.{Said}
-use Rattle.profile_machine.specs.Words.{same_who}
+use Rattle.profile_image.specs.Words.{same_who}
 use Rattle.world_tables.specs.Lists.{first_of, rest_of}
 use Rattle.profile_machine.specs.Tasks.{task_at, task_of, edit_task_found, edit_task, with_state, with_frames, waiting_in, waiting_of}
 use Rattle.profile_machine.specs.Dispatching.{keep_level, without_kept_level, level_kept_by, granted}
 use Rattle.profile_machine.specs.Frames.{top_of, push, pop, edit_first, goes_on}
-use Rattle.profile_machine.specs.Program.{edf_low}
+use Rattle.profile_image.specs.Program.{edf_low}
 use Rattle.profile_machine.specs.Masters.{region_of_mark, waits_at_terminate}
 use Rattle.profile_machine.specs.Controlled.{top_region, region_or_none}
 use Rattle.line_laws.proofs.Leaving.FineMoves.{Alike, Free, Awake, waits, waiting_now, Caller, is_special, own_call_of, top_leaving, ready_world, blocked_world, block_line, is_apart, AreQuiet}

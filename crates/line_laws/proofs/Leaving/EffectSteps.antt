@@ -4,8 +4,8 @@ use Rattle.std.specs.Prelude.{filter}
 use Rattle.ann_base.specs.declared.identities.TaskNo.{TaskNo}
 use Rattle.trace_text.specs.declared.events.Who.{Who}
 use Rattle.trace_text.specs.declared.events.Who.TheVariants as who
-use Rattle.profile_machine.specs.declared.image.Image.{Image}
-use Rattle.profile_machine.specs.declared.numbers.StatementNo.{StatementNo}
+use Rattle.profile_image.specs.declared.image.Image.{Image}
+use Rattle.profile_image.specs.declared.numbers.StatementNo.{StatementNo}
 use Rattle.profile_machine.specs.declared.world.World.{World}
 use Rattle.profile_machine.specs.declared.world.appointments.Release.{Release}
 use Rattle.profile_machine.specs.declared.world.lines.Line.TheVariants as line
@@ -15,7 +15,7 @@ use Rattle.profile_machine.specs.declared.world.marks.Frame.{Frame}
 use Rattle.profile_machine.specs.declared.world.marks.Mark.{Mark}
 use Rattle.profile_machine.specs.declared.world.marks.Mark.TheVariants.{Scope, Handled, InProtected, InAccept, Abortable, InInitialize, InFinalize, InAssign}
 use Rattle.profile_machine.specs.Steps.{Step, Done, done, goes_on_with, looks, when, for_each, ◌▷◌}
-use Rattle.profile_machine.specs.Program.{form_of}
+use Rattle.profile_image.specs.Program.{form_of}
 use Rattle.profile_machine.specs.Tasks.{edit_task}
 use Rattle.profile_machine.specs.Frames.{top_of, leaving_of}
 use Rattle.profile_machine.specs.Act.{end_mark, act_frame, act_without, act_top, act}
@@ -39,7 +39,7 @@ use Rattle.line_laws.proofs.Leaving.Telling.{other-tells, then-tells}
 use Rattle.line_laws.proofs.Leaving.FineMoves.{block_line}
 use Rattle.line_laws.proofs.Leaving.Kept.Frames.{open_if_ready-keeps}
 use Rattle.line_laws.proofs.Leaving.Kept.Tasking.{all_terminate-keeps, unwind_all-keeps}
-use Rattle.profile_machine.specs.Words.{same_who}
+use Rattle.profile_image.specs.Words.{same_who}
 use Rattle.profile_machine.specs.declared.world.tasks.Waiting.{Waiting}
 use Rattle.profile_machine.specs.Tasks.{with_ticks, waiting_of}
 use Rattle.profile_machine.specs.Dispatching.{without_kept_level, says_block, word_of}

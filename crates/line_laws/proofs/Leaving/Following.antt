@@ -7,8 +7,8 @@ use Rattle.trace_text.specs.declared.events.Event.TheVariants as written
 use Rattle.trace_text.specs.declared.events.Created.TheVariants as created
 use Rattle.trace_text.specs.declared.events.Who.{Who}
 use Rattle.trace_text.specs.declared.events.Who.TheVariants as who
-use Rattle.profile_machine.specs.declared.image.Image.{Image}
-use Rattle.profile_machine.specs.declared.run_data.Item.{Item}
+use Rattle.profile_image.specs.declared.image.Image.{Image}
+use Rattle.profile_image.specs.declared.script_items.Item.{Item}
 use Rattle.profile_machine.specs.declared.world.World.{World}
 use Rattle.profile_machine.specs.declared.world.tasks.Placed.{Placed}
 use Rattle.profile_machine.specs.declared.world.lines.Line.TheVariants as line
@@ -19,7 +19,7 @@ use Rattle.profile_machine.specs.Steps.{Done, done, Move, settles, settled, rest
 use Rattle.profile_machine.specs.Tasks.{task_of, waiting_in, with_frames}
 use Rattle.profile_machine.specs.Dispatching.{to_tail}
 use Rattle.profile_machine.specs.Frames.{open_sequence, new_frame}
-use Rattle.profile_machine.specs.Program.{scope_of}
+use Rattle.profile_image.specs.Program.{scope_of}
 use Rattle.profile_machine.specs.Scopes.{open_scope, plainly, draw_region, begin_scope, new_scope_mark, next_id, region_of_next}
 use Rattle.profile_machine.specs.Instant.{effect, is_over, effect_of_runner, finish_action, script_items, events_due, moments_due, timers_due, budgets_due, quantum_spent, instant}
 use Rattle.profile_machine.specs.Run.{opens, opening, blank_world, environment}

@@ -8,8 +8,8 @@ use Rattle.trace_text.specs.declared.events.Ended.TheVariants as why
 use Rattle.trace_text.specs.Queue.{TraceLine, AtEachLine, follows_lines}
 use Rattle.trace_text.specs.Laws.{remember}
 use Rattle.trace_text.proofs.LawsFollowed.{lines_hold}
-use Rattle.profile_machine.specs.declared.image.Image.{Image}
-use Rattle.profile_machine.specs.declared.run_data.Item.{Item}
+use Rattle.profile_image.specs.declared.image.Image.{Image}
+use Rattle.profile_image.specs.declared.script_items.Item.{Item}
 use Rattle.profile_machine.specs.declared.world.World.{World}
 use Rattle.profile_machine.specs.Instant.{instant}
 use Rattle.profile_machine.specs.Run.{Ran, opening, blank_world, tock, stop, at_tick, stopped, then_runs, run_from, run_of}

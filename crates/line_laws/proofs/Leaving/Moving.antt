@@ -6,9 +6,9 @@ use Rattle.ann_base.specs.declared.identities.TaskNo.{TaskNo}
 use Rattle.trace_text.specs.declared.events.Event.{Event}
 use Rattle.trace_text.specs.declared.events.Who.{Who}
 use Rattle.trace_text.specs.declared.events.Who.TheVariants as who
-use Rattle.profile_machine.specs.declared.image.Image.{Image}
-use Rattle.profile_machine.specs.declared.numbers.ScopeNo.{ScopeNo}
-use Rattle.profile_machine.specs.declared.numbers.StatementNo.{StatementNo}
+use Rattle.profile_image.specs.declared.image.Image.{Image}
+use Rattle.profile_image.specs.declared.numbers.ScopeNo.{ScopeNo}
+use Rattle.profile_image.specs.declared.numbers.StatementNo.{StatementNo}
 use Rattle.profile_machine.specs.declared.world.World.{World}
 use Rattle.profile_machine.specs.declared.world.tasks.Task.{Task}
 use Rattle.profile_machine.specs.declared.world.tasks.State.TheVariants.{Runnable, Blocked}
@@ -27,7 +27,7 @@ use Rattle.profile_machine.specs.declared.world.calls.Call.{Call}
 use Rattle.world_tables.specs.Lists.{first_of, rest_of}
 use Rattle.profile_machine.specs.Tasks.{task_of, edit_task, with_state, with_frames, waiting_in}
 use Rattle.profile_machine.specs.Dispatching.{active, deadline_shown, word_of, keep_level, level_kept_by, granted, without_kept_level}
-use Rattle.profile_machine.specs.Program.{scope_of, edf_low, is_robin_level}
+use Rattle.profile_image.specs.Program.{scope_of, edf_low, is_robin_level}
 use Rattle.profile_machine.specs.Frames.{top_of, push, pop, edit_first, goes_on, new_frame}
 use Rattle.profile_machine.specs.Scopes.{begin_scope, draw_region, open_scope, next_id, region_of_next, new_scope_mark}
 use Rattle.profile_machine.specs.Masters.{forget_task, region_of_mark}

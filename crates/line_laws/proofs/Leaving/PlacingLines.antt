@@ -5,14 +5,14 @@ use Rattle.trace_text.specs.declared.events.QueueEnd.{QueueEnd}
 use Rattle.trace_text.specs.declared.events.QueueEnd.TheVariants.{Head, Tail}
 use Rattle.trace_text.specs.declared.events.Who.{Who}
 use Rattle.trace_text.specs.declared.events.Who.TheVariants as who
-use Rattle.profile_machine.specs.declared.image.Image.{Image}
+use Rattle.profile_image.specs.declared.image.Image.{Image}
 use Rattle.profile_machine.specs.declared.world.lines.Line.{Line}
 use Rattle.profile_machine.specs.declared.world.lines.Line.TheVariants as said
 use Rattle.profile_machine.specs.declared.world.lines.Part.{Part}
 use Rattle.profile_machine.specs.declared.world.lines.Part.TheVariants.{TheCall, TheFinish, Own, OfOther, ThePlacing, TheBlock}
 use Rattle.profile_machine.specs.declared.world.lines.Said.{Said}
 use Rattle.profile_machine.specs.declared.world.tasks.Placed.{Placed}
-use Rattle.profile_machine.specs.Words.{same_who}
+use Rattle.profile_image.specs.Words.{same_who}
 use Rattle.profile_machine.specs.Lines.{event_of}
 use Rattle.profile_machine.specs.Steps.{is_part_before, put_in_order, in_order, is_above, put_at, put_at_tail, put_at_head, take_out, places_after, places_after_all}
 use Rattle.machine_laws.proofs.Moves.{lines_of}

@@ -15,7 +15,7 @@ use Rattle.profile_machine.specs.declared.world.marks.Mark.TheVariants.{Scope, H
 use Rattle.profile_machine.specs.declared.world.marks.ScopeMark.{ScopeMark}
 use Rattle.profile_machine.specs.declared.world.scopes.Located.{Located}
 use Rattle.profile_machine.specs.declared.world.appointments.Registered.{Registered}
-use Rattle.profile_machine.specs.Words.{without}
+use Rattle.profile_image.specs.Words.{without}
 use Rattle.world_tables.specs.Lists.{first_of, rest_of}
 use Rattle.profile_machine.specs.Cost.{of_region}
 use Rattle.profile_machine.specs.Tasks.{task_at, edit_task_found, edit_task, with_frames, nobody}

@@ -7,7 +7,7 @@ use Rattle.trace_text.specs.declared.events.Who.{Who}
 use Rattle.trace_text.specs.declared.events.Who.TheVariants as who
 use Rattle.profile_machine.specs.declared.world.World.{World}
 use Rattle.profile_machine.specs.declared.world.tasks.Task.{Task}
-use Rattle.profile_machine.specs.Words.{set_where}
+use Rattle.profile_image.specs.Words.{set_where}
 use Rattle.profile_machine.specs.Tasks.{task_at, edit_task_found, edit_task, is_who}
 use Rattle.line_laws.proofs.Leaving.FineMoves.{Nature, natures}
 

@@ -8,7 +8,7 @@ use Rattle.trace_text.specs.declared.events.Who.TheVariants as who
 use Rattle.profile_machine.specs.declared.world.World.{World}
 use Rattle.profile_machine.specs.declared.world.tasks.Task.{Task}
 use Rattle.profile_machine.specs.declared.world.marks.Frame.{Frame}
-use Rattle.profile_machine.specs.Words.{set_where, same_who, without}
+use Rattle.profile_image.specs.Words.{set_where, same_who, without}
 use Rattle.world_tables.specs.Lists.{first_of}
 use Rattle.profile_machine.specs.Tasks.{nobody, is_who, found_task, task_at, task_of, edit_task_found, edit_task, waiting_in, with_frames}
 use Rattle.profile_machine.specs.Frames.{push}

@@ -6,18 +6,18 @@ use Rattle.std.proofs.lemmas.List.Elements.{recursion_from_All}
 use Rattle.ann_base.specs.declared.exceptions.Raised.{Raised}
 use Rattle.ann_base.specs.declared.exceptions.Raised.TheVariants as exception
 use Rattle.trace_text.specs.Text.{IsName}
-use Rattle.profile_machine.specs.declared.image.Image.{Image}
-use Rattle.profile_machine.specs.declared.declarations.Declaration.{Declaration}
-use Rattle.profile_machine.specs.declared.declarations.Entry.{Entry}
-use Rattle.profile_machine.specs.declared.declarations.Subprogram.{Subprogram}
-use Rattle.profile_machine.specs.declared.numbers.DeclNo.{DeclNo}
-use Rattle.profile_machine.specs.declared.numbers.EntryNo.{EntryNo}
-use Rattle.profile_machine.specs.declared.numbers.SubprogramNo.{SubprogramNo}
+use Rattle.profile_image.specs.declared.image.Image.{Image}
+use Rattle.profile_image.specs.declared.declarations.Declaration.{Declaration}
+use Rattle.profile_image.specs.declared.declarations.Entry.{Entry}
+use Rattle.profile_image.specs.declared.declarations.Subprogram.{Subprogram}
+use Rattle.profile_image.specs.declared.numbers.DeclNo.{DeclNo}
+use Rattle.profile_image.specs.declared.numbers.EntryNo.{EntryNo}
+use Rattle.profile_image.specs.declared.numbers.SubprogramNo.{SubprogramNo}
 use Rattle.profile_machine.specs.declared.world.calls.Owner.TheVariants as owned_by
 use Rattle.profile_machine.specs.declared.world.lines.Line.{Line}
 use Rattle.profile_machine.specs.declared.world.lines.Line.TheVariants as line
 use Rattle.profile_machine.specs.declared.world.lines.MeetingEnd.TheVariants as meeting
-use Rattle.profile_machine.specs.Program.{no_declaration, declaration_of, no_entry, entry_of, no_subprogram, subprogram_of}
+use Rattle.profile_image.specs.Program.{no_declaration, declaration_of, no_entry, entry_of, no_subprogram, subprogram_of}
 use Rattle.profile_machine.specs.Lines.{exception_name, event_of}
 use Rattle.line_laws.specs.Names.{IsShortName, IsShortException, IsNamed, IsPrintableIfComplete}
 

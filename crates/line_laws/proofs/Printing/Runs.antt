@@ -2,8 +2,8 @@
 use Rattle.std.proofs.Common.{ℕ, ℤ, ◌<◌, ◌^◌, List, [], ◌∷◌, arith}
 use Rattle.trace_text.specs.declared.events.Event.{Event}
 use Rattle.trace_text.specs.Text.{IsWithin, ArePrintable}
-use Rattle.profile_machine.specs.declared.image.Image.{Image}
-use Rattle.profile_machine.specs.declared.run_data.Item.{Item}
+use Rattle.profile_image.specs.declared.image.Image.{Image}
+use Rattle.profile_image.specs.declared.script_items.Item.{Item}
 use Rattle.profile_machine.specs.Run.{run_of}
 use Rattle.machine_laws.specs.RunLaws.{AllUpTo, LinesStayWithin}
 use Rattle.line_laws.specs.Names.{IsComplete, IsPrintableIfComplete, EachEvent, IsCompleteRun}

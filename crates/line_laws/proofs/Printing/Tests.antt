@@ -5,10 +5,10 @@ use Rattle.std.specs.List.{list_all, AllByRecursion}
 use Rattle.std.proofs.lemmas.Bool.{and_parts, leb-true, not-true}
 use Rattle.std.proofs.lemmas.List.Elements.{All-from_recursion}
 use Rattle.trace_text.specs.Text.{is_name_from}
-use Rattle.profile_machine.specs.declared.image.Image.{Image}
-use Rattle.profile_machine.specs.declared.declarations.Declaration.{Declaration}
-use Rattle.profile_machine.specs.declared.declarations.Entry.{Entry}
-use Rattle.profile_machine.specs.declared.declarations.Subprogram.{Subprogram}
+use Rattle.profile_image.specs.declared.image.Image.{Image}
+use Rattle.profile_image.specs.declared.declarations.Declaration.{Declaration}
+use Rattle.profile_image.specs.declared.declarations.Entry.{Entry}
+use Rattle.profile_image.specs.declared.declarations.Subprogram.{Subprogram}
 use Rattle.machine_laws.specs.Rows.Row24_1.{row_24_1_program}
 use Rattle.line_laws.specs.Names.{IsShortName, IsShortException, IsNamed, is_short_name, is_short_exception, is_named}
 

@@ -10,12 +10,12 @@ use Rattle.std.proofs.lemmas.List.Folds.{list_all-append}
 use Rattle.std.proofs.lemmas.Nat.{mod_below}
 use Rattle.ann_base.specs.Results.{◌>>=◌}
 use Rattle.trace_text.specs.Text.{is_text_byte, IsPutText}
-use Rattle.profile_machine.specs.declared.image.Image.{Image}
-use Rattle.profile_machine.specs.declared.statements.Piece.{Piece}
-use Rattle.profile_machine.specs.declared.statements.Piece.TheVariants as piece
-use Rattle.profile_machine.specs.declared.values.Value.{Value}
-use Rattle.profile_machine.specs.declared.values.Value.TheVariants.{Whole, Truth, Literal, Ticks, Task, Thing}
-use Rattle.profile_machine.specs.Program.{literals_of}
+use Rattle.profile_image.specs.declared.image.Image.{Image}
+use Rattle.profile_image.specs.declared.statements.Piece.{Piece}
+use Rattle.profile_image.specs.declared.statements.Piece.TheVariants as piece
+use Rattle.profile_image.specs.declared.values.Value.{Value}
+use Rattle.profile_image.specs.declared.values.Value.TheVariants.{Whole, Truth, Literal, Ticks, Task, Thing}
+use Rattle.profile_image.specs.Program.{literals_of}
 use Rattle.profile_machine.specs.Operators.{Valued, image_of_whole, text_of_whole, text_of_truth, text_of_literal}
 use Rattle.profile_machine.specs.Values.{Seen, value}
 use Rattle.profile_machine.specs.Statements.{piece_text, text_of_pieces}

@@ -7,8 +7,8 @@ use Rattle.trace_text.specs.declared.events.Event.{Event}
 use Rattle.trace_text.specs.declared.events.Event.TheVariants as line
 use Rattle.trace_text.specs.declared.events.Who.{Who}
 use Rattle.trace_text.specs.declared.events.Who.TheVariants as who
-use Rattle.profile_machine.specs.declared.image.Image.{Image}
-use Rattle.profile_machine.specs.declared.run_data.Item.{Item}
+use Rattle.profile_image.specs.declared.image.Image.{Image}
+use Rattle.profile_image.specs.declared.script_items.Item.{Item}
 use Rattle.profile_machine.specs.declared.world.World.{World}
 use Rattle.profile_machine.specs.declared.world.tasks.Task.{Task}
 use Rattle.profile_machine.specs.declared.world.marks.Frame.{Frame}
@@ -18,7 +18,7 @@ use Rattle.profile_machine.specs.declared.world.lines.Line.TheVariants as said
 use Rattle.profile_machine.specs.declared.world.lines.Part.{Part}
 use Rattle.profile_machine.specs.declared.world.lines.Part.TheVariants.{Own}
 use Rattle.profile_machine.specs.declared.world.lines.Said.{Said}
-use Rattle.profile_machine.specs.Words.{same_who, same_option}
+use Rattle.profile_image.specs.Words.{same_who, same_option}
 use Rattle.profile_machine.specs.Lines.{event_of}
 use Rattle.profile_machine.specs.Steps.{is_part_before, put_in_order, in_order, rests}
 use Rattle.profile_machine.specs.Tasks.{task_of, task_at, edit_task_found, edit_task, with_ticks}
@@ -32,7 +32,7 @@ use Rattle.machine_laws.proofs.Moves.{Moves, AreOthers, own, is_told_apart}
 use Rattle.machine_laws.proofs.Kept.Handlers.{charge-alters}
 use Rattle.machine_laws.proofs.Kept.Instant.{instant-leads}
 use Rattle.machine_laws.proofs.Kept.Run.{before_tick, tock-parts, opens-keeps}
-use Rattle.line_laws.specs.TickLaws.{Counts, no_counts, counts_after, is_next_release, ReleasesOk}
+use Rattle.line_laws.specs.TickLaws.{Counts, no_counts, counts_after, is_next_release, ReleasesInOrder}
 use Rattle.line_laws.proofs.Ticks.LineByLine.{seen_behind, seen_behind-append, Follow, Follow-append, Leads_on, OfRuns, run-at_each_line}
 use Rattle.machine_laws.proofs.Kept.Combinators.{Alters, Leads}
 
@@ -327,5 +327,5 @@ releases_in_order = record {
   bound = λ c. refl;
 }
 
-pub runs_release_in_order : (p : Image) (script : List (ℤ × Item)) (bound : ℕ) → ReleasesOk (run_of p script bound)
+pub runs_release_in_order : (p : Image) (script : List (ℤ × Item)) (bound : ℕ) → ReleasesInOrder (run_of p script bound)
 runs_release_in_order p script bound = run-at_each_line counts_after is_next_release releases_in_order p script bound

@@ -4,7 +4,7 @@ use Rattle.ada_tree.specs.declared.names.Identifier.{Identifier}
 use Rattle.ada_tree.specs.declared.names.Name.{Name}
 use Rattle.ada_tree.specs.declared.declarations.SubprogramSpecification.{SubprogramSpecification}
 use Rattle.world_tables.specs.Lists.{rest_of}
-use Rattle.profile_machine.specs.declared.numbers.SubprogramNo.{SubprogramNo}
+use Rattle.profile_image.specs.declared.numbers.SubprogramNo.{SubprogramNo}
 use Rattle.ada_regions.specs.declared.entities.Denoted.{Denoted}
 use Rattle.ada_regions.specs.declared.entities.EntityKind.{EntityKind}
 use Rattle.ada_regions.specs.declared.entities.Sought.{Sought}

@@ -12,7 +12,7 @@ use Rattle.ada_lex.specs.Lexed.{Lexed}
 use Rattle.ada_lex.proofs.Unique.{only_by}
 use Rattle.ada_tree.specs.Written.{lexemes_of}
 use Rattle.grammar_laws.proofs.Reading.Whole.{spelt_is_read}
-use Rattle.profile_machine.specs.declared.image.Image.{Image}
+use Rattle.profile_image.specs.declared.image.Image.{Image}
 use Rattle.source_laws.specs.SourceLaws.{IsReadFrom}
 use Rattle.ada_verdicts.specs.Accepted.{Accepted}
 

@@ -6,7 +6,7 @@ use Rattle.world_tables.specs.Tables.{item_at, put}
 use Rattle.source_laws.proofs.Names.TableLemmas.{item_at-put, item_at-with_item}
 use Rattle.ada_tree.specs.declared.names.Identifier.{Identifier}
 use Rattle.ada_tree.specs.declared.expressions.Expression.{Expression}
-use Rattle.profile_machine.specs.declared.numbers.EntryNo.{EntryNo}
+use Rattle.profile_image.specs.declared.numbers.EntryNo.{EntryNo}
 use Rattle.ada_regions.specs.declared.types.AdaType.{AdaType}
 use Rattle.ada_regions.specs.declared.types.AdaType.TheVariants as types
 use Rattle.ada_regions.specs.declared.entities.Denoted.{Denoted}

@@ -8,8 +8,8 @@ use Rattle.ann_base.specs.declared.identities.ObjectNo.{ObjectNo}
 use Rattle.trace_text.specs.declared.events.Event.{Event}
 use Rattle.trace_text.specs.declared.events.Who.{Who}
 use Rattle.trace_text.specs.declared.events.Who.TheVariants as who
-use Rattle.profile_machine.specs.declared.image.Image.{Image}
-use Rattle.profile_machine.specs.declared.run_data.Item.{Item}
+use Rattle.profile_image.specs.declared.image.Image.{Image}
+use Rattle.profile_image.specs.declared.script_items.Item.{Item}
 use Rattle.profile_machine.specs.declared.world.World.{World}
 use Rattle.profile_machine.specs.declared.world.marks.Frame.{Frame}
 use Rattle.profile_machine.specs.declared.world.objects.Action.{Action}
@@ -17,7 +17,7 @@ use Rattle.profile_machine.specs.declared.world.objects.Object.{Object}
 use Rattle.profile_machine.specs.declared.world.tasks.Inherited.{Inherited}
 use Rattle.profile_machine.specs.declared.world.tasks.Task.{Task}
 use Rattle.profile_machine.specs.declared.world.tasks.Cause.TheVariants as inherited_by
-use Rattle.profile_machine.specs.Words.{same_who, greatest_of}
+use Rattle.profile_image.specs.Words.{same_who, greatest_of}
 use Rattle.ann_base.specs.Lists.{is_empty}
 use Rattle.profile_machine.specs.Tasks.{is_runnable, is_runnable_state}
 use Rattle.profile_machine.specs.Dispatching.{active, own_level}

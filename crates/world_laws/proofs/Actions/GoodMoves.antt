@@ -10,14 +10,14 @@ use Rattle.profile_machine.specs.declared.world.tasks.Task.{Task}
 use Rattle.profile_machine.specs.declared.world.tasks.Waiting.{Waiting}
 use Rattle.profile_machine.specs.declared.world.tasks.State.{State}
 use Rattle.profile_machine.specs.declared.world.tasks.State.TheVariants.{Made, Runnable, Blocked}
-use Rattle.profile_machine.specs.Words.{same_region, is_the}
+use Rattle.profile_image.specs.Words.{same_region, is_the}
 use Rattle.world_tables.specs.Lists.{first_of}
 use Rattle.profile_machine.specs.Tasks.{edit_task, with_state, with_frames, task_of, is_runnable_state, waiting_in, waiting_of}
 use Rattle.profile_machine.specs.Frames.{top_of, in_protected, edit_first, goes_on, is_protected}
 use Rattle.profile_machine.specs.Masters.{has_dependents}
 use Rattle.profile_machine.specs.Controlled.{top_region}
 use Rattle.profile_machine.specs.Tasking.{add_task}
-use Rattle.profile_machine.specs.declared.numbers.StatementNo.{StatementNo}
+use Rattle.profile_image.specs.declared.numbers.StatementNo.{StatementNo}
 use Rattle.line_laws.proofs.Exits.TaskEdits.{one_of, one_of-is, same_who-path, edited}
 use Rattle.world_laws.proofs.Actions.Natures.{Nature, nature, natures, guards, any_protected-is, no_action, guards-plain}
 use Rattle.world_laws.proofs.Actions.Sound.{Clean, MarksSound, marks_of, Sound, Free, Good}

@@ -4,7 +4,7 @@ use Rattle.ann_base.specs.declared.identities.CallNo.{CallNo}
 use Rattle.trace_text.specs.declared.events.Who.{Who}
 use Rattle.profile_machine.specs.declared.world.World.{World}
 use Rattle.profile_machine.specs.declared.world.tasks.Task.{Task}
-use Rattle.profile_machine.specs.Program.{scope_of}
+use Rattle.profile_image.specs.Program.{scope_of}
 use Rattle.profile_machine.specs.Scopes.{draw_region, begin_scope}
 use Rattle.line_laws.proofs.Leaving.FreeWorlds.{CallerIn}
 use Rattle.line_laws.proofs.Leaving.CallLemmas.{edited-caller, added-caller, gone-caller}

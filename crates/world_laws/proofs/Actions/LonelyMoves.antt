@@ -7,7 +7,7 @@ use Rattle.profile_machine.specs.declared.world.World.{World}
 use Rattle.profile_machine.specs.declared.world.tasks.Task.{Task}
 use Rattle.profile_machine.specs.Tasks.{edit_task}
 use Rattle.profile_machine.specs.Masters.{forget_task}
-use Rattle.profile_machine.specs.Program.{scope_of}
+use Rattle.profile_image.specs.Program.{scope_of}
 use Rattle.profile_machine.specs.Scopes.{draw_region, begin_scope}
 use Rattle.world_laws.proofs.Actions.Sound.{Good, dependents}
 use Rattle.world_laws.proofs.Actions.SoundEdits.{dependents-edited}

@@ -9,7 +9,7 @@ use Rattle.profile_machine.specs.declared.world.World.{World}
 use Rattle.profile_machine.specs.declared.world.tasks.Task.{Task}
 use Rattle.profile_machine.specs.declared.world.tasks.State.{State}
 use Rattle.profile_machine.specs.declared.world.tasks.State.TheVariants.{Made, Runnable, Blocked}
-use Rattle.profile_machine.specs.Words.{same_who}
+use Rattle.profile_image.specs.Words.{same_who}
 use Rattle.profile_machine.specs.Tasks.{is_who, nobody, is_made, is_made_state, is_runnable_state}
 use Rattle.profile_machine.specs.WellFormed.{number_in}
 use Rattle.machine_laws.proofs.ListLemmas.{Rises}

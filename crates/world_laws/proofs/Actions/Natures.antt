@@ -9,7 +9,7 @@ use Rattle.ann_base.specs.declared.identities.RegionNo.{RegionNo}
 use Rattle.profile_machine.specs.declared.world.marks.Frame.{Frame}
 use Rattle.profile_machine.specs.declared.world.marks.Mark.{Mark}
 use Rattle.profile_machine.specs.declared.world.marks.Mark.TheVariants.{Scope, Handled, InProtected, InAccept, Abortable, InInitialize, InFinalize, InAssign}
-use Rattle.profile_machine.specs.Words.{same_object, same_region, is_the}
+use Rattle.profile_image.specs.Words.{same_object, same_region, is_the}
 use Rattle.profile_machine.specs.Frames.{is_protected, any_protected}
 use Rattle.profile_machine.specs.Tasking.{is_task_scope}
 use Rattle.profile_machine.specs.WellFormed.{is_mark_of}

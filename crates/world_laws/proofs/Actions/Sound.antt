@@ -16,7 +16,7 @@ use Rattle.profile_machine.specs.declared.world.tasks.Inherited.{Inherited}
 use Rattle.profile_machine.specs.declared.world.tasks.Cause.TheVariants as inherited_by
 use Rattle.profile_machine.specs.declared.world.calls.Call.{Call}
 use Rattle.profile_machine.specs.declared.world.objects.Object.{Object}
-use Rattle.profile_machine.specs.Words.{same_region, is_the}
+use Rattle.profile_image.specs.Words.{same_region, is_the}
 use Rattle.profile_machine.specs.Tasks.{is_runnable_state}
 use Rattle.profile_machine.specs.Inheritance.{same_cause}
 use Rattle.profile_machine.specs.Protected.{has_open}

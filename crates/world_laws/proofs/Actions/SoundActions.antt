@@ -20,7 +20,7 @@ use Rattle.profile_machine.specs.declared.world.objects.Object.{Object}
 use Rattle.profile_machine.specs.declared.world.marks.Frame.{Frame}
 use Rattle.profile_machine.specs.declared.world.marks.Mark.TheVariants.{InProtected}
 use Rattle.profile_machine.specs.declared.world.marks.ProtectedMark.{ProtectedMark}
-use Rattle.profile_machine.specs.Words.{same_who, same_object, same_region, is_the, without, set_where, edit_found, edit_where}
+use Rattle.profile_image.specs.Words.{same_who, same_object, same_region, is_the, without, set_where, edit_found, edit_where}
 use Rattle.ann_base.specs.Lists.{is_empty}
 use Rattle.world_tables.specs.Lists.{rest_of}
 use Rattle.profile_machine.specs.Values.{is_object, object_of}

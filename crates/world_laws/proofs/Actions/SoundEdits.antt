@@ -10,7 +10,7 @@ use Rattle.profile_machine.specs.declared.world.Drawn.{Drawn}
 use Rattle.profile_machine.specs.declared.world.tasks.Task.{Task}
 use Rattle.profile_machine.specs.declared.world.calls.Call.{Call}
 use Rattle.profile_machine.specs.declared.world.objects.Object.{Object}
-use Rattle.profile_machine.specs.Words.{same_who, same_region, is_the, set_where}
+use Rattle.profile_image.specs.Words.{same_who, same_region, is_the, set_where}
 use Rattle.profile_machine.specs.Tasks.{is_who, nobody, task_at, edit_task_found, edit_task, is_runnable_state}
 use Rattle.profile_machine.specs.WellFormed.{number_in}
 use Rattle.machine_laws.proofs.ListLemmas.{Rises, Rises-set_where}

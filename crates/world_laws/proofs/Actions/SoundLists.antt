@@ -8,7 +8,7 @@ use Rattle.trace_text.specs.declared.events.Who.{Who}
 use Rattle.profile_machine.specs.declared.world.Drawn.{Drawn}
 use Rattle.profile_machine.specs.declared.world.calls.Call.{Call}
 use Rattle.profile_machine.specs.declared.world.objects.Object.{Object}
-use Rattle.profile_machine.specs.Words.{same_object, set_where, edit_found, edit_where}
+use Rattle.profile_image.specs.Words.{same_object, set_where, edit_found, edit_where}
 use Rattle.profile_machine.specs.Values.{is_object}
 use Rattle.machine_laws.proofs.ListLemmas.{Falls}
 use Rattle.machine_laws.proofs.QueueLemmas.{by_test}

@@ -5,8 +5,8 @@ use Rattle.ann_base.specs.declared.identities.ObjectNo.{ObjectNo}
 use Rattle.ann_base.specs.declared.identities.RegionNo.{RegionNo}
 use Rattle.trace_text.specs.declared.events.Who.{Who}
 use Rattle.world_tables.specs.Lists.{rest_of}
-use Rattle.profile_machine.specs.declared.image.Image.{Image}
-use Rattle.profile_machine.specs.declared.numbers.ScopeNo.{ScopeNo}
+use Rattle.profile_image.specs.declared.image.Image.{Image}
+use Rattle.profile_image.specs.declared.numbers.ScopeNo.{ScopeNo}
 use Rattle.profile_machine.specs.declared.world.World.{World}
 use Rattle.profile_machine.specs.declared.world.Drawn.{Drawn}
 use Rattle.profile_machine.specs.declared.world.tasks.Task.{Task}
@@ -17,8 +17,8 @@ use Rattle.profile_machine.specs.declared.world.objects.Object.{Object}
 use Rattle.profile_machine.specs.declared.world.marks.Frame.{Frame}
 use Rattle.profile_machine.specs.declared.world.marks.Purpose.{Purpose}
 use Rattle.profile_machine.specs.declared.world.scopes.Beginning.{Beginning}
-use Rattle.profile_machine.specs.Words.{same_who, same_region, is_the}
-use Rattle.profile_machine.specs.Program.{scope_of}
+use Rattle.profile_image.specs.Words.{same_who, same_region, is_the}
+use Rattle.profile_image.specs.Program.{scope_of}
 use Rattle.profile_machine.specs.Tasks.{with_frames}
 use Rattle.profile_machine.specs.Frames.{push, pop, new_frame}
 use Rattle.profile_machine.specs.Scopes.{begin_scope, draw_region, region_drawn, open_scope, next_id, region_of_next, new_scope_mark}

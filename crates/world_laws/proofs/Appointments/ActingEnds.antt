@@ -7,7 +7,7 @@ use Rattle.ann_base.specs.declared.exceptions.Raised.{Raised}
 use Rattle.ann_base.specs.declared.identities.TaskNo.{TaskNo}
 use Rattle.trace_text.specs.declared.events.Who.{Who}
 use Rattle.trace_text.specs.declared.events.Who.TheVariants as who
-use Rattle.profile_machine.specs.declared.numbers.StatementNo.{StatementNo}
+use Rattle.profile_image.specs.declared.numbers.StatementNo.{StatementNo}
 use Rattle.profile_machine.specs.declared.world.World.{World}
 use Rattle.profile_machine.specs.declared.world.appointments.Due.TheVariants as due_for
 use Rattle.profile_machine.specs.declared.world.lines.Line.TheVariants as said
@@ -24,7 +24,7 @@ use Rattle.profile_machine.specs.Rendezvous.{wait_at_select}
 use Rattle.profile_machine.specs.Steps.{◌▷◌, looks, changes, Step}
 use Rattle.profile_machine.specs.Tasks.{with_state, waiting_of, waiting_in, task_at, is_who, edit_task_found, edit_task}
 use Rattle.profile_machine.specs.WellFormed.{waits_for_delay}
-use Rattle.profile_machine.specs.Words.{same_who}
+use Rattle.profile_image.specs.Words.{same_who}
 use Rattle.world_laws.proofs.Appointments.DelayEdits.{put-any, plain-owned, edited-numbered, edited-delayed}
 use Rattle.world_laws.proofs.Appointments.DelayMoves.{nobody_excused, fine, MovedOn, Moved, Lasting, GoodAs, Excuse}
 use Rattle.world_laws.proofs.Appointments.Delays.{idle-later, delayed, Idle, Good, Awaited}

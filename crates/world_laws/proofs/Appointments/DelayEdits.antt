@@ -20,7 +20,7 @@ use Rattle.profile_machine.specs.Masters.{forget_task}
 use Rattle.profile_machine.specs.Tasking.{add_task}
 use Rattle.profile_machine.specs.Tasks.{task_at, task_of, is_who, nobody, edit_task_found, edit_task, waiting_in, waiting_of, with_state, with_frames}
 use Rattle.profile_machine.specs.WellFormed.{number_in, waits_for_delay}
-use Rattle.profile_machine.specs.Words.{same_who, without}
+use Rattle.profile_image.specs.Words.{same_who, without}
 use Rattle.machine_laws.proofs.ListLemmas.{Rises, Rises-set_where, Rises-without, Rises-behind}
 use Rattle.machine_laws.proofs.QueueLemmas.{by_test}
 use Rattle.machine_laws.proofs.NumberLemmas.{task_number}

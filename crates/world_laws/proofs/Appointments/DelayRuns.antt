@@ -7,8 +7,8 @@ use Rattle.trace_text.specs.declared.events.Event.{Event}
 use Rattle.trace_text.specs.declared.events.Event.TheVariants as written
 use Rattle.trace_text.specs.declared.events.Who.{Who}
 use Rattle.trace_text.specs.declared.events.Who.TheVariants as who
-use Rattle.profile_machine.specs.declared.image.Image.{Image}
-use Rattle.profile_machine.specs.declared.run_data.Item.{Item}
+use Rattle.profile_image.specs.declared.image.Image.{Image}
+use Rattle.profile_image.specs.declared.script_items.Item.{Item}
 use Rattle.profile_machine.specs.declared.world.World.{World}
 use Rattle.profile_machine.specs.declared.world.appointments.Release.{Release}
 use Rattle.profile_machine.specs.declared.world.lines.Line.TheVariants as said
@@ -28,7 +28,7 @@ use Rattle.profile_machine.specs.Scopes.{plainly}
 use Rattle.profile_machine.specs.Steps.{◌▶◌, when, settles, settled, rests, placed_by, nothing, looks, for_each, changes, Move, Done, done}
 use Rattle.profile_machine.specs.Tasking.{unwind_all, take_terminates, block_at_terminate}
 use Rattle.profile_machine.specs.Tasks.{with_ticks, waiting_of, task_of, nobody, edit_task}
-use Rattle.profile_machine.specs.Words.{same_who, same_option}
+use Rattle.profile_image.specs.Words.{same_who, same_option}
 use Rattle.machine_laws.proofs.Kept.Run.{before_tick, tock-parts}
 use Rattle.machine_laws.proofs.Moves.{StepRelation, lines_of}
 use Rattle.machine_laws.proofs.PlaceLemmas.{openings_place_by_lines, instants_place_by_lines, tocks_place_nobody}

@@ -6,13 +6,13 @@ use Rattle.ann_base.specs.declared.exceptions.Raised.TheVariants as exception
 use Rattle.ann_base.specs.declared.identities.CallNo.{CallNo}
 use Rattle.trace_text.specs.declared.events.Who.{Who}
 use Rattle.trace_text.specs.declared.events.Who.TheVariants as who
-use Rattle.profile_machine.specs.declared.image.Image.{Image}
-use Rattle.profile_machine.specs.declared.numbers.ExprNo.{ExprNo}
-use Rattle.profile_machine.specs.declared.numbers.StatementNo.{StatementNo}
-use Rattle.profile_machine.specs.declared.statements.SelectAlternative.{SelectAlternative}
-use Rattle.profile_machine.specs.declared.statements.SelectKind.{SelectKind}
-use Rattle.profile_machine.specs.declared.statements.StatementForm.{StatementForm}
-use Rattle.profile_machine.specs.declared.statements.StatementForm.TheVariants as form
+use Rattle.profile_image.specs.declared.image.Image.{Image}
+use Rattle.profile_image.specs.declared.numbers.ExprNo.{ExprNo}
+use Rattle.profile_image.specs.declared.numbers.StatementNo.{StatementNo}
+use Rattle.profile_image.specs.declared.statements.SelectAlternative.{SelectAlternative}
+use Rattle.profile_image.specs.declared.statements.SelectKind.{SelectKind}
+use Rattle.profile_image.specs.declared.statements.StatementForm.{StatementForm}
+use Rattle.profile_image.specs.declared.statements.StatementForm.TheVariants as form
 use Rattle.profile_machine.specs.declared.world.World.{World}
 use Rattle.profile_machine.specs.declared.world.calls.DelayMoment.{DelayMoment}
 use Rattle.profile_machine.specs.declared.world.lines.Line.{Line}
@@ -27,7 +27,7 @@ use Rattle.profile_machine.specs.Dispatching.{to_tail}
 use Rattle.profile_machine.specs.Frames.{top_of, raise_if, in_protected, goes_on, goes, given, frames_of, edit_first}
 use Rattle.profile_machine.specs.Operators.{held_moment, Valued}
 use Rattle.profile_machine.specs.Priorities.{says_deadline, delay_with_deadline, delay_and_set_deadline}
-use Rattle.profile_machine.specs.Program.{next_of, form_of}
+use Rattle.profile_image.specs.Program.{next_of, form_of}
 use Rattle.profile_machine.specs.Rendezvous.{wait_at_select, selective_accept, select_wait, select_otherwise, select_open, select_delay, select_by_call, queues_of_accepts, open_delays, open_alternatives, open_accepts, least_delay, is_closed, has_terminate, appoint_delay}
 use Rattle.profile_machine.specs.Statements.{wait_until, relative_moment, delay_until, delay_to}
 use Rattle.profile_machine.specs.Steps.{changes, ◌▷◌, says, nothing, Step}

@@ -10,12 +10,12 @@ use Rattle.trace_text.specs.declared.events.Mode.{Mode}
 use Rattle.trace_text.specs.declared.events.QueueEnd.{QueueEnd}
 use Rattle.trace_text.specs.declared.events.Who.{Who}
 use Rattle.trace_text.specs.declared.events.Who.TheVariants as who
-use Rattle.profile_machine.specs.declared.image.Image.{Image}
-use Rattle.profile_machine.specs.declared.numbers.ProtectedUnitNo.{ProtectedUnitNo}
-use Rattle.profile_machine.specs.declared.numbers.ScopeNo.{ScopeNo}
-use Rattle.profile_machine.specs.declared.run_data.Item.{Item}
+use Rattle.profile_image.specs.declared.image.Image.{Image}
+use Rattle.profile_image.specs.declared.numbers.ProtectedUnitNo.{ProtectedUnitNo}
+use Rattle.profile_image.specs.declared.numbers.ScopeNo.{ScopeNo}
+use Rattle.profile_image.specs.declared.script_items.Item.{Item}
 use Rattle.profile_machine.specs.declared.run_data.Leaving.{Leaving}
-use Rattle.profile_machine.specs.declared.values.Value.{Value}
+use Rattle.profile_image.specs.declared.values.Value.{Value}
 use Rattle.profile_machine.specs.declared.world.World.{World}
 use Rattle.profile_machine.specs.declared.world.appointments.Budget.{Budget}
 use Rattle.profile_machine.specs.declared.world.appointments.Due.{Due}
@@ -50,7 +50,7 @@ use Rattle.profile_machine.specs.Steps.{placed_by, Step, says, settles}
 use Rattle.profile_machine.specs.Tasking.{add_task, end_environment}
 use Rattle.profile_machine.specs.Tasks.{edit_task, with_state, with_frames, waiting_in, waiting_of}
 use Rattle.profile_machine.specs.WellFormed.{waits_for_delay}
-use Rattle.profile_machine.specs.Words.{edit_at}
+use Rattle.profile_image.specs.Words.{edit_at}
 use Rattle.machine_laws.proofs.Moves.{StepRelation, MoveRelation, lines_of}
 use Rattle.machine_laws.proofs.FineMoves.{GoodWorld, Naming, ready_line}
 use Rattle.world_laws.proofs.Appointments.Delays.{Idle, nature, natures, EachTask}

@@ -5,12 +5,12 @@ use Rattle.std.specs.Prelude.{filter, find, take, drop, replicate, pos}
 use Rattle.std.specs.List.{list_all}
 use Rattle.std.proofs.lemmas.Bool.{and_from, and_parts}
 use Rattle.std.proofs.lemmas.List.{length-append, length-drop, length-replicate, length-take-le}
-use Rattle.profile_machine.specs.declared.values.CellRun.{CellRun}
-use Rattle.profile_machine.specs.declared.declarations.Scope.{Scope}
-use Rattle.profile_machine.specs.declared.values.Value.{Value}
-use Rattle.profile_machine.specs.declared.values.Value.TheVariants.{Whole}
-use Rattle.profile_machine.specs.Words.{without, set_where, edit_found, edit_where}
-use Rattle.profile_machine.specs.Program.{with_run, with_runs, initial_cells}
+use Rattle.profile_image.specs.declared.values.CellRun.{CellRun}
+use Rattle.profile_image.specs.declared.declarations.Scope.{Scope}
+use Rattle.profile_image.specs.declared.values.Value.{Value}
+use Rattle.profile_image.specs.declared.values.Value.TheVariants.{Whole}
+use Rattle.profile_image.specs.Words.{without, set_where, edit_found, edit_where}
+use Rattle.profile_image.specs.Program.{with_run, with_runs, initial_cells}
 use Rattle.profile_machine.specs.Scopes.{put_cells}
 
 -- ---- how many

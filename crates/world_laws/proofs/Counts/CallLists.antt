@@ -4,7 +4,7 @@ use Rattle.std.specs.Prelude.{find}
 use Rattle.std.proofs.lemmas.Bool.{eqb-true, or_left, or_right, true≢false}
 use Rattle.ann_base.specs.declared.identities.CallNo.{CallNo}
 use Rattle.profile_machine.specs.declared.world.calls.Call.{Call}
-use Rattle.profile_machine.specs.Words.{edit_where, edit_found, set_where, without, has, same_call}
+use Rattle.profile_image.specs.Words.{edit_where, edit_found, set_where, without, has, same_call}
 use Rattle.profile_machine.specs.Values.{queue_at}
 use Rattle.profile_machine.specs.Calls.{is_call}
 use Rattle.world_laws.proofs.Counts.NumberedLists.{by}

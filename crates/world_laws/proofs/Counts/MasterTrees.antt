@@ -8,19 +8,19 @@ use Rattle.ann_base.specs.declared.identities.RegionNo.{RegionNo}
 use Rattle.ann_base.specs.declared.identities.TaskNo.{TaskNo}
 use Rattle.trace_text.specs.declared.events.Who.{Who}
 use Rattle.trace_text.specs.declared.events.Who.TheVariants as who
-use Rattle.profile_machine.specs.declared.numbers.StatementNo.{StatementNo}
+use Rattle.profile_image.specs.declared.numbers.StatementNo.{StatementNo}
 use Rattle.profile_machine.specs.declared.world.World.{World}
 use Rattle.profile_machine.specs.declared.world.marks.Frame.{Frame}
 use Rattle.profile_machine.specs.declared.world.tasks.Task.{Task}
 use Rattle.profile_machine.specs.declared.world.tasks.State.TheVariants.{Runnable, Blocked}
-use Rattle.profile_machine.specs.Words.{set_where, same_region, is_the}
+use Rattle.profile_image.specs.Words.{set_where, same_region, is_the}
 use Rattle.world_tables.specs.Lists.{first_of, rest_of}
 use Rattle.profile_machine.specs.Tasks.{nobody, task_at, task_of, is_who, found_task, edit_task_found, edit_task, with_state, with_frames}
 use Rattle.profile_machine.specs.Frames.{top_of, edit_first, edit_top, push, goes_on, new_frame}
 use Rattle.profile_machine.specs.Masters.{region_of_mark, has_region, owns, owner_of, masters_beyond, masters_from}
 use Rattle.profile_machine.specs.Controlled.{region_or_none, top_region}
 use Rattle.profile_machine.specs.Tasking.{add_task}
-use Rattle.profile_machine.specs.Program.{scope_of}
+use Rattle.profile_image.specs.Program.{scope_of}
 use Rattle.profile_machine.specs.Scopes.{begin_scope, draw_region, region_of_next, new_scope_mark, next_id}
 use Rattle.machine_laws.proofs.FineMoves.{Nature, nature, natures, edit_task-drawn, each-anybody}
 use Rattle.world_laws.specs.MasterLaws.{MastersEnd}

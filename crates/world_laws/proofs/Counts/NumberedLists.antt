@@ -2,7 +2,7 @@
 use Rattle.std.proofs.Common.{◌≡◌, ℕ, suc, ◌≤◌, ◌<◌, Bool, true, false, cond, not, eqb, length, List, [], ◌∷◌, Option, Some, None, refl, sym, ap, subst, ◌∙◌, arith}
 use Rattle.std.specs.Prelude.{find, option_map}
 use Rattle.std.proofs.lemmas.Bool.{eqb-true, eq-eqb, true≢false}
-use Rattle.profile_machine.specs.Words.{edit_where, edit_found, set_where, without}
+use Rattle.profile_image.specs.Words.{edit_where, edit_found, set_where, without}
 
 -- ---- the one with a number
 

@@ -5,7 +5,7 @@ use Rattle.std.specs.Prelude.{find}
 use Rattle.std.proofs.lemmas.Bool.{eqb-true}
 use Rattle.profile_machine.specs.declared.world.scopes.ScopeId.{ScopeId}
 use Rattle.profile_machine.specs.declared.world.scopes.ScopeInUse.{ScopeInUse}
-use Rattle.profile_machine.specs.Words.{without}
+use Rattle.profile_image.specs.Words.{without}
 use Rattle.profile_machine.specs.Scopes.{is_id, seek, outwards}
 use Rattle.world_laws.specs.ScopeLaws.{OutwardsEnd}
 use Rattle.world_laws.proofs.Counts.NumberedLists.{left-found, other-found, fewer-without}

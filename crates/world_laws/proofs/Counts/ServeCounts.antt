@@ -8,10 +8,10 @@ use Rattle.ann_base.specs.declared.exceptions.Raised.TheVariants as exception
 use Rattle.ann_base.specs.declared.identities.CallNo.{CallNo}
 use Rattle.ann_base.specs.declared.identities.ObjectNo.{ObjectNo}
 use Rattle.trace_text.specs.declared.events.Who.{Who}
-use Rattle.profile_machine.specs.declared.image.Image.{Image}
-use Rattle.profile_machine.specs.declared.image.Queuing.{Queuing}
-use Rattle.profile_machine.specs.declared.image.Queuing.TheVariants as queuing
-use Rattle.profile_machine.specs.declared.numbers.EntryNo.{EntryNo}
+use Rattle.profile_image.specs.declared.image.Image.{Image}
+use Rattle.profile_image.specs.declared.image.Queuing.{Queuing}
+use Rattle.profile_image.specs.declared.image.Queuing.TheVariants as queuing
+use Rattle.profile_image.specs.declared.numbers.EntryNo.{EntryNo}
 use Rattle.profile_machine.specs.declared.world.World.{World}
 use Rattle.profile_machine.specs.declared.world.calls.Call.{Call}
 use Rattle.profile_machine.specs.declared.world.calls.Outcome.TheVariants as call_ended
@@ -23,13 +23,13 @@ use Rattle.profile_machine.specs.declared.world.lines.Part.{Part}
 use Rattle.profile_machine.specs.declared.world.lines.Said.{Said}
 use Rattle.profile_machine.specs.declared.world.marks.ProtectedMark.{ProtectedMark}
 use Rattle.profile_machine.specs.declared.world.objects.Object.{Object}
-use Rattle.profile_machine.specs.Words.{has, same_call, edit_at}
+use Rattle.profile_image.specs.Words.{has, same_call, edit_at}
 use Rattle.profile_machine.specs.Steps.{Step, Done, done, goes_on_with, says, for_some, ◌▷◌}
 use Rattle.profile_machine.specs.Values.{object_of, is_object, queue_at, queues_of}
 use Rattle.profile_machine.specs.Calls.{is_call, call_of, edit_call, edit_queue, take_call, place_of_entry, unqueued, first_head, better_of, best_head, next_by, priority_of}
 use Rattle.profile_machine.specs.CallEnds.{deliver}
 use Rattle.profile_machine.specs.Protected.{is_open_entry, served_next, begun_call, begin_call, body_opens, has_room_for_body, serve_call}
-use Rattle.profile_machine.specs.Program.{protected_unit_of}
+use Rattle.profile_image.specs.Program.{protected_unit_of}
 use Rattle.profile_machine.specs.Serving.{part_of_start, settle_sent, begins_part, chosen_is_sent, serve_chosen, serve_next, serve_calls}
 use Rattle.profile_machine.specs.WellFormed.{same_owner, is_queued_call, queue_is_right, queues_from, task_queues_are_right, all_adjacent}
 use Rattle.profile_machine.specs.Priorities.{is_queued}

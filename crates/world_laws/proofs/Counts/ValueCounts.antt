@@ -5,15 +5,15 @@ use Rattle.std.specs.List.{list_all}
 use Rattle.std.proofs.lemmas.Bool.{and_parts, ltb-true, ltb-false}
 use Rattle.std.proofs.lemmas.List.{get_or_past}
 use Rattle.ann_base.specs.Results.{◌>>=◌}
-use Rattle.profile_machine.specs.declared.numbers.ExprNo.{ExprNo}
-use Rattle.profile_machine.specs.declared.expressions.Expression.{Expression}
-use Rattle.profile_machine.specs.declared.expressions.Expression.TheVariants as of
-use Rattle.profile_machine.specs.declared.expressions.BinaryOperator.{BinaryOperator}
-use Rattle.profile_machine.specs.declared.values.Value.{Value}
-use Rattle.profile_machine.specs.declared.values.Value.TheVariants.{Whole, Ticks}
+use Rattle.profile_image.specs.declared.numbers.ExprNo.{ExprNo}
+use Rattle.profile_image.specs.declared.expressions.Expression.{Expression}
+use Rattle.profile_image.specs.declared.expressions.Expression.TheVariants as of
+use Rattle.profile_image.specs.declared.expressions.BinaryOperator.{BinaryOperator}
+use Rattle.profile_image.specs.declared.values.Value.{Value}
+use Rattle.profile_image.specs.declared.values.Value.TheVariants.{Whole, Ticks}
 use Rattle.profile_machine.specs.declared.world.scopes.Variable.{Variable}
 use Rattle.profile_machine.specs.declared.world.tasks.Task as world
-use Rattle.profile_machine.specs.Program.{expression_of}
+use Rattle.profile_image.specs.Program.{expression_of}
 use Rattle.profile_machine.specs.Operators.{Valued, unary_value, binary_value, decides}
 use Rattle.profile_machine.specs.Values.{Seen, object_cell, indexed, component_cell, variable_by, read, live_task, named_task, task_in, of_task_by, port_value, span, both_values, form_value, value_by}
 use Rattle.world_laws.specs.ValueLaws.{operands, operands_before, operands_rise_from, ValuesEnd}

@@ -11,7 +11,7 @@ use Rattle.profile_machine.specs.declared.world.marks.Frame.{Frame}
 use Rattle.profile_machine.specs.declared.world.marks.ScopeMark.{ScopeMark}
 use Rattle.profile_machine.specs.declared.world.marks.Mark.TheVariants.{Scope}
 use Rattle.profile_machine.specs.declared.world.appointments.Registered.{Registered}
-use Rattle.profile_machine.specs.Words.{without}
+use Rattle.profile_image.specs.Words.{without}
 use Rattle.profile_machine.specs.Cost.{of_region}
 use Rattle.profile_machine.specs.Frames.{top_of}
 use Rattle.profile_machine.specs.Controlled.{is_number, no_longer_registered, next_to_finalize}

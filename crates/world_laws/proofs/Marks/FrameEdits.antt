@@ -8,7 +8,7 @@ use Rattle.profile_machine.specs.declared.world.marks.Frame.{Frame}
 use Rattle.profile_machine.specs.declared.world.marks.Mark.{Mark}
 use Rattle.profile_machine.specs.declared.world.marks.Mark.TheVariants.{Scope, Handled, InProtected, InAccept, Abortable, InInitialize, InFinalize, InAssign}
 use Rattle.profile_machine.specs.declared.world.tasks.Waiting.{Waiting}
-use Rattle.profile_machine.specs.Words.{same_call, is_the}
+use Rattle.profile_image.specs.Words.{same_call, is_the}
 use Rattle.ann_base.specs.Lists.{is_empty}
 use Rattle.world_tables.specs.Lists.{rest_of}
 use Rattle.profile_machine.specs.Frames.{edit_first}

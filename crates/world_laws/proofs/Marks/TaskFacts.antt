@@ -8,7 +8,7 @@ use Rattle.trace_text.specs.declared.events.Who.{Who}
 use Rattle.trace_text.specs.declared.events.Who.TheVariants as who
 use Rattle.profile_machine.specs.declared.world.World.{World}
 use Rattle.profile_machine.specs.declared.world.tasks.Task.{Task}
-use Rattle.profile_machine.specs.Words.{same_who, without, set_where}
+use Rattle.profile_image.specs.Words.{same_who, without, set_where}
 use Rattle.profile_machine.specs.Tasks.{nobody, is_who, edit_task}
 use Rattle.profile_machine.specs.Tasking.{abnormal_task}
 use Rattle.machine_laws.proofs.FineMoves.{edit_task-drawn}

@@ -14,7 +14,7 @@ use Rattle.profile_machine.specs.declared.world.tasks.Task.{Task}
 use Rattle.profile_machine.specs.declared.world.tasks.State.TheVariants.{Runnable, Blocked}
 use Rattle.profile_machine.specs.declared.world.tasks.Waiting.{Waiting}
 use Rattle.profile_machine.specs.declared.world.tasks.Waiting.TheVariants as waits_for
-use Rattle.profile_machine.specs.Words.{same_who, same_call}
+use Rattle.profile_image.specs.Words.{same_who, same_call}
 use Rattle.world_tables.specs.Lists.{first_of, rest_of}
 use Rattle.profile_machine.specs.Tasks.{nobody, is_who, is_made, is_made_state, task_at, task_of, found_task, edit_task_found, edit_task, with_state, with_frames, waiting_in}
 use Rattle.profile_machine.specs.Frames.{frames_of, top_of, new_frame, edit_first, edit_top, push, pop}

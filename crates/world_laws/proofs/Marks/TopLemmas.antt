@@ -4,14 +4,14 @@ use Rattle.std.proofs.lemmas.Bool.{false≢true}
 use Rattle.std.specs.Prelude.{slice_index_or, option_map}
 use Rattle.trace_text.specs.declared.events.Who.{Who}
 use Rattle.trace_text.specs.declared.events.Who.TheVariants as who
-use Rattle.profile_machine.specs.declared.image.Image.{Image}
+use Rattle.profile_image.specs.declared.image.Image.{Image}
 use Rattle.profile_machine.specs.declared.world.World.{World}
 use Rattle.profile_machine.specs.declared.world.marks.Frame.{Frame}
 use Rattle.profile_machine.specs.declared.world.tasks.Task.{Task}
 use Rattle.profile_machine.specs.declared.world.tasks.State.TheVariants.{Runnable}
-use Rattle.profile_machine.specs.Words.{same_who}
+use Rattle.profile_image.specs.Words.{same_who}
 use Rattle.world_tables.specs.Lists.{first_of}
-use Rattle.profile_machine.specs.Program.{is_robin_level, edf_low}
+use Rattle.profile_image.specs.Program.{is_robin_level, edf_low}
 use Rattle.profile_machine.specs.Tasks.{nobody, is_made_state, task_of, edit_task, with_state, with_frames}
 use Rattle.profile_machine.specs.Dispatching.{active, level_kept_by, keep_level, granted}
 use Rattle.profile_machine.specs.Frames.{frames_of, top_of, edit_first, edit_top, push}

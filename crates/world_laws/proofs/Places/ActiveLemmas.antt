@@ -3,10 +3,10 @@ use Rattle.world_laws.proofs.Places.CorePoints.{Edited, Missed, active_in, edit-
 use Rattle.ceiling_laws.proofs.Fine.Cores.{Core, core}
 use Rattle.profile_machine.specs.Dispatching.{active_of, kept_level_or_base}
 use Rattle.profile_machine.specs.Inheritance.{inherit, lose, same_cause}
-use Rattle.profile_machine.specs.Program.{edf_low}
+use Rattle.profile_image.specs.Program.{edf_low}
 use Rattle.profile_machine.specs.Tasks.{edit_task, nobody, task_of}
-use Rattle.profile_machine.specs.Words.{greatest_of, without}
-use Rattle.profile_machine.specs.declared.image.Image.{Image}
+use Rattle.profile_image.specs.Words.{greatest_of, without}
+use Rattle.profile_image.specs.declared.image.Image.{Image}
 use Rattle.profile_machine.specs.declared.world.World.{World}
 use Rattle.profile_machine.specs.declared.world.tasks.Cause.{Cause}
 use Rattle.profile_machine.specs.declared.world.tasks.Inherited.{Inherited}

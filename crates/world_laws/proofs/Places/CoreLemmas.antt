@@ -1,7 +1,7 @@
 -- What is read of a world's tasks where it is known only what decides their places.
 use Rattle.ceiling_laws.proofs.Fine.Cores.{Core, Same, core}
 use Rattle.profile_machine.specs.Tasks.{is_who, nobody, task_of}
-use Rattle.profile_machine.specs.Words.{same_who}
+use Rattle.profile_image.specs.Words.{same_who}
 use Rattle.profile_machine.specs.declared.world.World.{World}
 use Rattle.profile_machine.specs.declared.world.tasks.Task.{Task}
 use Rattle.std.proofs.Common.{Bool, List, Option, Some, [], ap, cond, false, map, refl, sym, true, ◌∙◌, ◌∷◌, ◌≡◌}

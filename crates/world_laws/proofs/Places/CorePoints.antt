@@ -10,12 +10,12 @@ use Rattle.ceiling_laws.proofs.Fine.SameLemmas.{edit_task-same}
 use Rattle.ceiling_laws.proofs.Runs.Triples.{Ends, Keeps, Leads, State, changes-leads, then-leads}
 use Rattle.ceiling_laws.proofs.Fine.Cores.{Core, Same, core}
 use Rattle.profile_machine.specs.Dispatching.{active, deadline_shown, grant_quantum, granted, keep_level, kept_level_or_base, level_kept_by, ready, says_ready, to_head, to_tail}
-use Rattle.profile_machine.specs.Program.{edf_low, is_edf_level, is_robin_level}
+use Rattle.profile_image.specs.Program.{edf_low, is_edf_level, is_robin_level}
 use Rattle.profile_machine.specs.Scopes.{end_scope}
 use Rattle.profile_machine.specs.Steps.{changes, says}
 use Rattle.profile_machine.specs.Tasks.{edit_task, edit_task_found, is_who, nobody, task_at, task_of, with_state}
-use Rattle.profile_machine.specs.Words.{greatest_of, same_who}
-use Rattle.profile_machine.specs.declared.image.Image.{Image}
+use Rattle.profile_image.specs.Words.{greatest_of, same_who}
+use Rattle.profile_image.specs.declared.image.Image.{Image}
 use Rattle.profile_machine.specs.declared.world.World.{World}
 use Rattle.profile_machine.specs.declared.world.lines.Line.{Line}
 use Rattle.profile_machine.specs.declared.world.lines.Line.TheVariants as line

@@ -15,7 +15,7 @@ use Rattle.profile_machine.specs.Masters.{forget_task}
 use Rattle.profile_machine.specs.Steps.{changes, says}
 use Rattle.profile_machine.specs.Tasking.{add_task, says_done}
 use Rattle.profile_machine.specs.Tasks.{is_who, nobody, task_of}
-use Rattle.profile_machine.specs.Words.{same_who}
+use Rattle.profile_image.specs.Words.{same_who}
 use Rattle.profile_machine.specs.declared.world.World.{World}
 use Rattle.profile_machine.specs.declared.world.lines.Line.TheVariants as line
 use Rattle.profile_machine.specs.declared.world.lines.Part.{Part}

@@ -25,17 +25,17 @@ use Rattle.profile_machine.specs.Frames.{edit_first, edit_top, goes, goes_on}
 use Rattle.profile_machine.specs.Inheritance.{inherit, lose, same_cause}
 use Rattle.profile_machine.specs.Masters.{forget_task, waits_at_terminate}
 use Rattle.profile_machine.specs.Priorities.{set_or_defer_base, set_or_defer_deadline}
-use Rattle.profile_machine.specs.Program.{next_of, protected_unit_of}
+use Rattle.profile_image.specs.Program.{next_of, protected_unit_of}
 use Rattle.profile_machine.specs.Rendezvous.{begin_accept, finish_without_room, meet_without_room}
 use Rattle.profile_machine.specs.Steps.{changes, for_some, is_part_before, looks, says, ◌▷◌}
 use Rattle.profile_machine.specs.Tasking.{activated_task, add_task, create_task, says_created, says_done}
 use Rattle.profile_machine.specs.Tasks.{edit_task, is_made, is_made_state, is_runnable_state, nobody, task_of, waiting_in, waiting_of, with_frames, with_state}
-use Rattle.profile_machine.specs.Words.{same_who, without}
-use Rattle.profile_machine.specs.declared.image.Image.{Image}
-use Rattle.profile_machine.specs.declared.numbers.DeclNo.{DeclNo}
-use Rattle.profile_machine.specs.declared.numbers.ProtectedUnitNo.{ProtectedUnitNo}
-use Rattle.profile_machine.specs.declared.numbers.StatementNo.{StatementNo}
-use Rattle.profile_machine.specs.declared.values.Value.TheVariants as value_of
+use Rattle.profile_image.specs.Words.{same_who, without}
+use Rattle.profile_image.specs.declared.image.Image.{Image}
+use Rattle.profile_image.specs.declared.numbers.DeclNo.{DeclNo}
+use Rattle.profile_image.specs.declared.numbers.ProtectedUnitNo.{ProtectedUnitNo}
+use Rattle.profile_image.specs.declared.numbers.StatementNo.{StatementNo}
+use Rattle.profile_image.specs.declared.values.Value.TheVariants as value_of
 use Rattle.profile_machine.specs.declared.world.World.{World}
 use Rattle.profile_machine.specs.declared.world.appointments.Due.TheVariants as due_for
 use Rattle.profile_machine.specs.declared.world.calls.Call.{Call}

@@ -16,13 +16,13 @@ use Rattle.profile_machine.specs.Frames.{in_protected}
 use Rattle.profile_machine.specs.Inheritance.{falls, inherit, inherit_running, lose, lose_running, rises, same_cause}
 use Rattle.profile_machine.specs.Masters.{part_of, waits_at_terminate}
 use Rattle.profile_machine.specs.Priorities.{defer_base, defer_deadline, is_runnable_at_edf, placing_of, replace_in, reprioritize_own, says_base, says_deadline, set_base, set_deadline, set_deferred, set_or_defer_base, set_or_defer_deadline, take_base, take_deadline}
-use Rattle.profile_machine.specs.Program.{has_edf, is_edf_level}
+use Rattle.profile_image.specs.Program.{has_edf, is_edf_level}
 use Rattle.profile_machine.specs.Scopes.{end_scope}
 use Rattle.profile_machine.specs.Steps.{Step, changes, when}
 use Rattle.profile_machine.specs.Tasking.{fall_from}
 use Rattle.profile_machine.specs.Tasks.{edit_task, is_made_state, is_runnable_state, nobody, task_of, waiting_in}
-use Rattle.profile_machine.specs.Words.{same_who, without}
-use Rattle.profile_machine.specs.declared.image.Image.{Image}
+use Rattle.profile_image.specs.Words.{same_who, without}
+use Rattle.profile_image.specs.declared.image.Image.{Image}
 use Rattle.profile_machine.specs.declared.world.World.{World}
 use Rattle.profile_machine.specs.declared.world.lines.Line.TheVariants as line
 use Rattle.profile_machine.specs.declared.world.lines.Part.{Part}

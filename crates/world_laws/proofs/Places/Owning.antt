@@ -9,11 +9,11 @@ use Rattle.profile_machine.specs.Dispatching.{grant_quantum, granted, keep_level
 use Rattle.profile_machine.specs.Frames.{in_protected}
 use Rattle.profile_machine.specs.Inheritance.{falls, inherit, lose, lose_running, same_cause}
 use Rattle.profile_machine.specs.Priorities.{is_runnable_at_edf, replace_in, says_base, says_deadline, set_base, set_deadline, set_deferred, take_base, take_deadline}
-use Rattle.profile_machine.specs.Program.{edf_low}
+use Rattle.profile_image.specs.Program.{edf_low}
 use Rattle.profile_machine.specs.Steps.{Done, Step, changes, done, says}
 use Rattle.profile_machine.specs.Tasks.{edit_task, edit_task_found, task_at, task_of, with_state}
-use Rattle.profile_machine.specs.Words.{without}
-use Rattle.profile_machine.specs.declared.image.Image.{Image}
+use Rattle.profile_image.specs.Words.{without}
+use Rattle.profile_image.specs.declared.image.Image.{Image}
 use Rattle.profile_machine.specs.declared.world.World.{World}
 use Rattle.profile_machine.specs.declared.world.lines.Line.{Line}
 use Rattle.profile_machine.specs.declared.world.lines.Part.{Part}

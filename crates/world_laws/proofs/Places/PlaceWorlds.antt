@@ -12,9 +12,9 @@ use Rattle.profile_machine.specs.Dispatching.{active, deadline_shown}
 use Rattle.profile_machine.specs.Steps.{is_above}
 use Rattle.profile_machine.specs.Tasks.{is_runnable, task_of}
 use Rattle.profile_machine.specs.WellFormed.{all_adjacent, all_differ, is_at_active, is_placed, ready_are_placed}
-use Rattle.profile_machine.specs.Words.{same_option, same_who, same_number}
-use Rattle.profile_machine.specs.declared.image.Image.{Image}
-use Rattle.profile_machine.specs.declared.run_data.Item.{Item}
+use Rattle.profile_image.specs.Words.{same_option, same_who, same_number}
+use Rattle.profile_image.specs.declared.image.Image.{Image}
+use Rattle.profile_image.specs.declared.script_items.Item.{Item}
 use Rattle.profile_machine.specs.declared.world.World.{World}
 use Rattle.profile_machine.specs.declared.world.tasks.Placed.{Placed}
 use Rattle.profile_machine.specs.declared.world.tasks.Task.{Task}

@@ -4,7 +4,7 @@ use Rattle.ceiling_laws.proofs.Runs.Triples.{Ends, Keeps, Leads, State}
 use Rattle.machine_laws.proofs.Moves.{lines_of}
 use Rattle.profile_machine.specs.Instant.{budgets_due, events_due, moments_due, quantum_spent, script_items, timers_due}
 use Rattle.profile_machine.specs.Steps.{Done, Move, Step, done, placed_by, settled, settles, ◌▶◌}
-use Rattle.profile_machine.specs.declared.image.Image.{Image}
+use Rattle.profile_image.specs.declared.image.Image.{Image}
 use Rattle.profile_machine.specs.declared.world.World.{World}
 use Rattle.profile_machine.specs.declared.world.lines.Said.{Said}
 use Rattle.std.proofs.Common.{subst, sym}

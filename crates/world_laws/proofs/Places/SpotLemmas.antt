@@ -3,8 +3,8 @@ use Rattle.world_laws.proofs.Places.PartOrder.{place-in_order}
 use Rattle.world_laws.proofs.Places.Puts.{Spot, last_put, over, place_behind, place_by, puts, spot_in}
 use Rattle.profile_machine.specs.Lines.{event_of}
 use Rattle.profile_machine.specs.Steps.{in_order, is_above, places_after, places_after_all, put_at, put_at_head, put_at_tail, take_out}
-use Rattle.profile_machine.specs.Words.{same_who}
-use Rattle.profile_machine.specs.declared.image.Image.{Image}
+use Rattle.profile_image.specs.Words.{same_who}
+use Rattle.profile_image.specs.declared.image.Image.{Image}
 use Rattle.profile_machine.specs.declared.world.lines.Line.{Line}
 use Rattle.profile_machine.specs.declared.world.lines.Line.TheVariants as line
 use Rattle.profile_machine.specs.declared.world.lines.Said.{Said}

@@ -39,10 +39,10 @@ use Rattle.profile_machine.specs.Scopes.{open_scope, plainly}
 use Rattle.profile_machine.specs.Steps.{Move, changes, is_part_before, placed_by, places_after, places_after_all, rests, says, settles, ◌▶◌}
 use Rattle.profile_machine.specs.Tasks.{is_runnable, nobody, task_at, task_of}
 use Rattle.profile_machine.specs.Frames.{frames_of}
-use Rattle.profile_machine.specs.Words.{same_who}
+use Rattle.profile_image.specs.Words.{same_who}
 use Rattle.world_tables.specs.Lists.{first_of}
-use Rattle.profile_machine.specs.declared.image.Image.{Image}
-use Rattle.profile_machine.specs.declared.run_data.Item.{Item}
+use Rattle.profile_image.specs.declared.image.Image.{Image}
+use Rattle.profile_image.specs.declared.script_items.Item.{Item}
 use Rattle.profile_machine.specs.declared.world.World.{World}
 use Rattle.profile_machine.specs.declared.world.lines.Line.TheVariants as line
 use Rattle.profile_machine.specs.declared.world.lines.Part.{Part}

@@ -7,8 +7,8 @@ use Rattle.ann_base.specs.declared.identities.CallNo.{CallNo}
 use Rattle.ann_base.specs.declared.identities.TaskNo.{TaskNo}
 use Rattle.trace_text.specs.declared.events.Who.{Who}
 use Rattle.trace_text.specs.declared.events.Who.TheVariants as who
-use Rattle.profile_machine.specs.declared.image.Image.{Image}
-use Rattle.profile_machine.specs.declared.numbers.ProtectedUnitNo.{ProtectedUnitNo}
+use Rattle.profile_image.specs.declared.image.Image.{Image}
+use Rattle.profile_image.specs.declared.numbers.ProtectedUnitNo.{ProtectedUnitNo}
 use Rattle.profile_machine.specs.declared.world.World.{World}
 use Rattle.profile_machine.specs.declared.world.calls.Call.{Call}
 use Rattle.profile_machine.specs.declared.world.calls.Owner.{Owner}
@@ -17,13 +17,14 @@ use Rattle.profile_machine.specs.declared.world.objects.Object.{Object}
 use Rattle.profile_machine.specs.declared.world.scopes.Located.{Located}
 use Rattle.profile_machine.specs.declared.world.tasks.State.TheVariants.{Made}
 use Rattle.profile_machine.specs.declared.world.tasks.Task.{Task}
-use Rattle.profile_machine.specs.Words.{same_call, same_id, same_who, has, without}
+use Rattle.profile_image.specs.Words.{same_call, same_who, has, without}
+use Rattle.profile_machine.specs.ScopeNumbers.{same_id}
 use Rattle.ann_base.specs.Lists.{is_empty}
 use Rattle.profile_machine.specs.Tasks.{is_who, nobody, task_of, waiting_in, waiting_of}
 use Rattle.profile_machine.specs.Frames.{frames_of}
 use Rattle.profile_machine.specs.Values.{is_object, queue_at, queues_of}
 use Rattle.profile_machine.specs.Calls.{call_of}
-use Rattle.profile_machine.specs.Program.{protected_unit_of}
+use Rattle.profile_image.specs.Program.{protected_unit_of}
 use Rattle.profile_machine.specs.Masters.{forget_task}
 use Rattle.profile_machine.specs.Declarations.{no_calls, new_object, object_drawn}
 use Rattle.profile_machine.specs.Tasking.{add_task}

@@ -7,7 +7,7 @@ use Rattle.ann_base.specs.declared.identities.CallNo.{CallNo}
 use Rattle.ann_base.specs.declared.identities.TaskNo.{TaskNo}
 use Rattle.trace_text.specs.declared.events.Who.{Who}
 use Rattle.trace_text.specs.declared.events.Who.TheVariants as who
-use Rattle.profile_machine.specs.declared.image.Image.{Image}
+use Rattle.profile_image.specs.declared.image.Image.{Image}
 use Rattle.profile_machine.specs.declared.world.World.{World}
 use Rattle.profile_machine.specs.declared.world.appointments.Appointment.{Appointment}
 use Rattle.profile_machine.specs.declared.world.appointments.Due.{Due}
@@ -16,7 +16,7 @@ use Rattle.profile_machine.specs.declared.world.calls.Owner.{Owner}
 use Rattle.profile_machine.specs.declared.world.calls.Owner.TheVariants as owned_by
 use Rattle.profile_machine.specs.declared.world.objects.Object.{Object}
 use Rattle.profile_machine.specs.declared.world.tasks.Task.{Task}
-use Rattle.profile_machine.specs.Words.{same_call, has, without, edit_where, edit_found, set_where, edit_at}
+use Rattle.profile_image.specs.Words.{same_call, has, without, edit_where, edit_found, set_where, edit_at}
 use Rattle.profile_machine.specs.Tasks.{task_at, task_of, edit_task}
 use Rattle.profile_machine.specs.Appointments.{is_appointed, is_timeout_of, is_trigger_of, put_appointment, appoint, drop_appointment}
 use Rattle.profile_machine.specs.Values.{is_object, queue_at, queues_of}

@@ -4,7 +4,7 @@ use Rattle.std.specs.List.{list_any}
 use Rattle.std.proofs.lemmas.Bool.{eqb-true, eq-eqb, or_left, or_right, true≢false}
 use Rattle.ann_base.specs.declared.identities.CallNo.{CallNo}
 use Rattle.profile_machine.specs.declared.world.calls.Call.{Call}
-use Rattle.profile_machine.specs.Words.{edit_at, has, same_call}
+use Rattle.profile_image.specs.Words.{edit_at, has, same_call}
 use Rattle.profile_machine.specs.Values.{queue_at}
 use Rattle.profile_machine.specs.Calls.{take_call}
 

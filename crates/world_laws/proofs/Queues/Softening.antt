@@ -11,7 +11,7 @@ use Rattle.profile_machine.specs.declared.world.calls.Call.{Call}
 use Rattle.profile_machine.specs.declared.world.marks.Frame.{Frame}
 use Rattle.profile_machine.specs.declared.world.tasks.State.{State}
 use Rattle.profile_machine.specs.declared.world.tasks.Task.{Task}
-use Rattle.profile_machine.specs.Words.{same_call, has, is_the}
+use Rattle.profile_image.specs.Words.{same_call, has, is_the}
 use Rattle.profile_machine.specs.Tasks.{task_of, edit_task, waiting_in, with_state, with_frames}
 use Rattle.profile_machine.specs.Frames.{frames_of}
 use Rattle.profile_machine.specs.Appointments.{is_appointed, is_trigger_of}

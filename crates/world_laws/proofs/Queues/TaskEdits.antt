@@ -5,7 +5,7 @@ use Rattle.ann_base.specs.declared.identities.TaskNo.{TaskNo}
 use Rattle.trace_text.specs.declared.events.Who.{Who}
 use Rattle.trace_text.specs.declared.events.Who.TheVariants as who
 use Rattle.profile_machine.specs.declared.world.tasks.Task.{Task}
-use Rattle.profile_machine.specs.Words.{same_who, without}
+use Rattle.profile_image.specs.Words.{same_who, without}
 use Rattle.profile_machine.specs.Tasks.{is_who, nobody}
 use Rattle.line_laws.proofs.Exits.TaskEdits.{apart-names, none-left, one_of, same_who-path, seen, tail-step}
 

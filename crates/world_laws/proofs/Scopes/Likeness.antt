@@ -7,7 +7,7 @@ use Rattle.trace_text.specs.declared.events.Who.TheVariants as who
 use Rattle.profile_machine.specs.declared.world.World.{World}
 use Rattle.profile_machine.specs.declared.world.tasks.Task.{Task}
 use Rattle.profile_machine.specs.declared.world.marks.Frame.{Frame}
-use Rattle.profile_machine.specs.Words.{same_who, set_where}
+use Rattle.profile_image.specs.Words.{same_who, set_where}
 use Rattle.world_tables.specs.Lists.{first_of, rest_of}
 use Rattle.profile_machine.specs.Tasks.{is_who, is_made, nobody, task_at, task_of, edit_task_found, edit_task, with_frames}
 use Rattle.profile_machine.specs.Frames.{push, pop, top_of, is_protected}

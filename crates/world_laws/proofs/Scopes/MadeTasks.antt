@@ -6,7 +6,7 @@ use Rattle.trace_text.specs.declared.events.Who.{Who}
 use Rattle.trace_text.specs.declared.events.Who.TheVariants as who
 use Rattle.profile_machine.specs.declared.world.World.{World}
 use Rattle.profile_machine.specs.declared.world.tasks.Task.{Task}
-use Rattle.profile_machine.specs.Words.{same_who}
+use Rattle.profile_image.specs.Words.{same_who}
 use Rattle.profile_machine.specs.Tasks.{is_who, is_made, nobody, task_of}
 use Rattle.world_laws.proofs.Scopes.FineMoves.{Live}
 use Rattle.world_laws.proofs.Scopes.TaskMarks.{marks_of}

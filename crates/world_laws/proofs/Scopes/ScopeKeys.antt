@@ -2,10 +2,10 @@
 use Rattle.std.proofs.Common.{◌≡◌, ℕ, ◌+◌, ◌≤◌, ◌<◌, Bool, true, false, cond, not, eqb, List, [], ◌∷◌, ◌++◌, Option, Some, None, refl, sym, ap, ◌∙◌, arith}
 use Rattle.std.specs.Prelude.{find}
 use Rattle.trace_text.specs.declared.events.Who.{Who}
-use Rattle.profile_machine.specs.declared.values.Value.{Value}
+use Rattle.profile_image.specs.declared.values.Value.{Value}
 use Rattle.profile_machine.specs.declared.world.scopes.ScopeId.{ScopeId}
 use Rattle.profile_machine.specs.declared.world.scopes.ScopeInUse.{ScopeInUse}
-use Rattle.profile_machine.specs.Words.{without, set_where, edit_found, edit_where}
+use Rattle.profile_image.specs.Words.{without, set_where, edit_found, edit_where}
 use Rattle.profile_machine.specs.Scopes.{is_id, with_cells}
 use Rattle.machine_laws.proofs.ListLemmas.{Falls, Falls-higher}
 use Rattle.line_laws.proofs.Exits.OpenCounts.{bit}

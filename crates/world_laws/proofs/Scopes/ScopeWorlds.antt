@@ -9,7 +9,7 @@ use Rattle.profile_machine.specs.declared.world.marks.Frame.{Frame}
 use Rattle.profile_machine.specs.declared.world.scopes.ScopeId.{ScopeId}
 use Rattle.profile_machine.specs.declared.world.scopes.ScopeInUse.{ScopeInUse}
 use Rattle.profile_machine.specs.declared.world.tasks.Task.{Task}
-use Rattle.profile_machine.specs.Words.{same_who}
+use Rattle.profile_image.specs.Words.{same_who}
 use Rattle.profile_machine.specs.Scopes.{id_in, is_id, scope_in_use}
 use Rattle.profile_machine.specs.WellFormed.{all_adjacent, everybody, frames_with_scopes, has_scope, is_older, scopes_are_right, scopes_counted}
 use Rattle.machine_laws.proofs.ListLemmas.{Falls-adjacent}

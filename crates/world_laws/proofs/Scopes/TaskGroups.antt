@@ -6,9 +6,9 @@ use Rattle.ann_base.specs.declared.exceptions.Raised.TheVariants as exception
 use Rattle.ann_base.specs.declared.identities.RegionNo.{RegionNo}
 use Rattle.ann_base.specs.declared.identities.TaskNo.{TaskNo}
 use Rattle.trace_text.specs.declared.events.Who.{Who}
-use Rattle.profile_machine.specs.declared.image.Image.{Image}
-use Rattle.profile_machine.specs.declared.numbers.DeclNo.{DeclNo}
-use Rattle.profile_machine.specs.declared.numbers.StatementNo.{StatementNo}
+use Rattle.profile_image.specs.declared.image.Image.{Image}
+use Rattle.profile_image.specs.declared.numbers.DeclNo.{DeclNo}
+use Rattle.profile_image.specs.declared.numbers.StatementNo.{StatementNo}
 use Rattle.profile_machine.specs.declared.run_data.Leaving.{Leaving}
 use Rattle.profile_machine.specs.declared.world.World.{World}
 use Rattle.profile_machine.specs.declared.world.lines.Line.TheVariants as line
@@ -18,13 +18,13 @@ use Rattle.profile_machine.specs.declared.world.marks.ScopeMark.{ScopeMark}
 use Rattle.profile_machine.specs.declared.world.tasks.Cause.TheVariants as inherited_by
 use Rattle.profile_machine.specs.declared.world.tasks.State.TheVariants.{Runnable}
 use Rattle.profile_machine.specs.declared.world.tasks.Task.{Task}
-use Rattle.profile_machine.specs.Words.{is_the, same_region, same_who}
+use Rattle.profile_image.specs.Words.{is_the, same_region, same_who}
 use Rattle.profile_machine.specs.Steps.{Step, changes, for_each, for_some, looks, says, ◌▷◌}
 use Rattle.profile_machine.specs.Tasks.{edit_task, is_made, task_of, with_state}
 use Rattle.profile_machine.specs.Dispatching.{active_of, keep_level, ready, to_tail}
 use Rattle.profile_machine.specs.Frames.{goes, has_room, in_protected, is_deferred}
 use Rattle.profile_machine.specs.Inheritance.{inherit}
-use Rattle.profile_machine.specs.Program.{next_of, scope_of}
+use Rattle.profile_image.specs.Program.{next_of, scope_of}
 use Rattle.profile_machine.specs.Appointments.{drop_delay}
 use Rattle.profile_machine.specs.Masters.{complete, forget_task, has_activating, terminate, wake_master}
 use Rattle.profile_machine.specs.Scopes.{open_scope, plainly}

@@ -4,7 +4,7 @@ use Rattle.std.specs.Prelude.{find, unwrap_or}
 use Rattle.trace_text.specs.declared.events.Who.{Who}
 use Rattle.trace_text.specs.declared.events.Who.TheVariants as who
 use Rattle.profile_machine.specs.declared.world.tasks.Task.{Task}
-use Rattle.profile_machine.specs.Words.{same_who, without}
+use Rattle.profile_image.specs.Words.{same_who, without}
 use Rattle.profile_machine.specs.Tasks.{is_who, is_made, nobody}
 use Rattle.world_laws.proofs.Scopes.ScopeKeys.{Key, Weights, weigh, weigh-append}
 use Rattle.world_laws.proofs.Scopes.TaskMarks.{marks_of, keys_by, task_keys, bottomed}

@@ -8,8 +8,8 @@ use Rattle.ann_base.specs.declared.identities.TaskNo.{TaskNo}
 use Rattle.trace_text.specs.declared.events.Mode.TheVariants.{Write}
 use Rattle.trace_text.specs.declared.events.Who.{Who}
 use Rattle.trace_text.specs.declared.events.Who.TheVariants as who
-use Rattle.profile_machine.specs.declared.image.Image.{Image}
-use Rattle.profile_machine.specs.declared.numbers.StatementNo.{StatementNo}
+use Rattle.profile_image.specs.declared.image.Image.{Image}
+use Rattle.profile_image.specs.declared.numbers.StatementNo.{StatementNo}
 use Rattle.profile_machine.specs.declared.run_data.Leaving.{Leaving}
 use Rattle.profile_machine.specs.declared.world.World.{World}
 use Rattle.profile_machine.specs.declared.world.appointments.Release.{Release}
@@ -25,9 +25,9 @@ use Rattle.profile_machine.specs.declared.world.objects.Entering.TheVariants as 
 use Rattle.profile_machine.specs.declared.world.tasks.Cause.TheVariants as inherited_by
 use Rattle.profile_machine.specs.declared.world.tasks.State.{State}
 use Rattle.profile_machine.specs.declared.world.tasks.State.TheVariants.{Made, Runnable, Blocked}
-use Rattle.profile_machine.specs.Words.{same_who}
+use Rattle.profile_image.specs.Words.{same_who}
 use Rattle.world_tables.specs.Lists.{first_of, rest_of}
-use Rattle.profile_machine.specs.Program.{subprogram_of, marks_of, size_of_body}
+use Rattle.profile_image.specs.Program.{subprogram_of, marks_of, size_of_body}
 use Rattle.profile_machine.specs.Steps.{Move, says, changes, looks, when, nothing, settles, rests}
 use Rattle.profile_machine.specs.Tasks.{task_of, edit_task, with_ticks, is_runnable, is_runnable_state, with_frames, nobody, task_at}
 use Rattle.profile_machine.specs.Frames.{top_of, push, new_frame, onward_of, leaving_of, has_room, open_at, open_sequence, open_if_ready}

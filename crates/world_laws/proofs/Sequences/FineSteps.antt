@@ -9,20 +9,20 @@ use Rattle.std.proofs.Common.{◌≡◌, ℕ, suc, Bool, true, false, List, [], 
 use Rattle.ann_base.specs.declared.identities.RegionNo.{RegionNo}
 use Rattle.trace_text.specs.declared.events.Who.{Who}
 use Rattle.trace_text.specs.declared.events.Who.TheVariants as who
-use Rattle.profile_machine.specs.declared.image.Image.{Image}
-use Rattle.profile_machine.specs.declared.numbers.ScopeNo.{ScopeNo}
-use Rattle.profile_machine.specs.declared.numbers.StatementNo.{StatementNo}
+use Rattle.profile_image.specs.declared.image.Image.{Image}
+use Rattle.profile_image.specs.declared.numbers.ScopeNo.{ScopeNo}
+use Rattle.profile_image.specs.declared.numbers.StatementNo.{StatementNo}
 use Rattle.profile_machine.specs.declared.world.World.{World}
 use Rattle.profile_machine.specs.declared.world.marks.Frame.{Frame}
 use Rattle.profile_machine.specs.declared.world.marks.Purpose.{Purpose}
 use Rattle.profile_machine.specs.declared.world.tasks.Task.{Task}
 use Rattle.profile_machine.specs.declared.world.tasks.State.TheVariants.{Made, Runnable}
 use Rattle.profile_machine.specs.declared.world.scopes.Beginning.{Beginning}
-use Rattle.profile_machine.specs.Words.{edit_at}
+use Rattle.profile_image.specs.Words.{edit_at}
 use Rattle.world_tables.specs.Lists.{first_of, rest_of}
 use Rattle.profile_machine.specs.Steps.{placed_by}
 use Rattle.profile_machine.specs.Tasks.{task_of, edit_task, with_state, with_frames, waiting_of, is_who, nobody}
-use Rattle.profile_machine.specs.Program.{scope_of}
+use Rattle.profile_image.specs.Program.{scope_of}
 use Rattle.profile_machine.specs.Frames.{top_of, edit_first, new_frame, push, pop, goes_on, is_protected}
 use Rattle.profile_machine.specs.Scopes.{edit_cells, begin_scope, draw_region, open_scope, end_scope, next_id, region_of_next, new_scope_mark, region_drawn}
 use Rattle.profile_machine.specs.Appointments.{appoint, drop_appointment}

@@ -5,7 +5,7 @@ use Rattle.ann_base.specs.declared.identities.CallNo.{CallNo}
 use Rattle.trace_text.specs.declared.events.Who.{Who}
 use Rattle.trace_text.specs.declared.events.Who.TheVariants as who
 use Rattle.profile_machine.specs.declared.world.calls.Call.{Call}
-use Rattle.profile_machine.specs.Words.{same_call, set_where, edit_found, without}
+use Rattle.profile_image.specs.Words.{same_call, set_where, edit_found, without}
 use Rattle.profile_machine.specs.Calls.{is_call}
 use Rattle.profile_machine.specs.EntryCalls.{numbered}
 use Rattle.world_laws.proofs.Sequences.TaskEdits.{by_bool}

@@ -7,8 +7,8 @@ use Rattle.ann_base.specs.declared.identities.RegionNo.{RegionNo}
 use Rattle.ann_base.specs.declared.identities.TaskNo.{TaskNo}
 use Rattle.trace_text.specs.declared.events.Who.{Who}
 use Rattle.trace_text.specs.declared.events.Who.TheVariants as who
-use Rattle.profile_machine.specs.declared.image.Image.{Image}
-use Rattle.profile_machine.specs.declared.numbers.StatementNo.{StatementNo}
+use Rattle.profile_image.specs.declared.image.Image.{Image}
+use Rattle.profile_image.specs.declared.numbers.StatementNo.{StatementNo}
 use Rattle.profile_machine.specs.declared.world.World.{World}
 use Rattle.profile_machine.specs.declared.world.calls.Call.{Call}
 use Rattle.profile_machine.specs.declared.world.marks.Frame.{Frame}
@@ -16,7 +16,7 @@ use Rattle.profile_machine.specs.declared.world.tasks.Task.{Task}
 use Rattle.profile_machine.specs.declared.world.tasks.State.{State}
 use Rattle.profile_machine.specs.declared.world.tasks.State.TheVariants.{Made, Runnable, Blocked}
 use Rattle.profile_machine.specs.declared.world.tasks.Waiting.TheVariants as waits_for
-use Rattle.profile_machine.specs.Words.{same_who, edit_where, without}
+use Rattle.profile_image.specs.Words.{same_who, edit_where, without}
 use Rattle.profile_machine.specs.Tasks.{nobody, is_who, task_at, task_of, edit_task_found, edit_task, with_frames, waiting_in}
 use Rattle.profile_machine.specs.Frames.{onward_of}
 use Rattle.profile_machine.specs.Calls.{is_call, edit_call, forget_call}

@@ -7,12 +7,12 @@ use Rattle.trace_text.specs.declared.events.Event.{Event}
 use Rattle.trace_text.specs.declared.events.Event.TheVariants as line
 use Rattle.trace_text.specs.declared.events.Who.{Who}
 use Rattle.trace_text.specs.declared.events.Who.TheVariants as who
-use Rattle.profile_machine.specs.declared.image.Image.{Image}
-use Rattle.profile_machine.specs.declared.declarations.Handler.{Handler}
-use Rattle.profile_machine.specs.declared.numbers.StatementNo.{StatementNo}
-use Rattle.profile_machine.specs.declared.run_data.Item.{Item}
-use Rattle.profile_machine.specs.declared.statements.StatementForm.{StatementForm}
-use Rattle.profile_machine.specs.declared.statements.StatementForm.TheVariants as form
+use Rattle.profile_image.specs.declared.image.Image.{Image}
+use Rattle.profile_image.specs.declared.declarations.Handler.{Handler}
+use Rattle.profile_image.specs.declared.numbers.StatementNo.{StatementNo}
+use Rattle.profile_image.specs.declared.script_items.Item.{Item}
+use Rattle.profile_image.specs.declared.statements.StatementForm.{StatementForm}
+use Rattle.profile_image.specs.declared.statements.StatementForm.TheVariants as form
 use Rattle.profile_machine.specs.declared.world.World.{World}
 use Rattle.profile_machine.specs.declared.world.appointments.Release.{Release}
 use Rattle.profile_machine.specs.declared.world.lines.Line.TheVariants as said_line
@@ -22,9 +22,9 @@ use Rattle.profile_machine.specs.declared.world.marks.Purpose.TheVariants as ope
 use Rattle.profile_machine.specs.declared.world.tasks.Task.{Task}
 use Rattle.profile_machine.specs.declared.world.tasks.State.{State}
 use Rattle.profile_machine.specs.declared.world.tasks.State.TheVariants.{Made, Runnable, Blocked}
-use Rattle.profile_machine.specs.Words.{same_who, same_option}
+use Rattle.profile_image.specs.Words.{same_who, same_option}
 use Rattle.world_tables.specs.Lists.{first_of}
-use Rattle.profile_machine.specs.Program.{no_statement, form_of, task_unit_of, scope_of}
+use Rattle.profile_image.specs.Program.{no_statement, form_of, task_unit_of, scope_of}
 use Rattle.profile_machine.specs.Steps.{says, changes, rests}
 use Rattle.profile_machine.specs.Tasks.{task_of, with_ticks, is_runnable, is_runnable_state, nobody, is_who}
 use Rattle.profile_machine.specs.Dispatching.{choose, to_tail}

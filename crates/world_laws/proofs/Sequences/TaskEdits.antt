@@ -4,12 +4,12 @@ use Rattle.std.proofs.lemmas.Bool.{eqb-true}
 use Rattle.std.proofs.lemmas.Bool.{false≢true}
 use Rattle.trace_text.specs.declared.events.Who.{Who}
 use Rattle.trace_text.specs.declared.events.Who.TheVariants as who
-use Rattle.profile_machine.specs.declared.image.Image.{Image}
+use Rattle.profile_image.specs.declared.image.Image.{Image}
 use Rattle.profile_machine.specs.declared.run_data.Leaving.{Leaving}
 use Rattle.profile_machine.specs.declared.world.World.{World}
 use Rattle.profile_machine.specs.declared.world.marks.Frame.{Frame}
 use Rattle.profile_machine.specs.declared.world.tasks.Task.{Task}
-use Rattle.profile_machine.specs.Words.{same_who, set_where}
+use Rattle.profile_image.specs.Words.{same_who, set_where}
 use Rattle.profile_machine.specs.Tasks.{nobody, is_who, task_at, task_of, edit_task_found, edit_task, with_frames}
 use Rattle.profile_machine.specs.Frames.{edit_first, edit_top, push, left_so, onward_of}
 use Rattle.profile_machine.specs.WellFormed.{begins_sequence}

@@ -5,7 +5,7 @@ use Rattle.trace_text.specs.declared.events.Who.{Who}
 use Rattle.trace_text.specs.declared.events.Who.TheVariants as who
 use Rattle.profile_machine.specs.declared.world.World.{World}
 use Rattle.profile_machine.specs.declared.world.tasks.Task.{Task}
-use Rattle.profile_machine.specs.Words.{same_who, set_where, without}
+use Rattle.profile_image.specs.Words.{same_who, set_where, without}
 use Rattle.profile_machine.specs.Tasks.{is_who, task_at, edit_task_found, edit_task}
 use Rattle.world_laws.proofs.Sequences.TaskEdits.{by_bool, who-self, who-same}
 

@@ -4,12 +4,12 @@ use Rattle.world_laws.proofs.Sequences.UnitFits.{edited-fitting}
 use Rattle.std.proofs.Common.{◌≡◌, ℕ, Bool, false, List, refl, sym, ap, subst, ◌⊎◌, inl, inr}
 use Rattle.trace_text.specs.declared.events.Who.{Who}
 use Rattle.trace_text.specs.declared.events.Who.TheVariants as who
-use Rattle.profile_machine.specs.declared.image.Image.{Image}
+use Rattle.profile_image.specs.declared.image.Image.{Image}
 use Rattle.profile_machine.specs.declared.world.World.{World}
 use Rattle.profile_machine.specs.declared.world.calls.Call.{Call}
 use Rattle.profile_machine.specs.declared.world.tasks.Task.{Task}
 use Rattle.profile_machine.specs.declared.world.tasks.State.{State}
-use Rattle.profile_machine.specs.Words.{same_who}
+use Rattle.profile_image.specs.Words.{same_who}
 use Rattle.profile_machine.specs.Tasks.{nobody, task_of, task_at, edit_task}
 use Rattle.profile_machine.specs.WellFormed.{begins_sequence}
 use Rattle.machine_laws.proofs.FineMoves.{natures, edit_task-drawn}

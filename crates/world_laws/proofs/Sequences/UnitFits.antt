@@ -2,11 +2,11 @@
 use Rattle.std.proofs.Common.{◌≡◌, Bool, true, false, cond, List, [], ◌∷◌, ◌++◌, Option, Some, None, find, filter, refl, sym, subst, ◌∙◌, unwrap_or}
 use Rattle.trace_text.specs.declared.events.Who.{Who}
 use Rattle.trace_text.specs.declared.events.Who.TheVariants as who
-use Rattle.profile_machine.specs.declared.image.Image.{Image}
+use Rattle.profile_image.specs.declared.image.Image.{Image}
 use Rattle.profile_machine.specs.declared.world.World.{World}
 use Rattle.profile_machine.specs.declared.world.tasks.Task.{Task}
-use Rattle.profile_machine.specs.Words.{set_where}
-use Rattle.profile_machine.specs.Program.{scope_of, task_unit_of}
+use Rattle.profile_image.specs.Words.{set_where}
+use Rattle.profile_image.specs.Program.{scope_of, task_unit_of}
 use Rattle.profile_machine.specs.Tasks.{is_who, task_at, edit_task_found, edit_task}
 use Rattle.profile_machine.specs.WellFormed.{begins_sequence}
 use Rattle.world_laws.proofs.Sequences.FineMoves.{Fitting, AllFitting}

@@ -8,7 +8,7 @@ use Rattle.ann_base.specs.declared.identities.ObjectNo.{ObjectNo}
 use Rattle.trace_text.specs.declared.events.Mode.{Mode}
 use Rattle.trace_text.specs.declared.events.Mode.TheVariants.{Read, Write}
 use Rattle.trace_text.specs.declared.events.Who.{Who}
-use Rattle.profile_machine.specs.declared.image.Image.{Image}
+use Rattle.profile_image.specs.declared.image.Image.{Image}
 use Rattle.profile_machine.specs.declared.run_data.Leaving.{Leaving}
 use Rattle.profile_machine.specs.declared.run_data.Leaving.TheVariants as how
 use Rattle.profile_machine.specs.declared.world.World.{World}
@@ -26,7 +26,7 @@ use Rattle.profile_machine.specs.declared.world.lines.Said.{Said}
 use Rattle.profile_machine.specs.declared.world.marks.Frame.{Frame}
 use Rattle.profile_machine.specs.declared.world.marks.Mark.TheVariants.{InProtected}
 use Rattle.profile_machine.specs.declared.world.marks.ProtectedMark.{ProtectedMark}
-use Rattle.profile_machine.specs.Words.{is_the, same_call}
+use Rattle.profile_image.specs.Words.{is_the, same_call}
 use Rattle.profile_machine.specs.Steps.{Step, Done, done, goes_on_with, nothing, says, changes, looks, for_some, ◌▷◌}
 use Rattle.profile_machine.specs.Frames.{frames_of, edit_top}
 use Rattle.profile_machine.specs.Values.{object_of, queues_of}

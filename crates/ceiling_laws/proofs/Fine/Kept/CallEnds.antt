@@ -19,10 +19,10 @@ use Rattle.profile_machine.specs.Operators.{Valued}
 use Rattle.profile_machine.specs.Steps.{Step, changes, looks}
 use Rattle.profile_machine.specs.Tasks.{task_of, waiting_of}
 use Rattle.profile_machine.specs.Unwinding.{struck_frame}
-use Rattle.profile_machine.specs.declared.image.Image.{Image}
-use Rattle.profile_machine.specs.declared.numbers.StatementNo.{StatementNo}
+use Rattle.profile_image.specs.declared.image.Image.{Image}
+use Rattle.profile_image.specs.declared.numbers.StatementNo.{StatementNo}
 use Rattle.profile_machine.specs.declared.run_data.Leaving.TheVariants as how
-use Rattle.profile_machine.specs.declared.values.Value.{Value}
+use Rattle.profile_image.specs.declared.values.Value.{Value}
 use Rattle.profile_machine.specs.declared.world.World.{World}
 use Rattle.profile_machine.specs.declared.world.calls.Call.{Call}
 use Rattle.profile_machine.specs.declared.world.calls.Outcome.{Outcome}

@@ -12,8 +12,8 @@ use Rattle.profile_machine.specs.Calls.{attempt_on, attempt_with, call_of, edit_
 use Rattle.profile_machine.specs.Releases.{stays}
 use Rattle.profile_machine.specs.Serving.{keeps_sending}
 use Rattle.profile_machine.specs.Steps.{Step, changes, says, ◌▷◌}
-use Rattle.profile_machine.specs.Words.{edit_at}
-use Rattle.profile_machine.specs.declared.image.Image.{Image}
+use Rattle.profile_image.specs.Words.{edit_at}
+use Rattle.profile_image.specs.declared.image.Image.{Image}
 use Rattle.profile_machine.specs.declared.run_data.Leaving.{Leaving}
 use Rattle.profile_machine.specs.declared.run_data.Leaving.TheVariants as how
 use Rattle.profile_machine.specs.declared.world.World.{World}

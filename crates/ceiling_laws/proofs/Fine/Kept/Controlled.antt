@@ -9,13 +9,13 @@ use Rattle.ceiling_laws.proofs.Runs.Triples.{Alters, Keeps, State, branch-keeps,
 use Rattle.profile_machine.specs.Controlled.{adjust_by, assign_controlled, assign_located, assign_registered, begin_assignment, behind_finalize, copy_object, do_step, edit_assign, edit_scope_mark, edit_top_assign, edit_top_scope, end_in_assign, end_in_finalize, end_in_initialize, finalize_now, finalize, finalize_by, finalize_has_raised, finalize_target_by, first_place, has_room_to_adjust, has_room_to_finalize, initialize, initialize_by, is_assignment, leave_without_room, no_longer_registered, open_finalize, open_operation, register, registered_as, registered_object, registers, step_with, top_region}
 use Rattle.profile_machine.specs.Frames.{pass_on, top_of, with_mark}
 use Rattle.profile_machine.specs.Steps.{changes}
-use Rattle.profile_machine.specs.declared.image.Image.{Image}
-use Rattle.profile_machine.specs.declared.numbers.DeclNo.{DeclNo}
-use Rattle.profile_machine.specs.declared.numbers.StatementNo.{StatementNo}
-use Rattle.profile_machine.specs.declared.numbers.SubprogramNo.{SubprogramNo}
+use Rattle.profile_image.specs.declared.image.Image.{Image}
+use Rattle.profile_image.specs.declared.numbers.DeclNo.{DeclNo}
+use Rattle.profile_image.specs.declared.numbers.StatementNo.{StatementNo}
+use Rattle.profile_image.specs.declared.numbers.SubprogramNo.{SubprogramNo}
 use Rattle.profile_machine.specs.declared.run_data.Leaving.{Leaving}
 use Rattle.profile_machine.specs.declared.run_data.Leaving.TheVariants as how
-use Rattle.profile_machine.specs.declared.values.Value.TheVariants.{Thing}
+use Rattle.profile_image.specs.declared.values.Value.TheVariants.{Thing}
 use Rattle.profile_machine.specs.declared.world.appointments.Registered.{Registered}
 use Rattle.profile_machine.specs.declared.world.lines.Line.TheVariants as line
 use Rattle.profile_machine.specs.declared.world.lines.Part.TheVariants.{Own}

@@ -12,24 +12,24 @@ use Rattle.profile_machine.specs.CallEnds.{store}
 use Rattle.profile_machine.specs.Declarations.{budget_declared, components_initialized, controlled_declared, declare, declare_by, declare_protected, declare_quietly, declared, default_cells, event_declared, event_drawn, initial_of, initialized, located_here, object_declared, says_object, set_defaults, set_thing, timed_task, timer_declared, with_budget, with_object, with_timer}
 use Rattle.profile_machine.specs.Frames.{goes}
 use Rattle.profile_machine.specs.Operators.{unless}
-use Rattle.profile_machine.specs.Program.{controlled_of, declaration_of, next_of, protected_unit_of}
+use Rattle.profile_image.specs.Program.{controlled_of, declaration_of, next_of, protected_unit_of}
 use Rattle.profile_machine.specs.Statements.{copy_cells}
 use Rattle.profile_machine.specs.Scopes.{put_cells}
 use Rattle.profile_machine.specs.Steps.{changes, ◌▷◌}
 use Rattle.profile_machine.specs.Values.{Seen, component_at, object_cell, seen_by, value}
-use Rattle.profile_machine.specs.declared.limits.TheConstants.{PROTECTED_CELLS, CONTROLLED_CELLS}
-use Rattle.profile_machine.specs.declared.declarations.DeclarationKind.{DeclarationKind}
-use Rattle.profile_machine.specs.declared.declarations.DeclarationKind.TheVariants as kind
-use Rattle.profile_machine.specs.declared.declarations.Initial.{Initial}
-use Rattle.profile_machine.specs.declared.declarations.Initial.TheVariants as initial
-use Rattle.profile_machine.specs.declared.expressions.ObjectName.TheVariants.{Declared}
-use Rattle.profile_machine.specs.declared.image.Image.{Image}
-use Rattle.profile_machine.specs.declared.numbers.ControlledNo.{ControlledNo}
-use Rattle.profile_machine.specs.declared.numbers.DeclNo.{DeclNo}
-use Rattle.profile_machine.specs.declared.numbers.ProtectedUnitNo.{ProtectedUnitNo}
-use Rattle.profile_machine.specs.declared.numbers.StatementNo.{StatementNo}
-use Rattle.profile_machine.specs.declared.values.Value.{Value}
-use Rattle.profile_machine.specs.declared.values.Value.TheVariants.{Thing}
+use Rattle.profile_image.specs.declared.limits.TheConstants.{PROTECTED_CELLS, CONTROLLED_CELLS}
+use Rattle.profile_image.specs.declared.declarations.DeclarationKind.{DeclarationKind}
+use Rattle.profile_image.specs.declared.declarations.DeclarationKind.TheVariants as kind
+use Rattle.profile_image.specs.declared.declarations.Initial.{Initial}
+use Rattle.profile_image.specs.declared.declarations.Initial.TheVariants as initial
+use Rattle.profile_image.specs.declared.expressions.ObjectName.TheVariants.{Declared}
+use Rattle.profile_image.specs.declared.image.Image.{Image}
+use Rattle.profile_image.specs.declared.numbers.ControlledNo.{ControlledNo}
+use Rattle.profile_image.specs.declared.numbers.DeclNo.{DeclNo}
+use Rattle.profile_image.specs.declared.numbers.ProtectedUnitNo.{ProtectedUnitNo}
+use Rattle.profile_image.specs.declared.numbers.StatementNo.{StatementNo}
+use Rattle.profile_image.specs.declared.values.Value.{Value}
+use Rattle.profile_image.specs.declared.values.Value.TheVariants.{Thing}
 use Rattle.profile_machine.specs.declared.world.World.{World}
 use Rattle.profile_machine.specs.declared.world.lines.Part.TheVariants.{Own}
 use Rattle.profile_machine.specs.declared.world.scopes.Located.{Located}

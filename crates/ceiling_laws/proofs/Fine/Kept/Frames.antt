@@ -9,15 +9,15 @@ use Rattle.ceiling_laws.proofs.Runs.Triples.{Alters, At, Keeps, Leads, State, br
 use Rattle.ceiling_laws.proofs.Fine.Cores.{Same}
 use Rattle.profile_machine.specs.Frames.{edit_first, edit_top, exit_loop, given, goes, goes_on, has_room, leaves, left_so, new_frame, onward_of, open_at, open_handled, open_if_ready, open_sequence, pass_on, pop, push, raise_if, raises, stands_in, top_of, with_room}
 use Rattle.profile_machine.specs.Operators.{Valued}
-use Rattle.profile_machine.specs.Program.{form_of, next_of}
+use Rattle.profile_image.specs.Program.{form_of, next_of}
 use Rattle.profile_machine.specs.Steps.{Step, changes, ◌▷◌}
 use Rattle.profile_machine.specs.Tasks.{edit_task, is_runnable, task_of, with_frames}
-use Rattle.profile_machine.specs.declared.image.Image.{Image}
-use Rattle.profile_machine.specs.declared.numbers.StatementNo.{StatementNo}
+use Rattle.profile_image.specs.declared.image.Image.{Image}
+use Rattle.profile_image.specs.declared.numbers.StatementNo.{StatementNo}
 use Rattle.profile_machine.specs.declared.run_data.Leaving.{Leaving}
 use Rattle.profile_machine.specs.declared.run_data.Leaving.TheVariants as how
-use Rattle.profile_machine.specs.declared.statements.StatementForm.{StatementForm}
-use Rattle.profile_machine.specs.declared.statements.StatementForm.TheVariants as form
+use Rattle.profile_image.specs.declared.statements.StatementForm.{StatementForm}
+use Rattle.profile_image.specs.declared.statements.StatementForm.TheVariants as form
 use Rattle.profile_machine.specs.declared.world.World.{World}
 use Rattle.profile_machine.specs.declared.world.lines.Part.{Part}
 use Rattle.profile_machine.specs.declared.world.lines.Part.TheVariants.{Own}

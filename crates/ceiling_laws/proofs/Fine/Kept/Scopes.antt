@@ -9,14 +9,14 @@ use Rattle.ceiling_laws.proofs.Fine.Cores.{Same}
 use Rattle.profile_machine.specs.Appointments.{appoint, drop_appointment, drop_delay, is_delay_of, put_appointment}
 use Rattle.profile_machine.specs.Frames.{new_frame}
 use Rattle.profile_machine.specs.Notation.{scope}
-use Rattle.profile_machine.specs.Program.{declaration_of, scope_of}
+use Rattle.profile_image.specs.Program.{declaration_of, scope_of}
 use Rattle.profile_machine.specs.Scopes.{begin_scope, draw_region, edit_cells, end_scope, new_scope_mark, next_id, open_scope, region_of_next, write_cell, put_cells}
 use Rattle.profile_machine.specs.Statements.{cells_from, copy_cells, put}
 use Rattle.profile_machine.specs.Values.{moment, value}
-use Rattle.profile_machine.specs.Words.{without}
-use Rattle.profile_machine.specs.declared.image.Image.{Image}
-use Rattle.profile_machine.specs.declared.numbers.ScopeNo.{ScopeNo}
-use Rattle.profile_machine.specs.declared.values.Value.{Value}
+use Rattle.profile_image.specs.Words.{without}
+use Rattle.profile_image.specs.declared.image.Image.{Image}
+use Rattle.profile_image.specs.declared.numbers.ScopeNo.{ScopeNo}
+use Rattle.profile_image.specs.declared.values.Value.{Value}
 use Rattle.profile_machine.specs.declared.world.World.{World}
 use Rattle.profile_machine.specs.declared.world.appointments.Appointment.{Appointment}
 use Rattle.profile_machine.specs.declared.world.appointments.Due.{Due}

@@ -10,21 +10,21 @@ use Rattle.ceiling_laws.proofs.Runs.Triples.{Alters, Keeps, Leads, State, change
 use Rattle.profile_machine.specs.CallEnds.{store}
 use Rattle.profile_machine.specs.Frames.{leaves}
 use Rattle.profile_machine.specs.Operators.{checked}
-use Rattle.profile_machine.specs.Program.{subprogram_of}
+use Rattle.profile_image.specs.Program.{subprogram_of}
 use Rattle.profile_machine.specs.Scopes.{home, write_cell}
 use Rattle.profile_machine.specs.Statements.{becomes}
 use Rattle.profile_machine.specs.Steps.{Step}
 use Rattle.profile_machine.specs.Subprograms.{begin_body, call_subprogram, cell_in, copy_parameters, drop_sending, end_subprogram, handed, handing, last_cell, result_kept, result_place, result_to, return, return_result, return_value, store_result, without_sending}
 use Rattle.profile_machine.specs.Values.{Seen, or_misfit, seen_by}
-use Rattle.profile_machine.specs.declared.image.Image.{Image}
-use Rattle.profile_machine.specs.declared.numbers.ExprNo.{ExprNo}
-use Rattle.profile_machine.specs.declared.numbers.StatementNo.{StatementNo}
-use Rattle.profile_machine.specs.declared.numbers.SubprogramNo.{SubprogramNo}
+use Rattle.profile_image.specs.declared.image.Image.{Image}
+use Rattle.profile_image.specs.declared.numbers.ExprNo.{ExprNo}
+use Rattle.profile_image.specs.declared.numbers.StatementNo.{StatementNo}
+use Rattle.profile_image.specs.declared.numbers.SubprogramNo.{SubprogramNo}
 use Rattle.profile_machine.specs.declared.run_data.Leaving.{Leaving}
 use Rattle.profile_machine.specs.declared.run_data.Leaving.TheVariants as how
-use Rattle.profile_machine.specs.declared.statements.Actual.{Actual}
-use Rattle.profile_machine.specs.declared.statements.Destination.{Destination}
-use Rattle.profile_machine.specs.declared.values.Value.{Value}
+use Rattle.profile_image.specs.declared.statements.Actual.{Actual}
+use Rattle.profile_image.specs.declared.statements.Destination.{Destination}
+use Rattle.profile_image.specs.declared.values.Value.{Value}
 use Rattle.profile_machine.specs.declared.world.World.{World}
 use Rattle.profile_machine.specs.declared.world.lines.Part.TheVariants.{Own}
 use Rattle.profile_machine.specs.declared.world.lines.Said.{Said}

@@ -14,7 +14,7 @@ use Rattle.profile_machine.specs.Masters.{terminate}
 use Rattle.profile_machine.specs.Steps.{changes, nothing, ◌▷◌}
 use Rattle.profile_machine.specs.Tasks.{task_of, with_ticks}
 use Rattle.profile_machine.specs.Unwinding.{edit_last, leave_by_abort, may_unwind, stop_waiting, strike_outermost, struck_frame, unwind, unwind_blocked, unwind_in, wake_and_leave}
-use Rattle.profile_machine.specs.declared.image.Image.{Image}
+use Rattle.profile_image.specs.declared.image.Image.{Image}
 use Rattle.profile_machine.specs.declared.run_data.Leaving.TheVariants as how
 use Rattle.profile_machine.specs.declared.world.World.{World}
 use Rattle.profile_machine.specs.declared.world.lines.Part.{Part}

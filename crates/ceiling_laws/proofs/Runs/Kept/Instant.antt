@@ -20,17 +20,17 @@ use Rattle.profile_machine.specs.Frames.{any_protected, edit_first, edit_top, go
 use Rattle.profile_machine.specs.Handlers.{release}
 use Rattle.profile_machine.specs.Instant.{all_due, come_due, deliver_kept_interrupt, end_delay, expire, expire_timer, has_spent_quantum, interrupt_comes, is_the_same_due, items_due, no_budget_due, no_timers_due, run_out, script_item, spend_quantum, take_delay, take_due, take_item, time_out, with_kept_interrupt, with_masked, with_port, with_script}
 use Rattle.profile_machine.specs.Masters.{terminate}
-use Rattle.profile_machine.specs.Program.{is_robin_level, next_of}
+use Rattle.profile_image.specs.Program.{is_robin_level, next_of}
 use Rattle.profile_machine.specs.Steps.{Step, changes, for_each, for_some, looks, nothing, says, ◌▷◌}
 use Rattle.profile_machine.specs.Tasks.{is_runnable, task_of, waiting_of, with_frames}
 use Rattle.profile_machine.specs.Unwinding.{unwind}
 use Rattle.profile_machine.specs.Values.{budget_of, timer_of, value}
-use Rattle.profile_machine.specs.Words.{same_bool, is_flag}
+use Rattle.profile_image.specs.Words.{same_bool, is_flag}
 use Rattle.ann_base.specs.Lists.{is_empty}
-use Rattle.profile_machine.specs.declared.image.Image.{Image}
-use Rattle.profile_machine.specs.declared.numbers.StatementNo.{StatementNo}
-use Rattle.profile_machine.specs.declared.run_data.Item.{Item}
-use Rattle.profile_machine.specs.declared.run_data.Item.TheVariants as item
+use Rattle.profile_image.specs.declared.image.Image.{Image}
+use Rattle.profile_image.specs.declared.numbers.StatementNo.{StatementNo}
+use Rattle.profile_image.specs.declared.script_items.Item.{Item}
+use Rattle.profile_image.specs.declared.script_items.Item.TheVariants as item
 use Rattle.profile_machine.specs.declared.world.World.{World}
 use Rattle.profile_machine.specs.declared.world.appointments.Appointment.{Appointment}
 use Rattle.profile_machine.specs.declared.world.appointments.Due.{Due}

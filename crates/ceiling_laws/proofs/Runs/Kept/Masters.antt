@@ -16,8 +16,8 @@ use Rattle.profile_machine.specs.Inheritance.{lose}
 use Rattle.profile_machine.specs.Masters.{complete, complete_with, completed_task, end_activation, end_activation_by, end_group, forget_task, gone_by_completion, has_activating, has_dependents, has_failed, leave_by_terminate, not_activating, part_of, queued_calls, terminate, waits_for_activation, waits_for_dependents, waits_in, wake_activator, wake_master, with_failure}
 use Rattle.profile_machine.specs.Steps.{changes, for_some, nothing}
 use Rattle.profile_machine.specs.Tasks.{edit_task, task_of, waiting_of, with_state}
-use Rattle.profile_machine.specs.Words.{same_who}
-use Rattle.profile_machine.specs.declared.image.Image.{Image}
+use Rattle.profile_image.specs.Words.{same_who}
+use Rattle.profile_image.specs.declared.image.Image.{Image}
 use Rattle.profile_machine.specs.declared.run_data.Leaving.TheVariants as how
 use Rattle.profile_machine.specs.declared.world.World.{World}
 use Rattle.profile_machine.specs.declared.world.calls.Call.{Call}

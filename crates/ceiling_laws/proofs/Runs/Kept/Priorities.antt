@@ -16,16 +16,16 @@ use Rattle.profile_machine.specs.Frames.{goes, in_protected}
 use Rattle.profile_machine.specs.Inheritance.{inherit, inherit_running, rises, same_cause}
 use Rattle.profile_machine.specs.Operators.{Valued, held_moment, ticks}
 use Rattle.profile_machine.specs.Priorities.{call_waited_for, delay_and_set_deadline, delay_with_deadline, is_edf_base, is_queued, placed_anew, priority_in_range, quantum_of, reprioritize, reprioritize_own, says_deadline, set_base_of, set_deadline_of, set_or_defer_base, set_priority, set_quantum, with_priority}
-use Rattle.profile_machine.specs.Program.{interrupt_priority, next_of}
+use Rattle.profile_image.specs.Program.{interrupt_priority, next_of}
 use Rattle.profile_machine.specs.Statements.{delay_to, delay_until, wait_until}
 use Rattle.profile_machine.specs.Tasks.{found_task, is_who}
 use Rattle.profile_machine.specs.Values.{live_task, moment, optional_task, value, whole_in, must_be_task}
-use Rattle.profile_machine.specs.Words.{edit_at, same_who}
-use Rattle.profile_machine.specs.declared.image.Image.{Image}
-use Rattle.profile_machine.specs.declared.image.Queuing.{Queuing}
-use Rattle.profile_machine.specs.declared.image.Queuing.TheVariants as queuing
-use Rattle.profile_machine.specs.declared.numbers.ExprNo.{ExprNo}
-use Rattle.profile_machine.specs.declared.numbers.StatementNo.{StatementNo}
+use Rattle.profile_image.specs.Words.{edit_at, same_who}
+use Rattle.profile_image.specs.declared.image.Image.{Image}
+use Rattle.profile_image.specs.declared.image.Queuing.{Queuing}
+use Rattle.profile_image.specs.declared.image.Queuing.TheVariants as queuing
+use Rattle.profile_image.specs.declared.numbers.ExprNo.{ExprNo}
+use Rattle.profile_image.specs.declared.numbers.StatementNo.{StatementNo}
 use Rattle.profile_machine.specs.declared.world.World.{World}
 use Rattle.profile_machine.specs.declared.world.calls.Call.{Call}
 use Rattle.profile_machine.specs.declared.world.lines.Line.TheVariants as line

@@ -18,17 +18,17 @@ use Rattle.ceiling_laws.proofs.Runs.Finer.{fine}
 use Rattle.profile_machine.specs.Act.{call}
 use Rattle.profile_machine.specs.Frames.{edit_first, edit_top, goes, goes_on, new_frame, raises, with_mark}
 use Rattle.profile_machine.specs.Handlers.{release}
-use Rattle.profile_machine.specs.Program.{marks_of, next_of, scope_of, subprogram_of}
+use Rattle.profile_image.specs.Program.{marks_of, next_of, scope_of, subprogram_of}
 use Rattle.profile_machine.specs.Protected.{begin_action_on, begin_call, begin_operation, begin_own_operation, begun_call, body_of_object, body_opens, call_operation, call_operation_of, call_own_operation, ceiling_of, edit_protected, edit_top_protected, enter_or, entering, find_held, has_object_open, has_room_for_body, mode_of, new_protected_mark, open_action, serve_call, where_let_inside}
 use Rattle.profile_machine.specs.Steps.{Step, changes, says, ◌▷◌}
 use Rattle.profile_machine.specs.Tasks.{with_frames}
 use Rattle.profile_machine.specs.Values.{object_number, object_of}
-use Rattle.profile_machine.specs.declared.image.Image.{Image}
-use Rattle.profile_machine.specs.declared.numbers.DeclNo.{DeclNo}
-use Rattle.profile_machine.specs.declared.numbers.StatementNo.{StatementNo}
-use Rattle.profile_machine.specs.declared.numbers.SubprogramNo.{SubprogramNo}
-use Rattle.profile_machine.specs.declared.statements.Actual.{Actual}
-use Rattle.profile_machine.specs.declared.statements.Destination.{Destination}
+use Rattle.profile_image.specs.declared.image.Image.{Image}
+use Rattle.profile_image.specs.declared.numbers.DeclNo.{DeclNo}
+use Rattle.profile_image.specs.declared.numbers.StatementNo.{StatementNo}
+use Rattle.profile_image.specs.declared.numbers.SubprogramNo.{SubprogramNo}
+use Rattle.profile_image.specs.declared.statements.Actual.{Actual}
+use Rattle.profile_image.specs.declared.statements.Destination.{Destination}
 use Rattle.profile_machine.specs.declared.world.World.{World}
 use Rattle.profile_machine.specs.declared.world.calls.Call.{Call}
 use Rattle.profile_machine.specs.declared.world.lines.Line.{Line}

@@ -22,20 +22,20 @@ use Rattle.profile_machine.specs.Dispatching.{block, ready}
 use Rattle.profile_machine.specs.Frames.{goes, in_protected, new_frame, open_sequence}
 use Rattle.profile_machine.specs.Inheritance.{inherit}
 use Rattle.profile_machine.specs.Masters.{terminate}
-use Rattle.profile_machine.specs.Program.{form_of, next_of, scope_of}
+use Rattle.profile_image.specs.Program.{form_of, next_of, scope_of}
 use Rattle.profile_machine.specs.Rendezvous.{accept, accept_call, accept_chosen, accept_for, accept_or_wait, accept_scope, accept_with_room, appoint_delay, arrive, arrive_at, begin_accept, behind_accept, end_in_accept, finish_accept, finish_rendezvous, finish_without_room, finished_call, first_accept, gone_sent, has_room_for_accept, has_terminate, is_callable, is_closed, least_delay, meet, meet_sent, meet_with_room, meet_without_room, open_accept, open_accepts, open_alternatives, open_delays, own_queue, queues_of_accepts, select_by_call, select_delay, select_open, select_otherwise, select_wait, selective_accept, wait_at_select}
 use Rattle.profile_machine.specs.Scopes.{begin_scope, cells_of, innermost, next_id, plainly, scope_in_use}
 use Rattle.profile_machine.specs.Sending.{begin_abortable, sent_not_begun}
 use Rattle.profile_machine.specs.Steps.{Step, changes}
 use Rattle.profile_machine.specs.Tasks.{task_of, waiting_of}
 use Rattle.profile_machine.specs.Serving.{with_values}
-use Rattle.profile_machine.specs.declared.image.Image.{Image}
-use Rattle.profile_machine.specs.declared.numbers.EntryNo.{EntryNo}
-use Rattle.profile_machine.specs.declared.numbers.StatementNo.{StatementNo}
+use Rattle.profile_image.specs.declared.image.Image.{Image}
+use Rattle.profile_image.specs.declared.numbers.EntryNo.{EntryNo}
+use Rattle.profile_image.specs.declared.numbers.StatementNo.{StatementNo}
 use Rattle.profile_machine.specs.declared.run_data.Leaving.{Leaving}
 use Rattle.profile_machine.specs.declared.run_data.Leaving.TheVariants as how
-use Rattle.profile_machine.specs.declared.statements.SelectAlternative.{SelectAlternative}
-use Rattle.profile_machine.specs.declared.statements.SelectKind.{SelectKind}
+use Rattle.profile_image.specs.declared.statements.SelectAlternative.{SelectAlternative}
+use Rattle.profile_image.specs.declared.statements.SelectKind.{SelectKind}
 use Rattle.profile_machine.specs.declared.world.World.{World}
 use Rattle.profile_machine.specs.declared.world.calls.Call.{Call}
 use Rattle.profile_machine.specs.declared.world.calls.DelayMoment.{DelayMoment}

@@ -14,15 +14,15 @@ use Rattle.profile_machine.specs.Act.{call}
 use Rattle.profile_machine.specs.CallEnds.{abortable_depth, resume, waits_for_call}
 use Rattle.profile_machine.specs.Dispatching.{ready}
 use Rattle.profile_machine.specs.Frames.{has_room, new_frame}
-use Rattle.profile_machine.specs.Program.{form_of}
+use Rattle.profile_image.specs.Program.{form_of}
 use Rattle.profile_machine.specs.Calls.{call_of}
 use Rattle.profile_machine.specs.Appointments.{appoint}
 use Rattle.profile_machine.specs.Sending.{abortable_in, appoint_timeout, begin_abortable, cancel_at_once, cancel_sent, is_not_future, is_to_be_cancelled, is_triggering, may_begin_abortable, new_abortable_mark, not_accepted, open_abortable, send_on, sent_call, sent_not_begun, sent_not_begun_by, timeout_again, wait_for_call, wait_or_cancel, may_time_out}
 use Rattle.profile_machine.specs.Steps.{changes, nothing, when, ◌▷◌}
 use Rattle.profile_machine.specs.Tasks.{task_of, waiting_of}
 use Rattle.profile_machine.specs.Values.{moment}
-use Rattle.profile_machine.specs.declared.image.Image.{Image}
-use Rattle.profile_machine.specs.declared.numbers.StatementNo.{StatementNo}
+use Rattle.profile_image.specs.declared.image.Image.{Image}
+use Rattle.profile_image.specs.declared.numbers.StatementNo.{StatementNo}
 use Rattle.profile_machine.specs.declared.world.World.{World}
 use Rattle.profile_machine.specs.declared.world.appointments.Due.TheVariants as due_for
 use Rattle.profile_machine.specs.declared.world.calls.Call.{Call}

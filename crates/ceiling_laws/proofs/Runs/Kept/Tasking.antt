@@ -18,7 +18,7 @@ use Rattle.profile_machine.specs.Controlled.{finalize, next_to_finalize}
 use Rattle.profile_machine.specs.Dispatching.{active_of, says_block}
 use Rattle.profile_machine.specs.Frames.{goes, has_room, in_protected, is_deferred, pass_on, pop}
 use Rattle.profile_machine.specs.Masters.{complete, end_activation, has_activating, has_dependents, leave_by_terminate, may_terminate, part_of, terminate, waits_at_terminate}
-use Rattle.profile_machine.specs.Program.{declaration_of, next_of, scope_of, task_unit_of}
+use Rattle.profile_image.specs.Program.{declaration_of, next_of, scope_of, task_unit_of}
 use Rattle.profile_machine.specs.Scopes.{cells_of, end_scope, home, plainly, scope_in_use}
 use Rattle.profile_machine.specs.Serving.{end_body_of_entry}
 use Rattle.profile_machine.specs.Steps.{Step, changes, for_each, looks, says, when}
@@ -27,12 +27,12 @@ use Rattle.profile_machine.specs.Tasking.{abnormal_task, abort_all, abort_one, a
 use Rattle.profile_machine.specs.Tasks.{edit_task, is_made, is_runnable, task_of, waiting_of}
 use Rattle.profile_machine.specs.Unwinding.{any_struck, strike_outermost}
 use Rattle.profile_machine.specs.Values.{seen_by}
-use Rattle.profile_machine.specs.Words.{is_the, same_region, same_who}
-use Rattle.profile_machine.specs.declared.image.Image.{Image}
-use Rattle.profile_machine.specs.declared.numbers.DeclNo.{DeclNo}
-use Rattle.profile_machine.specs.declared.numbers.StatementNo.{StatementNo}
+use Rattle.profile_image.specs.Words.{is_the, same_region, same_who}
+use Rattle.profile_image.specs.declared.image.Image.{Image}
+use Rattle.profile_image.specs.declared.numbers.DeclNo.{DeclNo}
+use Rattle.profile_image.specs.declared.numbers.StatementNo.{StatementNo}
 use Rattle.profile_machine.specs.declared.run_data.Leaving.{Leaving}
-use Rattle.profile_machine.specs.declared.values.Value.{Value}
+use Rattle.profile_image.specs.declared.values.Value.{Value}
 use Rattle.profile_machine.specs.declared.world.World.{World}
 use Rattle.profile_machine.specs.declared.world.appointments.Registered.{Registered}
 use Rattle.profile_machine.specs.declared.world.lines.Line.TheVariants as line

@@ -5,8 +5,8 @@ use Rattle.profile_machine.specs.Dispatching.{ready}
 use Rattle.profile_machine.specs.Inheritance.{inherit, same_cause}
 use Rattle.profile_machine.specs.Steps.{Step, for_each}
 use Rattle.profile_machine.specs.Tasks.{waiting_in}
-use Rattle.profile_machine.specs.Words.{same_who}
-use Rattle.profile_machine.specs.declared.image.Image.{Image}
+use Rattle.profile_image.specs.Words.{same_who}
+use Rattle.profile_image.specs.declared.image.Image.{Image}
 use Rattle.profile_machine.specs.declared.world.World.{World}
 use Rattle.profile_machine.specs.declared.world.lines.Part.{Part}
 use Rattle.profile_machine.specs.declared.world.lines.Said.{Said}

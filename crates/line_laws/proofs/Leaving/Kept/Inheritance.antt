@@ -1,7 +1,7 @@
 -- Inherited priorities: each step keeps a relation that its parts keep.
 use Rattle.std.specs.Prelude.{ℕ}
 use Rattle.trace_text.specs.declared.events.Who.{Who}
-use Rattle.profile_machine.specs.declared.image.Image.{Image}
+use Rattle.profile_image.specs.declared.image.Image.{Image}
 use Rattle.profile_machine.specs.declared.world.tasks.Cause.{Cause}
 use Rattle.profile_machine.specs.Inheritance.{inherit, lose, inherit_running, lose_running}
 use Rattle.machine_laws.proofs.Moves.{StepRelation, MoveRelation}

@@ -4,9 +4,9 @@ use Rattle.std.specs.Prelude.{ℕ, zero, suc, ℤ, pos, int_le, Bool, true, fals
 use Rattle.ann_base.specs.declared.identities.CallNo.{CallNo}
 use Rattle.trace_text.specs.declared.events.Who.{Who}
 use Rattle.trace_text.specs.declared.events.Who.TheVariants as who
-use Rattle.profile_machine.specs.declared.image.Image.{Image}
-use Rattle.profile_machine.specs.declared.run_data.Item.{Item}
-use Rattle.profile_machine.specs.declared.run_data.Item.TheVariants as item
+use Rattle.profile_image.specs.declared.image.Image.{Image}
+use Rattle.profile_image.specs.declared.script_items.Item.{Item}
+use Rattle.profile_image.specs.declared.script_items.Item.TheVariants as item
 use Rattle.profile_machine.specs.declared.world.World.{World}
 use Rattle.profile_machine.specs.declared.world.tasks.Waiting.{Waiting}
 use Rattle.profile_machine.specs.declared.world.appointments.Due.{Due}
@@ -24,7 +24,7 @@ use Rattle.profile_machine.specs.Tasks.{is_runnable_state, is_runnable, waiting_
 use Rattle.profile_machine.specs.Dispatching.{ready, to_tail, active}
 use Rattle.profile_machine.specs.Instant.{has_spent_quantum}
 use Rattle.profile_machine.specs.Frames.{any_protected}
-use Rattle.profile_machine.specs.Program.{is_robin_level, next_of}
+use Rattle.profile_image.specs.Program.{is_robin_level, next_of}
 use Rattle.ann_base.specs.Lists.{is_empty}
 use Rattle.profile_machine.specs.Steps.{says, looks, when, ◌▷◌}
 use Rattle.profile_machine.specs.declared.world.lines.Part.TheVariants.{Own}

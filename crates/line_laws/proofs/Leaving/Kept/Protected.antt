@@ -10,19 +10,19 @@ use Rattle.profile_machine.specs.declared.world.lines.Line.TheVariants as line
 use Rattle.profile_machine.specs.declared.world.lines.MeetingEnd.TheVariants as meeting
 use Rattle.trace_text.specs.declared.events.Mode.{Mode}
 use Rattle.trace_text.specs.declared.events.Who.{Who}
-use Rattle.profile_machine.specs.declared.image.Image.{Image}
-use Rattle.profile_machine.specs.declared.numbers.DeclNo.{DeclNo}
-use Rattle.profile_machine.specs.declared.numbers.StatementNo.{StatementNo}
-use Rattle.profile_machine.specs.declared.numbers.SubprogramNo.{SubprogramNo}
-use Rattle.profile_machine.specs.declared.statements.Actual.{Actual}
-use Rattle.profile_machine.specs.declared.statements.Destination.{Destination}
+use Rattle.profile_image.specs.declared.image.Image.{Image}
+use Rattle.profile_image.specs.declared.numbers.DeclNo.{DeclNo}
+use Rattle.profile_image.specs.declared.numbers.StatementNo.{StatementNo}
+use Rattle.profile_image.specs.declared.numbers.SubprogramNo.{SubprogramNo}
+use Rattle.profile_image.specs.declared.statements.Actual.{Actual}
+use Rattle.profile_image.specs.declared.statements.Destination.{Destination}
 use Rattle.profile_machine.specs.declared.world.marks.ResultTo.{ResultTo}
 use Rattle.profile_machine.specs.declared.world.marks.ProtectedMark.{ProtectedMark}
 use Rattle.profile_machine.specs.declared.world.calls.Call.{Call}
 use Rattle.profile_machine.specs.declared.world.lines.Part.{Part}
 use Rattle.profile_machine.specs.declared.world.World.{World}
 use Rattle.profile_machine.specs.declared.world.lines.Part.TheVariants.{Own, ThePlacing}
-use Rattle.profile_machine.specs.Program.{next_of, subprogram_of}
+use Rattle.profile_image.specs.Program.{next_of, subprogram_of}
 use Rattle.profile_machine.specs.Tasks.{with_frames}
 use Rattle.profile_machine.specs.Dispatching.{to_tail}
 use Rattle.profile_machine.specs.Frames.{new_frame, edit_first, edit_top, goes_on, push, raises, with_mark}

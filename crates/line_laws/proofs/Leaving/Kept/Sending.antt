@@ -3,8 +3,8 @@ use Rattle.std.proofs.Common.{◌≡◌, ℤ, Bool, true, false, cond, not, ◌&
 use Rattle.std.proofs.lemmas.Bool.{and_parts}
 use Rattle.ann_base.specs.declared.identities.CallNo.{CallNo}
 use Rattle.trace_text.specs.declared.events.Who.{Who}
-use Rattle.profile_machine.specs.declared.image.Image.{Image}
-use Rattle.profile_machine.specs.declared.numbers.StatementNo.{StatementNo}
+use Rattle.profile_image.specs.declared.image.Image.{Image}
+use Rattle.profile_image.specs.declared.numbers.StatementNo.{StatementNo}
 use Rattle.profile_machine.specs.declared.world.World.{World}
 use Rattle.profile_machine.specs.declared.world.calls.Call.{Call}
 use Rattle.profile_machine.specs.declared.world.calls.CallKind.{CallKind}
@@ -30,7 +30,7 @@ use Rattle.profile_machine.specs.Frames.{push, has_room}
 use Rattle.profile_machine.specs.Steps.{when, nothing, ◌▷◌}
 use Rattle.std.specs.Prelude.{is_none}
 use Rattle.profile_machine.specs.declared.world.lines.Part.TheVariants.{TheFinish}
-use Rattle.profile_machine.specs.Program.{form_of}
+use Rattle.profile_image.specs.Program.{form_of}
 use Rattle.profile_machine.specs.Frames.{new_frame}
 use Rattle.machine_laws.proofs.FineMoves.{GoodWorld, Naming}
 use Rattle.machine_laws.proofs.Kept.Sending.{last_is_false}

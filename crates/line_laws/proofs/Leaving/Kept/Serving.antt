@@ -3,7 +3,7 @@ use Rattle.std.specs.Prelude.{ℕ, Bool, true, false, [], ◌∷◌, Option, Som
 use Rattle.std.proofs.lemmas.Bool.{eqb-true}
 use Rattle.ann_base.specs.declared.identities.CallNo.{CallNo}
 use Rattle.trace_text.specs.declared.events.Who.{Who}
-use Rattle.profile_machine.specs.declared.image.Image.{Image}
+use Rattle.profile_image.specs.declared.image.Image.{Image}
 use Rattle.profile_machine.specs.declared.world.World.{World}
 use Rattle.profile_machine.specs.declared.world.appointments.Release.{Release}
 use Rattle.profile_machine.specs.declared.world.marks.ProtectedMark.{ProtectedMark}

@@ -11,12 +11,12 @@ use Rattle.profile_machine.specs.declared.world.lines.Line.TheVariants as line
 use Rattle.trace_text.specs.declared.events.Who.{Who}
 use Rattle.trace_text.specs.declared.events.Who.TheVariants as who
 use Rattle.profile_machine.specs.declared.world.calls.EntryCallNamed.{EntryCallNamed}
-use Rattle.profile_machine.specs.declared.image.Image.{Image}
-use Rattle.profile_machine.specs.declared.numbers.EntryNo.{EntryNo}
-use Rattle.profile_machine.specs.declared.numbers.StatementNo.{StatementNo}
-use Rattle.profile_machine.specs.declared.statements.EntryOwner.{EntryOwner}
-use Rattle.profile_machine.specs.declared.statements.StatementForm.{StatementForm}
-use Rattle.profile_machine.specs.declared.statements.StatementForm.TheVariants as form
+use Rattle.profile_image.specs.declared.image.Image.{Image}
+use Rattle.profile_image.specs.declared.numbers.EntryNo.{EntryNo}
+use Rattle.profile_image.specs.declared.numbers.StatementNo.{StatementNo}
+use Rattle.profile_image.specs.declared.statements.EntryOwner.{EntryOwner}
+use Rattle.profile_image.specs.declared.statements.StatementForm.{StatementForm}
+use Rattle.profile_image.specs.declared.statements.StatementForm.TheVariants as form
 use Rattle.profile_machine.specs.declared.world.World.{World}
 use Rattle.profile_machine.specs.declared.world.calls.Call.{Call}
 use Rattle.profile_machine.specs.declared.world.calls.CallKind.{CallKind}
@@ -27,7 +27,7 @@ use Rattle.profile_machine.specs.declared.world.calls.Owner.TheVariants as owned
 use Rattle.profile_machine.specs.declared.world.lines.Part.{Part}
 use Rattle.profile_machine.specs.declared.world.lines.Part.TheVariants.{Own, TheCall, OfOther, TheBlock, TheFinish}
 use Rattle.profile_machine.specs.Steps.{Step, says, changes, looks, ◌▷◌, nothing}
-use Rattle.profile_machine.specs.Program.{next_of, entry_of, form_of}
+use Rattle.profile_image.specs.Program.{next_of, entry_of, form_of}
 use Rattle.profile_machine.specs.Frames.{frames_of, edit_first, edit_top, goes_on, in_protected, raise_if, given, is_deferred, goes, raises}
 use Rattle.profile_machine.specs.Tasks.{with_frames, waiting_of}
 use Rattle.profile_machine.specs.Calls.{says_call, enqueue, is_full, is_call}

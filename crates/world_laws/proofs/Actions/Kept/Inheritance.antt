@@ -1,7 +1,7 @@
 -- Inherited priorities: each step leaves worlds good where its parts do.
 use Rattle.std.specs.Prelude.{ℕ, ◌≡◌, false}
 use Rattle.trace_text.specs.declared.events.Who.{Who}
-use Rattle.profile_machine.specs.declared.image.Image.{Image}
+use Rattle.profile_image.specs.declared.image.Image.{Image}
 use Rattle.profile_machine.specs.declared.world.tasks.Cause.{Cause}
 use Rattle.profile_machine.specs.Inheritance.{inherit, lose, inherit_running, lose_running}
 use Rattle.world_laws.proofs.Actions.FineMoves.{FineMoves, chains}

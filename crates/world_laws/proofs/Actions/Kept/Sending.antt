@@ -3,8 +3,8 @@ use Rattle.std.proofs.Common.{◌≡◌, ℤ, Bool, true, false, cond, not, ◌&
 use Rattle.std.proofs.lemmas.Bool.{false≢true}
 use Rattle.ann_base.specs.declared.identities.CallNo.{CallNo}
 use Rattle.trace_text.specs.declared.events.Who.{Who}
-use Rattle.profile_machine.specs.declared.image.Image.{Image}
-use Rattle.profile_machine.specs.declared.numbers.StatementNo.{StatementNo}
+use Rattle.profile_image.specs.declared.image.Image.{Image}
+use Rattle.profile_image.specs.declared.numbers.StatementNo.{StatementNo}
 use Rattle.profile_machine.specs.declared.world.calls.Call.{Call}
 use Rattle.profile_machine.specs.declared.world.calls.CallKind.{CallKind}
 use Rattle.profile_machine.specs.declared.world.calls.Sending.{Sending}
@@ -24,7 +24,7 @@ use Rattle.world_laws.proofs.Actions.Kept.Switching.{Only, only-from}
 use Rattle.world_laws.proofs.Actions.Kept.Combinators.{when-from}
 use Rattle.world_laws.proofs.Actions.Kept.Dispatching.{ready-keeps, block-keeps}
 use Rattle.world_laws.proofs.Actions.Kept.CallEnds.{deliver-keeps}
-use Rattle.profile_machine.specs.Program.{form_of}
+use Rattle.profile_image.specs.Program.{form_of}
 use Rattle.profile_machine.specs.Frames.{new_frame, has_room}
 use Rattle.profile_machine.specs.declared.world.lines.Part.TheVariants.{TheBlock, TheFinish}
 use Rattle.profile_machine.specs.Dispatching.{ready}

@@ -6,12 +6,12 @@ use Rattle.profile_machine.specs.declared.world.lines.Line.TheVariants as line
 use Rattle.trace_text.specs.declared.events.Created.TheVariants as created
 use Rattle.trace_text.specs.declared.events.Who.{Who}
 use Rattle.trace_text.specs.declared.events.Who.TheVariants as who
-use Rattle.profile_machine.specs.declared.image.Image.{Image}
-use Rattle.profile_machine.specs.declared.numbers.DeclNo.{DeclNo}
-use Rattle.profile_machine.specs.declared.numbers.StatementNo.{StatementNo}
+use Rattle.profile_image.specs.declared.image.Image.{Image}
+use Rattle.profile_image.specs.declared.numbers.DeclNo.{DeclNo}
+use Rattle.profile_image.specs.declared.numbers.StatementNo.{StatementNo}
 use Rattle.profile_machine.specs.declared.run_data.Leaving.{Leaving}
-use Rattle.profile_machine.specs.declared.values.Value.{Value}
-use Rattle.profile_machine.specs.declared.values.Value.TheVariants as value_of
+use Rattle.profile_image.specs.declared.values.Value.{Value}
+use Rattle.profile_image.specs.declared.values.Value.TheVariants as value_of
 use Rattle.profile_machine.specs.declared.world.World.{World}
 use Rattle.profile_machine.specs.declared.world.marks.ScopeMark.{ScopeMark}
 use Rattle.profile_machine.specs.declared.world.scopes.ScopeId.{ScopeId}
@@ -20,7 +20,7 @@ use Rattle.profile_machine.specs.declared.world.tasks.Waiting.{Waiting}
 use Rattle.profile_machine.specs.declared.world.tasks.Waiting.TheVariants as waits_for
 use Rattle.profile_machine.specs.declared.world.marks.Purpose.TheVariants as opened_for
 use Rattle.profile_machine.specs.declared.world.tasks.Task as world
-use Rattle.profile_machine.specs.Program.{declaration_of, next_of, scope_of, task_unit_of}
+use Rattle.profile_image.specs.Program.{declaration_of, next_of, scope_of, task_unit_of}
 use Rattle.profile_machine.specs.declared.world.lines.Part.{Part}
 use Rattle.profile_machine.specs.declared.world.lines.Part.TheVariants.{Own, TheBlock, OfOther}
 use Rattle.profile_machine.specs.Steps.{Step, changes, looks, for_some, ◌▷◌, for_each, says, when}
@@ -57,7 +57,7 @@ use Rattle.world_laws.proofs.Actions.MadeTasks.{MadeOf, Member, filter-member, m
 use Rattle.world_laws.proofs.Actions.GoodMoves.{add_task-made, free-by_test, free-floor, free-region, good_moves}
 use Rattle.world_laws.proofs.Actions.Kept.Switching.{Only, less-from, switch-from}
 use Rattle.world_laws.proofs.Actions.Kept.Protected.{beside}
-use Rattle.profile_machine.specs.Words.{is_the, same_region}
+use Rattle.profile_image.specs.Words.{is_the, same_region}
 use Rattle.profile_machine.specs.Inheritance.{inherit}
 use Rattle.profile_machine.specs.declared.world.tasks.Cause.TheVariants as inherited_by
 use Rattle.machine_laws.proofs.QueueLemmas.{by_test}

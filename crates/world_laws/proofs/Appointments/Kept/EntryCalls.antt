@@ -9,12 +9,12 @@ use Rattle.ann_base.specs.declared.identities.TaskNo.{TaskNo}
 use Rattle.trace_text.specs.declared.events.Mode.TheVariants.{Write}
 use Rattle.trace_text.specs.declared.events.Who.{Who}
 use Rattle.trace_text.specs.declared.events.Who.TheVariants as who
-use Rattle.profile_machine.specs.declared.image.Image.{Image}
-use Rattle.profile_machine.specs.declared.numbers.EntryNo.{EntryNo}
-use Rattle.profile_machine.specs.declared.numbers.StatementNo.{StatementNo}
-use Rattle.profile_machine.specs.declared.statements.EntryOwner.{EntryOwner}
-use Rattle.profile_machine.specs.declared.statements.StatementForm.{StatementForm}
-use Rattle.profile_machine.specs.declared.statements.StatementForm.TheVariants as form
+use Rattle.profile_image.specs.declared.image.Image.{Image}
+use Rattle.profile_image.specs.declared.numbers.EntryNo.{EntryNo}
+use Rattle.profile_image.specs.declared.numbers.StatementNo.{StatementNo}
+use Rattle.profile_image.specs.declared.statements.EntryOwner.{EntryOwner}
+use Rattle.profile_image.specs.declared.statements.StatementForm.{StatementForm}
+use Rattle.profile_image.specs.declared.statements.StatementForm.TheVariants as form
 use Rattle.profile_machine.specs.declared.world.World.{World}
 use Rattle.profile_machine.specs.declared.world.appointments.Due.TheVariants as due_for
 use Rattle.profile_machine.specs.declared.world.calls.Call.{Call}
@@ -32,7 +32,7 @@ use Rattle.profile_machine.specs.Calls.{is_call, says_call, is_full}
 use Rattle.profile_machine.specs.Dispatching.{block, active_of}
 use Rattle.profile_machine.specs.EntryCalls.{timed_moment, owner_of_entry, new_call, named_call, entry_parameters, numbered, marks_if_queued, add_call, make_call, end_at_once, call_gone, call_meets, call_queues, call_not_met, call_accepted_by, call_callable, call_task, call_runs, call_without_room, has_room_for_action, call_runs_if_room, call_passes, call_refused, call_closed, call_by_barrier, call_object, call_owner, call_named, entry_call, appoint_trigger, trigger_delay, async_delay, async_by_trigger, asynchronous_select, mark_sending, requeue, is_forbidden}
 use Rattle.profile_machine.specs.Frames.{frames_of}
-use Rattle.profile_machine.specs.Program.{form_of, entry_of, next_of}
+use Rattle.profile_image.specs.Program.{form_of, entry_of, next_of}
 use Rattle.profile_machine.specs.Protected.{begin_action_on, is_barrier_open}
 use Rattle.profile_machine.specs.Rendezvous.{is_callable, accept_for, delay_moment}
 use Rattle.profile_machine.specs.Steps.{Step, nothing}

@@ -3,18 +3,18 @@ use Rattle.std.proofs.Common.{◌∙◌, ◌≡◌, List, [], ◌∷◌, refl, s
 use Rattle.std.specs.Prelude.{Option, Some, None}
 use Rattle.ann_base.specs.declared.exceptions.Raised.TheVariants as exception
 use Rattle.trace_text.specs.declared.events.Who.{Who}
-use Rattle.profile_machine.specs.declared.image.Image.{Image}
-use Rattle.profile_machine.specs.declared.numbers.StatementNo.{StatementNo}
+use Rattle.profile_image.specs.declared.image.Image.{Image}
+use Rattle.profile_image.specs.declared.numbers.StatementNo.{StatementNo}
 use Rattle.profile_machine.specs.declared.run_data.Leaving.{Leaving}
-use Rattle.profile_machine.specs.declared.statements.StatementForm.{StatementForm}
-use Rattle.profile_machine.specs.declared.statements.StatementForm.TheVariants as form
+use Rattle.profile_image.specs.declared.statements.StatementForm.{StatementForm}
+use Rattle.profile_image.specs.declared.statements.StatementForm.TheVariants as form
 use Rattle.profile_machine.specs.declared.world.World.{World}
 use Rattle.profile_machine.specs.declared.world.lines.Part.{Part}
 use Rattle.profile_machine.specs.declared.world.lines.Part.TheVariants.{Own}
 use Rattle.profile_machine.specs.declared.world.marks.Frame.{Frame}
 use Rattle.profile_machine.specs.declared.world.marks.Mark.TheVariants.{Handled}
 use Rattle.profile_machine.specs.Frames.{onward_of, new_frame, edit_first, edit_top, goes, push, pop, leaves, raises, has_room, open_handled, open_at, open_sequence, open_if_ready, goes_on}
-use Rattle.profile_machine.specs.Program.{form_of, next_of}
+use Rattle.profile_image.specs.Program.{form_of, next_of}
 use Rattle.profile_machine.specs.Steps.{Step, changes, ◌▷◌}
 use Rattle.machine_laws.proofs.Moves.{StepRelation, MoveRelation}
 use Rattle.world_laws.proofs.Appointments.Delays.{nature, natures}

@@ -5,9 +5,9 @@ use Rattle.ann_base.specs.declared.identities.CallNo.{CallNo}
 use Rattle.ann_base.specs.declared.identities.TaskNo.{TaskNo}
 use Rattle.trace_text.specs.declared.events.Who.{Who}
 use Rattle.trace_text.specs.declared.events.Who.TheVariants as who
-use Rattle.profile_machine.specs.declared.image.Image.{Image}
-use Rattle.profile_machine.specs.declared.run_data.Item.{Item}
-use Rattle.profile_machine.specs.declared.run_data.Item.TheVariants as item
+use Rattle.profile_image.specs.declared.image.Image.{Image}
+use Rattle.profile_image.specs.declared.script_items.Item.{Item}
+use Rattle.profile_image.specs.declared.script_items.Item.TheVariants as item
 use Rattle.profile_machine.specs.declared.world.World.{World}
 use Rattle.profile_machine.specs.declared.world.appointments.Appointment.{Appointment}
 use Rattle.profile_machine.specs.declared.world.appointments.Due.{Due}
@@ -22,7 +22,7 @@ use Rattle.profile_machine.specs.Dispatching.{to_tail, ready, active}
 use Rattle.profile_machine.specs.Frames.{any_protected}
 use Rattle.profile_machine.specs.Handlers.{clear_timer}
 use Rattle.profile_machine.specs.Instant.{is_the_same_due, has_spent_quantum, with_port, with_masked, with_kept_interrupt, interrupt_comes, deliver_kept_interrupt, script_item, with_script, take_item, items_due, script_items, take_delay, end_delay, time_out, come_due, take_due, all_due, appointments_due, events_due, moments_due, expire, expire_timer, no_timers_due, timers_due, run_out, no_budget_due, budgets_due, spend_quantum, quantum_spent}
-use Rattle.profile_machine.specs.Program.{is_robin_level}
+use Rattle.profile_image.specs.Program.{is_robin_level}
 use Rattle.profile_machine.specs.Steps.{when, says, looks, Step, changes, nothing, ◌▷◌, ◌▶◌}
 use Rattle.profile_machine.specs.Tasks.{waiting_of, is_runnable, task_of}
 use Rattle.profile_machine.specs.Values.{is_event, budget_of}

@@ -5,7 +5,7 @@ use Rattle.std.proofs.lemmas.Bool.{and_parts}
 use Rattle.ann_base.specs.declared.exceptions.Raised.TheVariants as exception
 use Rattle.ann_base.specs.declared.identities.RegionNo.{RegionNo}
 use Rattle.trace_text.specs.declared.events.Who.{Who}
-use Rattle.profile_machine.specs.declared.image.Image.{Image}
+use Rattle.profile_image.specs.declared.image.Image.{Image}
 use Rattle.profile_machine.specs.declared.run_data.Leaving.TheVariants as how
 use Rattle.profile_machine.specs.declared.world.World.{World}
 use Rattle.profile_machine.specs.declared.world.calls.Call.{Call}
@@ -21,7 +21,7 @@ use Rattle.profile_machine.specs.Masters.{waits_in, part_of, has_dependents, has
 use Rattle.profile_machine.specs.Steps.{when, ◌▷◌, nothing, Step, changes, for_some}
 use Rattle.profile_machine.specs.Tasks.{waiting_in, task_of, edit_task, with_state, waiting_of}
 use Rattle.profile_machine.specs.WellFormed.{waits_for_delay}
-use Rattle.profile_machine.specs.Words.{same_who}
+use Rattle.profile_image.specs.Words.{same_who}
 use Rattle.machine_laws.proofs.Moves.{StepRelation, MoveRelation}
 use Rattle.world_laws.proofs.Appointments.Delays.{Idle, EachTask}
 use Rattle.world_laws.proofs.Appointments.FineMoves.{FineMoves, chains}

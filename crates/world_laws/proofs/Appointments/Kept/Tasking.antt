@@ -7,12 +7,12 @@ use Rattle.ann_base.specs.declared.identities.TaskNo.{TaskNo}
 use Rattle.trace_text.specs.declared.events.Created.TheVariants as created
 use Rattle.trace_text.specs.declared.events.Who.{Who}
 use Rattle.trace_text.specs.declared.events.Who.TheVariants as who
-use Rattle.profile_machine.specs.declared.image.Image.{Image}
-use Rattle.profile_machine.specs.declared.numbers.DeclNo.{DeclNo}
-use Rattle.profile_machine.specs.declared.numbers.StatementNo.{StatementNo}
+use Rattle.profile_image.specs.declared.image.Image.{Image}
+use Rattle.profile_image.specs.declared.numbers.DeclNo.{DeclNo}
+use Rattle.profile_image.specs.declared.numbers.StatementNo.{StatementNo}
 use Rattle.profile_machine.specs.declared.run_data.Leaving.{Leaving}
-use Rattle.profile_machine.specs.declared.values.Value.{Value}
-use Rattle.profile_machine.specs.declared.values.Value.TheVariants as value_of
+use Rattle.profile_image.specs.declared.values.Value.{Value}
+use Rattle.profile_image.specs.declared.values.Value.TheVariants as value_of
 use Rattle.profile_machine.specs.declared.world.Drawn.{Drawn}
 use Rattle.profile_machine.specs.declared.world.World.{World}
 use Rattle.profile_machine.specs.declared.world.appointments.Registered.{Registered}
@@ -35,7 +35,7 @@ use Rattle.profile_machine.specs.Dispatching.{ready, active_of}
 use Rattle.profile_machine.specs.Frames.{edit_first, has_room, pass_on, in_protected, is_deferred, edit_top, goes_on, goes}
 use Rattle.profile_machine.specs.Inheritance.{inherit}
 use Rattle.profile_machine.specs.Masters.{has_dependents, may_terminate, leave_by_terminate, has_activating}
-use Rattle.profile_machine.specs.Program.{declaration_of, next_of, scope_of, task_unit_of}
+use Rattle.profile_image.specs.Program.{declaration_of, next_of, scope_of, task_unit_of}
 use Rattle.profile_machine.specs.Scopes.{plainly, open_scope, home, cells_of, scope_in_use}
 use Rattle.profile_machine.specs.Steps.{nothing, Step, changes, looks, for_some, ◌▷◌, for_each}
 use Rattle.profile_machine.specs.Tasking.{activated_task, unit_of_declaration, optional_span, created_task, add_task, says_created, create_task, create, fall_from, unit_of_task, begin_task, says_done, fail_to_begin, activate_one, await_group, activate_group, activate, end_own_activation, end_made, complete_if_task, wait_for_dependents, leave_region, end_environment, end_task, is_normal, end_body, behind_scope, says_left, end_of_scope, go_on_leaving, end_scope_mark_of, end_scope_mark, says_abort, abort_one, unwind_by, unwind_one, abort_all, abort_statement, unwind_all, no_failure, is_to_activate, top_region_of_scope, is_to_abort, left_by, abnormal_task, named_tasks}
@@ -43,7 +43,7 @@ use Rattle.profile_machine.specs.Tasks.{with_frames, waiting_in, is_made_state, 
 use Rattle.profile_machine.specs.Unwinding.{any_struck}
 use Rattle.profile_machine.specs.Values.{seen_by}
 use Rattle.profile_machine.specs.WellFormed.{waits_for_delay}
-use Rattle.profile_machine.specs.Words.{same_region, is_the}
+use Rattle.profile_image.specs.Words.{same_region, is_the}
 use Rattle.machine_laws.proofs.Moves.{StepRelation, MoveRelation}
 use Rattle.world_laws.proofs.Appointments.Delays.{Idle, EachTask}
 use Rattle.world_laws.proofs.Appointments.FineMoves.{FineMoves, chains, says-keeps}

@@ -4,7 +4,7 @@ use Rattle.trace_text.specs.declared.events.Who.{Who}
 use Rattle.trace_text.specs.declared.events.Who.TheVariants as who
 use Rattle.profile_machine.specs.declared.world.appointments.Due.{Due}
 use Rattle.profile_machine.specs.Appointments.{appoint, drop_appointment, drop_delay}
-use Rattle.profile_machine.specs.declared.image.Image.{Image}
+use Rattle.profile_image.specs.declared.image.Image.{Image}
 use Rattle.world_laws.proofs.Cells.RightCells.{Right, Alters, unchanged-alters}
 
 pub appoint-alters : {p : Image} (due : Due) (moment : ℤ) → Alters p (appoint due moment)

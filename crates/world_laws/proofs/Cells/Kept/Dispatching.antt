@@ -1,9 +1,9 @@
 -- Dispatching: each step keeps the cells right.
 use Rattle.trace_text.specs.declared.events.Who.{Who}
 use Rattle.trace_text.specs.declared.events.QueueEnd.{QueueEnd}
-use Rattle.profile_machine.specs.declared.image.Image.{Image}
+use Rattle.profile_image.specs.declared.image.Image.{Image}
 use Rattle.profile_machine.specs.declared.world.tasks.Waiting.{Waiting}
-use Rattle.profile_machine.specs.Program.{edf_low}
+use Rattle.profile_image.specs.Program.{edf_low}
 use Rattle.profile_machine.specs.declared.world.lines.Part.{Part}
 use Rattle.profile_machine.specs.Dispatching.{level_kept_by, keep_level, says_ready, granted, grant_quantum, to_tail, to_head, ready, says_block, block}
 use Rattle.world_laws.proofs.Cells.RightCells.{Keeps, Alters, then-keeps, changes-keeps, says-keeps, looks-keeps}

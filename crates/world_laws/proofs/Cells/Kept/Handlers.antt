@@ -5,13 +5,13 @@ use Rattle.profile_machine.specs.declared.world.objects.Entering.{Entering}
 use Rattle.profile_machine.specs.declared.world.objects.Entering.TheVariants as entering_is
 use Rattle.trace_text.specs.declared.events.Who.{Who}
 use Rattle.trace_text.specs.declared.events.Who.TheVariants as who
-use Rattle.profile_machine.specs.declared.image.Image.{Image}
-use Rattle.profile_machine.specs.declared.numbers.DeclNo.{DeclNo}
-use Rattle.profile_machine.specs.declared.numbers.ExprNo.{ExprNo}
-use Rattle.profile_machine.specs.declared.numbers.StatementNo.{StatementNo}
-use Rattle.profile_machine.specs.declared.expressions.VariableName.{VariableName}
-use Rattle.profile_machine.specs.declared.statements.HandlerName.{HandlerName}
-use Rattle.profile_machine.specs.declared.statements.Setting.{Setting}
+use Rattle.profile_image.specs.declared.image.Image.{Image}
+use Rattle.profile_image.specs.declared.numbers.DeclNo.{DeclNo}
+use Rattle.profile_image.specs.declared.numbers.ExprNo.{ExprNo}
+use Rattle.profile_image.specs.declared.numbers.StatementNo.{StatementNo}
+use Rattle.profile_image.specs.declared.expressions.VariableName.{VariableName}
+use Rattle.profile_image.specs.declared.statements.HandlerName.{HandlerName}
+use Rattle.profile_image.specs.declared.statements.Setting.{Setting}
 use Rattle.profile_machine.specs.declared.world.appointments.HandlerOf.{HandlerOf}
 use Rattle.profile_machine.specs.declared.world.appointments.Release.{Release}
 use Rattle.profile_machine.specs.declared.world.appointments.Budget.{Budget}
@@ -19,7 +19,7 @@ use Rattle.profile_machine.specs.declared.world.scopes.Variable.{Variable}
 use Rattle.profile_machine.specs.declared.world.tasks.State.{State}
 use Rattle.profile_machine.specs.declared.world.tasks.State.TheVariants.{Made, Runnable, Blocked}
 use Rattle.profile_machine.specs.declared.world.tasks.Task as world
-use Rattle.profile_machine.specs.Program.{marks_of, subprogram_of, size_of_body}
+use Rattle.profile_image.specs.Program.{marks_of, subprogram_of, size_of_body}
 use Rattle.profile_machine.specs.declared.world.lines.Part.{Part}
 use Rattle.profile_machine.specs.Steps.{Step}
 use Rattle.profile_machine.specs.Tasks.{task_of}

@@ -5,13 +5,13 @@ use Rattle.ann_base.specs.declared.identities.TaskNo.{TaskNo}
 use Rattle.profile_machine.specs.declared.world.calls.DelayMoment.{DelayMoment}
 use Rattle.trace_text.specs.declared.events.Who.{Who}
 use Rattle.trace_text.specs.declared.events.Who.TheVariants as who
-use Rattle.profile_machine.specs.declared.image.Image.{Image}
-use Rattle.profile_machine.specs.declared.numbers.EntryNo.{EntryNo}
-use Rattle.profile_machine.specs.declared.numbers.StatementNo.{StatementNo}
+use Rattle.profile_image.specs.declared.image.Image.{Image}
+use Rattle.profile_image.specs.declared.numbers.EntryNo.{EntryNo}
+use Rattle.profile_image.specs.declared.numbers.StatementNo.{StatementNo}
 use Rattle.profile_machine.specs.declared.run_data.Leaving.{Leaving}
 use Rattle.profile_machine.specs.declared.run_data.Leaving.TheVariants as how
-use Rattle.profile_machine.specs.declared.statements.SelectAlternative.{SelectAlternative}
-use Rattle.profile_machine.specs.declared.statements.SelectKind.{SelectKind}
+use Rattle.profile_image.specs.declared.statements.SelectAlternative.{SelectAlternative}
+use Rattle.profile_image.specs.declared.statements.SelectKind.{SelectKind}
 use Rattle.profile_machine.specs.declared.world.marks.Mark.{Mark}
 use Rattle.profile_machine.specs.declared.world.marks.AcceptMark.{AcceptMark}
 use Rattle.profile_machine.specs.declared.world.calls.Call.{Call}
@@ -19,7 +19,7 @@ use Rattle.profile_machine.specs.declared.world.calls.Owner.{Owner}
 use Rattle.profile_machine.specs.declared.world.calls.Sending.{Sending}
 use Rattle.profile_machine.specs.declared.world.calls.Owner.TheVariants as owned_by
 use Rattle.profile_machine.specs.declared.world.marks.Mark.TheVariants.{InAccept}
-use Rattle.profile_machine.specs.Program.{form_of, scope_of}
+use Rattle.profile_image.specs.Program.{form_of, scope_of}
 use Rattle.profile_machine.specs.declared.world.lines.Part.{Part}
 use Rattle.profile_machine.specs.Steps.{Step, changes}
 use Rattle.profile_machine.specs.Frames.{new_frame}

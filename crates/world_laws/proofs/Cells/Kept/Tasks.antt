@@ -5,7 +5,7 @@ use Rattle.trace_text.specs.declared.events.Who.TheVariants as who
 use Rattle.profile_machine.specs.declared.world.World.{World}
 use Rattle.profile_machine.specs.declared.world.tasks.Task.{Task}
 use Rattle.profile_machine.specs.Tasks.{task_at, with_task, edit_task_found, edit_task}
-use Rattle.profile_machine.specs.declared.image.Image.{Image}
+use Rattle.profile_image.specs.declared.image.Image.{Image}
 use Rattle.world_laws.proofs.Cells.RightCells.{Right, Alters}
 
 -- ---- changing

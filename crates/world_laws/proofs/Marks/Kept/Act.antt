@@ -9,16 +9,16 @@ use Rattle.std.specs.Prelude.{ℕ, List, Option, Some, None, Bool, cond, true, f
 use Rattle.ann_base.specs.declared.exceptions.Raised.{Raised}
 use Rattle.trace_text.specs.declared.events.Who.{Who}
 use Rattle.trace_text.specs.declared.events.Who.TheVariants as who
-use Rattle.profile_machine.specs.declared.image.Image.{Image}
-use Rattle.profile_machine.specs.declared.numbers.StatementNo.{StatementNo}
+use Rattle.profile_image.specs.declared.image.Image.{Image}
+use Rattle.profile_image.specs.declared.numbers.StatementNo.{StatementNo}
 use Rattle.profile_machine.specs.declared.run_data.Leaving.{Leaving}
 use Rattle.profile_machine.specs.declared.run_data.Leaving.TheVariants as how
-use Rattle.profile_machine.specs.declared.statements.Actual.{Actual}
-use Rattle.profile_machine.specs.declared.statements.Callee.{Callee}
-use Rattle.profile_machine.specs.declared.statements.Callee.TheVariants as callee
-use Rattle.profile_machine.specs.declared.statements.Destination.{Destination}
-use Rattle.profile_machine.specs.declared.statements.StatementForm.{StatementForm}
-use Rattle.profile_machine.specs.declared.statements.StatementForm.TheVariants as form
+use Rattle.profile_image.specs.declared.statements.Actual.{Actual}
+use Rattle.profile_image.specs.declared.statements.Callee.{Callee}
+use Rattle.profile_image.specs.declared.statements.Callee.TheVariants as callee
+use Rattle.profile_image.specs.declared.statements.Destination.{Destination}
+use Rattle.profile_image.specs.declared.statements.StatementForm.{StatementForm}
+use Rattle.profile_image.specs.declared.statements.StatementForm.TheVariants as form
 use Rattle.profile_machine.specs.declared.world.marks.Frame.{Frame}
 use Rattle.profile_machine.specs.declared.world.marks.Mark.{Mark}
 use Rattle.profile_machine.specs.declared.world.marks.AbortableMark.{AbortableMark}
@@ -26,7 +26,7 @@ use Rattle.profile_machine.specs.declared.world.appointments.Release.{Release}
 use Rattle.profile_machine.specs.declared.world.calls.Call.{Call}
 use Rattle.profile_machine.specs.declared.world.marks.Mark.TheVariants.{Scope, Handled, InProtected, InAccept, Abortable, InInitialize, InFinalize, InAssign}
 use Rattle.profile_machine.specs.declared.world.lines.Part.TheVariants.{Own, TheBlock}
-use Rattle.profile_machine.specs.Program.{form_of}
+use Rattle.profile_image.specs.Program.{form_of}
 use Rattle.profile_machine.specs.Steps.{changes, looks, ◌▷◌, Done, Step, for_some, goes_on_with, done, nothing}
 use Rattle.profile_machine.specs.Frames.{frames_of, top_of, pop, leaving_of, edit_top, with_mark}
 use Rattle.profile_machine.specs.Calls.{with_call, attempt_with, attempt_on, call_of, is_cancellable}
@@ -41,7 +41,7 @@ use Rattle.world_laws.proofs.Marks.TriggerLemmas.{TopCalm, same_tops, attempt-to
 use Rattle.world_laws.proofs.Marks.FineMoves.{FineMoves, Openings, Arming, RegionMoves, chains}
 use Rattle.line_laws.proofs.Exits.TaskEdits.{one_of-is}
 use Rattle.line_laws.proofs.Exits.Steady.{FreeIn, Holding, action_on_top}
-use Rattle.profile_machine.specs.Words.{is_the, same_call}
+use Rattle.profile_image.specs.Words.{is_the, same_call}
 use Rattle.world_tables.specs.Lists.{first_of}
 use Rattle.profile_machine.specs.Tasks.{task_of, edit_task, with_state}
 use Rattle.world_laws.proofs.Marks.Kept.Dispatching.{says_block-keeps}

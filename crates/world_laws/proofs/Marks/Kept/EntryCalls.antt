@@ -13,10 +13,10 @@ use Rattle.profile_machine.specs.declared.world.lines.Said.{Said}
 use Rattle.trace_text.specs.declared.events.Who.{Who}
 use Rattle.trace_text.specs.declared.events.Who.TheVariants as who
 use Rattle.profile_machine.specs.declared.world.calls.EntryCallNamed.{EntryCallNamed}
-use Rattle.profile_machine.specs.declared.image.Image.{Image}
-use Rattle.profile_machine.specs.declared.numbers.EntryNo.{EntryNo}
-use Rattle.profile_machine.specs.declared.numbers.StatementNo.{StatementNo}
-use Rattle.profile_machine.specs.declared.statements.EntryOwner.{EntryOwner}
+use Rattle.profile_image.specs.declared.image.Image.{Image}
+use Rattle.profile_image.specs.declared.numbers.EntryNo.{EntryNo}
+use Rattle.profile_image.specs.declared.numbers.StatementNo.{StatementNo}
+use Rattle.profile_image.specs.declared.statements.EntryOwner.{EntryOwner}
 use Rattle.profile_machine.specs.declared.world.World.{World}
 use Rattle.profile_machine.specs.declared.world.calls.Call.{Call}
 use Rattle.profile_machine.specs.declared.world.calls.CallKind.{CallKind}
@@ -25,7 +25,7 @@ use Rattle.profile_machine.specs.declared.world.calls.Owner.TheVariants as owned
 use Rattle.profile_machine.specs.declared.world.lines.Part.{Part}
 use Rattle.profile_machine.specs.declared.world.lines.Part.TheVariants.{Own, TheCall}
 use Rattle.profile_machine.specs.Steps.{Step, goes_on_with, says, changes, for_some, ◌▷◌, nothing}
-use Rattle.profile_machine.specs.Program.{next_of}
+use Rattle.profile_image.specs.Program.{next_of}
 use Rattle.profile_machine.specs.Frames.{edit_first, edit_top, goes_on}
 use Rattle.profile_machine.specs.Tasks.{with_frames}
 use Rattle.profile_machine.specs.Calls.{call_of, says_call, enqueued, enqueue, is_full}

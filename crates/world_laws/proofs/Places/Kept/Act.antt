@@ -29,7 +29,7 @@ use Rattle.profile_machine.specs.Calls.{attempt_with, call_of, with_call}
 use Rattle.profile_machine.specs.Frames.{any_protected, frames_of, handlers_in, in_protected, leaving_of, open_if_ready, top_of, with_mark}
 use Rattle.profile_machine.specs.Handlers.{call_handler}
 use Rattle.profile_machine.specs.Instant.{effect}
-use Rattle.profile_machine.specs.Program.{form_of}
+use Rattle.profile_image.specs.Program.{form_of}
 use Rattle.profile_machine.specs.Statements.{relative_moment}
 use Rattle.profile_machine.specs.Steps.{Step, changes, looks, nothing, ◌▷◌}
 use Rattle.profile_machine.specs.Serving.{end_in_protected}
@@ -37,16 +37,16 @@ use Rattle.profile_machine.specs.Tasking.{take_terminates}
 use Rattle.profile_machine.specs.Tasks.{edit_task, edit_task_found, nobody, task_at, with_ticks}
 use Rattle.world_tables.specs.Lists.{first_of}
 use Rattle.profile_machine.specs.Values.{condition, moment}
-use Rattle.profile_machine.specs.declared.image.Image.{Image}
-use Rattle.profile_machine.specs.declared.numbers.StatementNo.{StatementNo}
+use Rattle.profile_image.specs.declared.image.Image.{Image}
+use Rattle.profile_image.specs.declared.numbers.StatementNo.{StatementNo}
 use Rattle.profile_machine.specs.declared.run_data.Leaving.{Leaving}
 use Rattle.profile_machine.specs.declared.run_data.Leaving.TheVariants as how
-use Rattle.profile_machine.specs.declared.statements.Actual.{Actual}
-use Rattle.profile_machine.specs.declared.statements.Callee.{Callee}
-use Rattle.profile_machine.specs.declared.statements.Callee.TheVariants as callee
-use Rattle.profile_machine.specs.declared.statements.Destination.{Destination}
-use Rattle.profile_machine.specs.declared.statements.StatementForm.{StatementForm}
-use Rattle.profile_machine.specs.declared.statements.StatementForm.TheVariants as form
+use Rattle.profile_image.specs.declared.statements.Actual.{Actual}
+use Rattle.profile_image.specs.declared.statements.Callee.{Callee}
+use Rattle.profile_image.specs.declared.statements.Callee.TheVariants as callee
+use Rattle.profile_image.specs.declared.statements.Destination.{Destination}
+use Rattle.profile_image.specs.declared.statements.StatementForm.{StatementForm}
+use Rattle.profile_image.specs.declared.statements.StatementForm.TheVariants as form
 use Rattle.profile_machine.specs.declared.world.World.{World}
 use Rattle.profile_machine.specs.declared.world.appointments.Release.{Release}
 use Rattle.profile_machine.specs.declared.world.calls.Call.{Call}

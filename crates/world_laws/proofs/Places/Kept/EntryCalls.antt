@@ -23,19 +23,19 @@ use Rattle.profile_machine.specs.Calls.{is_full, says_call}
 use Rattle.profile_machine.specs.Dispatching.{active_of, block}
 use Rattle.profile_machine.specs.EntryCalls.{add_call, appoint_trigger, async_by_trigger, async_delay, asynchronous_select, call_accepted_by, call_by_barrier, call_callable, call_closed, call_gone, call_meets, call_named, call_not_met, call_object, call_owner, call_passes, call_queues, call_refused, call_runs, call_runs_if_room, call_task, call_without_room, end_at_once, entry_call, entry_parameters, has_room_for_action, is_forbidden, make_call, mark_sending, marks_if_queued, named_call, new_call, numbered, owner_of_entry, requeue, timed_moment, trigger_delay, with_sending}
 use Rattle.profile_machine.specs.Frames.{edit_first, edit_top, frames_of, goes, goes_on, raises, with_room}
-use Rattle.profile_machine.specs.Program.{entry_of, form_of, next_of}
+use Rattle.profile_image.specs.Program.{entry_of, form_of, next_of}
 use Rattle.profile_machine.specs.Protected.{begin_action_on, is_barrier_open, where_let_inside}
 use Rattle.profile_machine.specs.Rendezvous.{accept_for, delay_moment, is_callable}
 use Rattle.profile_machine.specs.Steps.{Step, changes, looks, nothing, says}
 use Rattle.profile_machine.specs.Subprograms.{call_that_returns}
 use Rattle.profile_machine.specs.Tasks.{waiting_of, with_frames}
-use Rattle.profile_machine.specs.declared.image.Image.{Image}
-use Rattle.profile_machine.specs.declared.numbers.EntryNo.{EntryNo}
-use Rattle.profile_machine.specs.declared.numbers.StatementNo.{StatementNo}
+use Rattle.profile_image.specs.declared.image.Image.{Image}
+use Rattle.profile_image.specs.declared.numbers.EntryNo.{EntryNo}
+use Rattle.profile_image.specs.declared.numbers.StatementNo.{StatementNo}
 use Rattle.profile_machine.specs.declared.run_data.Leaving.TheVariants as how
-use Rattle.profile_machine.specs.declared.statements.EntryOwner.{EntryOwner}
-use Rattle.profile_machine.specs.declared.statements.StatementForm.{StatementForm}
-use Rattle.profile_machine.specs.declared.statements.StatementForm.TheVariants as form
+use Rattle.profile_image.specs.declared.statements.EntryOwner.{EntryOwner}
+use Rattle.profile_image.specs.declared.statements.StatementForm.{StatementForm}
+use Rattle.profile_image.specs.declared.statements.StatementForm.TheVariants as form
 use Rattle.profile_machine.specs.declared.world.World.{World}
 use Rattle.profile_machine.specs.declared.world.appointments.Due.TheVariants as due_for
 use Rattle.profile_machine.specs.declared.world.calls.Call.{Call}

@@ -14,20 +14,20 @@ use Rattle.ceiling_laws.proofs.Runs.Triples.{Alters, At, Keeps, Leads, State, br
 use Rattle.profile_machine.specs.CallEnds.{store}
 use Rattle.profile_machine.specs.Frames.{has_room}
 use Rattle.profile_machine.specs.Handlers.{add_member, add_release, add_to_budget, answer, appoint_event, argument_values, begin_handler, begin_handler_if_room, call_handler, cancel_budget, cancel_event, cancel_event_setting, cancel_timer, change_member, clear_timer, clock_of_timer, edit_budget, enter_handler, event_set_to, fill_budget, handler_attached, handler_named, has_room_for_release, interrupt, is_interrupt_handler, loaded, member_of, raised_by, release, remove_member, replenish, says_release, set_budget, set_event, set_timer, set_value, setting_of, timer_set_beyond, timer_set_to, wake_agent, with_room_for_release, with_timer_set}
-use Rattle.profile_machine.specs.Program.{marks_of, next_of, subprogram_of, size_of_body}
+use Rattle.profile_image.specs.Program.{marks_of, next_of, subprogram_of, size_of_body}
 use Rattle.profile_machine.specs.Protected.{begin_action_on, body_of_object, entering, find_held}
 use Rattle.profile_machine.specs.Serving.{end_release}
 use Rattle.profile_machine.specs.Steps.{Step, nothing}
 use Rattle.profile_machine.specs.Values.{Seen, is_event, number_of_thing}
 use Rattle.profile_machine.specs.WellFormed.{is_right}
-use Rattle.profile_machine.specs.declared.expressions.VariableName.{VariableName}
-use Rattle.profile_machine.specs.declared.image.Image.{Image}
-use Rattle.profile_machine.specs.declared.numbers.DeclNo.{DeclNo}
-use Rattle.profile_machine.specs.declared.numbers.ExprNo.{ExprNo}
-use Rattle.profile_machine.specs.declared.numbers.StatementNo.{StatementNo}
-use Rattle.profile_machine.specs.declared.statements.HandlerName.{HandlerName}
-use Rattle.profile_machine.specs.declared.statements.Setting.{Setting}
-use Rattle.profile_machine.specs.declared.values.Value.TheVariants.{Truth}
+use Rattle.profile_image.specs.declared.expressions.VariableName.{VariableName}
+use Rattle.profile_image.specs.declared.image.Image.{Image}
+use Rattle.profile_image.specs.declared.numbers.DeclNo.{DeclNo}
+use Rattle.profile_image.specs.declared.numbers.ExprNo.{ExprNo}
+use Rattle.profile_image.specs.declared.numbers.StatementNo.{StatementNo}
+use Rattle.profile_image.specs.declared.statements.HandlerName.{HandlerName}
+use Rattle.profile_image.specs.declared.statements.Setting.{Setting}
+use Rattle.profile_image.specs.declared.values.Value.TheVariants.{Truth}
 use Rattle.profile_machine.specs.declared.world.World.{World}
 use Rattle.profile_machine.specs.declared.world.appointments.Budget.{Budget}
 use Rattle.profile_machine.specs.declared.world.appointments.Due.TheVariants as due_for

@@ -14,17 +14,17 @@ use Rattle.profile_machine.specs.Frames.{given, goes, in_protected, raise_if}
 use Rattle.profile_machine.specs.Operators.{Valued, held_moment, ticks}
 use Rattle.profile_machine.specs.Appointments.{appoint}
 use Rattle.profile_machine.specs.Priorities.{call_waited_for, delay_and_set_deadline, delay_with_deadline, is_edf_base, is_queued, placed_anew, priority_in_range, quantum_of, reprioritize, reprioritize_own, says_deadline, set_base_of, set_deadline_of, set_or_defer_base, set_priority, set_quantum, with_priority}
-use Rattle.profile_machine.specs.Program.{interrupt_priority, next_of}
+use Rattle.profile_image.specs.Program.{interrupt_priority, next_of}
 use Rattle.profile_machine.specs.Steps.{Step, changes}
 use Rattle.profile_machine.specs.Statements.{delay_to, delay_until, wait_until}
 use Rattle.profile_machine.specs.Tasks.{edit_task, found_task, is_who}
 use Rattle.profile_machine.specs.Values.{Seen, live_task, moment, seen_by, optional_task, value, whole_in, must_be_task}
-use Rattle.profile_machine.specs.Words.{edit_at, same_who}
-use Rattle.profile_machine.specs.declared.image.Image.{Image}
-use Rattle.profile_machine.specs.declared.image.Queuing.{Queuing}
-use Rattle.profile_machine.specs.declared.image.Queuing.TheVariants as queuing
-use Rattle.profile_machine.specs.declared.numbers.ExprNo.{ExprNo}
-use Rattle.profile_machine.specs.declared.numbers.StatementNo.{StatementNo}
+use Rattle.profile_image.specs.Words.{edit_at, same_who}
+use Rattle.profile_image.specs.declared.image.Image.{Image}
+use Rattle.profile_image.specs.declared.image.Queuing.{Queuing}
+use Rattle.profile_image.specs.declared.image.Queuing.TheVariants as queuing
+use Rattle.profile_image.specs.declared.numbers.ExprNo.{ExprNo}
+use Rattle.profile_image.specs.declared.numbers.StatementNo.{StatementNo}
 use Rattle.profile_machine.specs.declared.world.World.{World}
 use Rattle.profile_machine.specs.declared.world.appointments.Due.TheVariants as due_for
 use Rattle.profile_machine.specs.declared.world.calls.Call.{Call}

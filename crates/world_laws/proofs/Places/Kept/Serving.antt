@@ -28,12 +28,12 @@ use Rattle.profile_machine.specs.Serving.{begins_part, behind_action, chosen_is_
 use Rattle.profile_machine.specs.Steps.{Step, changes, for_some, nothing, ◌▷◌}
 use Rattle.profile_machine.specs.Unwinding.{may_unwind}
 use Rattle.profile_machine.specs.Values.{object_of}
-use Rattle.profile_machine.specs.Words.{without}
+use Rattle.profile_image.specs.Words.{without}
 use Rattle.ann_base.specs.Lists.{is_empty}
-use Rattle.profile_machine.specs.declared.image.Image.{Image}
+use Rattle.profile_image.specs.declared.image.Image.{Image}
 use Rattle.profile_machine.specs.declared.run_data.Leaving.{Leaving}
 use Rattle.profile_machine.specs.declared.run_data.Leaving.TheVariants as how
-use Rattle.profile_machine.specs.declared.values.Value.{Value}
+use Rattle.profile_image.specs.declared.values.Value.{Value}
 use Rattle.profile_machine.specs.declared.world.World.{World}
 use Rattle.profile_machine.specs.declared.world.calls.Call.{Call}
 use Rattle.profile_machine.specs.declared.world.calls.Outcome.{Outcome}

@@ -17,19 +17,19 @@ use Rattle.profile_machine.specs.declared.world.objects.Entering.{Entering}
 use Rattle.profile_machine.specs.declared.world.scopes.Handed.{Handed}
 use Rattle.trace_text.specs.declared.events.Mode.{Mode}
 use Rattle.trace_text.specs.declared.events.Who.{Who}
-use Rattle.profile_machine.specs.declared.image.Image.{Image}
-use Rattle.profile_machine.specs.declared.numbers.DeclNo.{DeclNo}
-use Rattle.profile_machine.specs.declared.numbers.StatementNo.{StatementNo}
-use Rattle.profile_machine.specs.declared.numbers.SubprogramNo.{SubprogramNo}
-use Rattle.profile_machine.specs.declared.statements.Actual.{Actual}
-use Rattle.profile_machine.specs.declared.statements.Destination.{Destination}
+use Rattle.profile_image.specs.declared.image.Image.{Image}
+use Rattle.profile_image.specs.declared.numbers.DeclNo.{DeclNo}
+use Rattle.profile_image.specs.declared.numbers.StatementNo.{StatementNo}
+use Rattle.profile_image.specs.declared.numbers.SubprogramNo.{SubprogramNo}
+use Rattle.profile_image.specs.declared.statements.Actual.{Actual}
+use Rattle.profile_image.specs.declared.statements.Destination.{Destination}
 use Rattle.profile_machine.specs.declared.world.marks.ResultTo.{ResultTo}
 use Rattle.profile_machine.specs.declared.world.marks.ProtectedMark.{ProtectedMark}
 use Rattle.profile_machine.specs.declared.world.calls.Call.{Call}
 use Rattle.profile_machine.specs.declared.world.lines.Part.{Part}
 use Rattle.profile_machine.specs.declared.world.World.{World}
 use Rattle.profile_machine.specs.declared.world.lines.Part.TheVariants.{ThePlacing, TheBlock}
-use Rattle.profile_machine.specs.Program.{next_of, subprogram_of}
+use Rattle.profile_image.specs.Program.{next_of, subprogram_of}
 use Rattle.profile_machine.specs.Tasks.{with_frames}
 use Rattle.profile_machine.specs.Dispatching.{block}
 use Rattle.profile_machine.specs.Frames.{new_frame, edit_first, edit_top, push, with_mark, pop}
@@ -67,18 +67,18 @@ use Rattle.profile_machine.specs.Sending.{open_abortable, wait_for_call}
 use Rattle.profile_machine.specs.Serving.{may_open_abortable}
 use Rattle.profile_machine.specs.Unwinding.{may_unwind}
 use Rattle.profile_machine.specs.Values.{own_object}
-use Rattle.profile_machine.specs.Words.{is_the, same_call, same_who, without}
+use Rattle.profile_image.specs.Words.{is_the, same_call, same_who, without}
 use Rattle.profile_machine.specs.declared.world.marks.Frame.{Frame}
 use Rattle.profile_machine.specs.CallEnds.{deliver}
 use Rattle.profile_machine.specs.Calls.{is_call, parameters_of, place_of_entry}
 use Rattle.profile_machine.specs.Priorities.{is_queued}
-use Rattle.profile_machine.specs.Program.{protected_unit_of}
+use Rattle.profile_image.specs.Program.{protected_unit_of}
 use Rattle.profile_machine.specs.Protected.{begun_call, body_of_object, is_open_entry, open_queues}
 use Rattle.profile_machine.specs.Steps.{settled}
 use Rattle.profile_machine.specs.Subprograms.{handed, result_to}
 use Rattle.profile_machine.specs.Values.{queue_at, queues_of}
 use Rattle.profile_machine.specs.WellFormed.{same_owner}
-use Rattle.profile_machine.specs.Words.{edit_where, has}
+use Rattle.profile_image.specs.Words.{edit_where, has}
 use Rattle.profile_machine.specs.declared.world.calls.Owner.{Owner}
 use Rattle.profile_machine.specs.declared.world.objects.Object.{Object}
 use Rattle.profile_machine.specs.Act.{below}

@@ -8,8 +8,8 @@ use Rattle.ann_base.specs.declared.identities.TaskNo.{TaskNo}
 use Rattle.trace_text.specs.declared.events.Who.{Who}
 use Rattle.world_tables.specs.Lists.{rest_of}
 use Rattle.trace_text.specs.declared.events.Who.TheVariants as who
-use Rattle.profile_machine.specs.declared.image.Image.{Image}
-use Rattle.profile_machine.specs.declared.numbers.StatementNo.{StatementNo}
+use Rattle.profile_image.specs.declared.image.Image.{Image}
+use Rattle.profile_image.specs.declared.numbers.StatementNo.{StatementNo}
 use Rattle.profile_machine.specs.declared.run_data.Leaving.TheVariants as how
 use Rattle.profile_machine.specs.declared.world.World.{World}
 use Rattle.profile_machine.specs.declared.world.lines.Line.TheVariants as line
@@ -24,7 +24,7 @@ use Rattle.profile_machine.specs.declared.world.calls.Outcome.TheVariants as cal
 use Rattle.profile_machine.specs.declared.world.tasks.Task.{Task}
 use Rattle.profile_machine.specs.declared.world.tasks.Waiting.{Waiting}
 use Rattle.profile_machine.specs.declared.world.tasks.Waiting.TheVariants as waits_for
-use Rattle.profile_machine.specs.Words.{same_call, is_the}
+use Rattle.profile_image.specs.Words.{same_call, is_the}
 use Rattle.profile_machine.specs.Steps.{Step, changes, looks, when, ◌▷◌}
 use Rattle.profile_machine.specs.Tasks.{task_at, edit_task_found, edit_task, with_frames, waiting_of}
 use Rattle.profile_machine.specs.Dispatching.{ready, to_tail, says_ready}
@@ -35,9 +35,9 @@ use Rattle.profile_machine.specs.Unwinding.{struck_frame, unwind}
 use Rattle.profile_machine.specs.CallEnds.{resume, is_abortable_of, depth_of_abortable, abortable_depth, edit_depth, edit_frame, edit_abortable, edit_abortable_at, triggered_mark, trigger_at, trigger_outcome, forget_trigger, run_triggered, onward_when_done, ended_by_itself, behind_abortable, end_abortable, end_abortable_in, end_top_abortable, waited_mark, is_cancelled, end_wait, waits_for_call, waits_for_end, end_for_abortable, end_for_caller, end_for, with_outcome, end_with, end_call, with_results, deliver, gone}
 use Rattle.profile_machine.specs.declared.world.lines.Said.{Said}
 use Rattle.profile_machine.specs.declared.world.scopes.Variable.{Variable}
-use Rattle.profile_machine.specs.declared.values.Value.{Value}
+use Rattle.profile_image.specs.declared.values.Value.{Value}
 use Rattle.profile_machine.specs.Operators.{Valued, checked}
-use Rattle.profile_machine.specs.Program.{declaration_of}
+use Rattle.profile_image.specs.Program.{declaration_of}
 use Rattle.profile_machine.specs.Scopes.{write_cell}
 use Rattle.profile_machine.specs.CallEnds.{store, or_stored, copy_back}
 use Rattle.world_laws.proofs.Queues.CallChanges.{Edits, edit_call-calm, edited_call-same, forget_call-calm, forgotten, unqueued-calm}

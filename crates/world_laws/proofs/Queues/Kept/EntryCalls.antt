@@ -3,7 +3,7 @@ use Rattle.std.proofs.Common.{sym, subst, inl, inr, cond, arith, is_none, is_som
 use Rattle.std.proofs.lemmas.Bool.{eq-eqb, eqb-true, true≢false, and_parts}
 use Rattle.line_laws.proofs.Exits.TaskEdits as edits_of
 use Rattle.profile_machine.specs.declared.run_data.Leaving.TheVariants as how
-use Rattle.profile_machine.specs.declared.statements.StatementForm.TheVariants as form
+use Rattle.profile_image.specs.declared.statements.StatementForm.TheVariants as form
 use Rattle.profile_machine.specs.declared.world.appointments.Due.TheVariants as due_for
 use Rattle.profile_machine.specs.declared.world.calls.CallKind.TheVariants as call_kind
 use Rattle.std.proofs.Common.{◌≡◌, refl, ap, ◌∙◌}
@@ -15,11 +15,11 @@ use Rattle.ann_base.specs.declared.exceptions.Raised.{Raised}
 use Rattle.trace_text.specs.declared.events.Mode.TheVariants.{Write}
 use Rattle.trace_text.specs.declared.events.Who.{Who}
 use Rattle.profile_machine.specs.declared.world.calls.EntryCallNamed.{EntryCallNamed}
-use Rattle.profile_machine.specs.declared.image.Image.{Image}
-use Rattle.profile_machine.specs.declared.numbers.EntryNo.{EntryNo}
-use Rattle.profile_machine.specs.declared.numbers.StatementNo.{StatementNo}
-use Rattle.profile_machine.specs.declared.statements.EntryOwner.{EntryOwner}
-use Rattle.profile_machine.specs.declared.statements.StatementForm.{StatementForm}
+use Rattle.profile_image.specs.declared.image.Image.{Image}
+use Rattle.profile_image.specs.declared.numbers.EntryNo.{EntryNo}
+use Rattle.profile_image.specs.declared.numbers.StatementNo.{StatementNo}
+use Rattle.profile_image.specs.declared.statements.EntryOwner.{EntryOwner}
+use Rattle.profile_image.specs.declared.statements.StatementForm.{StatementForm}
 use Rattle.profile_machine.specs.declared.world.World.{World}
 use Rattle.profile_machine.specs.declared.world.calls.Call.{Call}
 use Rattle.profile_machine.specs.declared.world.calls.CallKind.{CallKind}
@@ -27,7 +27,7 @@ use Rattle.profile_machine.specs.declared.world.calls.Owner.{Owner}
 use Rattle.profile_machine.specs.declared.world.lines.Part.{Part}
 use Rattle.profile_machine.specs.declared.world.lines.Part.TheVariants.{TheCall}
 use Rattle.profile_machine.specs.Steps.{Step, changes, looks, ◌▷◌, nothing}
-use Rattle.profile_machine.specs.Program.{next_of}
+use Rattle.profile_image.specs.Program.{next_of}
 use Rattle.profile_machine.specs.Frames.{frames_of, new_frame, raise_if}
 use Rattle.profile_machine.specs.Tasks.{with_frames}
 use Rattle.profile_machine.specs.Calls.{call_of, says_call, enqueue, is_full}
@@ -38,7 +38,7 @@ use Rattle.profile_machine.specs.Rendezvous.{delay_moment}
 use Rattle.ann_base.specs.declared.exceptions.Raised.TheVariants as exception
 use Rattle.profile_machine.specs.declared.world.lines.Line.TheVariants as line
 use Rattle.trace_text.specs.declared.events.Who.TheVariants as who
-use Rattle.profile_machine.specs.declared.statements.StatementForm.TheVariants as form
+use Rattle.profile_image.specs.declared.statements.StatementForm.TheVariants as form
 use Rattle.profile_machine.specs.declared.world.calls.CallKind.TheVariants as call_kind
 use Rattle.profile_machine.specs.declared.world.appointments.Due.TheVariants as due_for
 use Rattle.profile_machine.specs.declared.world.calls.Owner.TheVariants as owned_by
@@ -52,12 +52,12 @@ use Rattle.profile_machine.specs.Dispatching.{active_of}
 use Rattle.profile_machine.specs.EntryCalls.{entry_parameters, named_call, new_call, owner_of_entry, timed_moment, with_sending}
 use Rattle.profile_machine.specs.Frames.{goes, push}
 use Rattle.profile_machine.specs.Notation.{entry, p, t}
-use Rattle.profile_machine.specs.Program.{entry_of, form_of}
+use Rattle.profile_image.specs.Program.{entry_of, form_of}
 use Rattle.profile_machine.specs.Rendezvous.{accept_for, is_callable}
 use Rattle.profile_machine.specs.Sending.{abortable_in, new_abortable_mark}
 use Rattle.profile_machine.specs.Subprograms.{call_that_returns}
 use Rattle.profile_machine.specs.Tasks.{task_of, waiting_of}
-use Rattle.profile_machine.specs.Words.{same_task}
+use Rattle.profile_image.specs.Words.{same_task}
 use Rattle.profile_machine.specs.declared.world.tasks.Task.{Task}
 use Rattle.world_laws.proofs.Queues.CallChanges.{Directed, appoint-calm, calm-directed, forget_call-calm, out-directed, unqueued-out}
 use Rattle.world_laws.proofs.Queues.CallLists.{same-call}

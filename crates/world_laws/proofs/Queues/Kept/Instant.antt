@@ -7,9 +7,9 @@ use Rattle.ann_base.specs.declared.identities.CallNo.{CallNo}
 use Rattle.ann_base.specs.declared.identities.TaskNo.{TaskNo}
 use Rattle.trace_text.specs.declared.events.Who.{Who}
 use Rattle.trace_text.specs.declared.events.Who.TheVariants as who
-use Rattle.profile_machine.specs.declared.image.Image.{Image}
-use Rattle.profile_machine.specs.declared.run_data.Item.{Item}
-use Rattle.profile_machine.specs.declared.run_data.Item.TheVariants as item
+use Rattle.profile_image.specs.declared.image.Image.{Image}
+use Rattle.profile_image.specs.declared.script_items.Item.{Item}
+use Rattle.profile_image.specs.declared.script_items.Item.TheVariants as item
 use Rattle.profile_machine.specs.declared.world.World.{World}
 use Rattle.profile_machine.specs.declared.world.appointments.Appointment.{Appointment}
 use Rattle.profile_machine.specs.declared.world.appointments.Due.{Due}
@@ -21,8 +21,8 @@ use Rattle.profile_machine.specs.declared.world.lines.Part.TheVariants.{Own}
 use Rattle.profile_machine.specs.declared.world.tasks.Task.{Task}
 use Rattle.profile_machine.specs.declared.world.tasks.Waiting.{Waiting}
 use Rattle.profile_machine.specs.declared.world.tasks.Waiting.TheVariants as waits_for
-use Rattle.profile_machine.specs.Words.{same_bool, is_flag}
-use Rattle.profile_machine.specs.Program.{next_of}
+use Rattle.profile_image.specs.Words.{same_bool, is_flag}
+use Rattle.profile_image.specs.Program.{next_of}
 use Rattle.profile_machine.specs.Steps.{Step, Move, Done, done, looks, nothing, settled, settles, rests, ◌▷◌, ◌▶◌}
 use Rattle.profile_machine.specs.Tasks.{edit_task_found, with_frames, is_who, nobody, task_at, task_of, waiting_of}
 use Rattle.profile_machine.specs.Dispatching.{ready}

@@ -8,7 +8,7 @@ use Rattle.ann_base.specs.declared.identities.RegionNo.{RegionNo}
 use Rattle.ann_base.specs.declared.exceptions.Raised.TheVariants as exception
 use Rattle.trace_text.specs.declared.events.Who.{Who}
 use Rattle.trace_text.specs.declared.events.Who.TheVariants as who
-use Rattle.profile_machine.specs.declared.image.Image.{Image}
+use Rattle.profile_image.specs.declared.image.Image.{Image}
 use Rattle.profile_machine.specs.declared.run_data.Leaving.TheVariants as how
 use Rattle.profile_machine.specs.declared.world.World.{World}
 use Rattle.profile_machine.specs.declared.world.calls.Call.{Call}
@@ -22,7 +22,7 @@ use Rattle.profile_machine.specs.declared.world.lines.Part.TheVariants.{OfOther}
 use Rattle.profile_machine.specs.declared.world.tasks.Cause.TheVariants as inherited_by
 use Rattle.profile_machine.specs.declared.world.tasks.State.TheVariants.{Runnable}
 use Rattle.profile_machine.specs.declared.world.tasks.Task.{Task}
-use Rattle.profile_machine.specs.Words.{same_call, same_who, has}
+use Rattle.profile_image.specs.Words.{same_call, same_who, has}
 use Rattle.profile_machine.specs.Steps.{Step, Done, done, goes_on_with, changes, when, for_each, for_some, ◌▷◌}
 use Rattle.profile_machine.specs.Tasks.{task_at, task_of, edit_task, with_state, waiting_of}
 use Rattle.profile_machine.specs.Dispatching.{ready}

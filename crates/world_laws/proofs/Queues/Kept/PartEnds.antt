@@ -10,8 +10,8 @@ use Rattle.ann_base.specs.declared.identities.TaskNo.{TaskNo}
 use Rattle.profile_machine.specs.Act.{call, end_top}
 use Rattle.profile_machine.specs.Appointments.{is_appointed, is_trigger_of}
 use Rattle.profile_machine.specs.Frames.{frames_of}
-use Rattle.profile_machine.specs.Words.{is_the, same_call}
-use Rattle.profile_machine.specs.declared.image.Image.{Image}
+use Rattle.profile_image.specs.Words.{is_the, same_call}
+use Rattle.profile_image.specs.declared.image.Image.{Image}
 use Rattle.profile_machine.specs.declared.world.World.{World}
 use Rattle.profile_machine.specs.declared.world.marks.AbortableMark.{AbortableMark}
 use Rattle.profile_machine.specs.declared.world.marks.Frame.{Frame}

@@ -12,7 +12,7 @@ use Rattle.profile_machine.specs.declared.world.marks.AbortableMark.{AbortableMa
 use Rattle.profile_machine.specs.declared.world.marks.Frame.{Frame}
 use Rattle.profile_machine.specs.declared.world.marks.Mark.{Mark}
 use Rattle.profile_machine.specs.declared.world.marks.Mark.TheVariants.{Scope, Handled, InProtected, InAccept, Abortable, InInitialize, InFinalize, InAssign}
-use Rattle.profile_machine.specs.Words.{same_call, is_the}
+use Rattle.profile_image.specs.Words.{same_call, is_the}
 use Rattle.profile_machine.specs.Tasks.{with_frames}
 use Rattle.profile_machine.specs.Frames.{frames_of, with_mark}
 use Rattle.profile_machine.specs.Appointments.{is_appointed, is_trigger_of}

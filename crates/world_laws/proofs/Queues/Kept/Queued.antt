@@ -7,11 +7,11 @@ use Rattle.ann_base.specs.declared.exceptions.Raised.TheVariants as exception
 use Rattle.ann_base.specs.declared.identities.CallNo.{CallNo}
 use Rattle.trace_text.specs.declared.events.Who.{Who}
 use Rattle.trace_text.specs.declared.events.Who.TheVariants as who
-use Rattle.profile_machine.specs.declared.image.Image.{Image}
-use Rattle.profile_machine.specs.declared.image.Queuing.{Queuing}
-use Rattle.profile_machine.specs.declared.image.Queuing.TheVariants as queuing
-use Rattle.profile_machine.specs.declared.numbers.ExprNo.{ExprNo}
-use Rattle.profile_machine.specs.declared.numbers.StatementNo.{StatementNo}
+use Rattle.profile_image.specs.declared.image.Image.{Image}
+use Rattle.profile_image.specs.declared.image.Queuing.{Queuing}
+use Rattle.profile_image.specs.declared.image.Queuing.TheVariants as queuing
+use Rattle.profile_image.specs.declared.numbers.ExprNo.{ExprNo}
+use Rattle.profile_image.specs.declared.numbers.StatementNo.{StatementNo}
 use Rattle.profile_machine.specs.declared.world.World.{World}
 use Rattle.profile_machine.specs.declared.world.calls.Call.{Call}
 use Rattle.profile_machine.specs.declared.world.calls.Owner.{Owner}
@@ -24,11 +24,11 @@ use Rattle.profile_machine.specs.declared.world.tasks.State.{State}
 use Rattle.profile_machine.specs.declared.world.tasks.State.TheVariants.{Made, Runnable, Blocked}
 use Rattle.profile_machine.specs.declared.world.tasks.Task as world_task
 use Rattle.profile_machine.specs.declared.world.tasks.Waiting.{Waiting}
-use Rattle.profile_machine.specs.Words.{edit_at, edit_where}
+use Rattle.profile_image.specs.Words.{edit_at, edit_where}
 use Rattle.profile_machine.specs.declared.world.lines.Said.{Said}
 use Rattle.std.specs.List.{list_any}
 use Rattle.profile_machine.specs.Steps.{goes_on_with}
-use Rattle.profile_machine.specs.Program.{next_of, has_edf, interrupt_priority}
+use Rattle.profile_image.specs.Program.{next_of, has_edf, interrupt_priority}
 use Rattle.profile_machine.specs.Steps.{Step, changes, when, for_some, ◌▷◌}
 use Rattle.profile_machine.specs.Tasks.{task_of, edit_task, found_task}
 use Rattle.profile_machine.specs.Dispatching.{active_of, to_tail}

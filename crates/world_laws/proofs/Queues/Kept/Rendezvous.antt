@@ -5,7 +5,7 @@ use Rattle.profile_machine.specs.declared.world.lines.Line.TheVariants as line
 use Rattle.profile_machine.specs.declared.world.lines.MeetingEnd.TheVariants as meeting
 use Rattle.std.proofs.Common.{Result, Ok, Err}
 use Rattle.profile_machine.specs.declared.world.lines.Part.TheVariants.{TheFinish, TheBlock}
-use Rattle.profile_machine.specs.declared.statements.StatementForm.TheVariants as form
+use Rattle.profile_image.specs.declared.statements.StatementForm.TheVariants as form
 use Rattle.std.proofs.Common.{ap, sym, subst, ℕ, suc, zero, arith, is_none, find, option_map, ◌∙◌, ◌≤◌, ◌<◌, ◌||◌, ◌+◌}
 use Rattle.std.proofs.lemmas.Bool.{eq-eqb, true≢false}
 use Rattle.std.specs.Prelude.{ℤ, pos, int_le, Bool, true, false, List, Option, Some, None, [], ◌∷◌}
@@ -13,13 +13,13 @@ use Rattle.ann_base.specs.declared.identities.CallNo.{CallNo}
 use Rattle.ann_base.specs.declared.identities.TaskNo.{TaskNo}
 use Rattle.trace_text.specs.declared.events.Who.{Who}
 use Rattle.profile_machine.specs.declared.world.calls.DelayMoment.{DelayMoment}
-use Rattle.profile_machine.specs.declared.image.Image.{Image}
-use Rattle.profile_machine.specs.declared.numbers.EntryNo.{EntryNo}
-use Rattle.profile_machine.specs.declared.numbers.StatementNo.{StatementNo}
+use Rattle.profile_image.specs.declared.image.Image.{Image}
+use Rattle.profile_image.specs.declared.numbers.EntryNo.{EntryNo}
+use Rattle.profile_image.specs.declared.numbers.StatementNo.{StatementNo}
 use Rattle.profile_machine.specs.declared.run_data.Leaving.{Leaving}
-use Rattle.profile_machine.specs.declared.statements.SelectAlternative.{SelectAlternative}
-use Rattle.profile_machine.specs.declared.statements.SelectKind.{SelectKind}
-use Rattle.profile_machine.specs.declared.values.Value.{Value}
+use Rattle.profile_image.specs.declared.statements.SelectAlternative.{SelectAlternative}
+use Rattle.profile_image.specs.declared.statements.SelectKind.{SelectKind}
+use Rattle.profile_image.specs.declared.values.Value.{Value}
 use Rattle.profile_machine.specs.declared.world.World.{World}
 use Rattle.profile_machine.specs.declared.world.marks.Mark.{Mark}
 use Rattle.profile_machine.specs.declared.world.marks.AcceptMark.{AcceptMark}
@@ -27,7 +27,7 @@ use Rattle.profile_machine.specs.declared.world.calls.Call.{Call}
 use Rattle.profile_machine.specs.declared.world.calls.Owner.{Owner}
 use Rattle.profile_machine.specs.declared.world.calls.Sending.{Sending}
 use Rattle.profile_machine.specs.declared.world.marks.Mark.TheVariants.{InAccept}
-use Rattle.profile_machine.specs.Program.{form_of, next_of, scope_of}
+use Rattle.profile_image.specs.Program.{form_of, next_of, scope_of}
 use Rattle.profile_machine.specs.declared.world.lines.Part.{Part}
 use Rattle.profile_machine.specs.Steps.{Step, changes, ◌▷◌, looks}
 use Rattle.profile_machine.specs.Frames.{new_frame, edit_top, goes_on, pop, top_of, in_protected}
@@ -61,9 +61,9 @@ use Rattle.profile_machine.specs.Rendezvous.{accept_for, first_accept, has_termi
 use Rattle.profile_machine.specs.Sending.{begin_abortable, sent_call}
 use Rattle.profile_machine.specs.Steps.{Done, for_some, goes_on_with}
 use Rattle.profile_machine.specs.Tasks.{task_at, task_of, waiting_of, with_frames}
-use Rattle.profile_machine.specs.Words.{edit_where, has, is_the, same_call, same_who}
+use Rattle.profile_image.specs.Words.{edit_where, has, is_the, same_call, same_who}
 use Rattle.world_tables.specs.Lists.{first_of, rest_of}
-use Rattle.profile_machine.specs.declared.statements.StatementForm.{StatementForm}
+use Rattle.profile_image.specs.declared.statements.StatementForm.{StatementForm}
 use Rattle.profile_machine.specs.declared.world.calls.Outcome.{Outcome}
 use Rattle.profile_machine.specs.declared.world.tasks.Task.{Task}
 use Rattle.world_laws.proofs.Queues.Arrivals.{end_scope-calm}

@@ -14,8 +14,8 @@ use Rattle.profile_machine.specs.Frames.{frames_of}
 use Rattle.profile_machine.specs.Notation.{t}
 use Rattle.profile_machine.specs.Tasks.{edit_task, task_at, task_of, waiting_in, waiting_of, with_state}
 use Rattle.profile_machine.specs.Values.{queue_at}
-use Rattle.profile_machine.specs.Words.{has, same_call}
-use Rattle.profile_machine.specs.declared.image.Image.{Image}
+use Rattle.profile_image.specs.Words.{has, same_call}
+use Rattle.profile_image.specs.declared.image.Image.{Image}
 use Rattle.profile_machine.specs.declared.world.World.{World}
 use Rattle.profile_machine.specs.declared.world.appointments.Due.{Due}
 use Rattle.profile_machine.specs.declared.world.calls.Call.{Call}

@@ -11,12 +11,12 @@ use Rattle.profile_machine.specs.declared.world.lines.Line.TheVariants as line
 use Rattle.trace_text.specs.declared.events.Who.{Who}
 use Rattle.trace_text.specs.declared.events.Who.TheVariants as who
 use Rattle.profile_machine.specs.declared.world.calls.EntryCallNamed.{EntryCallNamed}
-use Rattle.profile_machine.specs.declared.image.Image.{Image}
-use Rattle.profile_machine.specs.declared.numbers.EntryNo.{EntryNo}
-use Rattle.profile_machine.specs.declared.numbers.StatementNo.{StatementNo}
-use Rattle.profile_machine.specs.declared.statements.EntryOwner.{EntryOwner}
-use Rattle.profile_machine.specs.declared.statements.StatementForm.{StatementForm}
-use Rattle.profile_machine.specs.declared.statements.StatementForm.TheVariants as form
+use Rattle.profile_image.specs.declared.image.Image.{Image}
+use Rattle.profile_image.specs.declared.numbers.EntryNo.{EntryNo}
+use Rattle.profile_image.specs.declared.numbers.StatementNo.{StatementNo}
+use Rattle.profile_image.specs.declared.statements.EntryOwner.{EntryOwner}
+use Rattle.profile_image.specs.declared.statements.StatementForm.{StatementForm}
+use Rattle.profile_image.specs.declared.statements.StatementForm.TheVariants as form
 use Rattle.profile_machine.specs.declared.world.World.{World}
 use Rattle.profile_machine.specs.declared.world.calls.Call.{Call}
 use Rattle.profile_machine.specs.declared.world.calls.CallKind.{CallKind}
@@ -27,7 +27,7 @@ use Rattle.profile_machine.specs.declared.world.calls.Owner.TheVariants as owned
 use Rattle.profile_machine.specs.declared.world.lines.Part.{Part}
 use Rattle.profile_machine.specs.declared.world.lines.Part.TheVariants.{Own, TheCall, OfOther}
 use Rattle.profile_machine.specs.Steps.{Step, changes, looks, ◌▷◌, nothing}
-use Rattle.profile_machine.specs.Program.{next_of}
+use Rattle.profile_image.specs.Program.{next_of}
 use Rattle.profile_machine.specs.Frames.{frames_of, edit_top, goes_on, raise_if, given, goes, new_frame}
 use Rattle.profile_machine.specs.Tasks.{waiting_of}
 use Rattle.profile_machine.specs.Calls.{says_call}

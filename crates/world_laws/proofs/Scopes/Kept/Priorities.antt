@@ -4,18 +4,18 @@ use Rattle.ann_base.specs.Results.{◌>>=◌}
 use Rattle.ann_base.specs.declared.exceptions.Raised.TheVariants as exception
 use Rattle.trace_text.specs.declared.events.Who.{Who}
 use Rattle.trace_text.specs.declared.events.Who.TheVariants as who
-use Rattle.profile_machine.specs.declared.image.Image.{Image}
-use Rattle.profile_machine.specs.declared.image.Queuing.{Queuing}
-use Rattle.profile_machine.specs.declared.image.Queuing.TheVariants as queuing
-use Rattle.profile_machine.specs.declared.numbers.ExprNo.{ExprNo}
-use Rattle.profile_machine.specs.declared.numbers.StatementNo.{StatementNo}
+use Rattle.profile_image.specs.declared.image.Image.{Image}
+use Rattle.profile_image.specs.declared.image.Queuing.{Queuing}
+use Rattle.profile_image.specs.declared.image.Queuing.TheVariants as queuing
+use Rattle.profile_image.specs.declared.numbers.ExprNo.{ExprNo}
+use Rattle.profile_image.specs.declared.numbers.StatementNo.{StatementNo}
 use Rattle.profile_machine.specs.declared.world.calls.Call.{Call}
 use Rattle.profile_machine.specs.declared.world.tasks.State.{State}
 use Rattle.profile_machine.specs.declared.world.tasks.Waiting.{Waiting}
 use Rattle.profile_machine.specs.declared.world.tasks.State.TheVariants.{Made, Runnable, Blocked}
 use Rattle.profile_machine.specs.declared.world.tasks.Task as world
-use Rattle.profile_machine.specs.Words.{edit_at}
-use Rattle.profile_machine.specs.Program.{next_of, has_edf, interrupt_priority}
+use Rattle.profile_image.specs.Words.{edit_at}
+use Rattle.profile_image.specs.Program.{next_of, has_edf, interrupt_priority}
 use Rattle.profile_machine.specs.declared.world.lines.Part.{Part}
 use Rattle.profile_machine.specs.declared.world.lines.Part.TheVariants.{Own}
 use Rattle.profile_machine.specs.Steps.{changes}

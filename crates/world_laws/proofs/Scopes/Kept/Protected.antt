@@ -10,17 +10,17 @@ use Rattle.profile_machine.specs.declared.world.lines.Line.TheVariants as line
 use Rattle.profile_machine.specs.declared.world.lines.MeetingEnd.TheVariants as meeting
 use Rattle.trace_text.specs.declared.events.Mode.{Mode}
 use Rattle.trace_text.specs.declared.events.Who.{Who}
-use Rattle.profile_machine.specs.declared.image.Image.{Image}
-use Rattle.profile_machine.specs.declared.numbers.DeclNo.{DeclNo}
-use Rattle.profile_machine.specs.declared.numbers.StatementNo.{StatementNo}
-use Rattle.profile_machine.specs.declared.numbers.SubprogramNo.{SubprogramNo}
-use Rattle.profile_machine.specs.declared.statements.Actual.{Actual}
-use Rattle.profile_machine.specs.declared.statements.Destination.{Destination}
+use Rattle.profile_image.specs.declared.image.Image.{Image}
+use Rattle.profile_image.specs.declared.numbers.DeclNo.{DeclNo}
+use Rattle.profile_image.specs.declared.numbers.StatementNo.{StatementNo}
+use Rattle.profile_image.specs.declared.numbers.SubprogramNo.{SubprogramNo}
+use Rattle.profile_image.specs.declared.statements.Actual.{Actual}
+use Rattle.profile_image.specs.declared.statements.Destination.{Destination}
 use Rattle.profile_machine.specs.declared.world.marks.ResultTo.{ResultTo}
 use Rattle.profile_machine.specs.declared.world.marks.ProtectedMark.{ProtectedMark}
 use Rattle.profile_machine.specs.declared.world.calls.Call.{Call}
 use Rattle.profile_machine.specs.declared.world.lines.Part.{Part}
-use Rattle.profile_machine.specs.Program.{next_of, subprogram_of}
+use Rattle.profile_image.specs.Program.{next_of, subprogram_of}
 use Rattle.profile_machine.specs.Frames.{new_frame, goes, push, with_mark}
 use Rattle.profile_machine.specs.Steps.{Step, says, ◌▷◌}
 use Rattle.std.proofs.Common.{◌≡◌, refl}

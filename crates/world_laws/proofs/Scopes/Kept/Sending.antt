@@ -2,8 +2,8 @@
 use Rattle.std.proofs.Common.{◌≡◌, ℤ, Bool, true, false, cond, Option, Some, None, refl, []}
 use Rattle.ann_base.specs.declared.identities.CallNo.{CallNo}
 use Rattle.trace_text.specs.declared.events.Who.{Who}
-use Rattle.profile_machine.specs.declared.image.Image.{Image}
-use Rattle.profile_machine.specs.declared.numbers.StatementNo.{StatementNo}
+use Rattle.profile_image.specs.declared.image.Image.{Image}
+use Rattle.profile_image.specs.declared.numbers.StatementNo.{StatementNo}
 use Rattle.profile_machine.specs.declared.world.World.{World}
 use Rattle.profile_machine.specs.declared.world.calls.Call.{Call}
 use Rattle.profile_machine.specs.declared.world.calls.CallKind.{CallKind}
@@ -19,7 +19,7 @@ use Rattle.machine_laws.proofs.Moves.{StepRelation, MoveRelation}
 use Rattle.world_laws.proofs.Scopes.FineMoves.{FineMoves, chains, says-keeps}
 use Rattle.world_laws.proofs.Scopes.Kept.Dispatching.{ready-keeps, block-keeps}
 use Rattle.world_laws.proofs.Scopes.Kept.CallEnds.{deliver-keeps}
-use Rattle.profile_machine.specs.Program.{form_of}
+use Rattle.profile_image.specs.Program.{form_of}
 use Rattle.profile_machine.specs.Frames.{new_frame}
 use Rattle.machine_laws.proofs.FineMoves.{GoodWorld, Naming}
 use Rattle.machine_laws.proofs.Kept.Sending.{last_is_false}

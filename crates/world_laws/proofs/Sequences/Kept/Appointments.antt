@@ -1,5 +1,5 @@
 -- Appointments that are set and dropped: each step keeps a relation that its parts keep.
-use Rattle.profile_machine.specs.declared.image.Image.{Image}
+use Rattle.profile_image.specs.declared.image.Image.{Image}
 use Rattle.std.proofs.Common.{ℤ, Bool}
 use Rattle.trace_text.specs.declared.events.Who.{Who}
 use Rattle.trace_text.specs.declared.events.Who.TheVariants as who

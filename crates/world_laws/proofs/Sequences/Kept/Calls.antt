@@ -1,7 +1,7 @@
 -- Calls that are looked up: each step keeps a relation that its parts keep.
 use Rattle.profile_machine.specs.declared.world.World.{World}
 use Rattle.ann_base.specs.declared.identities.CallNo.{CallNo}
-use Rattle.profile_machine.specs.declared.image.Image.{Image}
+use Rattle.profile_image.specs.declared.image.Image.{Image}
 use Rattle.profile_machine.specs.declared.world.calls.Call.{Call}
 use Rattle.profile_machine.specs.Steps.{Step, nothing, for_some}
 use Rattle.profile_machine.specs.Calls.{with_call, call_of}

@@ -7,8 +7,8 @@ use Rattle.profile_machine.specs.Dispatching.{ready}
 use Rattle.std.proofs.Common.{◌≡◌, ℤ, Bool, true, false, cond, Option, Some, None, refl, []}
 use Rattle.ann_base.specs.declared.identities.CallNo.{CallNo}
 use Rattle.trace_text.specs.declared.events.Who.{Who}
-use Rattle.profile_machine.specs.declared.image.Image.{Image}
-use Rattle.profile_machine.specs.declared.numbers.StatementNo.{StatementNo}
+use Rattle.profile_image.specs.declared.image.Image.{Image}
+use Rattle.profile_image.specs.declared.numbers.StatementNo.{StatementNo}
 use Rattle.profile_machine.specs.declared.world.World.{World}
 use Rattle.profile_machine.specs.declared.world.calls.Call.{Call}
 use Rattle.profile_machine.specs.declared.world.calls.CallKind.{CallKind}
@@ -25,7 +25,7 @@ use Rattle.world_laws.proofs.Sequences.FineMoves.{FineMoves, Openings, Loosens, 
 use Rattle.world_laws.proofs.Behind.{Behind}
 use Rattle.world_laws.proofs.Sequences.Kept.Dispatching.{block-keeps, ready-from}
 use Rattle.world_laws.proofs.Sequences.Kept.CallEnds.{deliver-keeps}
-use Rattle.profile_machine.specs.Program.{form_of}
+use Rattle.profile_image.specs.Program.{form_of}
 use Rattle.profile_machine.specs.Frames.{new_frame, push}
 use Rattle.machine_laws.proofs.Kept.Sending.{last_is_false}
 use Rattle.machine_laws.proofs.Kept.Combinators.{Alters, From, Keeps, changes-from, changes-keeps, changes_then-from, from-keeps, keeps-from, looks-from, looks-keeps, nothing-keeps, then-from, then-keeps, unchanged-alters, when-keeps}

@@ -5,7 +5,7 @@ use Rattle.profile_machine.specs.Frames.{leaves}
 use Rattle.profile_machine.specs.Steps.{changes}
 use Rattle.world_laws.proofs.Sequences.Kept.Woken.{left-turns, woken}
 use Rattle.trace_text.specs.declared.events.Who.{Who}
-use Rattle.profile_machine.specs.declared.image.Image.{Image}
+use Rattle.profile_image.specs.declared.image.Image.{Image}
 use Rattle.profile_machine.specs.declared.world.marks.Frame.{Frame}
 use Rattle.profile_machine.specs.declared.world.tasks.State.{State}
 use Rattle.profile_machine.specs.declared.world.tasks.Waiting.{Waiting}

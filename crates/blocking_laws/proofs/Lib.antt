@@ -1,0 +1,17 @@
+pub mod BlockedLemmas
+pub mod BoundLemmas
+pub mod CalmLemmas
+pub mod ChoiceLemmas
+pub mod EnterLemmas
+pub mod FirstLemmas
+pub mod HeadLemmas
+pub mod HoldLemmas
+pub mod NamedMoves
+pub mod ProtocolLemmas
+pub mod QueueLemmas
+pub mod SettledLemmas
+pub mod StepLemmas
+pub mod TickLemmas
+pub mod ToldLines
+pub mod WindowLemmas
+pub mod WithinLemmas

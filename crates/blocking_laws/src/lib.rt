@@ -1,0 +1,15 @@
+//! Blocked at most once (ISO/IEC 8652:2012, D.2.1, D.3): laws of the stretches of a list of lines, in which priorities change by
+//! protected actions alone. In a stretch no call finds its object held, and while a task stays ready tasks of lower base
+//! priority run only in protected actions of one of them, of which one was open before. Each law is the contract of a function
+//! that does nothing.
+#![tactic(auto)]
+
+mod protocol;
+mod runs;
+mod stretches;
+
+pub use protocol::{
+    blocking_is_bounded, protocol_bounds_blocking, protocol_is_kept, protocol_is_told,
+};
+pub use runs::{only_who_runs_goes_before, right_moves_bound_blocking, who_enters_is_first};
+pub use stretches::{examples_are_told, plant_has_a_stretch, tests_tell};

@@ -3,11 +3,12 @@ ghost use Rattle.std.specs.Prelude.{◌≡◌, ◌≢◌, ◌≤◌, ◌⊎◌, 
 ghost use Rattle.ann_base.specs.Outside.{Rose, extended};
 ghost use Rattle.trace_text.specs.Laws.{DispatchOk, CeilingOk, ExclusiveOk, HandlersOk, LeftOk};
 ghost use Rattle.trace_text.specs.Text.{ArePrintable};
-ghost use Rattle.line_laws.specs.TickLaws.{SwitchesOk, ReleasesOk, StuckOk, follows_tick_order};
+ghost use Rattle.release_laws.specs.ReleaseLaws.{ReleasesOk};
+ghost use Rattle.line_laws.specs.TickLaws.{SwitchesOk, ReleasesInOrder, StuckOk, follows_tick_order};
 ghost use Rattle.commands.specs.Asked.{asked_of};
 ghost use Rattle.commands.specs.Outside.{shelf_of, sink_of};
 ghost use Rattle.commands.specs.Performed.{IsUnread};
-ghost use Rattle.commands.specs.Statuses.{Headline, HeadlineUnder, LoadTold, AcceptanceTold, TableTold, BeyondTold, TraceTold, LawsTold, ReportTold, DoneTold, LawTold, NotAccepted, NotAcceptedUnder, LoadNotAccepted, NoScript, ScriptRefusalTold, RefusalTold, BreachTold, TraceRefusalTold, FailureTold, TableRefusalTold, PrefixTold, NoteTried, IsStatus};
+ghost use Rattle.commands.specs.Statuses.{Headline, HeadlineUnder, LoadTold, AcceptanceTold, TableTold, BeyondTold, TraceTold, LawsTold, ReportTold, DoneTold, LawTold, RunTold, NotAccepted, NotAcceptedUnder, LoadNotAccepted, NoScript, ScriptRefusalTold, RefusalTold, BreachTold, TraceRefusalTold, FailureTold, TableRefusalTold, PrefixTold, NoteTried, IsStatus};
 
 use ann_base::{Shelf, Sink};
 use ceiling_laws::runs_keep_the_law_of_ceilings;
@@ -18,6 +19,7 @@ use line_laws::{
 };
 use machine_laws::dispatching::runs_dispatch;
 use policy_laws::deadlines_are_below_interrupts;
+use release_laws::lines_tell_releases;
 use run_commands::perform;
 use std::alloc::Global;
 use trace_files::lines_tell;
@@ -110,7 +112,12 @@ pub fn top<S: Shelf, K: Sink>(
     ensures switches { result ≤ 3 → LawTold SwitchesOk (asked_of words.now)
         (shelf_of S.files S.faults shelf.old shelf.new)
         (sink_of K.held K.faults out.old out.new) }
-    ensures releases { result ≤ 3 → LawTold ReleasesOk (asked_of words.now)
+    ensures releases_in_order { result ≤ 3 → LawTold ReleasesInOrder (asked_of words.now)
+        (shelf_of S.files S.faults shelf.old shelf.new)
+        (sink_of K.held K.faults out.old out.new) }
+    // Each handler is released at its tick: the `release` lines, with their ticks and the handlers that they name, are just
+    // those that the run's history owes, for events and timers that were set, budgets that ran out and interrupts that came.
+    ensures release_causes { result ≤ 3 → RunTold ReleasesOk (asked_of words.now)
         (shelf_of S.files S.faults shelf.old shelf.new)
         (sink_of K.held K.faults out.old out.new) }
     ensures handlers { result ≤ 3 → LawTold HandlersOk (asked_of words.now)
@@ -203,6 +210,7 @@ pub fn top<S: Shelf, K: Sink>(
     runs_are_in_tick_order();
     runs_switch();
     runs_release_in_order();
+    lines_tell_releases();
     runs_keep_handlers();
     runs_leave_rightly();
     runs_are_rightly_stuck();

@@ -2,7 +2,7 @@
 -- the one that was asked for, and that it says nothing where another was.
 use Rattle.std.proofs.Common.{◌≡◌, ℕ, ℤ, List, [], Option, Some, None, Ok, Err, subst}
 use Rattle.outside_bytes.specs.Files.{Holds, told, WhereTold}
-use Rattle.profile_machine.specs.declared.run_data.Item.{Item}
+use Rattle.profile_image.specs.declared.script_items.Item.{Item}
 use Rattle.event_script.specs.declared.faults.ScriptFault.{ScriptFault}
 use Rattle.event_script.specs.Script.{script_of}
 use Rattle.commands.specs.declared.requests.Work.{Work}

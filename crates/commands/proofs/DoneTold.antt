@@ -3,8 +3,8 @@ use Rattle.std.proofs.Common.{◌≡◌, ◌≤◌, ◌⊎◌, inl, inr, ℕ, �
 use Rattle.outside_bytes.specs.Files.{told}
 use Rattle.trace_text.specs.declared.events.Ended.{Ended as Stop}
 use Rattle.trace_text.specs.declared.events.Ended.TheVariants as why
-use Rattle.profile_machine.specs.declared.run_data.Item.{Item}
-use Rattle.profile_machine.specs.declared.image.Image.{Image}
+use Rattle.profile_image.specs.declared.script_items.Item.{Item}
+use Rattle.profile_image.specs.declared.image.Image.{Image}
 use Rattle.ada_verdicts.specs.Accepted.{Accepted as IsAccepted}
 use Rattle.commands.specs.declared.outcomes.Outcome.{Outcome}
 use Rattle.commands.specs.declared.outcomes.Outcome.TheVariants.{Ended, Accepted, Tested, Traced, WordsRefused, SourceRefused, ScriptRefused, TableRefused, TraceRefused, ReadFault, WriteFault, NoMemory}
@@ -18,7 +18,7 @@ use Rattle.commands.specs.Requests.{Asked, SourceAsked, ScriptAsked, LoadAsked, 
 use Rattle.commands.specs.Outside.{ShelfChange, SinkChange, IsKept}
 use Rattle.commands.specs.Outcomes.{stop_status, status_of, note_of, IsNoted, Concludes}
 use Rattle.commands.specs.Performed.{OfRun, OfItems, OfTable, OfTrace, IsDone, IsTested, IsTraced, Performs}
-use Rattle.commands.specs.Statuses.{IsPrinted, DoneTold, WrittenKeeps, LawTold, IsStatus}
+use Rattle.commands.specs.Statuses.{IsPrinted, DoneTold, WrittenKeeps, LawTold, RunTold, IsStatus}
 use Rattle.commands.proofs.Told.{told_map, items_map}
 use Rattle.commands.proofs.Conclusions.{concluded, known, failed, low}
 use Rattle.commands.proofs.TablesTold.{status_by}
@@ -93,19 +93,19 @@ OfRunsWhere has law = (p : Image) → has p → (script : List (ℤ × Item)) (b
 abbrev pub OfAccepted : (Image → Type 0) → Type 0
 OfAccepted has = (bytes : List ℕ) (p : Image) → IsAccepted bytes p → has p
 
--- a law of the runs of these images
-abbrev OfAcceptedRuns : (List TraceLine → Type 0) → Type 0
-OfAcceptedRuns law = (bytes : List ℕ) (p : Image) → IsAccepted bytes p → (script : List (ℤ × Item)) (bound : ℕ) → law (run_of p script bound)
+-- a law of runs, of their images, items and bounds
+abbrev OfAcceptedRuns : (Image → List (ℤ × Item) → ℕ → List TraceLine → Type 0) → Type 0
+OfAcceptedRuns law = (bytes : List ℕ) (p : Image) → IsAccepted bytes p → (script : List (ℤ × Item)) (bound : ℕ) → law p script bound (run_of p script bound)
 
-law_of_lines : (law : List TraceLine → Type 0) → OfAcceptedRuns law → (bytes : List ℕ) (p : Image) → IsAccepted bytes p → (script : List (ℤ × Item)) (bound : ℕ) → law (lines_of_run p script bound)
+law_of_lines : (law : Image → List (ℤ × Item) → ℕ → List TraceLine → Type 0) → OfAcceptedRuns law → (bytes : List ℕ) (p : Image) → IsAccepted bytes p → (script : List (ℤ × Item)) (bound : ℕ) → law p script bound (lines_of_run p script bound)
 unfolding lines_of_run
 law_of_lines law holds bytes p fits script bound = holds bytes p fits script bound
 
 -- a law of the lines of each run that was done
-abbrev OfDone : (List TraceLine → Type 0) → Type 0
-OfDone law = (items : List (ℤ × Item)) (ticks : ℕ) (bytes : List ℕ) (out : SinkChange) (o : Outcome) (done : IsDone items (work.Run ticks) bytes out o) → law (lines_of_run done.image items ticks)
+abbrev OfDone : (Image → List (ℤ × Item) → ℕ → List TraceLine → Type 0) → Type 0
+OfDone law = (items : List (ℤ × Item)) (ticks : ℕ) (bytes : List ℕ) (out : SinkChange) (o : Outcome) (done : IsDone items (work.Run ticks) bytes out o) → law done.image items ticks (lines_of_run done.image items ticks)
 
-law_done : (law : List TraceLine → Type 0) → OfDone law → (items : List (ℤ × Item)) (ticks : ℕ) (bytes : List ℕ) (out : SinkChange) (o : Outcome) → IsDone items (work.Run ticks) bytes out o → WrittenKeeps law items ticks bytes out
+law_done : (law : Image → List (ℤ × Item) → ℕ → List TraceLine → Type 0) → OfDone law → (items : List (ℤ × Item)) (ticks : ℕ) (bytes : List ℕ) (out : SinkChange) (o : Outcome) → IsDone items (work.Run ticks) bytes out o → WrittenKeeps law items ticks bytes out
 law_done law holds items ticks bytes out o done = record {
   image = done.image;
   lines = lines_of_run done.image items ticks;
@@ -115,7 +115,7 @@ law_done law holds items ticks bytes out o done = record {
   keeps = holds items ticks bytes out o done;
 }
 
-law_by : (law : List TraceLine → Type 0) → OfDone law → (asked : Option Asked) (shelf : ShelfChange) (out : SinkChange) (status : ℕ) → DoneTold asked shelf out status → LawTold law asked shelf out
+law_by : (law : Image → List (ℤ × Item) → ℕ → List TraceLine → Type 0) → OfDone law → (asked : Option Asked) (shelf : ShelfChange) (out : SinkChange) (status : ℕ) → DoneTold asked shelf out status → RunTold law asked shelf out
 law_by law holds None shelf out status h = tt
 law_by law holds (Some (SourceAsked source (work.Run ticks))) shelf out status h =
     told_map (told shelf.files source) (λ bytes. EndedWith [] (work.Run ticks) bytes out status) (λ bytes. WrittenKeeps law [] ticks bytes out) (λ bytes ended. law_done law holds [] ticks bytes out ended.0 ended.1) h
@@ -128,25 +128,30 @@ law_by law holds (Some (LoadAsked tasks)) shelf out status h = tt
 law_by law holds (Some (TableAsked table t)) shelf out status h = tt
 law_by law holds (Some (TraceAsked trace w)) shelf out status h = tt
 
-accepted_done : (law : List TraceLine → Type 0) → OfAcceptedRuns law → OfDone law
+accepted_done : (law : Image → List (ℤ × Item) → ℕ → List TraceLine → Type 0) → OfAcceptedRuns law → OfDone law
 accepted_done law holds items ticks bytes out o done = law_of_lines law holds bytes done.image done.accepted items ticks
 
 pub law_told : (law : List TraceLine → Type 0) → OfRuns law → (asked : Option Asked) (shelf : ShelfChange) (out notes : SinkChange) (o : Outcome) (status : ℕ) → Performs asked shelf out o → Concludes o notes status → status ≤ 3 → LawTold law asked shelf out
 law_told law holds asked shelf out notes o status p c small =
+    law_by (λ image items ticks lines. law lines) (accepted_done (λ image items ticks lines. law lines) (λ bytes image fits script bound. holds image script bound)) asked shelf out status (done_told asked shelf out notes o status p c small)
+
+-- a law of the lines of a run with its image, its items and its bound
+pub run_told : (law : Image → List (ℤ × Item) → ℕ → List TraceLine → Type 0) → ((p : Image) (script : List (ℤ × Item)) (bound : ℕ) → law p script bound (run_of p script bound)) → (asked : Option Asked) (shelf : ShelfChange) (out notes : SinkChange) (o : Outcome) (status : ℕ) → Performs asked shelf out o → Concludes o notes status → status ≤ 3 → RunTold law asked shelf out
+run_told law holds asked shelf out notes o status p c small =
     law_by law (accepted_done law (λ bytes image fits script bound. holds image script bound)) asked shelf out status (done_told asked shelf out notes o status p c small)
 
 -- a law that needs of an image what each accepted source gives it
 pub law_told_where : (has : Image → Type 0) → OfAccepted has → (law : List TraceLine → Type 0) → OfRunsWhere has law → (asked : Option Asked) (shelf : ShelfChange) (out notes : SinkChange) (o : Outcome) (status : ℕ) → Performs asked shelf out o → Concludes o notes status → status ≤ 3 → LawTold law asked shelf out
 law_told_where has given law holds asked shelf out notes o status p c small =
-    law_by law (accepted_done law (λ bytes image fits script bound. holds image (given bytes image fits) script bound)) asked shelf out status (done_told asked shelf out notes o status p c small)
+    law_by (λ image items ticks lines. law lines) (accepted_done (λ image items ticks lines. law lines) (λ bytes image fits script bound. holds image (given bytes image fits) script bound)) asked shelf out status (done_told asked shelf out notes o status p c small)
 
 -- the lines of a run that was done are printable
-printable_done : OfDone ArePrintable
+printable_done : OfDone (λ image items ticks lines. ArePrintable lines)
 printable_done items ticks bytes out o done = done.printable
 
 pub printable_told : (asked : Option Asked) (shelf : ShelfChange) (out notes : SinkChange) (o : Outcome) (status : ℕ) → Performs asked shelf out o → Concludes o notes status → status ≤ 3 → LawTold ArePrintable asked shelf out
 printable_told asked shelf out notes o status p c small =
-    law_by ArePrintable printable_done asked shelf out status (done_told asked shelf out notes o status p c small)
+    law_by (λ image items ticks lines. ArePrintable lines) printable_done asked shelf out status (done_told asked shelf out notes o status p c small)
 
 quiet_by : (o : Outcome) (notes : SinkChange) (status : ℕ) → (status ≡ status_of o) × IsNoted (note_of o) notes → status ≤ 3 → IsKept notes
 quiet_by (Ended stop) notes status c small = c.1

@@ -1,7 +1,7 @@
 -- What the statuses from 4 on tell.
 use Rattle.std.proofs.Common.{◌≡◌, ◌≢◌, ◌≤◌, ◌⊎◌, inl, inr, ℕ, true, false, List, [], Option, Some, None, Err, refl, sym, subst, ◌∙◌, append-nil, arith, codes}
 use Rattle.outside_bytes.specs.Files.{Untold, Holds, file_in, told, WhereTold}
-use Rattle.profile_machine.specs.declared.image.Image.{Image}
+use Rattle.profile_image.specs.declared.image.Image.{Image}
 use Rattle.ada_verdicts.specs.declared.refusals.Refusal.{Refusal}
 use Rattle.ada_verdicts.specs.Accepted.{Accepted as IsAccepted}
 use Rattle.event_script.specs.declared.faults.ScriptFault.{ScriptFault}

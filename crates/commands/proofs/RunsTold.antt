@@ -1,8 +1,8 @@
 -- What a run tells: of what is accepted, with and without a script, and of a load.
 use Rattle.std.proofs.Common.{◌≡◌, ◌≢◌, ℕ, ℤ, List, [], Option, Some, Result, Ok, Err, refl, sym, ap, subst, ◌∙◌}
 use Rattle.outside_bytes.specs.Files.{Holds, told}
-use Rattle.profile_machine.specs.declared.run_data.Item.{Item}
-use Rattle.profile_machine.specs.declared.image.Image.{Image}
+use Rattle.profile_image.specs.declared.script_items.Item.{Item}
+use Rattle.profile_image.specs.declared.image.Image.{Image}
 use Rattle.ada_verdicts.specs.Accepted.{Accepted as IsAccepted}
 use Rattle.event_script.specs.declared.faults.ScriptFault.{ScriptFault}
 use Rattle.event_script.specs.Script.{script_of}

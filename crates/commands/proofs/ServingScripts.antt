@@ -7,8 +7,8 @@ use Rattle.ann_base.specs.Answers.{Answers}
 use Rattle.ann_base.specs.Outside.{Rose, Lacks, LacksIn}
 use Rattle.outside_bytes.specs.Files.{told, WhereTold}
 use Rattle.ada_lex.specs.declared.lexing.TheConstants.{MAX_SOURCE}
-use Rattle.profile_machine.specs.declared.run_data.Item.{Item}
-use Rattle.profile_machine.specs.declared.image.Image.{Image}
+use Rattle.profile_image.specs.declared.script_items.Item.{Item}
+use Rattle.profile_image.specs.declared.image.Image.{Image}
 use Rattle.ada_verdicts.specs.declared.refusals.Refusal.{Refusal}
 use Rattle.ada_verdicts.specs.Accepted.{Accepted as IsAccepted, judged, LongSourcesAreRefused}
 use Rattle.event_script.specs.declared.faults.TheConstants.{SCRIPT_BYTES}

@@ -1,7 +1,7 @@
 -- Facts of files that a shelf tells.
 use Rattle.std.proofs.Common.{◌≡◌, ℕ, ℤ, List, Ok}
 use Rattle.outside_bytes.specs.Files.{ToldFile, Untold, Missing, Holds, told, WhereTold}
-use Rattle.profile_machine.specs.declared.run_data.Item.{Item}
+use Rattle.profile_image.specs.declared.script_items.Item.{Item}
 use Rattle.event_script.specs.Script.{script_of}
 use Rattle.commands.specs.Outside.{ShelfChange}
 use Rattle.commands.specs.Performed.{OfItems}

@@ -5,8 +5,8 @@ use Rattle.ann_base.specs.declared.faults.OrMemory.TheVariants as answer
 use Rattle.ann_base.specs.Outside.{Lacks}
 use Rattle.outside_bytes.specs.Files.{told, WhereTold}
 use Rattle.trace_text.specs.Text.{ArePrintable}
-use Rattle.profile_machine.specs.declared.run_data.Item.{Item}
-use Rattle.profile_machine.specs.declared.image.Image.{Image}
+use Rattle.profile_image.specs.declared.script_items.Item.{Item}
+use Rattle.profile_image.specs.declared.image.Image.{Image}
 use Rattle.profile_machine.specs.Run.{lines_of_run}
 use Rattle.ada_verdicts.specs.declared.refusals.Refusal.{Refusal}
 use Rattle.ada_verdicts.specs.Accepted.{Accepted as IsAccepted, judged}

@@ -3,8 +3,8 @@ use Rattle.std.specs.Prelude.{ℕ, ℤ, List, []}
 use Rattle.trace_text.specs.declared.events.Ended.{Ended}
 use Rattle.trace_text.specs.Text.{text_of}
 use Rattle.trace_text.specs.Summary.{summary_of}
-use Rattle.profile_machine.specs.declared.run_data.Item.{Item}
-use Rattle.profile_machine.specs.declared.image.Image.{Image}
+use Rattle.profile_image.specs.declared.script_items.Item.{Item}
+use Rattle.profile_image.specs.declared.image.Image.{Image}
 use Rattle.profile_machine.specs.Run.{lines_of_run, stop_of_run}
 
 -- the text of the run of an image without a script up to so many ticks, and its stop

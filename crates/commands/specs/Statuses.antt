@@ -1,8 +1,8 @@
 -- What each status of the program tells: the words of the clauses of `top`.
 use Rattle.std.specs.Prelude.{◌≡◌, ◌≢◌, ◌≤◌, ◌⊎◌, ℕ, ℤ, Bool, false, true, List, [], Option, Some, None, Result, Ok, Err, codes}
 use Rattle.outside_bytes.specs.Files.{told, Holds, WhereTold}
-use Rattle.profile_machine.specs.declared.run_data.Item.{Item}
-use Rattle.profile_machine.specs.declared.image.Image.{Image}
+use Rattle.profile_image.specs.declared.script_items.Item.{Item}
+use Rattle.profile_image.specs.declared.image.Image.{Image}
 use Rattle.ada_verdicts.specs.declared.refusals.Refusal.{Refusal}
 use Rattle.ada_verdicts.specs.Accepted.{Accepted as IsAccepted}
 use Rattle.event_script.specs.declared.faults.ScriptFault.{ScriptFault}
@@ -166,29 +166,33 @@ DoneTold (Some (TraceAsked trace work)) shelf out status =
 
 -- Lines were written that keep a law, and they are those of the run of the accepted bytes. Different lists of printable
 -- lines have different texts, so where the law is that they are printable the text says which lines they are.
-pub record WrittenKeeps (law : List TraceLine
+pub record WrittenKeeps (law : Image → List (ℤ × Item) → ℕ → List TraceLine
     → Type 0) (items : List (ℤ × Item)) (ticks : ℕ) (bytes : List ℕ) (out : SinkChange) : Type 0 where
   pub image : Image
   pub lines : List TraceLine
   pub accepted : IsAccepted bytes image
   pub are_of_run : lines ≡ lines_of_run image items ticks
   pub text : Gained out (text_of lines)
-  pub keeps : law lines
+  pub keeps : law image items ticks lines
 
 -- Where a run is asked for of a source that is there, without a script or under one that is there, the lines that were
--- written keep a law.
-abbrev pub LawTold : (List TraceLine → Type 0) → Option Asked → ShelfChange → SinkChange → Type 0
-LawTold law None shelf out = Unit {0}
-LawTold law (Some (SourceAsked source (work.Run ticks))) shelf out =
+-- written keep a law, which may speak of the image, the items and the bound too.
+abbrev pub RunTold : (Image → List (ℤ × Item) → ℕ → List TraceLine → Type 0) → Option Asked → ShelfChange → SinkChange → Type 0
+RunTold law None shelf out = Unit {0}
+RunTold law (Some (SourceAsked source (work.Run ticks))) shelf out =
     WhereTold (told shelf.files source) (λ bytes. WrittenKeeps law [] ticks bytes out)
-LawTold law (Some (SourceAsked source (work.Summary ticks))) shelf out = Unit {0}
-LawTold law (Some (SourceAsked source work.Accept)) shelf out = Unit {0}
-LawTold law (Some (ScriptAsked source script ticks)) shelf out =
+RunTold law (Some (SourceAsked source (work.Summary ticks))) shelf out = Unit {0}
+RunTold law (Some (SourceAsked source work.Accept)) shelf out = Unit {0}
+RunTold law (Some (ScriptAsked source script ticks)) shelf out =
     WhereTold (told shelf.files source) (λ bytes. OfItems shelf script
     (λ items. WrittenKeeps law items ticks bytes out))
-LawTold law (Some (LoadAsked tasks)) shelf out = Unit {0}
-LawTold law (Some (TableAsked table test)) shelf out = Unit {0}
-LawTold law (Some (TraceAsked trace work)) shelf out = Unit {0}
+RunTold law (Some (LoadAsked tasks)) shelf out = Unit {0}
+RunTold law (Some (TableAsked table test)) shelf out = Unit {0}
+RunTold law (Some (TraceAsked trace work)) shelf out = Unit {0}
+
+-- the same of a law on lines alone
+abbrev pub LawTold : (List TraceLine → Type 0) → Option Asked → ShelfChange → SinkChange → Type 0
+LawTold law = RunTold (λ image items ticks lines. law lines)
 
 -- 0 to 3 for a run, 4 to 9, 11 and 13 where a command was not done, 10 where a law is
 -- broken, 12 where a test fails

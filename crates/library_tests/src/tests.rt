@@ -15,4 +15,5 @@ mod trace_laws_calls;
 mod trace_lines_calls;
 mod trace_reading_calls;
 mod trace_text_calls;
+mod world_lists_calls;
 mod world_tables_calls;

@@ -17,7 +17,7 @@ use ann_base::{Failed, OrMemory, Shelf, Sink};
 use commands::{DEFAULT_TICKS, Outcome, Request, Work, asked, serve_table, serve_trace};
 use load_runs::load_source;
 use outside_bytes::{read_file, write_all};
-use profile_machine::Image;
+use profile_image::Image;
 use run_writing::{run, summarize};
 use std::alloc::Global;
 

@@ -12,7 +12,7 @@ use ann_base::{Moment, OrMemory, Shelf, Sink};
 use commands::{NoItems, Outcome};
 use event_script::{SCRIPT_BYTES, cut_scripts_are_read_alike, read_script};
 use outside_bytes::read_file;
-use profile_machine::{Image, Item};
+use profile_image::{Image, Item};
 use run_writing::run_under;
 use std::alloc::Global;
 use world_tables::List;

@@ -12,7 +12,7 @@ use commands::MOST_TICKS;
 use line_writing::LineBuffer;
 use machine_kernel::{Next, Stop, boot};
 use outside_bytes::write_all;
-use profile_machine::{Image, Item};
+use profile_image::{Image, Item};
 use std::alloc::Global;
 use world_tables::List;
 

@@ -13,7 +13,7 @@ use commands::MOST_TICKS;
 use line_writing::LineBuffer;
 use load_runs::Tally;
 use machine_kernel::{Next, Stop, boot};
-use profile_machine::{Image, Item};
+use profile_image::{Image, Item};
 use std::alloc::Global;
 use world_tables::List;
 

@@ -1,7 +1,7 @@
 //! Small scripts, and texts that are refused.
 use ann_base::OrMemory;
 use event_script::{MOST_ITEMS, SCRIPT_BYTES, read_script};
-use profile_machine::Item;
+use profile_image::Item;
 use std::alloc::Global;
 
 /// Masks, a port at its least value, lines that end in two ways, and a line without an end.

@@ -6,11 +6,13 @@ use machine_frames::{
     top_of, waiting_of,
 };
 use machine_program::Program;
-use profile_machine::world::{Drawn, Mark, Part, State, Waiting, World};
-use profile_machine::{
-    Image, ImageList, Leaving, MainProcedure, Policies, Queuing, ScopeNo, Statement, StatementForm,
+use profile_image::{
+    Image, ImageList, MainProcedure, Policies, Queuing, ScopeNo, Statement, StatementForm,
     StatementNo,
 };
+use profile_machine::Leaving;
+use profile_machine::world::{Agenda, Drawn, Mark, Part, ReadyQueues, State, Waiting, World};
+use rosters::Roster;
 use std::alloc::Global;
 use trace_text::Who;
 use world_tables::List;
@@ -52,15 +54,15 @@ fn empty_world(alloc: Global) -> World {
         ports: List::new(alloc),
         masked: List::new(alloc),
         kept_interrupts: List::new(alloc),
-        tasks: List::new(alloc),
+        tasks: Roster::new(alloc),
         agent: new_task(alloc, Who::Agent, 31, State::Made),
-        places: List::new(alloc),
+        places: ReadyQueues::new(alloc),
         quanta: List::new(alloc),
         ended: None,
-        scopes: List::new(alloc),
-        objects: List::new(alloc),
-        calls: List::new(alloc),
-        appointments: List::new(alloc),
+        scopes: Roster::new(alloc),
+        objects: Roster::new(alloc),
+        calls: Roster::new(alloc),
+        appointments: Agenda::new(alloc),
         timers: List::new(alloc),
         timers_set: List::new(alloc),
         timers_due: List::new(alloc),

@@ -2,7 +2,7 @@
 use ann_base::Raised;
 use machine_operators::{binary_value, text_of_whole, unary_value};
 use machine_program::initial_cells;
-use profile_machine::{BinaryOperator, CellRun, ImageList, Scope, UnaryOperator, Value};
+use profile_image::{BinaryOperator, CellRun, ImageList, Scope, UnaryOperator, Value};
 
 // ISO/IEC 8652:2012, 4.5.5 has the signs; the last rows are at the ends of Integer.
 #[test]

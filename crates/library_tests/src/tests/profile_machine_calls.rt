@@ -1,5 +1,5 @@
 //! The calls of the lists of an image, one after the other.
-use profile_machine::{
+use profile_image::{
     Actual, Actuals, ExprNo, ImageList, SelectAlternative, SelectAlternatives, SelectKind,
 };
 

@@ -1,13 +1,14 @@
 use Rattle.std.proofs.Common.{inl, inr, IsTrue, sym, subst, arith}
 use Rattle.trace_text.specs.Laws.{DispatchOk, CeilingOk, ExclusiveOk, HandlersOk, LeftOk}
 use Rattle.ceiling_laws.specs.CeilingLaws.{edf_is_below_interrupts}
-use Rattle.line_laws.specs.TickLaws.{SwitchesOk, ReleasesOk, StuckOk, follows_tick_order}
+use Rattle.release_laws.specs.ReleaseLaws.{ReleasesOk}
+use Rattle.line_laws.specs.TickLaws.{SwitchesOk, ReleasesInOrder, StuckOk, follows_tick_order}
 use Rattle.commands.specs.Asked.{asked_of}
 use Rattle.commands.specs.Outside.{shelf_of, sink_of}
 use Rattle.commands.proofs.RunsTold.{headline, headline_under, load_told, acceptance}
 use Rattle.commands.proofs.TablesTold.{table_told, beyond}
 use Rattle.commands.proofs.TracesTold.{trace_told, laws_told, report_told}
-use Rattle.commands.proofs.DoneTold.{known_status, done_told, law_told, law_told_where, printable_told, quiet}
+use Rattle.commands.proofs.DoneTold.{known_status, done_told, law_told, run_told, law_told_where, printable_told, quiet}
 use Rattle.commands.proofs.FaultsTold.{refused_source, not_accepted, not_accepted_under, load_not_accepted, refused_script, no_script, kept, words, refused_words, note_words, read_fault, note_read, write_fault, prefix_told, note_tried, note_memory, breach, quiet_breach, refused_trace, kept_refused_trace, failure, quiet_failure, refused_table, kept_refused_table}
 use Rattle.annexd.proofs.whole.top.Goals as goal
 
@@ -42,7 +43,8 @@ returns g c =
       exclusion = law_told ExclusiveOk c.runs_keep_exclusion.ensures asked shelf out notes o status p n;
       in_tick_order = law_told (λ lines. IsTrue (follows_tick_order lines)) c.runs_are_in_tick_order.ensures asked shelf out notes o status p n;
       switches = law_told SwitchesOk c.runs_switch.ensures asked shelf out notes o status p n;
-      releases = law_told ReleasesOk c.runs_release_in_order.ensures asked shelf out notes o status p n;
+      releases_in_order = law_told ReleasesInOrder c.runs_release_in_order.ensures asked shelf out notes o status p n;
+      release_causes = run_told ReleasesOk c.lines_tell_releases.ensures asked shelf out notes o status p n;
       handlers = law_told HandlersOk c.runs_keep_handlers.ensures asked shelf out notes o status p n;
       leaving = law_told LeftOk c.runs_leave_rightly.ensures asked shelf out notes o status p n;
       stuck = law_told StuckOk c.runs_are_rightly_stuck.ensures asked shelf out notes o status p n;

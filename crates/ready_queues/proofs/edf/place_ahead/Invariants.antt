@@ -1,6 +1,0 @@
-use Rattle.std.proofs.Common.{◌≡◌, ◌+◌, drop}
-use Rattle.ready_queues.specs.Entries.{place_before}
-use Rattle.ready_queues.proofs.edf.place_ahead.Given as goal
-
-abbrev pub invariant-loop-place : goal.invariant-loop-place
-invariant-loop-place l = l.place + place_before (λ key. key) l.deadline (drop l.place l.entries) ≡ place_before (λ key. key) l.deadline l.entries

@@ -1,4 +1,0 @@
-pub mod Tasks
-pub mod Dependence
-pub mod Live
-pub mod Sound

@@ -1,2 +1,0 @@
-pub mod Appointments
-pub mod Ahead

@@ -7,6 +7,7 @@ too. definitions/compare_images.py compares the two, and compare_runs.py has the
 import os
 import sys
 
+sys.dont_write_bytecode = True
 sys.path.insert(0, os.path.dirname(os.path.abspath(__file__)))
 from program_data import items, number, option, text, truth    # noqa: E402
 

@@ -24,6 +24,7 @@ import os
 import re
 import sys
 
+sys.dont_write_bytecode = True
 HERE = os.path.dirname(os.path.abspath(__file__))
 sys.path.insert(0, os.path.join(HERE, "definitions"))
 import interpreter    # noqa: E402
@@ -55,9 +56,10 @@ def option(part):
 # ---------------------------------------------------------------- images
 
 # the files whose types an image has, and the types that are lists
-TYPES = (*(f"profile_machine/src/{f}.rt" for f in ("image", "statements", "expressions", "declarations", "values", "numbers", "run_data")),
+TYPES = (*(f"profile_image/src/{f}.rt"
+           for f in ("image", "statements", "expressions", "declarations", "values", "numbers", "script_items")),
          "ann_base/src/exceptions.rt", "ann_base/src/identities.rt")
-LISTS = {"Text": "Sequence<u8>", "Actuals": "Sequence<Actual>", "SelectAlternatives": "Sequence<SelectAlternative>"}
+LISTS = {"Text": "ImageList<u8>", "Actuals": "ImageList<Actual>", "SelectAlternatives": "ImageList<SelectAlternative>"}
 
 
 def crate_file(path):
@@ -105,9 +107,9 @@ def types():
 def shorthands():
     """For each struct the shorthand that makes it, and the fields that are its arguments."""
     out = {}
-    pattern = r"abbrev pub (\w+) : (?:.* → )?(\w+)\n\1((?: \w+)*) = record \{ (.*) \}"
+    pattern = r"abbrev pub (\w+) :[^=]*?(\w+)\n\1((?: \w+)*) = record \{([^}]*)\}"
     for name, of_type, arguments, record in re.findall(pattern, crate_file("profile_machine/specs/Notation.antt")):
-        by_argument = {x.split(" = ")[1]: x.split(" = ")[0] for x in record.split("; ")}
+        by_argument = {given: field for field, given in re.findall(r"(\w+) = (\w+)", record)}
         out[of_type] = name, [by_argument[x] for x in arguments.split()]
     return out
 
@@ -122,10 +124,10 @@ def written(kind, x):
     """A value of a type of the code, in the notation."""
     structs, enums = types()
     kind = LISTS.get(kind, kind)
-    inner = re.fullmatch(r"(Sequence|Option)<(.*)>", kind)
-    if kind == "Sequence<u8>":
+    inner = re.fullmatch(r"(ImageList|Option)<(.*)>", kind)
+    if kind == "ImageList<u8>":
         return text(bytes(x).decode("latin-1"))
-    if inner and inner[1] == "Sequence":
+    if inner and inner[1] == "ImageList":
         return items([written(inner[2], y) for y in x])
     if inner:
         return option(None if x.n == "None" else argument(inner[2], x.a[0]))
@@ -160,8 +162,8 @@ class Program:
     def data(self):
         """The lists of the image, as (name, texts), and its other fields."""
         of = dict(types()[0]["Image"])
-        lists = [(f, [written(re.fullmatch(r"Sequence<(.*)>", t)[1], x) for x in self.image.d[f]])
-                 for f, t in of.items() if t.startswith("Sequence<")]
+        lists = [(f, [written(re.fullmatch(r"ImageList<(.*)>", t)[1], x) for x in self.image.d[f]])
+                 for f, t in of.items() if t.startswith("ImageList<")]
         return lists, *(argument(of[f], self.image.d[f]) for f in ("policies", "environment", "main"))
 
 
@@ -265,30 +267,30 @@ use Rattle.trace_text.specs.declared.events.Leaves.TheVariants as leaves
 use Rattle.trace_text.specs.declared.events.Mode.TheVariants.{Read, Write}
 use Rattle.trace_text.specs.declared.events.QueueEnd.TheVariants.{Head, Tail}
 use Rattle.trace_text.specs.declared.events.Waits.TheVariants as waits
-use Rattle.profile_machine.specs.declared.run_data.Item.{Item}
-use Rattle.profile_machine.specs.declared.run_data.Item.TheVariants as item
-use Rattle.profile_machine.specs.declared.image.Image.{Image}
-use Rattle.profile_machine.specs.declared.image.Dispatching.TheVariants.{FifoWithinPriorities, RoundRobinWithinPriorities, EdfAcrossPriorities}
-use Rattle.profile_machine.specs.declared.image.Queuing.TheVariants as queuing
-use Rattle.profile_machine.specs.declared.values.Value.TheVariants.{Whole, Truth, Literal, Ticks, Task, Thing}
-use Rattle.profile_machine.specs.declared.values.Constraint.TheVariants.{Free, Whole, Truth, Literal, Ticks}
-use Rattle.profile_machine.specs.declared.expressions.Expression.TheVariants.{Known, Variable, Thing, Unary, Binary, Count, Clock, Span, SameTicks, CurrentTask, ExecutionTime, Priority, Deadline, TimeOfEvent, TimeRemaining, BudgetHasExpired, BudgetRemaining, PortValue}
-use Rattle.profile_machine.specs.declared.expressions.ObjectName.TheVariants.{Declared, OwnComponent, Component}
-use Rattle.profile_machine.specs.declared.expressions.UnaryOperator.TheVariants as unary
-use Rattle.profile_machine.specs.declared.expressions.BinaryOperator.TheVariants as binary
-use Rattle.profile_machine.specs.declared.declarations.DeclarationKind.TheVariants as kind
-use Rattle.profile_machine.specs.declared.declarations.Initial.TheVariants as initial
-use Rattle.profile_machine.specs.declared.declarations.EntryUnit.TheVariants as unit
-use Rattle.profile_machine.specs.declared.declarations.ExceptionChoice.TheVariants as exception_choice
-use Rattle.profile_machine.specs.declared.statements.StatementForm.TheVariants as form
-use Rattle.profile_machine.specs.declared.statements.Choice.TheVariants as choice
-use Rattle.profile_machine.specs.declared.statements.Actual.TheVariants as actual
-use Rattle.profile_machine.specs.declared.statements.Callee.TheVariants as callee
-use Rattle.profile_machine.specs.declared.statements.Destination.TheVariants as destination
-use Rattle.profile_machine.specs.declared.statements.EntryOwner.TheVariants as owner
-use Rattle.profile_machine.specs.declared.statements.SelectKind.TheVariants as select
-use Rattle.profile_machine.specs.declared.statements.Piece.TheVariants as piece
-use Rattle.profile_machine.specs.declared.statements.Setting.TheVariants as setting
+use Rattle.profile_image.specs.declared.script_items.Item.{Item}
+use Rattle.profile_image.specs.declared.script_items.Item.TheVariants as item
+use Rattle.profile_image.specs.declared.image.Image.{Image}
+use Rattle.profile_image.specs.declared.image.Dispatching.TheVariants.{FifoWithinPriorities, RoundRobinWithinPriorities, EdfAcrossPriorities}
+use Rattle.profile_image.specs.declared.image.Queuing.TheVariants as queuing
+use Rattle.profile_image.specs.declared.values.Value.TheVariants.{Whole, Truth, Literal, Ticks, Task, Thing}
+use Rattle.profile_image.specs.declared.values.Constraint.TheVariants.{Free, Whole, Truth, Literal, Ticks}
+use Rattle.profile_image.specs.declared.expressions.Expression.TheVariants.{Known, Variable, Thing, Unary, Binary, Count, Clock, Span, SameTicks, CurrentTask, ExecutionTime, Priority, Deadline, TimeOfEvent, TimeRemaining, BudgetHasExpired, BudgetRemaining, PortValue}
+use Rattle.profile_image.specs.declared.expressions.ObjectName.TheVariants.{Declared, OwnComponent, Component}
+use Rattle.profile_image.specs.declared.expressions.UnaryOperator.TheVariants as unary
+use Rattle.profile_image.specs.declared.expressions.BinaryOperator.TheVariants as binary
+use Rattle.profile_image.specs.declared.declarations.DeclarationKind.TheVariants as kind
+use Rattle.profile_image.specs.declared.declarations.Initial.TheVariants as initial
+use Rattle.profile_image.specs.declared.declarations.EntryUnit.TheVariants as unit
+use Rattle.profile_image.specs.declared.declarations.ExceptionChoice.TheVariants as exception_choice
+use Rattle.profile_image.specs.declared.statements.StatementForm.TheVariants as form
+use Rattle.profile_image.specs.declared.statements.Choice.TheVariants as choice
+use Rattle.profile_image.specs.declared.statements.Actual.TheVariants as actual
+use Rattle.profile_image.specs.declared.statements.Callee.TheVariants as callee
+use Rattle.profile_image.specs.declared.statements.Destination.TheVariants as destination
+use Rattle.profile_image.specs.declared.statements.EntryOwner.TheVariants as owner
+use Rattle.profile_image.specs.declared.statements.SelectKind.TheVariants as select
+use Rattle.profile_image.specs.declared.statements.Piece.TheVariants as piece
+use Rattle.profile_image.specs.declared.statements.Setting.TheVariants as setting
 use Rattle.profile_machine.specs.Notation.{decl, expr, stmt, scope, subprogram, task_unit, protected_unit, entry, controlled_type, enumeration, task, call, p, region, t, agent, of_task, of_object, declaration, variable, statement, alternative, select_alternative, handler, handler_name, cell_run, scope_text, formal, subprogram_text, task_unit_text, attachment, protected_unit_text, entry_body, entry_text, controlled_text, enumeration_text, dispatching_range, policies, main_procedure}
 use Rattle.profile_machine.specs.Run.{run_of}
 use Rattle.profile_machine.specs.Computing.{computing}

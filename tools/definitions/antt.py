@@ -10,7 +10,7 @@ import re
 import sys
 
 sys.path.insert(0, os.path.dirname(os.path.abspath(__file__)))
-from antt_library import B, NONE, TREES, Con, ExpressionNode, Fn, Rec, SequenceNode, ap, sub, tail    # noqa: E402, F401
+from antt_library import B, NONE, TREES, Con, ExpressionNode, Fn, Rec, SequenceNode, ap, quotient, sub, tail    # noqa: E402, F401
 
 sys.setrecursionlimit(10**9)
 
@@ -97,7 +97,7 @@ class Module:
 # what is known without a `use`
 ALWAYS = {"tt": ("builtin", "tt")}
 MODULES = {}
-GLOBALS = {"Con": Con, "Rec": Rec, "Fn": Fn, "ap": ap, "sub": sub, "tail": tail, "NONE": NONE}
+GLOBALS = {"Con": Con, "Rec": Rec, "Fn": Fn, "ap": ap, "sub": sub, "quotient": quotient, "tail": tail, "NONE": NONE}
 
 
 def path_of(name):
@@ -317,7 +317,7 @@ def named_arrows(m, toks):
 
 # ---------------------------------------------------------------- definitions
 
-PREC = {">>=": (10, "l"), ">>": (10, "l"), "▷": (20, "r"), "▶": (20, "r"), "||": (30, "r"), "&&": (36, "r"), "==": (40, "l"), "∷": (67, "r"), "++": (65, "r"), "+": (70, "l"), "-": (70, "l"), "+ℤ": (70, "l"), "-ℤ": (70, "l"), "*": (80, "l"), "%": (80, "l"), "*ℤ": (80, "l"), "^": (90, "r")}
+PREC = {">>=": (10, "l"), ">>": (10, "l"), "▷": (20, "r"), "▶": (20, "r"), "||": (30, "r"), "&&": (36, "r"), "==": (40, "l"), "∷": (67, "r"), "++": (65, "r"), "+": (70, "l"), "-": (70, "l"), "+ℤ": (70, "l"), "-ℤ": (70, "l"), "*": (80, "l"), "/": (80, "l"), "%": (80, "l"), "*ℤ": (80, "l"), "^": (90, "r")}
 class MatchError(Exception): pass
 GLOBALS["MatchError"] = MatchError
 
@@ -639,7 +639,7 @@ class Parser:
         if v in OWN: return self.call_of(self.meaning(f"◌{v}◌"), [l, r])
         if v == "||": return Code(f"({l} or {r})")
         if v == "&&": return Code(f"({l} and {r})")
-        if v == "-": return self.shared(Code(f"sub({l}, {r})"))
+        if v in "-/": return self.shared(Code(f"{'sub' if v == '-' else 'quotient'}({l}, {r})"))
         sign = {"++": "+", "^": "**", "==": "=="}.get(v, v[0])
         return self.shared(Code(f"({l} {sign} {r})"))
     def lambda_of(self, names, body):

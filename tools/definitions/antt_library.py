@@ -86,6 +86,7 @@ NONE = Con("None")
 
 
 def sub(a, b): return a - b if a > b else 0
+def quotient(a, b): return a // b if b else 0
 
 
 def _find(t, l):

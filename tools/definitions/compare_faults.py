@@ -19,6 +19,7 @@ import re
 import sys
 import threading
 
+sys.dont_write_bytecode = True
 sys.path.insert(0, os.path.dirname(os.path.abspath(__file__)))
 from antt import definition
 from tree_value import Converter

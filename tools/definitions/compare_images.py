@@ -11,6 +11,7 @@ import os
 import sys
 import threading
 
+sys.dont_write_bytecode = True
 HERE = os.path.dirname(os.path.abspath(__file__))
 sys.path[:0] = [HERE, os.path.dirname(HERE)]
 import image_by_front_end

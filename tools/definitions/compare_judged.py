@@ -13,6 +13,7 @@ import argparse
 import random
 import sys
 
+sys.dont_write_bytecode = True
 import interpreter
 from compare_faults import ALL_FORMS, changed
 

@@ -8,6 +8,7 @@ import sys
 sys.dont_write_bytecode = True
 sys.path.insert(0, os.path.dirname(os.path.abspath(__file__)))
 from antt import ROOT, Con, Rec, constant, definition, in_large_stack    # noqa: E402, F401
+import table_tests    # noqa: E402
 
 
 def content(path, missing=None):
@@ -105,13 +106,13 @@ def perform(words, files, write, by_steps=True):
     asked = asked_of(words)
     if asked is None:
         return refused(Con("WordsRefused"))
-    if asked.n == "TableAsked":
-        raise NotImplementedError("tests of tables are not computed here: their definitions count time unit by unit")
     source = load_text(asked.a[0]) if asked.n == "LoadAsked" else files(bytes(asked.a[0]).decode("latin-1"))
     if source is None:
         return refused(Con("ReadFault"))
     if asked.n == "TraceAsked":
         return traced(asked.a[1], tuple(source), write)
+    if asked.n == "TableAsked":
+        return tested(asked.a[1], source, write)
     image, refusal = judged(source)
     if refusal is not None:
         return refused(Con("SourceRefused", (refusal,)))
@@ -150,6 +151,29 @@ def traced(work, trace, write):
     text, broken = r.a[0].d["0"], r.a[0].d["1"]
     write(bytes(text))
     return b"", status_of(Con("Traced", (broken,)))
+
+
+def table_of(table):
+    """The duties of a table, or its fault: (duties, None) or (None, fault). A table is cut where the program cuts it."""
+    most = constant(ROOT, "sched_tests.specs.declared.duties.TheConstants", "TABLE_BYTES") + 1
+    r = definition("sched_tests.specs.Reading", "table_of")(tuple(table[:most]))
+    return (r.a[0], None) if r.n == "Ok" else (None, r.a[0])
+
+
+def as_duty(duty):
+    """A duty of the definitions as `table_tests` has it."""
+    return table_tests.Duty(bytes(duty.d["name"]).decode(), *(duty.d[f] for f in table_tests.Duty._fields[1:]))
+
+
+def tested(test, table, write):
+    """A test of a table. The definitions read it; what they say window by window is found by `table_tests`."""
+    duties, fault = table_of(table)
+    if fault is not None:
+        return refused(Con("TableRefused", (fault,)))
+    lines_of = table_tests.rta_lines if test.n == "ResponseTimes" else table_tests.demand_lines
+    lines, failed = lines_of([as_duty(duty) for duty in duties])
+    write("".join(line + "\n" for line in lines).encode())
+    return b"", status_of(Con("Tested", (failed,)))
 
 
 def refused(outcome):

@@ -8,6 +8,7 @@ one is refused.
 """
 import sys
 
+sys.dont_write_bytecode = True
 import interpreter
 
 

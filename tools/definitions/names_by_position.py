@@ -9,6 +9,7 @@ that stand in it. The status is 1 where the law does not hold of a source whose 
 """
 import sys
 
+sys.dont_write_bytecode = True
 import interpreter
 from antt import definition
 

@@ -6,18 +6,23 @@
     tools/definitions/perform.py laws TRACE
     tools/definitions/perform.py report TRACE
     tools/definitions/perform.py load N
+    tools/definitions/perform.py rta TABLE
+    tools/definitions/perform.py demand TABLE
 
 What is written, the note and the status are those of the program, also where standard output or standard error takes no
-more; the lines of a run are written as they come. The tests of tables, rta and demand, are not computed here, and end with
-status 70.
+more; the lines of a run are written as they come. The windows of rta and demand are found by table_tests.py, since the
+definitions count them one by one. With ANNEXD_PATIENCE=SECONDS in the environment a line on standard error says after so
+many seconds how the proved program is got.
 """
 import os
 import sys
+import threading
 
-import interpreter
+sys.dont_write_bytecode = True
+import interpreter    # noqa: E402
 
-NOT_COMPUTED = 70
 WRITE_FAULT = interpreter.refused(interpreter.Con("WriteFault"))
+LONG = b"annexd: this takes long by the definitions; ./annexd --prove builds the proved program, once, which may take an hour\n"
 
 
 class Unwritten(Exception):
@@ -39,11 +44,19 @@ def performed():
         return interpreter.perform(sys.argv[1:], interpreter.content, lambda text: write_to(sys.stdout, text))
     except Unwritten:
         return WRITE_FAULT
-    except NotImplementedError as why:
-        return f"perform: {why}\n".encode(), NOT_COMPUTED
+
+
+def say_that_it_takes_long():
+    """Says so after the seconds that the caller has patience for; it keeps nobody waiting."""
+    seconds = os.environ.get("ANNEXD_PATIENCE", "")
+    if seconds.isdigit():
+        timer = threading.Timer(int(seconds), os.write, (2, LONG))
+        timer.daemon = True
+        timer.start()
 
 
 def main():
+    say_that_it_takes_long()
     notes, status = performed()
     try:
         write_to(sys.stderr, notes)

@@ -16,6 +16,7 @@ import re
 import sys
 import time
 
+sys.dont_write_bytecode = True
 import interpreter
 from interpreter import ROOT, content
 

@@ -9,6 +9,7 @@ the program names, computed as it stands, for runs of up to some ten thousand ti
 """
 import sys
 
+sys.dont_write_bytecode = True
 import interpreter
 
 

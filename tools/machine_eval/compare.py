@@ -19,6 +19,7 @@ import os
 import sys
 import time
 
+sys.dont_write_bytecode = True
 import mach    # which finds the other folders of tools
 import antt
 import program_data

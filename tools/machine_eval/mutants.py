@@ -2,10 +2,13 @@
 """Changes of one line of the machine's definitions: which of them does a worked row tell?
 
     mutants.py COUNT SEED [--most TICKS]
+    mutants.py all [--most TICKS]
 
-Each change is made by itself, in memory. A row tells it if its run is no longer its trace, if the changed definition
-cannot be read, or if the run does not end in two minutes. Rows with a greater bound than TICKS (400) are run up to
-it. What every row lets through is printed; the last line counts.
+The first form draws COUNT changes by SEED, the second makes every one. Each change is made by itself, in memory. A row
+tells it if its run is no longer its trace, if the changed definition cannot be read, or if the run does not end in two
+minutes. Rows with a greater bound than TICKS (600) are run up to it. What every row lets through is printed; the last
+line counts. Changed are the modules of `profile_machine` that say what the machine does (FILES), and not those that
+say how lists of the code stand.
 """
 import argparse
 import os
@@ -14,6 +17,7 @@ import re
 import signal
 import sys
 
+sys.dont_write_bytecode = True
 import mach    # which finds the other folders of tools
 import antt
 import compare
@@ -55,6 +59,16 @@ def candidates():
     return out
 
 
+def drawn(count, seed):
+    """The changes that the words ask for; None where they ask for none."""
+    every = candidates()
+    if count == "all" and seed is None:
+        return every
+    if not count.isdecimal() or seed is None or not seed.isdecimal() or int(count) > len(every):
+        return None
+    return random.Random(int(seed)).sample(every, int(count))
+
+
 def is_told(name, text, cases):
     """Whether a row tells the change: asked in a process of its own."""
     child = os.fork()
@@ -80,16 +94,20 @@ def case_of(row, most):
 
 def main():
     words = argparse.ArgumentParser(description=__doc__, formatter_class=argparse.RawDescriptionHelpFormatter)
-    words.add_argument("--most", type=int, default=400)
-    words.add_argument("count", type=int)
-    words.add_argument("seed")
+    words.add_argument("--most", type=int, default=600)
+    words.add_argument("count")
+    words.add_argument("seed", nargs="?")
     a = words.parse_args()
+    changes = drawn(a.count, a.seed)
+    if changes is None:
+        print(f"mutants.py: give all, or COUNT and SEED; there are {len(candidates())} changes", file=sys.stderr)
+        return 2
     mach.start()
     cases = [case_of(compare.Row(name), a.most) for name in compare.row_names()]
     cases.sort(key=lambda case: len(case[3]))
     assert all(mach.difference(wanted, mach.run(*case)) is None for *case, wanted in cases), "a row is not its trace"
     told = 0
-    for name, n, at, before, after in random.Random(int(a.seed)).sample(candidates(), a.count):
+    for name, n, at, before, after in changes:
         lines = lines_of(name)
         line = lines[n]
         lines[n] = line[:at] + after + line[at + len(before):]
@@ -97,7 +115,7 @@ def main():
             told += 1
         else:
             print(f"let through: {name}:{n + 1} {before.strip()!r} -> {after!r} in: {line.strip()}", flush=True)
-    print(f"{told} of {a.count} told", flush=True)
+    print(f"{told} of {len(changes)} told", flush=True)
     return 0
 
 

@@ -1,0 +1,320 @@
+"""Runs of variants, on all processors: by the built program, or by the definitions where none is built.
+
+A `Runner` does what `run`, `report` and `laws` of the program do. `all_of` hands jobs to worker processes and gives their
+results as they come.
+"""
+import argparse
+import multiprocessing
+import os
+import shutil
+import signal
+import subprocess
+import sys
+import tempfile
+
+from .traces import counted, lines_of, report_text
+
+TOP = os.path.dirname(os.path.dirname(os.path.dirname(os.path.abspath(__file__))))
+BUILT = os.path.join(TOP, "crates", "annexd", "out", "annexd")
+DEFAULT_TICKS = 1_000_000
+SCRIPT_NAME, SOURCE_NAME, TRACE_NAME = b"script", b"source", b"trace"
+
+
+class Failed(Exception):
+    """The program gave no answer."""
+
+
+def is_built():
+    """Is the program built, and none of its sources newer? As the script annexd asks it."""
+    if not os.access(BUILT, os.X_OK):
+        return False
+    since = os.stat(BUILT).st_mtime
+    crates = os.path.join(TOP, "crates")
+    folders = [os.path.join(crates, name, part) for name in os.listdir(crates) for part in ("src", "specs")]
+    files = (os.path.join(at, name) for folder in folders for at, _, names in os.walk(folder) for name in names)
+    return os.stat(os.path.join(TOP, "crates.txt")).st_mtime <= since and all(os.stat(f).st_mtime <= since for f in files)
+
+
+def runner_for(program):
+    """The runner that `--program` asks for; without it the built program, or else the definitions."""
+    if program == "definitions":
+        return ByDefinitions()
+    if program:
+        return ByProgram(program)
+    return ByProgram(BUILT) if is_built() else ByDefinitions()
+
+
+class ByProgram:
+    """Runs the program in a folder of its own for each worker; its output goes to files there."""
+
+    def __init__(self, program):
+        self.program = os.fsencode(os.path.abspath(program))
+        self.name = program
+
+    def prepare(self, source):
+        pass
+
+    def begin(self, folder):
+        """Called once in each worker."""
+        os.chdir(folder)
+        self.script = None
+        self.environment = dict(os.environb)
+
+    def ask(self, *words, out):
+        write = os.O_WRONLY | os.O_CREAT | os.O_TRUNC
+        actions = [(os.POSIX_SPAWN_OPEN, 1, out, write, 0o600), (os.POSIX_SPAWN_OPEN, 2, b"notes", write, 0o600)]
+        try:
+            process = os.posix_spawn(self.program, [self.program, *words], self.environment, file_actions=actions)
+        except OSError as why:
+            raise Failed(f"{self.name}: {why.strerror}")
+        status = os.waitstatus_to_exitcode(os.waitpid(process, 0)[1])
+        if status < 0:
+            raise Failed(f"{self.name} {words[0].decode()}: ended by signal {-status}")
+        return status
+
+    def run(self, source, script, ticks):
+        """The status of a run, its note and its trace, which stays where report and laws find it."""
+        write_file(SOURCE_NAME, source)
+        words = [b"run", SOURCE_NAME]
+        if script is not None:
+            if script is not self.script:
+                write_file(SCRIPT_NAME, script)
+                self.script = script
+            words.append(SCRIPT_NAME)
+        status = self.ask(*words, b"--ticks", b"%d" % ticks, out=TRACE_NAME)
+        if status > 3:
+            return status, read_file(b"notes").decode("latin-1").strip(), b""
+        return status, "", read_file(TRACE_NAME)
+
+    def report(self, trace=None):
+        return self.of_trace(b"report", trace)
+
+    def laws(self, trace=None):
+        return self.of_trace(b"laws", trace)
+
+    def response_times(self, table):
+        """What `rta` prints of a table."""
+        write_file(b"table", table)
+        self.ask(b"rta", b"table", out=b"answer")
+        return (read_file(b"answer") or read_file(b"notes")).decode("latin-1")
+
+    def of_trace(self, word, trace):
+        """What the program says of the trace of the last run, or of this one."""
+        if trace is not None:
+            write_file(TRACE_NAME, trace)
+        status = self.ask(word, TRACE_NAME, out=b"answer")
+        return status, (read_file(b"answer") or read_file(b"notes")).decode("latin-1")
+
+
+class ByDefinitions:
+    """Computes the same from the definitions, in this process; the report alone is counted by tools/bench/traces.py."""
+
+    name = "the definitions"
+
+    def prepare(self, source):
+        """Reads the definitions before the workers begin, so that they share them."""
+        sys.path.insert(0, os.path.join(TOP, "tools", "definitions"))
+        import interpreter
+
+        self.interpreter = interpreter
+        self.in_large_stack(lambda: interpreter.judged(source))
+
+    def begin(self, folder):
+        os.chdir(folder)
+
+    def in_large_stack(self, job):
+        answers = []
+
+        def kept():
+            try:
+                answers.append((job(), None))
+            except Exception as why:  # told by the thread that asked
+                answers.append((None, why))
+            return 0
+
+        self.interpreter.in_large_stack(kept)
+        answer, why = answers[0]
+        if why is not None:
+            raise Failed(f"the definitions gave no answer: {type(why).__name__} {why}")
+        return answer
+
+    def response_times(self, table):
+        """None: the definitions of the test count time tick by tick."""
+        return None
+
+    def performed(self, words, files):
+        out, notes, status = self.in_large_stack(lambda: self.interpreter.performed(words, files.get, by_steps=True))
+        return status, out, notes
+
+    def run(self, source, script, ticks):
+        words = ["run", "source"] + (["script"] if script is not None else []) + ["--ticks", str(ticks)]
+        status, self.trace, notes = self.performed(words, {"source": source, "script": script})
+        return status, notes.decode("latin-1").strip(), self.trace
+
+    def report(self, trace=None):
+        """Counted from the lines: the definitions of a report take minutes for some hundred of them."""
+        try:
+            return 0, report_text(counted(lines_of(self.trace if trace is None else trace)))
+        except (ValueError, IndexError, KeyError):
+            return 11, "trace refused"
+
+    def laws(self, trace=None):
+        status, out, notes = self.performed(["laws", "trace"], {"trace": self.trace if trace is None else trace})
+        return status, (out or notes).decode("latin-1")
+
+
+def write_file(path, content):
+    with open(path, "wb", 0) as f:
+        f.write(content)
+
+
+def read_file(path):
+    with open(path, "rb", 0) as f:
+        return f.read()
+
+
+# ---- many at a time
+
+EVALUATE = RUNNER = FOLDER = None
+MOST_IN_CHUNK = 16  # jobs that a worker is handed at a time
+
+
+def begin_worker():
+    signal.signal(signal.SIGINT, signal.SIG_IGN)
+    folder = tempfile.mkdtemp(dir=FOLDER)
+    RUNNER.begin(folder)
+
+
+def work(job):
+    try:
+        return EVALUATE(RUNNER, job), None
+    except Failed as why:
+        return None, str(why)
+
+
+class Workers:
+    """Worker processes that evaluate jobs: `evaluate(runner, job)` gives the result of one."""
+
+    def __init__(self, runner, evaluate, source, count, expected=1, told=True):
+        """So many workers, for about so many jobs; the source is one like those that will run."""
+        global EVALUATE, RUNNER, FOLDER
+        runner.prepare(source)
+        if told and isinstance(runner, ByDefinitions):
+            print("annexd: computed from the definitions; .ci/run proves and builds the program", file=sys.stderr)
+        memory = "/dev/shm" if os.access("/dev/shm", os.W_OK) else None
+        EVALUATE, RUNNER, FOLDER = evaluate, runner, tempfile.mkdtemp(prefix="annexd-bench-", dir=memory)
+        self.folder, self.count, self.expected = FOLDER, count, expected
+        self.pool = multiprocessing.get_context("fork").Pool(count, begin_worker)
+
+    def results(self, jobs):
+        """The results of jobs, each as (place, result) when it is there; Failed where the program gives no answer."""
+        chunk = max(1, min(MOST_IN_CHUNK, self.expected // (self.count * 8)))
+        for n, (result, fault) in self.pool.imap_unordered(work_numbered, enumerate(jobs), chunk):
+            if fault is not None:
+                raise Failed(fault)
+            yield n, result
+
+    def in_order(self, jobs):
+        """The results of a few jobs, in their order."""
+        found = dict(self.results(jobs))
+        return [found[n] for n in sorted(found)]
+
+    def end(self):
+        self.pool.terminate()
+        self.pool.join()
+        shutil.rmtree(self.folder, ignore_errors=True)
+
+
+def work_numbered(numbered):
+    return numbered[0], work(numbered[1])
+
+
+# ---- what the tools share
+
+class Parser(argparse.ArgumentParser):
+    """A parser whose errors are one line, and status 2."""
+
+    def __init__(self, name, text):
+        super().__init__(prog=name, description=text, formatter_class=argparse.RawDescriptionHelpFormatter)
+
+    def error(self, message):
+        print(f"{self.prog}: {message}", file=sys.stderr)
+        sys.exit(2)
+
+
+def add_options(parser):
+    """The options that all tools have which run something."""
+    parser.add_argument("--ticks", type=ticks, default=DEFAULT_TICKS, metavar="N", help="run up to this tick (1,000,000)")
+    parser.add_argument("--jobs", type=positive, default=os.cpu_count() or 1, metavar="N", help="how many at a time (one on each processor)")
+    parser.add_argument("--program", metavar="FILE", help="the program that runs, or the word definitions")
+
+
+def ticks(text):
+    number = positive(text)
+    if number > 1_000_000_000:
+        raise ValueError
+    return number
+
+
+def positive(text):
+    number = int(text)
+    if number < 1:
+        raise ValueError
+    return number
+
+
+def content(parser, path):
+    """The bytes of a file that a tool is given, or its end with status 2."""
+    try:
+        with open(path, "rb") as f:
+            return f.read()
+    except OSError as why:
+        parser.error(f"{path}: {why.strerror}")
+
+
+class Progress:
+    """A line on a terminal that tells how far it is."""
+
+    def __init__(self, what, total):
+        self.what, self.total, self.shown = what, total, sys.stderr.isatty()
+
+    def tell(self, done, more=""):
+        if self.shown:
+            sys.stderr.write(f"\r{done} of {self.total} {self.what}{more}\033[K")
+            sys.stderr.flush()
+
+    def end(self):
+        if self.shown:
+            sys.stderr.write("\r\033[K")
+            sys.stderr.flush()
+
+
+def interrupt_once(number, frame):
+    """Of several interrupts the first counts, so that what is there can be told."""
+    signal.signal(signal.SIGINT, signal.SIG_IGN)
+    raise KeyboardInterrupt
+
+
+def ended(tool, main):
+    """The status of a tool, also where it is interrupted, or its output takes no more."""
+    signal.signal(signal.SIGINT, interrupt_once)
+    try:
+        status = main()
+        sys.stdout.flush()
+        return status
+    except KeyboardInterrupt:
+        print(f"{tool}: interrupted", file=sys.stderr)
+        return 130
+    except BrokenPipeError:
+        os.dup2(os.open(os.devnull, os.O_WRONLY), sys.stdout.fileno())
+        return 8
+    except OSError as why:
+        print(f"{tool}: {why.filename or 'output'}: {why.strerror}", file=sys.stderr)
+        return 8
+
+
+def picture(trace, path, first, last):
+    """Draws these ticks of a trace by tools/timeline."""
+    words = [sys.executable, os.path.join(TOP, "tools", "timeline"), "-", "--from", str(first), "--to", str(last)]
+    with open(path, "wb") as out:
+        subprocess.run(words, input=trace, stdout=out, check=True)

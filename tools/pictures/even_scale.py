@@ -1,0 +1,265 @@
+"""Draws a long run to scale: each row has the same number of ticks, and each tick the same width.
+
+Rows in which nobody runs and nothing happens are left out, and a broken line says how many ticks these are. Bars of one
+kind are one path of the picture where there are many, so that a picture of some ten thousand ticks stays small.
+"""
+
+from dataclasses import dataclass
+
+from pictures.reading import by_priority, chosen
+from pictures.svg import (
+    BLOCKED, FAULT, GRID, INK, LEAVING, LETTER, MADE, OBJECTS, RAISED, RUNNING, SIGNS, SOFT, STATE_SAYS,
+    arrow, box, legend, line, page_of, sign, text_at,
+)
+
+WIDTH = 1310  # of the picture, in pixels
+LABELS_WIDTH = 170  # the column of the lanes' names
+NARROW = 700  # below this width that column is a narrow one
+NARROW_LABELS = 84
+MARGIN = 18
+BAR = 13  # the height of a bar; of one above its base priority it is RAISED_BAR
+RAISED_BAR = 18
+LANE = 25  # from one lane to the next
+AXIS = 24
+ROW_GAP = 22
+BREAK = 30  # the height of a broken line between rows
+MOST_ROWS = 12
+MOST_ROOM = 12  # pixels for a tick
+MOST_TIPS = 1500  # so many bars have a text of their own that a browser shows under the mouse
+LONG_LABEL = 24
+NARROW_LABEL = 13
+
+
+@dataclass
+class Row:
+    """The ticks of one row, which begin at this place."""
+
+    first: int
+    end: int
+    scale: float
+    left: int
+    is_last: bool = False
+
+    def x(self, tick):
+        return self.left + (min(max(tick, self.first), self.end) - self.first) * self.scale
+
+    def holds(self, tick):
+        return self.first <= tick < self.end or (self.is_last and tick == self.end)
+
+    def meets(self, first, end):
+        return first < self.end and end > self.first
+
+
+def next_step(step):
+    """The next number of 1, 2, 5, 10, 20, 50 and so on."""
+    return {"1": step * 2, "2": step * 5 // 2, "5": step * 2}[str(step)[0]]
+
+
+def row_ticks(span, room):
+    """How many ticks a row of this width has: a narrow picture has more rows."""
+    step, most_rows = 1, MOST_ROWS * max(1, WIDTH // room)
+    while step * most_rows < span or step * MOST_ROOM < room:
+        step = next_step(step)
+    return step
+
+
+def rows_of(picture, first, end, ticks, cuts, left, room):
+    """The rows from the first tick to the end; those that are left out are not among them."""
+    rows, idle, scale = [], picture.idle, room / ticks
+    for start in range(first - first % ticks, max(end, first + 1), ticks):
+        row = Row(max(start, first), min(start + ticks, end), scale, left)
+        row.is_last = row.end == end
+        quiet = not any(row.first < it < row.end for it in picture.ticks)
+        empty = quiet and any(a <= row.first and row.end <= b for a, b in idle)
+        if not rows or row.is_last or not (empty or (cuts and quiet)):
+            rows.append(row)
+    return rows
+
+
+class Paths:
+    """Boxes of one look as one path each."""
+
+    def __init__(self):
+        self.paths = {}
+
+    def add(self, look, x, y, width, height):
+        self.paths.setdefault(look, []).append(f"M{x:.1f} {y:.1f}h{max(width, 0.7):.1f}v{height:.1f}h-{max(width, 0.7):.1f}z")
+
+    def text(self):
+        return [f'<path fill="{look}" d="{"".join(parts)}"/>' for look, parts in self.paths.items()]
+
+
+class Drawing:
+    """The picture as text of SVG."""
+
+    def __init__(self, picture, first, end, wanted=None, ticks=None, cuts=False, width=WIDTH):
+        self.picture = picture
+        self.first, self.end = first, max(end, first + 1)
+        self.width = width
+        self.is_narrow = width < NARROW
+        self.left = NARROW_LABELS if self.is_narrow else LABELS_WIDTH
+        self.room = width - self.left - (24 if self.is_narrow else 40)
+        self.ticks = ticks or row_ticks(self.end - first, self.room)
+        self.rows = rows_of(picture, first, self.end, self.ticks, cuts, self.left, self.room)
+        self.names = chosen(picture, by_priority(picture), wanted)
+        objects = [it for it in picture.lanes if it.startswith("p")]
+        self.colours = {it: OBJECTS[number % len(OBJECTS)] for number, it in enumerate(sorted(objects, key=lambda it: int(it[1:])))}
+        bars = sum(len(picture.lanes[name].bars) for name in self.names)
+        self.has_tips = bars <= MOST_TIPS
+        self.out = []
+        self.used = set()
+
+    def draw(self):
+        y = MARGIN + 14
+        title = self.picture.title
+        self.out.append(text_at(MARGIN, y, title, INK, 15, weight="bold"))
+        ends = f", ends: {self.picture.why}" if self.picture.why and self.end >= self.picture.end else ""
+        told = f"ticks {self.first:,} to {self.end:,}{ends}; {self.ticks:,} ticks a row"
+        if self.is_narrow:
+            y += 16
+            self.out.append(text_at(MARGIN, y, told, SOFT, 10))
+        else:
+            self.out.append(text_at(MARGIN + 9 * len(title) + 14, y, told, SOFT, 12))
+        y += 14
+        for number, row in enumerate(self.rows):
+            if number:
+                y = self.draw_break(self.rows[number - 1], row, y)
+            y = self.draw_row(row, y) + ROW_GAP
+        keys, y = legend(self.used, next(iter(self.colours.values()), OBJECTS[0]), MARGIN, y - 4, self.width)
+        return page_of(self.width, y + MARGIN, self.out + keys)
+
+    def draw_break(self, before, after, y):
+        """A broken line where rows are left out."""
+        if before.end == after.first:
+            return y
+        middle, x, path = y + BREAK / 2 - 8, self.left, []
+        while x < self.left + self.room:
+            path.append(f"L{x:.0f} {middle - 4:.0f}L{x + 6:.0f} {middle + 4:.0f}")
+            x += 12
+        self.out.append(f'<path d="M{self.left} {middle:.0f}{"".join(path)}" stroke="{BLOCKED}" fill="none"/>')
+        says = f"{after.first - before.end:,} ticks left out, {before.end:,} to {after.first:,}"
+        self.out.append(box(self.left + 20, middle - 9, 7 + LETTER * len(says), 18, "white"))
+        self.out.append(text_at(self.left + 24, middle + 4, says, SOFT, 11))
+        return y + BREAK
+
+    def is_alive(self, lane, row):
+        if any(row.meets(bar.first, bar.end) for bar in lane.bars) or any(row.holds(mark.tick) for mark in lane.marks):
+            return True
+        return any(it.object == lane.name and row.meets(it.first, it.end) for it in self.picture.actions)
+
+    def draw_row(self, row, y):
+        lanes = [self.picture.lanes[name] for name in self.names]
+        lanes = [lane for lane in lanes if self.is_alive(lane, row)]
+        tops, at = {}, y + AXIS + 6
+        for lane in lanes:
+            tops[lane.name] = at + (RAISED_BAR - BAR)
+            at += LANE
+        self.draw_axis(row, y + AXIS - 6, at)
+        paths = Paths()
+        for lane in lanes:
+            self.draw_lane(lane, row, tops[lane.name], paths)
+        for action in self.picture.actions:
+            if row.meets(action.first, action.end):
+                self.draw_action(action, row, tops, paths)
+        self.out += paths.text()
+        for link in self.picture.links:
+            if row.holds(link.tick) and link.first in tops and link.second in tops:
+                start, end = tops[link.first] + BAR / 2, tops[link.second] + BAR / 2
+                self.out.append(arrow(link.kind, row.x(link.tick), start, end, f"{link.tick}: {link.says}"))
+                self.used.add(link.kind)
+        for lane in lanes:
+            self.draw_marks(lane, row, tops[lane.name])
+        return at
+
+    def draw_axis(self, row, y, bottom):
+        """The ticks above a row, with light lines down through it."""
+        step = 1
+        while step * row.scale < 54:
+            step = next_step(step)
+        for tick in range(row.first + -row.first % step, row.end + 1, step):
+            x = row.x(tick)
+            self.out.append(line(x, y, x, bottom, GRID))
+            self.out.append(text_at(x, y - 4, f"{tick:,}", SOFT, 10, "middle"))
+        self.out.append(line(self.left, y, row.x(row.end), y, SOFT, 0.8))
+
+    def draw_lane(self, lane, row, top, paths):
+        note = lane.note
+        for bar in lane.bars:
+            if bar.base and bar.first < row.end:
+                note = f"base {bar.base}"
+        if lane.name == "agent":
+            note = "handlers"
+        words, most = lane.title.partition(" ")[2], NARROW_LABEL if self.is_narrow else LONG_LABEL
+        words = words if len(words) <= most else ".." + words[-most + 2:]
+        self.out.append(text_at(MARGIN, top + 4, lane.name, self.colours.get(lane.name, INK), 11.5, weight="bold"))
+        if self.is_narrow:
+            self.out.append(text_at(MARGIN + 28, top + 3, note, SOFT, 8))
+            self.out.append(text_at(MARGIN, top + 14, words, INK, 9))
+        else:
+            self.out.append(text_at(MARGIN + 38, top + 3, words, INK, 10))
+            self.out.append(text_at(MARGIN + 38, top + 13, note, SOFT, 9))
+        self.out.append(line(self.left, top + BAR, row.x(row.end), top + BAR, MADE, 0.6))
+        for bar in lane.bars:
+            if row.meets(bar.first, bar.end):
+                self.draw_bar(lane, bar, row, top, paths)
+        for first, end, region, why in lane.leavings:
+            if row.meets(first, max(end, first + 1)):
+                self.used.add("leaving")
+                paths.add(LEAVING, row.x(first), top + BAR + 1, max(row.x(end) - row.x(first), 2), 2.4)
+        for span in lane.misses:
+            if row.meets(span.late_from, span.end):
+                self.used.add("late")
+                says = f"{lane.title} is late, {span.late_from} to {span.end}"
+                self.out.append(box(row.x(span.late_from), top + BAR + 1, row.x(span.end) - row.x(span.late_from), 4, FAULT, says))
+
+    def draw_bar(self, lane, bar, row, top, paths):
+        x, end = row.x(bar.first), row.x(bar.end)
+        kind = "raised" if bar.state == "run" and bar.is_raised else bar.state
+        self.used.add(kind)
+        look, y, height = {
+            "run": (RUNNING, top, BAR),
+            "raised": (RAISED, top - (RAISED_BAR - BAR), RAISED_BAR),
+            "ready": ("url(#ready)", top + 4, BAR - 4),
+            "block": (BLOCKED, top + BAR - 3, 1.6),
+            "made": (MADE, top + BAR - 3, 1.6),
+        }[kind]
+        if self.has_tips and kind != "made":
+            level = f" at level {bar.level}" if bar.state in ("run", "ready") and bar.level else ""
+            says = f"{lane.title} {STATE_SAYS[bar.state]}{level}{': ' + bar.detail if bar.detail else ''}, {bar.first} to {bar.end}"
+            self.out.append(box(x, y, end - x, height, look, says))
+        else:
+            paths.add(look, x, y, end - x, height)
+        if bar.state == "run" and bar.level and end - x >= 6.2 * len(bar.level) + 4:
+            self.out.append(text_at(x + 2, top + BAR - 3, bar.level, "white", 9.5, weight="bold"))
+
+    def draw_action(self, action, row, tops, paths):
+        x, width = row.x(action.first), row.x(action.end) - row.x(action.first)
+        colour = self.colours[action.object]
+        if action.subject in tops:
+            paths.add(colour, x, tops[action.subject] - 1, width, 3.6)
+            self.used.add("action")
+        if action.object in tops:
+            self.used.add("action")
+            paths.add(colour, x, tops[action.object] + 1, width, BAR - 1)
+            if width > LETTER * len(action.subject) + 4:
+                self.out.append(text_at(x + 2, tops[action.object] + BAR - 2, action.subject, "white", 9.5, weight="bold"))
+
+    def draw_marks(self, lane, row, top):
+        """Signs, and the labels for which there is room: of faults and misses first."""
+        marks = [mark for mark in lane.marks if row.holds(mark.tick)]
+        seen = set()
+        for mark in marks:
+            x = row.x(mark.tick)
+            # of equal signs in one pixel one is enough
+            if (mark.kind, round(x)) not in seen:
+                seen.add((mark.kind, round(x)))
+                tip = f"{mark.tick}: {mark.says or mark.label}" if self.has_tips or mark.kind in ("miss", "fault") else ""
+                self.out.append(sign(mark.kind, x, top, top + BAR, tip))
+                self.used.add(mark.kind)
+        taken = [(row.x(mark.tick) - 4, row.x(mark.tick) + 4) for mark in marks if mark.kind == "release"]
+        for mark in sorted(marks, key=lambda it: it.kind not in ("miss", "fault")):
+            if mark.label and mark.kind not in ("deadline", "setting"):
+                x, width = row.x(mark.tick) + 5, LETTER * len(mark.label) + 3
+                if x + width < self.width and not any(x < b and x + width > a for a, b in taken):
+                    taken.append((x, x + width))
+                    self.out.append(text_at(x, top - 1, mark.label, SIGNS[mark.kind][1], 9))

@@ -1,0 +1,5 @@
+with Ada.Exceptions; use Ada.Exceptions;
+procedure Main is
+begin
+   null;
+end Main;

@@ -1,0 +1,5 @@
+procedure Main is
+   Mask : Integer := 255;
+begin
+   Mask := 0;
+end Main;

@@ -1,0 +1,5 @@
+procedure Main is
+   Mask : Integer := 16#FF#;
+begin
+   Mask := 0;
+end Main;

@@ -1,0 +1,5 @@
+procedure Main is
+   task T;
+begin
+   null;
+end Main;

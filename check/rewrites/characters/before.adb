@@ -1,0 +1,5 @@
+procedure Main is
+   Grade : Character := 'A';
+begin
+   Grade := 'B';
+end Main;

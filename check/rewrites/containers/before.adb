@@ -1,0 +1,5 @@
+with Ada.Containers.Vectors;
+procedure Main is
+begin
+   null;
+end Main;

@@ -1,0 +1,7 @@
+pragma Task_Dispatching_Policy (EDF_Across_Priorities);
+procedure Main
+   with Interrupt_Priority => 31
+is
+begin
+   null;
+end Main;

@@ -1,0 +1,14 @@
+procedure Main is
+   task Server is
+      entry Stop;
+   end Server;
+   task body Server is
+   begin
+      loop
+         accept Stop;
+         exit;
+      end loop;
+   end Server;
+begin
+   Server.Stop;
+end Main;

@@ -1,0 +1,9 @@
+procedure Main is
+   function Square (X : Integer) return Integer is
+   begin
+      return X * X;
+   end Square;
+   Y : Integer;
+begin
+   Y := Square (3);
+end Main;

@@ -1,0 +1,5 @@
+procedure Main is
+   X : Integer := 15;  -- in tenths
+begin
+   X := X + 5;
+end Main;

@@ -1,0 +1,19 @@
+procedure Main is
+   protected Flag is
+      function Is_Up return Boolean;
+   private
+      Up : Boolean := True;
+   end Flag;
+   protected body Flag is
+      function Is_Up return Boolean is
+      begin
+         return Up;
+      end Is_Up;
+   end Flag;
+   Up : Boolean;
+begin
+   Up := Flag.Is_Up;
+   if Up then
+      null;
+   end if;
+end Main;

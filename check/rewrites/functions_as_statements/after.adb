@@ -1,0 +1,11 @@
+procedure Main is
+   N : Integer := 0;
+   function Next return Integer is
+   begin
+      N := N + 1;
+      return N;
+   end Next;
+   Ignored : Integer;
+begin
+   Ignored := Next;
+end Main;

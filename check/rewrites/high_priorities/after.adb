@@ -1,0 +1,10 @@
+pragma Priority_Range (Wide);
+procedure Main is
+   task T with Priority => 40;
+   task body T is
+   begin
+      null;
+   end T;
+begin
+   null;
+end Main;

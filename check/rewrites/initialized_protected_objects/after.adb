@@ -1,0 +1,18 @@
+procedure Main is
+   protected type Cell is
+      procedure Set;
+   private
+      N : Integer := 0;
+   end Cell;
+   protected body Cell is
+      procedure Set is
+      begin
+         N := 1;
+      end Set;
+   end Cell;
+   A : Cell;
+   B : Cell;
+begin
+   A.Set;
+   B.Set;
+end Main;

@@ -1,0 +1,5 @@
+procedure Main is
+   X : Integer := 3_000;  -- in millions
+begin
+   X := 0;
+end Main;

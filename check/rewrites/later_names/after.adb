@@ -1,0 +1,13 @@
+procedure Main is
+   procedure Second;
+   procedure First is
+   begin
+      Second;
+   end First;
+   procedure Second is
+   begin
+      null;
+   end Second;
+begin
+   First;
+end Main;

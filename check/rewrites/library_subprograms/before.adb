@@ -1,0 +1,9 @@
+procedure Work is
+begin
+   null;
+end Work;
+with Work;
+procedure Main is
+begin
+   Work;
+end Main;

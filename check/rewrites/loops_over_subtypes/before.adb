@@ -1,0 +1,7 @@
+procedure Main is
+   N : Integer := 0;
+begin
+   for I in Integer range 1 .. 10 loop
+      N := N + I;
+   end loop;
+end Main;

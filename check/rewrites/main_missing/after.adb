@@ -1,0 +1,7 @@
+package Counters is
+   N : Integer := 0;
+end Counters;
+procedure Main is
+begin
+   null;
+end Main;

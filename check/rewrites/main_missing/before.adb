@@ -1,0 +1,3 @@
+package Counters is
+   N : Integer := 0;
+end Counters;

@@ -1,0 +1,6 @@
+procedure Main
+   with Priority => 5
+is
+begin
+   null;
+end Main;

@@ -1,0 +1,5 @@
+procedure Main is
+   pragma Priority (5);
+begin
+   null;
+end Main;

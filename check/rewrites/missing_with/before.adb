@@ -1,0 +1,4 @@
+procedure Main is
+begin
+   Put_Line ("hi");
+end Main;

@@ -1,0 +1,5 @@
+procedure Main is
+   Total : Integer := 0;
+begin
+   Totl := 5;
+end Main;

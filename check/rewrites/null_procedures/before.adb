@@ -1,0 +1,5 @@
+procedure Main is
+   procedure Skip is null;
+begin
+   Skip;
+end Main;

@@ -1,0 +1,5 @@
+procedure Main is
+   Flag : Boolean := False;
+begin
+   Flag := True;
+end Main;

@@ -1,0 +1,14 @@
+with Jobs;
+procedure Main is
+begin
+   Jobs.Work;
+end Main;
+package Jobs is
+   procedure Work;
+end Jobs;
+package body Jobs is
+   procedure Work is
+   begin
+      null;
+   end Work;
+end Jobs;

@@ -1,0 +1,5 @@
+with Jobs;
+procedure Main is
+begin
+   Jobs.Work;
+end Main;

@@ -1,0 +1,5 @@
+pragma Task_Dispatching_Policy (FIFO_Within_Priorities);
+procedure Main is
+begin
+   null;
+end Main;

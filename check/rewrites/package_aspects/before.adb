@@ -1,0 +1,7 @@
+package Counters with Pure is
+   Limit : constant Integer := 10;
+end Counters;
+procedure Main is
+begin
+   null;
+end Main;

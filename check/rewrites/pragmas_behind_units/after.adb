@@ -1,0 +1,6 @@
+pragma Queuing_Policy (Priority_Queuing);
+with Ada.Text_IO; use Ada.Text_IO;
+procedure Main is
+begin
+   Put_Line ("hi");
+end Main;

@@ -1,0 +1,5 @@
+pragma Profile (Ravenscar);
+procedure Main is
+begin
+   null;
+end Main;

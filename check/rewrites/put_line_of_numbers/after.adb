@@ -1,0 +1,6 @@
+with Ada.Text_IO; use Ada.Text_IO;
+procedure Main is
+   X : Integer := 5;
+begin
+   Put_Line (Integer'Image (X));
+end Main;

@@ -1,0 +1,5 @@
+procedure Main is
+   X : Integer;
+begin
+   X := 5;
+end Main;

@@ -1,0 +1,23 @@
+procedure Main is
+   protected Queue is
+      entry Wait;
+   private
+      Open : Boolean := True;
+   end Queue;
+   protected body Queue is
+      entry Wait when Open is
+      begin
+         null;
+      end Wait;
+   end Queue;
+   task Server is
+      entry Serve;
+   end Server;
+   task body Server is
+   begin
+      accept Serve;
+   end Server;
+begin
+   Server.Serve;
+   Queue.Wait;
+end Main;

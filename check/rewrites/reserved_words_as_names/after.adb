@@ -1,0 +1,5 @@
+procedure Main is
+   Job : Integer := 0;
+begin
+   Job := 1;
+end Main;

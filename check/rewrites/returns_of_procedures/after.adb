@@ -1,0 +1,4 @@
+procedure Main is
+begin
+   return;
+end Main;

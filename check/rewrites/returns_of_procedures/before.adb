@@ -1,0 +1,4 @@
+procedure Main is
+begin
+   return 0;
+end Main;

@@ -1,0 +1,9 @@
+procedure Main is
+   task T with CPU => 1;
+   task body T is
+   begin
+      null;
+   end T;
+begin
+   null;
+end Main;

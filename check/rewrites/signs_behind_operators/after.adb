@@ -1,0 +1,5 @@
+procedure Main is
+   X : Integer := 5;
+begin
+   X := X * (-1);
+end Main;

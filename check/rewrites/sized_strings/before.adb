@@ -1,0 +1,5 @@
+procedure Main is
+   Name : String (1 .. 10);
+begin
+   Name (1) := ' ';
+end Main;

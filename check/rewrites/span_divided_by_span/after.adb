@@ -1,0 +1,5 @@
+procedure Main is
+   N : Integer;
+begin
+   N := 1_000 / 10;
+end Main;

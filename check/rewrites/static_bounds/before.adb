@@ -1,0 +1,7 @@
+procedure Main is
+   N : constant Integer := 2 * 5;
+   type Table is array (1 .. N) of Integer;
+   T : Table;
+begin
+   T (1) := 5;
+end Main;

@@ -1,0 +1,10 @@
+procedure Main is
+   type Phase is (Idle, Busy, Done);
+   P : Phase := Idle;
+begin
+   case P is
+      when Idle => P := Busy;
+      when Busy => P := Done;
+      when Done => P := Idle;
+   end case;
+end Main;

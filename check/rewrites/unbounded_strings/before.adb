@@ -1,0 +1,5 @@
+with Ada.Strings.Unbounded;
+procedure Main is
+begin
+   null;
+end Main;

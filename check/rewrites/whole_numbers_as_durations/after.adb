@@ -1,0 +1,4 @@
+procedure Main is
+begin
+   delay 5.0;
+end Main;

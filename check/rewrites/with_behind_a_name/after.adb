@@ -1,0 +1,5 @@
+with Ada.Text_IO;
+procedure Main is
+begin
+   Ada.Text_IO.Put_Line ("hi");
+end Main;

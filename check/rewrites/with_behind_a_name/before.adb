@@ -1,0 +1,4 @@
+procedure Main is
+begin
+   Ada.Text_IO.Put_Line ("hi");
+end Main;

@@ -1,0 +1,5 @@
+with Ada.Dispatching; use Ada.Dispatching;
+procedure Main is
+begin
+   Yield;
+end Main;

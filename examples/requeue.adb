@@ -1,5 +1,5 @@
 with Ada.Text_IO; use Ada.Text_IO;
-procedure Main is
+procedure Main with Priority => 15 is
    protected Store with Priority => 20 is
       entry Take (Wanted : in Positive);
       entry Later (Wanted : in Positive);

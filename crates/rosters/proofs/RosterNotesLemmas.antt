@@ -81,6 +81,12 @@ module _ {X : Type 0} where
     pub whole-stirring : (notes : Notes) → notes.lent ≡ None → AreRight numbered xs notes → IsSum notes.stirring (sum_by (one_if numbered.stirs) xs)
     whole-stirring notes none right = (known-whole notes none right).1.1
 
+-- the items but the lent one are in the order that is remembered
+pub others-in-order : {X : Type 0} (number : X → Option ℕ) (xs : List X) (known : Option Order) (lent : Option ℕ) (o : Order) (p : ℕ)
+    → known ≡ Some o → lent ≡ Some p → IsOrdered known (map number (others xs lent)) → IsOrdered (Some o) (map number (remove xs p))
+others-in-order number xs known lent o p e f h =
+    subst (λ k. IsOrdered k (map number (remove xs p))) e (subst (λ l. IsOrdered known (map number (others xs l))) f h)
+
 -- the items up to one that is there, that one among them
 pub take-found : {X : Type 0} (xs : List X) (p : ℕ) (x : X) → Some x ≡ slice_get xs p → take (p + 1) xs ≡ take p xs ++ x ∷ []
 take-found xs p x e =

@@ -110,7 +110,8 @@ module _ (o : Order) (ns : List (Option ℕ)) (p : ℕ) where
         let len = length-remove ns p lt in
         as-before o _ _ _ _ (sym (get_or-remove_above ns p None i above lt)) (sym (get_or-remove_above ns p None j (omega arith) lt)) (h.at i j less (omega arith))
 
-    module _ (front : (i : ℕ) → i + 1 ≡ p → comes_before o (number_at ns i) (number_at ns p) ≡ true) (back : p + 1 < length ns → comes_before o (number_at ns p) (number_at ns (p + 1)) ≡ true) where
+    -- one comes behind the one in front of it
+    module _ (front : (i : ℕ) → i + 1 ≡ p → comes_before o (number_at ns i) (number_at ns p) ≡ true) where
       before-it : (i q : ℕ) → i ≤ q → q + 1 ≡ p → comes_before o (number_at ns i) (number_at ns p) ≡ true
       before-it i q le e = elim (cases_order i q) [
         | inl same ↦ front i (omega arith)
@@ -120,6 +121,12 @@ module _ (o : Order) (ns : List (Option ℕ)) (p : ℕ) where
         ]
       ]
 
+      before-lent : (k : ℕ) → k < p → comes_before o (number_at ns k) (number_at ns p) ≡ true
+      before-lent k less = before-it k (p - 1) (omega arith) (omega arith)
+
+    module _
+        (front : (i : ℕ) → i + 1 ≡ p → comes_before o (number_at ns i) (number_at ns p) ≡ true)
+        (back : p + 1 < length ns → comes_before o (number_at ns p) (number_at ns (p + 1)) ≡ true) where
       behind-it : (j : ℕ) → p ≤ j → j + 1 < length ns → comes_before o (number_at ns p) (number_at ns (j + 1)) ≡ true
       behind-it j le within = elim (cases_order p j) [
         | inl same ↦ as-before o _ _ _ _ refl (ap (λ k. number_at ns (k + 1)) (sym same)) (back (omega arith))
@@ -131,7 +138,7 @@ module _ (o : Order) (ns : List (Option ℕ)) (p : ℕ) where
 
       any-two : (i j : ℕ) → i < j → j < length ns → comes_before o (number_at ns i) (number_at ns j) ≡ true
       any-two i j less within = elim (cases_order j p) [
-        | inl same ↦ rw same (before-it i (p - 1) (omega arith) (omega arith))
+        | inl same ↦ rw same (before-lent front i (omega arith))
         | inr apart ↦ elim apart [
           | inl below ↦ both-below i j less below
           | inr above ↦
@@ -321,6 +328,20 @@ module _ (o : Order) (n : ℕ) (ns : List (Option ℕ)) (h : InOrder o ns) where
 
   pub position-removed : (p : ℕ) → position_from (has_number n) 0 ns ≡ Some p → position_from (has_number n) 0 (remove ns p) ≡ None
   position-removed p e = position-absent n (remove ns p) (others-differ p (has-found n ns p e))
+
+-- an item that has a number and comes behind the one in front of it is the first that has it, if the others are in order
+pub position-lent : {X : Type 0} (f : X → Option ℕ) (o : Order) (n p : ℕ) (xs : List X) → InOrder o (map f (remove xs p))
+    → has_number n (number_at (map f xs) p) ≡ true
+    → ((i : ℕ) → i + 1 ≡ p → p < length xs → comes_before o (number_at (map f xs) i) (number_at (map f xs) p) ≡ true)
+    → position_from (has_number n) 0 (map f xs) ≡ Some p
+position-lent f o n p xs h e front =
+    let ns = map f xs in
+    let within = has-within n ns p e in
+    let len = length-map xs f in
+    let others = subst (InOrder o) (map-remove f xs p) h in
+    let before = before-lent o ns p within others (λ i last. front i last (omega arith)) in
+    let first = position_or_len_is (has_number n) ns p None (omega arith) (λ k lt. has_number-before o n _ _ (before k lt) e) (λ _. e) in
+    sym (position_from-zero (has_number n) ns) ∙ grind (arith, nat_tests)
 
 pub position-map : {X : Type 0} (f : X → Option ℕ) (n i : ℕ) (xs : List X) → position_from (has_number n) i (map f xs) ≡ position_from (λ x. has_number n (f x)) i xs
 position-map f n i [] = refl

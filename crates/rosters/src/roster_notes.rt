@@ -142,7 +142,8 @@ fn order_of(first: Option<u32>, second: Option<u32>) -> Option<Order>
 fn kept_order(order: Option<Order>, first: Option<u32>, second: Option<u32>) -> Option<Order>
     ensures pair { IsOrderOf result first second }
     ensures kept { (ns : List (Option ℕ)) → IsOrdered order ns → IsOrdered result ns }
-    ensures known { (o : Order) → order ≡ Some o → comes_before o first second ≡ true → result ≡ Some o }
+    ensures known { (o : Order) → order ≡ Some o → comes_before o first second ≡ true
+        → result ≡ Some o }
 {
     let known = order?;
     if comes_before(known, first, second) {
@@ -160,8 +161,10 @@ fn order_in_front<T: Numbered>(
 ) -> Option<Order>
     requires { IsOrdered order (map T.number items.now.items) }
     ensures right { IsOrdered result (number ∷ map T.number items.now.items) }
-    ensures known { (o : Order) → order ≡ Some o → InOrder o (number ∷ map T.number items.now.items) → IsSome result }
-    ensures begun { (o : Order) → length items.now.items ≡ 1 → InOrder o (number ∷ map T.number items.now.items) → result ≡ Some o }
+    ensures known { (o : Order) → order ≡ Some o
+        → InOrder o (number ∷ map T.number items.now.items) → IsSome result }
+    ensures begun { (o : Order) → length items.now.items ≡ 1
+        → InOrder o (number ∷ map T.number items.now.items) → result ≡ Some o }
 {
     match items.len() {
         0 => Some(Order::Rising),
@@ -180,10 +183,13 @@ fn order_behind<T: Numbered>(
     requires within { place ≤ length items.now.items }
     requires ordered { IsOrdered order (take place (map T.number items.now.items)) }
     ensures right { IsOrdered result (take place (map T.number items.now.items) ++ number ∷ []) }
-    ensures known { (o : Order) → order ≡ Some o → InOrder o (take place (map T.number items.now.items) ++ number ∷ []) → IsSome result }
-    ensures begun { (o : Order) → place ≡ 1 → InOrder o (take place (map T.number items.now.items) ++ number ∷ []) → result ≡ Some o }
+    ensures known { (o : Order) → order ≡ Some o
+        → InOrder o (take place (map T.number items.now.items) ++ number ∷ []) → IsSome result }
+    ensures begun { (o : Order) → place ≡ 1
+        → InOrder o (take place (map T.number items.now.items) ++ number ∷ []) → result ≡ Some o }
     ensures first { place ≡ 0 → IsSome result }
-    ensures kept { (o : Order) → 1 < place → order ≡ Some o → InOrder o (take place (map T.number items.now.items) ++ number ∷ []) → result ≡ Some o }
+    ensures kept { (o : Order) → 1 < place → order ≡ Some o
+        → InOrder o (take place (map T.number items.now.items) ++ number ∷ []) → result ≡ Some o }
 {
     match place {
         0 => Some(Order::Rising),
@@ -194,8 +200,12 @@ fn order_behind<T: Numbered>(
 
 // Whether the item at a place comes behind the one before it, if both are there.
 fn comes_behind<T: Numbered>(items: &VecDeque<T>, order: Order, place: usize) -> bool
-    ensures right { (i : ℕ) → result ≡ true → i + 1 ≡ place → place < length items.now.items → comes_before order (number_at (map T.number items.now.items) i) (number_at (map T.number items.now.items) place) ≡ true }
-    ensures known { result ≡ false → (i : ℕ) × (i + 1 ≡ place) × (place < length items.now.items) × (comes_before order (number_at (map T.number items.now.items) i) (number_at (map T.number items.now.items) place) ≡ false) }
+    ensures right { (i : ℕ) → result ≡ true → i + 1 ≡ place → place < length items.now.items
+        → comes_before order (number_at (map T.number items.now.items) i) (number_at (map T.number items.now.items) place)
+        ≡ true }
+    ensures known { result ≡ false → (i : ℕ) × (i + 1 ≡ place)
+        × (place < length items.now.items)
+        × (comes_before order (number_at (map T.number items.now.items) i) (number_at (map T.number items.now.items) place) ≡ false) }
 {
     if place == 0 {
         return true;
@@ -228,7 +238,8 @@ fn order_with<T: Numbered>(items: &VecDeque<T>, order: Order, place: usize) -> O
 fn whole_order<T: Numbered>(items: &VecDeque<T>, notes: &Notes) -> Option<Order>
     requires { AreRight T.Numbered items.now.items notes.now }
     ensures right { IsOrdered result (map T.number items.now.items) }
-    ensures known { (order : Order) → notes.now.order ≡ Some order → InOrder order (map T.number items.now.items) → result ≡ Some order }
+    ensures known { (order : Order) → notes.now.order ≡ Some order
+        → InOrder order (map T.number items.now.items) → result ≡ Some order }
 {
     match notes.lent {
         Some(place) => order_with(items, notes.order?, place),
@@ -240,7 +251,9 @@ fn whole_order<T: Numbered>(items: &VecDeque<T>, notes: &Notes) -> Option<Order>
 fn whole_size<T: Numbered>(items: &VecDeque<T>, notes: &Notes) -> Option<usize>
     requires { AreRight T.Numbered items.now.items notes.now }
     ensures right { IsSum result (sum_by T.size items.now.items) }
-    ensures known { (n : ℕ) → notes.now.size ≡ Some n → n + part_at T.size items.now.items notes.now.lent < 2 ^ 64 → result ≡ Some (n + part_at T.size items.now.items notes.now.lent) }
+    ensures known { (n : ℕ) → notes.now.size ≡ Some n
+        → n + part_at T.size items.now.items notes.now.lent < 2 ^ 64
+        → result ≡ Some (n + part_at T.size items.now.items notes.now.lent) }
 {
     more(notes.size, lent_size(items, notes.lent))
 }
@@ -249,7 +262,9 @@ fn whole_size<T: Numbered>(items: &VecDeque<T>, notes: &Notes) -> Option<usize>
 fn whole_stirring<T: Numbered>(items: &VecDeque<T>, notes: &Notes) -> Option<usize>
     requires { AreRight T.Numbered items.now.items notes.now }
     ensures right { IsSum result (sum_by (one_if T.stirs) items.now.items) }
-    ensures known { (n : ℕ) → notes.now.stirring ≡ Some n → n + part_at (one_if T.stirs) items.now.items notes.now.lent < 2 ^ 64 → result ≡ Some (n + part_at (one_if T.stirs) items.now.items notes.now.lent) }
+    ensures known { (n : ℕ) → notes.now.stirring ≡ Some n
+        → n + part_at (one_if T.stirs) items.now.items notes.now.lent < 2 ^ 64
+        → result ≡ Some (n + part_at (one_if T.stirs) items.now.items notes.now.lent) }
 {
     more(notes.stirring, lent_stirring(items, notes.lent))
 }
@@ -259,9 +274,14 @@ fn taken_back<T: Numbered>(items: &VecDeque<T>, notes: &Notes) -> Notes
     requires { AreRight T.Numbered items.now.items notes.now }
     ensures right { AreRight T.Numbered items.now.items result }
     ensures none_lent { result.lent ≡ None }
-    ensures known_order { (order : Order) → notes.now.order ≡ Some order → InOrder order (map T.number items.now.items) → result.order ≡ Some order }
-    ensures known_size { (n : ℕ) → notes.now.size ≡ Some n → n + part_at T.size items.now.items notes.now.lent < 2 ^ 64 → result.size ≡ Some (n + part_at T.size items.now.items notes.now.lent) }
-    ensures known_stirring { (n : ℕ) → notes.now.stirring ≡ Some n → n + part_at (one_if T.stirs) items.now.items notes.now.lent < 2 ^ 64 → result.stirring ≡ Some (n + part_at (one_if T.stirs) items.now.items notes.now.lent) }
+    ensures known_order { (order : Order) → notes.now.order ≡ Some order
+        → InOrder order (map T.number items.now.items) → result.order ≡ Some order }
+    ensures known_size { (n : ℕ) → notes.now.size ≡ Some n
+        → n + part_at T.size items.now.items notes.now.lent < 2 ^ 64
+        → result.size ≡ Some (n + part_at T.size items.now.items notes.now.lent) }
+    ensures known_stirring { (n : ℕ) → notes.now.stirring ≡ Some n
+        → n + part_at (one_if T.stirs) items.now.items notes.now.lent < 2 ^ 64
+        → result.stirring ≡ Some (n + part_at (one_if T.stirs) items.now.items notes.now.lent) }
 {
     Notes {
         lent: None,
@@ -320,9 +340,12 @@ fn joined<T: Numbered>(notes: &Notes, item: &T, order: Option<Order>) -> Notes
     ensures none_lent { result.lent ≡ None }
     ensures order { result.order ≡ order }
     ensures size { (n : ℕ) → IsSum notes.now.size n → IsSum result.size (n + T.size item.now) }
-    ensures stirring { (n : ℕ) → IsSum notes.now.stirring n → IsSum result.stirring (n + one_if T.stirs item.now) }
-    ensures known_size { (n : ℕ) → notes.now.size ≡ Some n → n + T.size item.now < 2 ^ 64 → IsSome result.size }
-    ensures known_stirring { (n : ℕ) → notes.now.stirring ≡ Some n → n + one_if T.stirs item.now < 2 ^ 64 → IsSome result.stirring }
+    ensures stirring { (n : ℕ) → IsSum notes.now.stirring n
+        → IsSum result.stirring (n + one_if T.stirs item.now) }
+    ensures known_size { (n : ℕ) → notes.now.size ≡ Some n → n + T.size item.now < 2 ^ 64
+        → IsSome result.size }
+    ensures known_stirring { (n : ℕ) → notes.now.stirring ≡ Some n
+        → n + one_if T.stirs item.now < 2 ^ 64 → IsSome result.stirring }
 {
     Notes {
         lent: None,
@@ -336,10 +359,17 @@ fn joined<T: Numbered>(notes: &Notes, item: &T, order: Option<Order>) -> Notes
 pub(crate) fn joined_in_front<T: Numbered>(items: &VecDeque<T>, notes: &Notes, item: &T) -> Notes
     requires { AreRight T.Numbered items.now.items notes.now }
     ensures right { AreRight T.Numbered (item.now ∷ items.now.items) result }
-    ensures known_order { (o : Order) → notes.now.order ≡ Some o → InOrder o (map T.number items.now.items) → InOrder o (T.number item.now ∷ map T.number items.now.items) → IsSome result.order }
-    ensures begun_order { (o : Order) → length items.now.items ≡ 1 → InOrder o (T.number item.now ∷ map T.number items.now.items) → result.order ≡ Some o }
-    ensures known_size { (n : ℕ) → notes.now.size ≡ Some n → n + part_at T.size items.now.items notes.now.lent + T.size item.now < 2 ^ 64 → IsSome result.size }
-    ensures known_stirring { (n : ℕ) → notes.now.stirring ≡ Some n → n + part_at (one_if T.stirs) items.now.items notes.now.lent + one_if T.stirs item.now < 2 ^ 64 → IsSome result.stirring }
+    ensures known_order { (o : Order) → notes.now.order ≡ Some o
+        → InOrder o (map T.number items.now.items)
+        → InOrder o (T.number item.now ∷ map T.number items.now.items) → IsSome result.order }
+    ensures begun_order { (o : Order) → length items.now.items ≡ 1
+        → InOrder o (T.number item.now ∷ map T.number items.now.items) → result.order ≡ Some o }
+    ensures known_size { (n : ℕ) → notes.now.size ≡ Some n
+        → n + part_at T.size items.now.items notes.now.lent + T.size item.now < 2 ^ 64
+        → IsSome result.size }
+    ensures known_stirring { (n : ℕ) → notes.now.stirring ≡ Some n
+        → n + part_at (one_if T.stirs) items.now.items notes.now.lent + one_if T.stirs item.now
+        < 2 ^ 64 → IsSome result.stirring }
 {
     let whole = taken_back(items, notes);
     let order = order_in_front(items, whole.order, item.number());
@@ -353,12 +383,20 @@ fn joined_behind<T: Numbered>(items: &VecDeque<T>, place: usize, notes: &Notes, 
     requires none_lent { notes.now.lent ≡ None }
     ensures right { AreRight T.Numbered (take place items.now.items ++ item.now ∷ []) result }
     ensures none_lent { result.lent ≡ None }
-    ensures known_order { (o : Order) → notes.now.order ≡ Some o → InOrder o (take place (map T.number items.now.items) ++ T.number item.now ∷ []) → IsSome result.order }
-    ensures begun_order { (o : Order) → place ≡ 1 → InOrder o (take place (map T.number items.now.items) ++ T.number item.now ∷ []) → result.order ≡ Some o }
-    ensures known_size { (n : ℕ) → notes.now.size ≡ Some n → n + T.size item.now < 2 ^ 64 → IsSome result.size }
-    ensures known_stirring { (n : ℕ) → notes.now.stirring ≡ Some n → n + one_if T.stirs item.now < 2 ^ 64 → IsSome result.stirring }
+    ensures known_order { (o : Order) → notes.now.order ≡ Some o
+        → InOrder o (take place (map T.number items.now.items) ++ T.number item.now ∷ [])
+        → IsSome result.order }
+    ensures begun_order { (o : Order) → place ≡ 1
+        → InOrder o (take place (map T.number items.now.items) ++ T.number item.now ∷ [])
+        → result.order ≡ Some o }
+    ensures known_size { (n : ℕ) → notes.now.size ≡ Some n → n + T.size item.now < 2 ^ 64
+        → IsSome result.size }
+    ensures known_stirring { (n : ℕ) → notes.now.stirring ≡ Some n
+        → n + one_if T.stirs item.now < 2 ^ 64 → IsSome result.stirring }
     ensures first_order { place ≡ 0 → IsSome result.order }
-    ensures kept_order { (o : Order) → 1 < place → notes.now.order ≡ Some o → InOrder o (take place (map T.number items.now.items) ++ T.number item.now ∷ []) → result.order ≡ Some o }
+    ensures kept_order { (o : Order) → 1 < place → notes.now.order ≡ Some o
+        → InOrder o (take place (map T.number items.now.items) ++ T.number item.now ∷ [])
+        → result.order ≡ Some o }
 {
     let order = order_behind(items, place, notes.order, item.number());
     joined(notes, item, order)
@@ -368,10 +406,19 @@ fn joined_behind<T: Numbered>(items: &VecDeque<T>, place: usize, notes: &Notes, 
 pub(crate) fn joined_at_back<T: Numbered>(items: &VecDeque<T>, notes: &Notes, item: &T) -> Notes
     requires { AreRight T.Numbered items.now.items notes.now }
     ensures right { AreRight T.Numbered (items.now.items ++ item.now ∷ []) result }
-    ensures known_size { (n : ℕ) → notes.now.size ≡ Some n → n + part_at T.size items.now.items notes.now.lent + T.size item.now < 2 ^ 64 → IsSome result.size }
-    ensures known_stirring { (n : ℕ) → notes.now.stirring ≡ Some n → n + part_at (one_if T.stirs) items.now.items notes.now.lent + one_if T.stirs item.now < 2 ^ 64 → IsSome result.stirring }
-    ensures known_order { (o : Order) → notes.now.order ≡ Some o → InOrder o (map T.number items.now.items) → InOrder o (map T.number items.now.items ++ T.number item.now ∷ []) → IsSome result.order }
-    ensures begun_order { (o : Order) → length items.now.items ≡ 1 → InOrder o (map T.number items.now.items ++ T.number item.now ∷ []) → result.order ≡ Some o }
+    ensures known_size { (n : ℕ) → notes.now.size ≡ Some n
+        → n + part_at T.size items.now.items notes.now.lent + T.size item.now < 2 ^ 64
+        → IsSome result.size }
+    ensures known_stirring { (n : ℕ) → notes.now.stirring ≡ Some n
+        → n + part_at (one_if T.stirs) items.now.items notes.now.lent + one_if T.stirs item.now
+        < 2 ^ 64 → IsSome result.stirring }
+    ensures known_order { (o : Order) → notes.now.order ≡ Some o
+        → InOrder o (map T.number items.now.items)
+        → InOrder o (map T.number items.now.items ++ T.number item.now ∷ [])
+        → IsSome result.order }
+    ensures begun_order { (o : Order) → length items.now.items ≡ 1
+        → InOrder o (map T.number items.now.items ++ T.number item.now ∷ [])
+        → result.order ≡ Some o }
 {
     joined_behind(items, items.len(), &taken_back(items, notes), item)
 }
@@ -379,7 +426,8 @@ pub(crate) fn joined_at_back<T: Numbered>(items: &VecDeque<T>, notes: &Notes, it
 // The notes on these items, counted anew.
 pub(crate) fn counted<T: Numbered>(items: &VecDeque<T>) -> Notes
     ensures right { AreRight T.Numbered items.now.items result }
-    ensures known_order { (o : Order) → InOrder o (map T.number items.now.items) → 0 < length items.now.items → IsSome result.order }
+    ensures known_order { (o : Order) → InOrder o (map T.number items.now.items)
+        → 0 < length items.now.items → IsSome result.order }
 {
     let mut notes = no_notes();
     for place in 0..items.len() {
@@ -455,8 +503,10 @@ fn distance(order: Order, first: Option<u32>, number: u32) -> u32
 // Where the items whose numbers come before this one end.
 fn place_behind<T: Numbered>(items: &VecDeque<T>, order: Order, number: u32) -> usize
     requires { InOrder order (map T.number items.now.items) }
-    ensures front { (k : ℕ) → k < result → comes_before order (number_at (map T.number items.now.items) k) (Some number) ≡ true }
-    ensures back { (k : ℕ) → result ≤ k → comes_before order (number_at (map T.number items.now.items) k) (Some number) ≡ false }
+    ensures front { (k : ℕ) → k < result
+        → comes_before order (number_at (map T.number items.now.items) k) (Some number) ≡ true }
+    ensures back { (k : ℕ) → result ≤ k
+        → comes_before order (number_at (map T.number items.now.items) k) (Some number) ≡ false }
 {
     let mut low = 0;
     let mut high = items.len();
@@ -471,21 +521,27 @@ fn place_behind<T: Numbered>(items: &VecDeque<T>, order: Order, number: u32) -> 
     low
 }
 
-// Where the item with this number stands, if their numbers are in order. The place that was lent last is tried first:
-// who is looked for is often who was changed last.
-fn place_in_order<T: Numbered>(
-    items: &VecDeque<T>,
-    order: Order,
-    lent: Option<usize>,
-    number: u32,
-) -> Option<usize>
+// The place that was lent last, if the first item with this number stands there: who is looked for is often who was
+// changed last. The items are in order but for that one, so it is the first if the one in front of it comes before it.
+fn lent_place<T: Numbered>(items: &VecDeque<T>, notes: &Notes, number: u32) -> Option<usize>
+    requires { AreRight T.Numbered items.now.items notes.now }
+    ensures { (p : ℕ) → result ≡ Some p
+        → position_from (has_number number) 0 (map T.number items.now.items) ≡ Some p }
+{
+    let place = notes.lent?;
+    let order = notes.order?;
+    if is_number(number, number_at(items, place)) && comes_behind(items, order, place) {
+        Some(place)
+    } else {
+        None
+    }
+}
+
+// Where the item with this number stands, if their numbers are in order.
+fn place_in_order<T: Numbered>(items: &VecDeque<T>, order: Order, number: u32) -> Option<usize>
     requires { InOrder order (map T.number items.now.items) }
     ensures { result ≡ position_from (has_number number) 0 (map T.number items.now.items) }
 {
-    let last = lent.unwrap_or(0);
-    if is_number(number, number_at(items, last)) {
-        return Some(last);
-    }
     let near = distance(order, number_at(items, 0), number) as usize;
     if is_number(number, number_at(items, near)) {
         return Some(near);
@@ -513,8 +569,11 @@ pub(crate) fn place_of<T: Numbered>(
     requires { AreRight T.Numbered items.now.items notes.now }
     ensures { result ≡ position_from (λ x. has_number number (T.number x)) 0 items.now.items }
 {
+    if let Some(place) = lent_place(items, notes, number) {
+        return Some(place);
+    }
     match whole_order(items, notes) {
-        Some(order) => place_in_order(items, order, notes.lent, number),
+        Some(order) => place_in_order(items, order, number),
         None => place_one_by_one(items, number),
     }
 }
@@ -542,7 +601,7 @@ fn forget_in_order<T: Numbered + Drop>(
     ensures gone { items.new.items ≡ without (λ x. has_number number (T.number x)) items.old.items }
     ensures right { AreRight T.Numbered items.new.items notes.new }
 {
-    match place_in_order(items, order, notes.lent, number) {
+    match place_in_order(items, order, number) {
         Some(place) => take_out(items, notes, place),
         None => {}
     }

@@ -7,17 +7,11 @@ use Rattle.rosters.proofs.roster_notes.place_in_order.Goals as goal
 pub returns-then-is_number : goal.returns-then-is_number
 returns-then-is_number g c =
     let ns = map g.T.Numbered.number c.args.items.now.items in
-    let is : has_number c.args.number (number_at ns c.unwrap_or-last.result) ≡ true = cc in
-    sym (position-found c.args.order c.args.number ns c.requires c.unwrap_or-last.result is)
-
-pub returns-then-is_number-2 : goal.returns-then-is_number-2
-returns-then-is_number-2 g c =
-    let ns = map g.T.Numbered.number c.args.items.now.items in
     let is : has_number c.args.number (number_at ns c.distance-near.result) ≡ true = cc in
     sym (position-found c.args.order c.args.number ns c.requires c.distance-near.result is)
 
-pub returns-then-is_number-3 : goal.returns-then-is_number-3
-returns-then-is_number-3 g c =
+pub returns-then-is_number-2 : goal.returns-then-is_number-2
+returns-then-is_number-2 g c =
     let ns = map g.T.Numbered.number c.args.items.now.items in
     let is : has_number c.args.number (number_at ns c.place_behind-place.result) ≡ true = cc in
     sym (position-found c.args.order c.args.number ns c.requires c.place_behind-place.result is)

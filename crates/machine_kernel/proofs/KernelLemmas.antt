@@ -3,7 +3,9 @@ use Rattle.std.proofs.Common.{◌≡◌, ◌<◌, ℕ, zero, suc, ℤ, Bool, tru
 use Rattle.std.proofs.lemmas.Bool.{ltb-true}
 use Rattle.profile_image.specs.declared.image.Image.{Image}
 use Rattle.profile_image.specs.declared.script_items.Item.{Item}
+use Rattle.std.specs.Option.{IsSome}
 use Rattle.trace_text.specs.declared.events.Event.{Event}
+use Rattle.trace_text.specs.declared.events.Ended.{Ended}
 use Rattle.trace_text.specs.Text.{text_of}
 use Rattle.ann_base.specs.declared.faults.NoMemory.{NoMemory}
 use Rattle.machine_ticks.specs.declared.stops.Stopped.{Stopped}
@@ -17,7 +19,7 @@ use Rattle.machine_kernel.specs.Reached.{is_in_time}
 use Rattle.machine_kernel.specs.Kernel.{shown, future, stop_to_come, left_to_do}
 use Rattle.machine_kernel.specs.Future.{Shown, future_of, stop_of, left_of, advanced, written_of, first_line, opened}
 use Rattle.profile_machine.specs.Run.{lines_of_run, stop_of_run}
-use Rattle.machine_kernel.specs.Next.{IfGoing, IfEnded}
+use Rattle.machine_kernel.specs.Next.{IfGoing, IfEnded, IsOver}
 use Rattle.machine_kernel.proofs.FutureLemmas.{Moves, advanced-future, advanced-stop, advanced-left, stopped-future, stopped-stop, opened-future, opened-stop}
 
 -- one line's text, and the rest's
@@ -76,14 +78,21 @@ next-stop j k stands passes idles (Err e) step = tt
 pub next-going : (j k : Kernel) → InstantsTakeNoTime → TocksTakeOneTick → IdleStretches → (r : Result Next NoMemory) → OnOk r (shown k ≡ advanced (shown j)) → IfOk r (IfGoing ((shown j).owed ≡ [] → (shown j).stop ≡ None)) → IfOk r (IfGoing (left_to_do k < left_to_do j))
 unfolding left_to_do
 next-going j k stands passes idles (Ok did.Going) step none = told-left (shown j) (shown k) (kernel-moves j stands passes idles) step none
-next-going j k stands passes idles (Ok (did.Ended why)) step none = tt
+next-going j k stands passes idles (Ok did.Ended) step none = tt
 next-going j k stands passes idles (Err e) step none = tt
 
-pub next-ended : (j : Kernel) (r : Result Next NoMemory) → IfOk r (IfEnded (λ why. ((shown j).owed ≡ []) × ((shown j).stop ≡ Some why))) → IfOk r (IfEnded (λ why. (future j ≡ []) × (why ≡ stop_to_come j)))
+ended-at : (s t : Shown) (stop : Option Ended) → s.stop ≡ stop → (s.owed ≡ []) × IsSome stop × (t ≡ s)
+    → (future_of s ≡ []) × (t.stop ≡ Some (stop_of s))
+ended-at s t None e h = cc
+ended-at s t (Some why) e h =
+    (stopped-future s why h.0 e, ap {A = Shown} (λ x. x.stop) h.1.1 ∙ (e ∙ ap Some (sym (stopped-stop s why e))))
+
+pub next-ended : (j k : Kernel) (r : Result Next NoMemory) → IfOk r (IfEnded (IsOver (shown j) (shown k)))
+    → IfOk r (IfEnded ((future j ≡ []) × ((shown k).stop ≡ Some (stop_to_come j))))
 unfolding future stop_to_come
-next-ended j (Ok did.Going) h = tt
-next-ended j (Ok (did.Ended why)) h = (stopped-future (shown j) why h.0 h.1, sym (stopped-stop (shown j) why h.1))
-next-ended j (Err e) h = tt
+next-ended j k (Ok did.Going) h = tt
+next-ended j k (Ok did.Ended) h = ended-at (shown j) (shown k) (shown j).stop refl h
+next-ended j k (Err e) h = tt
 
 -- ---- the opening
 

@@ -23,13 +23,13 @@ use world_tables::List;
 /// Why a run ends.
 pub type Stop = Ended;
 
-/// What a call of `next` did.
-#[derive(Drop)]
+/// What a call of `next` did. It is small, since it is handed on at each tick.
+#[derive(Clone, Copy)]
 pub enum Next {
     /// It went on.
     Going,
-    /// The run has ended for this reason.
-    Ended(Stop),
+    /// The run has ended, and all of its lines are told.
+    Ended,
 }
 
 /// A run under way.
@@ -73,7 +73,8 @@ impl Kernel {
     ghost use Rattle.std.specs.Prelude.{◌++◌, OnOk, IfOk, IfSome, OnErr};
     ghost use Rattle.trace_text.specs.Text.{ArePrintable, IsPrintable, text_of};
     ghost use Rattle.machine_kernel.specs.Kernel.{shown, future, stop_to_come, left_to_do, OwesNothing, Takes};
-    ghost use Rattle.machine_kernel.specs.Next.{IfGoing, IfEnded};
+    ghost use Rattle.std.specs.Option.{IsSome};
+    ghost use Rattle.machine_kernel.specs.Next.{IfGoing, IfEnded, IsOver};
     ghost use Rattle.machine_kernel.specs.Future.{advanced, opened, goes_by, after_instant, after_tock, unless_stopped, written_of, first_line};
     ghost use Rattle.profile_machine.specs.Instant.{instant};
     ghost use Rattle.profile_machine.specs.Run.{tock};
@@ -121,8 +122,8 @@ impl Kernel {
             (first_line (shown self.old).owed ++ future self.new ≡ future self.old) }
         ensures stop { OnOk result (stop_to_come self.new ≡ stop_to_come self.old) }
         ensures going { IfOk result (IfGoing (left_to_do self.new < left_to_do self.old)) }
-        ensures ended { IfOk result
-            (IfEnded (λ why. (future self.old ≡ []) × (why ≡ stop_to_come self.old))) }
+        ensures ended { IfOk result (IfEnded
+            ((future self.old ≡ []) × ((shown self.new).stop ≡ Some (stop_to_come self.old)))) }
     {
         instants_take_no_time();
         tocks_take_one_tick();
@@ -130,7 +131,21 @@ impl Kernel {
         self.step(out)
     }
 
-    /// One step: an owed line is told, or the run goes on.
+    /// Why the run has ended, where `next` has answered that it has.
+    ///
+    /// Errors: the exception that ended it has a name that no trace can have.
+    pub fn stop(&self) -> Result<Stop, NoMemory>
+        requires { IsSome (shown self.now).stop }
+        ensures { IfOk result (λ why. (shown self.now).stop ≡ Some why) }
+    {
+        match self.stop {
+            Some(stopped) => ended_by(&self.program, stopped),
+            None => unreachable!(),
+        }
+    }
+
+    /// One step: an owed line is told, or the run goes on. A line is made in a call of its own, since a function pays at its entry
+    /// for the room of what it keeps, and most steps tell no line.
     fn step(&mut self, out: &mut LineBuffer) -> Result<Next, NoMemory>
         requires { length out.old + LINE_BYTES ≤ BUFFER_BYTES }
         ensures step { OnOk result (shown self.new ≡ advanced (shown self.old)) }
@@ -139,39 +154,7 @@ impl Kernel {
         ensures err { OnErr result (out.new ≡ out.old) }
         ensures going { IfOk result
             (IfGoing ((shown self.old).owed ≡ [] → (shown self.old).stop ≡ None)) }
-        ensures ended { IfOk result
-            (IfEnded (λ why. ((shown self.old).owed ≡ []) × ((shown self.old).stop ≡ Some why))) }
-    {
-        if self.moves(out)? {
-            Ok(Next::Going)
-        } else {
-            self.end()
-        }
-    }
-
-    /// Why the run has ended, if it has.
-    fn end(&self) -> Result<Next, NoMemory>
-        ensures going { IfOk result (IfGoing ((shown self.now).stop ≡ None)) }
-        ensures ended { IfOk result (IfEnded (λ why. (shown self.now).stop ≡ Some why)) }
-    {
-        match self.stop {
-            Some(stopped) => Ok(Next::Ended(ended_by(&self.program, stopped)?)),
-            None => Ok(Next::Going),
-        }
-    }
-
-    /// Tells an owed line or goes on; false, and nothing done, if a stop is reached. Its answer is small, and a line is made in a
-    /// call of its own, since a function pays at its entry for the room of what it keeps, and most steps tell no line.
-    fn moves(&mut self, out: &mut LineBuffer) -> Result<bool, NoMemory>
-        requires { length out.old + LINE_BYTES ≤ BUFFER_BYTES }
-        ensures step { OnOk result (shown self.new ≡ advanced (shown self.old)) }
-        ensures told { OnOk result (out.new ≡ out.old ++ written_of (shown self.old).owed) }
-        ensures printable { OnOk result (ArePrintable (first_line (shown self.old).owed)) }
-        ensures err { OnErr result (out.new ≡ out.old) }
-        ensures going { IfOk result
-            (λ goes. goes ≡ true → (shown self.old).owed ≡ [] → (shown self.old).stop ≡ None) }
-        ensures over { IfOk result
-            (λ goes. goes ≡ false → OwesNothing self.old × (shown self.new ≡ shown self.old)) }
+        ensures ended { IfOk result (IfEnded (IsOver (shown self.old) (shown self.new))) }
     {
         if self.owes_nothing() {
             self.go_on()
@@ -188,21 +171,20 @@ impl Kernel {
     }
 
     /// The same where a line may be owed.
-    fn tell(&mut self, out: &mut LineBuffer) -> Result<bool, NoMemory>
+    fn tell(&mut self, out: &mut LineBuffer) -> Result<Next, NoMemory>
         requires { length out.old + LINE_BYTES ≤ BUFFER_BYTES }
         ensures step { OnOk result (shown self.new ≡ advanced (shown self.old)) }
         ensures told { OnOk result (out.new ≡ out.old ++ written_of (shown self.old).owed) }
         ensures printable { OnOk result (ArePrintable (first_line (shown self.old).owed)) }
         ensures err { OnErr result (out.new ≡ out.old) }
         ensures going { IfOk result
-            (λ goes. goes ≡ true → (shown self.old).owed ≡ [] → (shown self.old).stop ≡ None) }
-        ensures over { IfOk result
-            (λ goes. goes ≡ false → OwesNothing self.old × (shown self.new ≡ shown self.old)) }
+            (IfGoing ((shown self.old).owed ≡ [] → (shown self.old).stop ≡ None)) }
+        ensures ended { IfOk result (IfEnded (IsOver (shown self.old) (shown self.new))) }
     {
         match self.take_owed()? {
             Some(event) => {
                 write_line(self.told_at, &event, out);
-                Ok(true)
+                Ok(Next::Going)
             }
             None => self.go_on(),
         }
@@ -256,21 +238,21 @@ impl Kernel {
         }
     }
 
-    /// Goes on where no line is owed; false, and nothing done, if a stop is reached.
-    fn go_on(&mut self) -> Result<bool, NoMemory>
+    /// Goes on where no line is owed, unless a stop is reached.
+    fn go_on(&mut self) -> Result<Next, NoMemory>
         requires said { self.old.said ≡ [] }
         requires ticks { self.old.ticks ≡ [] }
         requires last { self.old.last ≡ None }
         ensures step { OnOk result
             (shown self.new ≡ unless_stopped (shown self.old).stop (shown self.old)) }
-        ensures going { IfOk result (λ goes. goes ≡ true → (shown self.old).stop ≡ None) }
-        ensures over { IfOk result (λ goes. goes ≡ false → shown self.new ≡ shown self.old) }
+        ensures going { IfOk result (IfGoing ((shown self.old).stop ≡ None)) }
+        ensures ended { IfOk result (IfEnded (IsOver (shown self.old) (shown self.new))) }
     {
         match self.stop {
-            Some(_) => Ok(false),
+            Some(_) => Ok(Next::Ended),
             None => {
                 self.advance()?;
-                Ok(true)
+                Ok(Next::Going)
             }
         }
     }

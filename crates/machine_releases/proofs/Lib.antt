@@ -1,3 +1,2 @@
-mod AloneLemmas
 mod EditLemmas
 mod OkLemmas

@@ -12,5 +12,5 @@ mod timers;
 pub use budgets::{load, raise_by, set_handler};
 pub use interrupts::interrupt;
 pub use releases::{has_room_for_release, release};
-pub use ticks::charge;
+pub use ticks::{charge, charge_itself};
 pub use timers::{clear_timer, set_in};

@@ -1,9 +1,8 @@
 //! One tick is charged to who ran it (ISO/IEC 8652:2012, D.2.5, D.14).
 ghost use Rattle.std.specs.Prelude.{◌≡◌, ◌++◌, OnOk, pos};
 ghost use Rattle.profile_machine.specs.Handlers.{clock_risen, charged_budget, has_run_out, due_by_tick, charge_budget, has_value_up_to, is_reached_by, quantum_spent_by, charge_clock, charge_group, charge_task, charge};
-ghost use Rattle.profile_machine.specs.Tasks.{edit_task, task_at, task_of};
-ghost use Rattle.trace_text.specs.declared.events.Who.TheVariants as who;
-ghost use Rattle.machine_releases.specs.Alone.{charged_itself, is_alone, charged_alone};
+ghost use Rattle.profile_machine.specs.Tasks.{edit_task, task_of};
+ghost use Rattle.machine_releases.specs.Alone.{charged_itself};
 ghost use Rattle.profile_image.specs.Words.{edit_at};
 ghost use Rattle.machine_releases.specs.Ticks.{timer_in, reached_in};
 
@@ -178,8 +177,10 @@ fn spend_quantum_of(p: &Program, world: &mut World, name: Who)
     }
 }
 
-// A task that belongs to no group, where no timer is set: its clock and its quantum alone are charged.
-fn charge_itself(p: &Program, task: &mut Task) -> Result<(), NoMemory>
+/// The clock and the quantum of a task are charged a tick, which is all if it belongs to no group and no timer is set.
+///
+/// Errors: the clock is at the last of 64 bits.
+pub fn charge_itself(p: &Program, task: &mut Task) -> Result<(), NoMemory>
     ensures { OnOk result (task.new ≡ charged_itself p.now task.old) }
 {
     task.cpu_ticks = task.cpu_ticks.checked_add(1).ok_or(NoMemory)?;
@@ -187,48 +188,13 @@ fn charge_itself(p: &Program, task: &mut Task) -> Result<(), NoMemory>
     Ok(())
 }
 
-// Whether the task is there, and belongs to no group.
-fn is_alone(world: &World, t: TaskNo) -> bool
-    ensures { result ≡ is_alone (task_at world.now (who.Task t)) }
-{
-    match task_at(world, Who::Task(t)) {
-        Some(task) => task.budget.is_none(),
-        None => false,
-    }
-}
-
-// The same in a world, in one look-up: nothing becomes due by the tick.
-fn charge_alone(p: &Program, world: &mut World, t: TaskNo) -> Result<(), NoMemory>
-    ensures { OnOk result (world.new ≡ charged_alone p.now t world.old) }
-{
-    if let Some(task) = task_mut(world, Who::Task(t)) {
-        charge_itself(p, task)?;
-    }
-    world.timers_due.clear();
-    world.budget_due = None;
-    Ok(())
-}
-
-// Each of what is charged by itself.
-fn charge_each(p: &Program, world: &mut World, t: TaskNo) -> Result<(), NoMemory>
+fn charge_task(p: &Program, world: &mut World, t: TaskNo) -> Result<(), NoMemory>
     ensures { OnOk result (world.new ≡ charge_task p.now t world.old) }
 {
     charge_clock(world, t)?;
     charge_group(world, t);
     spend_quantum_of(p, world, Who::Task(t));
     Ok(())
-}
-
-// A task is charged one tick.
-#[tactic(auto, using(crate::proofs::AloneLemmas::alone_laws))]
-fn charge_task(p: &Program, world: &mut World, t: TaskNo) -> Result<(), NoMemory>
-    ensures { OnOk result (world.new ≡ charge_task p.now t world.old) }
-{
-    if world.timers_set.is_empty() && is_alone(world, t) {
-        charge_alone(p, world, t)
-    } else {
-        charge_each(p, world, t)
-    }
 }
 
 /// A tick is charged to the task that ran it: to its clock, its budget and its quantum. What

@@ -5,14 +5,15 @@ ghost use Rattle.profile_machine.specs.Cost.{cost};
 ghost use Rattle.profile_machine.specs.Tasks.{task_of};
 ghost use Rattle.profile_image.specs.Words.{same_option, same_who};
 ghost use Rattle.profile_machine.specs.Steps.{watches};
+ghost use Rattle.machine_ticks.specs.Alone.{ticked, ticks_alone, ticked_alone};
 ghost use Rattle.machine_ticks.specs.Ticks.{Ticks};
 
-use ann_base::NoMemory;
+use ann_base::{NoMemory, TaskNo};
 use machine_costs::cost;
 use machine_dispatching::choose;
 use machine_frames::{set_ticks, task_at, task_mut};
 use machine_program::Program;
-use machine_releases::charge;
+use machine_releases::{charge, charge_itself};
 use profile_machine::world::{World, same_who};
 use trace_text::Who;
 use world_tables::List;
@@ -111,6 +112,59 @@ fn spend_tick(name: Who, world: &mut World)
     }
 }
 
+// The action begins or goes on, and one tick of it is charged and spent, one by one.
+fn tick_each(p: &Program, name: Who, world: &mut World) -> Result<(), NoMemory>
+    ensures { OnOk result (world.new ≡ ticked p.now name world.old) }
+{
+    begin_action(p, name, world);
+    charge(p, world, name)?;
+    spend_tick(name, world);
+    Ok(())
+}
+
+// The ticks of the action of a task that is charged alone: no timer is set, and it belongs to no group.
+fn ticks_alone(p: &Program, name: Who, world: &World) -> Option<u64>
+    ensures { result ≡ ticks_alone p.now name world.now }
+{
+    if !world.timers_set.is_empty() {
+        return None;
+    }
+    let task = task_at(world, name)?;
+    if task.budget.is_some() {
+        return None;
+    }
+    match task.ticks_left {
+        Some(ticks) => Some(ticks),
+        None => Some(cost(p, world, name)),
+    }
+}
+
+// One tick of an action of so many ticks, of a task that is charged alone: one look-up serves.
+fn tick_alone(p: &Program, t: TaskNo, ticks: u64, world: &mut World) -> Result<(), NoMemory>
+    ensures { OnOk result (world.new ≡ ticked_alone p.now t ticks world.old) }
+{
+    if let Some(task) = task_mut(world, Who::Task(t)) {
+        charge_itself(p, task)?;
+        task.ticks_left = Some(ticks.saturating_sub(1));
+    }
+    world.timers_due.clear();
+    world.budget_due = None;
+    Ok(())
+}
+
+// The action begins or goes on, and one tick of it is charged and spent.
+fn tick_action(p: &Program, name: Who, world: &mut World) -> Result<(), NoMemory>
+    ensures { OnOk result (world.new ≡ ticked p.now name world.old) }
+{
+    match name {
+        Who::Task(t) => match ticks_alone(p, name, world) {
+            Some(ticks) => tick_alone(p, t, ticks, world),
+            None => tick_each(p, name, world),
+        },
+        Who::Agent => tick_each(p, name, world),
+    }
+}
+
 // One tick passes. Errors: the numbers of ticks are used up.
 fn next_tick(ran: Option<Who>, world: &mut World) -> Result<(), NoMemory>
     ensures { OnOk result (world.new ≡ next_tick ran world.old) }
@@ -132,9 +186,7 @@ fn tick_of(
 {
     says_run(name, world, lines)?;
     serve(name, world, lines)?;
-    begin_action(p, name, world);
-    charge(p, world, name)?;
-    spend_tick(name, world);
+    tick_action(p, name, world)?;
     next_tick(Some(name), world)
 }
 

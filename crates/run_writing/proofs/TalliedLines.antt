@@ -36,8 +36,8 @@ pub all_tallied : (tally : Tally) (to_come whole : List TraceLine) → TalliedUp
 all_tallied tally to_come whole so_far none = subst (Tallies tally) (sym (append-nil so_far.0) ∙ ap (λ xs. so_far.0 ++ xs) (sym none) ∙ so_far.2) so_far.1
 
 -- where the run has ended, nothing is to come
-pub none_to_come : (next : Next) (stop : Ended) (to_come : List TraceLine) (why : Ended) → next ≡ did.Ended stop → IfEnded (λ w. (to_come ≡ []) × (w ≡ why)) next → to_come ≡ []
-none_to_come next stop to_come why is ended = (subst (IfEnded (λ w. (to_come ≡ []) × (w ≡ why))) is ended).0
+pub none_to_come : (next : Next) (P : Type 0) (to_come : List TraceLine) → next ≡ did.Ended → IfEnded ((to_come ≡ []) × P) next → to_come ≡ []
+none_to_come next P to_come is ended = (subst (IfEnded ((to_come ≡ []) × P)) is ended).0
 
 -- a prefix of an equal text
 pub cut_text : {X E : Type 0} (r : Result X E) (old new : Option (List ℕ)) (line text : List ℕ) → line ≡ text → HoldsPrefix old new line → OnErr r (HoldsPrefix old new text)

@@ -68,7 +68,7 @@ pub fn run_under<K: Sink>(
             Next::Going => {
                 write_line(out, buffer.bytes())?;
             }
-            Next::Ended(stop) => return Ok(stop),
+            Next::Ended => return Ok(kernel.stop()?),
         }
     }
 }

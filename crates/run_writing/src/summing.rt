@@ -87,7 +87,7 @@ fn tally_run(
         buffer.clear();
         match kernel.next(&mut buffer)? {
             Next::Going => tally.piece(buffer.bytes())?,
-            Next::Ended(stop) => return Ok(stop),
+            Next::Ended => return Ok(kernel.stop()?),
         }
     }
 }

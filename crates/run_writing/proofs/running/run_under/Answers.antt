@@ -40,7 +40,7 @@ loop-buffer-preserved g c = record {
 pub returns-in-Ended-clause-printable : goal.returns-in-Ended-clause-printable
 returns-in-Ended-clause-printable g c =
     all_printable (future c.loop-buffer.kernel) (lines_of_run c.args.image c.args.items c.args.ticks) c.loop-buffer.invariant.printable
-    (none_to_come c.in_ok-next.field-0 c.in-Ended.stop (future c.loop-buffer.kernel) (stop_to_come c.loop-buffer.kernel) c.in-Ended.is c.in_ok-next.ensures.ended)
+    (none_to_come c.in_ok-next.field-0 _ (future c.loop-buffer.kernel) c.in-Ended.is c.in_ok-next.ensures.ended)
 
 pub returns-in_err-write_line-in-Going-clause-prefix : goal.returns-in_err-write_line-in-Going-clause-prefix
 returns-in_err-write_line-in-Going-clause-prefix g c =

@@ -14,4 +14,4 @@ pub returns-clause-going : goal.returns-clause-going
 returns-clause-going c = next-going c.args.self.now c.step.new.self c.instants_take_no_time.ensures c.tocks_take_one_tick.ensures c.idle_stretches_say_nothing.ensures c.step.result c.step.ensures.step c.step.ensures.going
 
 pub returns-clause-ended : goal.returns-clause-ended
-returns-clause-ended c = next-ended c.args.self.now c.step.result c.step.ensures.ended
+returns-clause-ended c = next-ended c.args.self.now c.step.new.self c.step.result c.step.ensures.ended

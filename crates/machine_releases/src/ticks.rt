@@ -1,6 +1,9 @@
 //! One tick is charged to who ran it (ISO/IEC 8652:2012, D.2.5, D.14).
 ghost use Rattle.std.specs.Prelude.{◌≡◌, ◌++◌, OnOk, pos};
-ghost use Rattle.profile_machine.specs.Handlers.{clock_risen, charged_budget, has_run_out, due_by_tick, charge_budget, has_value_up_to, is_reached_by, quantum_spent_by, charge_clock, charge_group, charge_task, charge};
+ghost use Rattle.profile_machine.specs.Handlers.{clock_risen, charged_budget, has_run_out};
+ghost use Rattle.profile_machine.specs.Handlers.{due_by_tick, charge_budget, has_value_up_to};
+ghost use Rattle.profile_machine.specs.Handlers.{is_reached_by, quantum_spent_by, charge_clock};
+ghost use Rattle.profile_machine.specs.Handlers.{charge_group, charge_task, charge};
 ghost use Rattle.profile_machine.specs.Tasks.{edit_task, task_at, task_of};
 ghost use Rattle.trace_text.specs.declared.events.Who.TheVariants as who;
 ghost use Rattle.machine_releases.specs.Alone.{charged_itself, is_alone, charged_alone};
@@ -178,7 +181,8 @@ fn spend_quantum_of(p: &Program, world: &mut World, name: Who)
     }
 }
 
-// A task that belongs to no group, where no timer is set: its clock and its quantum alone are charged.
+// A task that belongs to no group, where no timer is set: its clock and its quantum alone are
+// charged.
 fn charge_itself(p: &Program, task: &mut Task) -> Result<(), NoMemory>
     ensures { OnOk result (task.new ≡ charged_itself p.now task.old) }
 {

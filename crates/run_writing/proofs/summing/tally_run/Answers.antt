@@ -26,4 +26,5 @@ loop-buffer-preserved c =
 pub returns-in-Ended-clause-tallied : goal.returns-in-Ended-clause-tallied
 returns-in-Ended-clause-tallied c =
     all_tallied c.loop-buffer.tally (future c.loop-buffer.kernel) (lines_of_run c.args.image c.args.items c.args.ticks) c.loop-buffer.invariant.tallied
-    (none_to_come c.in_ok-next.field-0 c.in-Ended.stop (future c.loop-buffer.kernel) (stop_to_come c.loop-buffer.kernel) c.in-Ended.is c.in_ok-next.ensures.ended)
+    (none_to_come c.in_ok-next.field-0 c.in-Ended.stop (future c.loop-buffer.kernel)
+    (stop_to_come c.loop-buffer.kernel) c.in-Ended.is c.in_ok-next.ensures.ended)

@@ -1,5 +1,6 @@
-//! annexd: the timed run of an Ada program, as an exact trace. All that it does is one call, `top`, whose clauses say what
-//! is promised of the program; `main` hands it the host's arguments, files and streams.
+//! annexd: the timed run of an Ada program, as an exact trace. All that it does is one call, `top`,
+//! whose clauses say what is promised of the program; `main` hands it the host's arguments, files
+//! and streams.
 #![tactic(auto)]
 
 mod whole;
@@ -10,9 +11,9 @@ use std::process::ExitCode;
 use std::{env, io};
 use whole::top;
 
-/// Passes the words behind the program's name to `top`, with the host's files and streams. Words that are not UTF-8 are
-/// refused, as words that are not asked for are; where memory runs out for the words the status is 9, as it is behind
-/// them.
+/// Passes the words behind the program's name to `top`, with the host's files and streams. Words
+/// that are not UTF-8 are refused, as words that are not asked for are; where memory runs out for
+/// the words the status is 9, as it is behind them.
 fn main(rt: HostRuntime) -> io::Result<ExitCode> {
     let mut notes = HostSink::errors(rt.stderr());
     let status = match words_behind_name(rt) {

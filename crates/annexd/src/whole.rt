@@ -4,11 +4,18 @@ ghost use Rattle.ann_base.specs.Outside.{Rose, extended};
 ghost use Rattle.trace_text.specs.Laws.{DispatchOk, CeilingOk, ExclusiveOk, HandlersOk, LeftOk};
 ghost use Rattle.trace_text.specs.Text.{ArePrintable};
 ghost use Rattle.release_laws.specs.ReleaseLaws.{ReleasesOk};
-ghost use Rattle.line_laws.specs.TickLaws.{SwitchesOk, ReleasesInOrder, StuckOk, follows_tick_order};
+ghost use Rattle.line_laws.specs.TickLaws.{SwitchesOk, ReleasesInOrder};
+ghost use Rattle.line_laws.specs.TickLaws.{StuckOk, follows_tick_order};
 ghost use Rattle.commands.specs.Asked.{asked_of};
 ghost use Rattle.commands.specs.Outside.{shelf_of, sink_of};
 ghost use Rattle.commands.specs.Performed.{IsUnread};
-ghost use Rattle.commands.specs.Statuses.{Headline, HeadlineUnder, LoadTold, AcceptanceTold, TableTold, BeyondTold, TraceTold, LawsTold, ReportTold, DoneTold, LawTold, RunTold, NotAccepted, NotAcceptedUnder, LoadNotAccepted, NoScript, ScriptRefusalTold, RefusalTold, BreachTold, TraceRefusalTold, FailureTold, TableRefusalTold, PrefixTold, NoteTried, IsStatus};
+ghost use Rattle.commands.specs.Statuses.{Headline, HeadlineUnder, LoadTold, AcceptanceTold};
+ghost use Rattle.commands.specs.Statuses.{TableTold, BeyondTold, TraceTold, LawsTold};
+ghost use Rattle.commands.specs.Statuses.{ReportTold, DoneTold, LawTold, RunTold};
+ghost use Rattle.commands.specs.Statuses.{NotAccepted, NotAcceptedUnder, LoadNotAccepted};
+ghost use Rattle.commands.specs.Statuses.{NoScript, ScriptRefusalTold, RefusalTold};
+ghost use Rattle.commands.specs.Statuses.{BreachTold, TraceRefusalTold, FailureTold};
+ghost use Rattle.commands.specs.Statuses.{TableRefusalTold, PrefixTold, NoteTried, IsStatus};
 
 use ann_base::{Shelf, Sink};
 use ceiling_laws::runs_keep_the_law_of_ceilings;
@@ -25,11 +32,13 @@ use std::alloc::Global;
 use trace_files::lines_tell;
 use trace_laws::verdicts_tell;
 
-/// Does what the words ask for, and answers the status with which the program ends: 0 a run is completed, a source is
-/// accepted, a table passes its test, or a trace keeps the laws or is reported, 1 a run ended by an exception, 2 it is stuck, 3 its bound
-/// was reached, 4 the source is refused, 5 the script is refused, 6 the words are refused, 7 a file could not be read, 8 something could not be
-/// written, 9 memory ran out, 10 a trace breaks a law, 11 the trace is refused, 12 a table fails its test, 13 the table is
-/// refused. What was asked for goes to `out`, and notes on statuses 4 to 9, 11 and 13 to `notes`.
+/// Does what the words ask for, and answers the status with which the program ends: 0 a run is
+/// completed, a source is accepted, a table passes its test, or a trace keeps the laws or is
+/// reported, 1 a run ended by an exception, 2 it is stuck, 3 its bound was reached, 4 the source is
+/// refused, 5 the script is refused, 6 the words are refused, 7 a file could not be read, 8
+/// something could not be written, 9 memory ran out, 10 a trace breaks a law, 11 the trace is
+/// refused, 12 a table fails its test, 13 the table is refused. What was asked for goes to `out`,
+/// and notes on statuses 4 to 9, 11 and 13 to `notes`.
 pub fn top<S: Shelf, K: Sink>(
     alloc: Global,
     words: &[Vec<u8>],
@@ -74,7 +83,8 @@ pub fn top<S: Shelf, K: Sink>(
         (shelf_of S.files S.faults shelf.old shelf.new)
         (sink_of K.held K.faults out.old out.new)
         (sink_of K.held K.faults notes.old notes.new) result }
-    // Where the report is asked for, it is that of the lines of the trace, exactly where they are formed.
+    // Where the report is asked for, it is that of the lines of the trace, exactly where they are
+    // formed.
     ensures reported { ReportTold (asked_of words.now)
         (shelf_of S.files S.faults shelf.old shelf.new)
         (sink_of K.held K.faults out.old out.new)
@@ -115,8 +125,9 @@ pub fn top<S: Shelf, K: Sink>(
     ensures releases_in_order { result ≤ 3 → LawTold ReleasesInOrder (asked_of words.now)
         (shelf_of S.files S.faults shelf.old shelf.new)
         (sink_of K.held K.faults out.old out.new) }
-    // Each handler is released at its tick: the `release` lines, with their ticks and the handlers that they name, are just
-    // those that the run's history owes, for events and timers that were set, budgets that ran out and interrupts that came.
+    // Each handler is released at its tick: the `release` lines, with their ticks and the handlers
+    // that they name, are just those that the run's history owes, for events and timers that were
+    // set, budgets that ran out and interrupts that came.
     ensures release_causes { result ≤ 3 → RunTold ReleasesOk (asked_of words.now)
         (shelf_of S.files S.faults shelf.old shelf.new)
         (sink_of K.held K.faults out.old out.new) }
@@ -153,7 +164,8 @@ pub fn top<S: Shelf, K: Sink>(
     ensures kept_6 { result ≡ 6 → K.held out.new ≡ K.held out.old }
     ensures note_6 { result ≡ 6 →
         K.held notes.new ≡ extended (K.held notes.old) (codes "words refused\n") }
-    // 7: only where the shelf's faults rose, or it tells its files and a named one is not among them.
+    // 7: only where the shelf's faults rose, or it tells its files and a named one is not among
+    // them.
     ensures read_fault { result ≡ 7 → IsUnread (asked_of words.now)
         (shelf_of S.files S.faults shelf.old shelf.new) }
     ensures kept_7 { result ≡ 7 → K.held out.new ≡ K.held out.old }

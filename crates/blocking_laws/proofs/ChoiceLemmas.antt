@@ -43,10 +43,14 @@ none true = refl
 none false = refl
 
 -- behind a line that is of no effect, at its tick, only the service of a release stands
-serves_next : (first second : TraceLine) → stands_rightly first second ≡ true → (second.0 == first.0) ≡ true → is_of_effect first.1 ≡ false → is_serve second.1 ≡ true
-serves_next first second stands same beside = last (eqb first.0 second.0) (is_of_effect first.1) (is_run first.1) (is_serve second.1) (let e : second.0 ≡ first.0 = eqb-true second.0 first.0 same in eq-eqb first.0 second.0 (sym e)) beside stands
+serves_next : (first second : TraceLine) → stands_rightly first second ≡ true → (second.0 == first.0) ≡ true → is_of_effect first.1 ≡ false
+    → is_serve second.1 ≡ true
+serves_next first second stands same beside =
+    last (eqb first.0 second.0) (is_of_effect first.1) (is_run first.1) (is_serve second.1)
+    (let e : second.0 ≡ first.0 = eqb-true second.0 first.0 same in eq-eqb first.0 second.0 (sym e)) beside stands
 
-chooses_behind : (before : TraceLine) (lines : List TraceLine) (chosen : Bool) → (chosen ≡ true → is_of_effect before.1 ≡ false) → follows_tick_order (before ∷ lines) ≡ true → chooses_from before.0 chosen lines ≡ true
+chooses_behind : (before : TraceLine) (lines : List TraceLine) (chosen : Bool) → (chosen ≡ true → is_of_effect before.1 ≡ false)
+    → follows_tick_order (before ∷ lines) ≡ true → chooses_from before.0 chosen lines ≡ true
 chooses_behind before [] chosen known order = refl
 chooses_behind before (line ∷ lines) chosen known order =
     let parts = and_parts (stands_rightly before line) (follows_tick_order (line ∷ lines)) order in

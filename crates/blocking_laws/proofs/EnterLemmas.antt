@@ -66,7 +66,8 @@ late-in_order : (xs : List Said) → AllLate xs → AllLate (in_order xs)
 late-in_order [] h = h
 late-in_order (x ∷ xs) h = late-put x (in_order xs) (h.0, late-in_order xs h.1)
 
-quiet-test : (sight : List Entry) (x y : Said) (ys : List Said) (b : Bool) → is_apart x.line ≡ false → Entered sight (y ∷ ys) → (Entered sight ys → Entered sight (put_in_order x ys)) → Entered sight (cond b (y ∷ put_in_order x ys) (x ∷ y ∷ ys))
+quiet-test : (sight : List Entry) (x y : Said) (ys : List Said) (b : Bool) → is_apart x.line ≡ false → Entered sight (y ∷ ys)
+    → (Entered sight ys → Entered sight (put_in_order x ys)) → Entered sight (cond b (y ∷ put_in_order x ys) (x ∷ y ∷ ys))
 quiet-test sight x y ys false e h onward = inl (e, h)
 quiet-test sight x y ys true e (inl h) onward = inl (h.0, onward h.1)
 quiet-test sight x y ys true e (inr h) onward = inr (h.0, late-put x ys (quiet-late x e, h.1))
@@ -80,7 +81,8 @@ early-quiet : (x : Said) → IsLate x → is_part_before x.part Own ≡ true →
 early-quiet x (other, inl e) sooner = e
 early-quiet x (other, inr late) sooner = absurd (let never : true ≡ false = sym sooner ∙ late in cc)
 
-begins-test : (sight : List Entry) (x y : Said) (ys : List Said) (b : Bool) → is_part_before y.part Own ≡ b → Begins sight x → AllLate (y ∷ ys) → Entered sight (put_in_order x ys) → Entered sight (cond b (y ∷ put_in_order x ys) (x ∷ y ∷ ys))
+begins-test : (sight : List Entry) (x y : Said) (ys : List Said) (b : Bool) → is_part_before y.part Own ≡ b → Begins sight x → AllLate (y ∷ ys)
+    → Entered sight (put_in_order x ys) → Entered sight (cond b (y ∷ put_in_order x ys) (x ∷ y ∷ ys))
 begins-test sight x y ys true is b h onward = inl (early-quiet y h.0 is, onward)
 begins-test sight x y ys false is b h onward = inr (b, h)
 
@@ -122,7 +124,11 @@ quiet-sight p sight _ e = refl
 
 pub entered-lawful : (p : Image) (sight : List Entry) (xs : List Said) → Entered sight xs → Lawful sight (events_of p xs)
 entered-lawful p sight [] h = absurd h
-entered-lawful p sight (x ∷ xs) (inl h) =
-    (no_enter-lawful p sight x.line (quiet-no_enter x.line h.0), subst (λ s. Lawful s (events_of p xs)) (sym (quiet-sight p sight x.line h.0)) (entered-lawful p sight xs h.1))
-entered-lawful p sight (x ∷ xs) (inr h) =
-    (ap (λ (z : Said). is_first_entry sight (event_of p z.line)) h.0.said ∙ h.0.first, no_enters-lawful p (queue_after sight (event_of p x.line)) xs (late-no_enter xs h.1))
+entered-lawful p sight (x ∷ xs) (inl h) = (
+  no_enter-lawful p sight x.line (quiet-no_enter x.line h.0),
+  subst (λ s. Lawful s (events_of p xs)) (sym (quiet-sight p sight x.line h.0)) (entered-lawful p sight xs h.1),
+)
+entered-lawful p sight (x ∷ xs) (inr h) = (
+  ap (λ (z : Said). is_first_entry sight (event_of p z.line)) h.0.said ∙ h.0.first,
+  no_enters-lawful p (queue_after sight (event_of p x.line)) xs (late-no_enter xs h.1),
+)

@@ -11,13 +11,15 @@ use Rattle.ceiling_laws.proofs.Runs.Finer.{fine}
 use Rattle.ceiling_laws.proofs.Runs.Kept.Act.{effect-leads}
 use Rattle.ceiling_laws.proofs.Runs.LevelMoves.{Silences, said_so}
 use Rattle.ceiling_laws.proofs.Runs.RunLemmas.{Others, behind_onward, settles_onward}
-use Rattle.ceiling_laws.proofs.Runs.Triples.{Alters, Ends, Keeps, State, changes-keeps, for_some-keeps, from-leads, from_at, looks-keeps, nothing-keeps, then-keeps}
+use Rattle.ceiling_laws.proofs.Runs.Triples.{Alters, Ends, Keeps, State, changes-keeps, for_some-keeps}
+use Rattle.ceiling_laws.proofs.Runs.Triples.{from-leads, from_at, looks-keeps, nothing-keeps, then-keeps}
 use Rattle.line_laws.proofs.Ticks.LineByLine.{Follow, Follow-append, seen_behind, seen_behind-append}
 use Rattle.machine_laws.proofs.DispatchLemmas.{tock-ran}
 use Rattle.machine_laws.proofs.TimeLemmas.{opening-runner}
 use Rattle.profile_machine.specs.Declarations.{says_object, set_thing, with_object}
 use Rattle.profile_machine.specs.Dispatching.{active, choose, deadline_shown, says_ready}
-use Rattle.profile_machine.specs.Instant.{budgets_due, effect, effect_of_runner, events_due, finish_action, instant, is_over, moments_due, quantum_spent, script_items, timers_due}
+use Rattle.profile_machine.specs.Instant.{budgets_due, effect, effect_of_runner, events_due, finish_action}
+use Rattle.profile_machine.specs.Instant.{instant, is_over, moments_due, quantum_spent, script_items, timers_due}
 use Rattle.profile_machine.specs.Masters.{part_of}
 use Rattle.profile_image.specs.Program.{next_of, protected_unit_of}
 use Rattle.profile_machine.specs.Priorities.{says_base, set_base}
@@ -67,7 +69,8 @@ use Rattle.ann_base.specs.declared.identities.ObjectNo.{ObjectNo}
 use Rattle.ceiling_laws.proofs.Runs.FreeMoves.{FreeBase, FreeMoves, ready_by_line}
 use Rattle.ceiling_laws.proofs.Runs.Triples.{With}
 use Rattle.blocking_laws.specs.OwnLines.{RunsEnterFirst, is_first_entry}
-use Rattle.ceiling_laws.proofs.Runs.EnterLemmas.{AllQuiet, IsLate, NoEnter, all_quiet-append, all_quiet-no_enter, is_enter, no_enter-append, no_enter-in_order, quiet-late, quiet-no_enter}
+use Rattle.ceiling_laws.proofs.Runs.EnterLemmas.{AllQuiet, IsLate, NoEnter, all_quiet-append, all_quiet-no_enter}
+use Rattle.ceiling_laws.proofs.Runs.EnterLemmas.{is_enter, no_enter-append, no_enter-in_order, quiet-late, quiet-no_enter}
 use Rattle.blocking_laws.proofs.EnterLemmas.{Entered, entered-append, entered-begins, entered-in_order, entered-lawful, no_enters-lawful}
 use Rattle.blocking_laws.proofs.ToldLines.{ToldRuns, run-follows}
 
@@ -147,31 +150,47 @@ first_none : (w : World) (said : List Said) → AtFirst w said → None_enter w 
 unfolding AtFirst None_enter
 first_none w said h = all_quiet-no_enter said h
 
-enters_one : (name : Who) (queue : List Entry) (o : ObjectNo) (mode : Mode) → who_of (head_of queue) ≡ Some name → Leads (With AtFirst (λ w. free.anywhere w o)) (OneEnters queue) (says Own (line.Enter name o mode))
+enters_one : (name : Who) (queue : List Entry) (o : ObjectNo) (mode : Mode) → who_of (head_of queue) ≡ Some name
+    → Leads (With AtFirst (λ w. free.anywhere w o)) (OneEnters queue) (says Own (line.Enter name o mode))
 unfolding AtFirst OneEnters Ends
 enters_one name queue o mode first = record {
-  runs = λ w said h. entered-begins queue said (said_so Own (line.Enter name o mode)) h.0 (record { name = name; object = o; mode = mode; said = refl; first = is_somebody (who_of (head_of queue)) (Some name) first });
+  runs =
+      λ w said h. entered-begins queue said (said_so Own (line.Enter name o mode)) h.0
+      (record { name = name; object = o; mode = mode; said = refl; first = is_somebody (who_of (head_of queue)) (Some name) first });
 }
 
 none_created : (p : Image) (name : Who) (s : StatementNo) (d : DeclNo) (id : Option ScopeId) (t : Task) → Keeps None_enter (create_task p name s d id t)
 unfolding create_task says_created
 none_created p name s d id t =
     then-keeps _ _ (goes-keeps (fine none_quiet) name (next_of p s)) (then-keeps _ _ (changes-keeps _ (none_alters (add_task t)))
-    (then-keeps _ _ (for_some-keeps id _ (λ within. looks-keeps _ (λ w. changes-keeps _ (none_alters (set_thing p (record { within = within; declared = d }) (value_of.Task (Some (record { 0 = w.drawn.tasks - 1 }))))))))
+    (then-keeps _ _
+    (for_some-keeps id _
+    (λ within. looks-keeps _
+    (λ w.
+    changes-keeps _ (none_alters (set_thing p (record { within = within; declared = d }) (value_of.Task (Some (record { 0 = w.drawn.tasks - 1 }))))))))
     (looks-keeps _ (λ w. none_says Own (line.New (created.Task (record { 0 = w.drawn.tasks - 1 })) (Some d) t.base) refl))))
 
 none_made : (p : Image) (l : Located) (u : ProtectedUnitNo) → Keeps None_enter (changes (with_object p l u) ▷ says_object p l u)
 unfolding says_object
-none_made p l u = then-keeps _ _ (changes-keeps _ (none_alters (with_object p l u))) (looks-keeps _ (λ w. none_says Own (line.New (created.Object (record { 0 = w.drawn.objects })) (Some l.declared) (protected_unit_of p u).ceiling) refl))
+none_made p l u =
+    then-keeps _ _ (changes-keeps _ (none_alters (with_object p l u)))
+    (looks-keeps _ (λ w. none_says Own (line.New (created.Object (record { 0 = w.drawn.objects })) (Some l.declared) (protected_unit_of p u).ceiling) refl))
 
-none_takes : (p : Image) (level : ℕ) → Keeps None_enter (changes (edit_task who.Agent (λ u. record u { deferred_base = None })) ▷ set_base p ThePlacing ThePlacing who.Agent level)
+none_takes : (p : Image) (level : ℕ)
+    → Keeps None_enter (changes (edit_task who.Agent (λ u. record u { deferred_base = None })) ▷ set_base p ThePlacing ThePlacing who.Agent level)
 unfolding set_base says_base
-none_takes p level = then-keeps _ _ (changes-keeps _ (none_alters (edit_task who.Agent (λ u. record u { deferred_base = None })))) (then-keeps _ _ (changes-keeps _ (none_alters (edit_task who.Agent (λ u. record u { base = level })))) (then-keeps _ _ nothing-keeps (looks-keeps _ (λ w. free.replace_in-free (none_base p) ThePlacing who.Agent (task_of w who.Agent).state tt))))
+none_takes p level =
+    then-keeps _ _ (changes-keeps _ (none_alters (edit_task who.Agent (λ u. record u { deferred_base = None }))))
+    (then-keeps _ _ (changes-keeps _ (none_alters (edit_task who.Agent (λ u. record u { base = level }))))
+    (then-keeps _ _ nothing-keeps (looks-keeps _ (λ w. free.replace_in-free (none_base p) ThePlacing who.Agent (task_of w who.Agent).state tt))))
 
-none_bases : (part : Part) (t : TaskNo) (level : ℕ) → Keeps None_enter (changes (edit_task (who.Task t) (λ u. record u { base = level })) ▷ says part (line.Base t level))
-none_bases part t level = then-keeps _ _ (changes-keeps _ (none_alters (edit_task (who.Task t) (λ u. record u { base = level })))) (none_says part (line.Base t level) refl)
+none_bases : (part : Part) (t : TaskNo) (level : ℕ)
+    → Keeps None_enter (changes (edit_task (who.Task t) (λ u. record u { base = level })) ▷ says part (line.Base t level))
+none_bases part t level =
+    then-keeps _ _ (changes-keeps _ (none_alters (edit_task (who.Task t) (λ u. record u { base = level })))) (none_says part (line.Base t level) refl)
 
-first_free : (p : Image) (name : Who) (queue : List Entry) → who_of (head_of queue) ≡ Some name → FreeMoves p name free.anywhere AtFirst None_enter (OneEnters queue)
+first_free : (p : Image) (name : Who) (queue : List Entry) → who_of (head_of queue) ≡ Some name
+    → FreeMoves p name free.anywhere AtFirst None_enter (OneEnters queue)
 first_free p name queue first = record {
   fresh = first_quiet;
   appoints_first = λ t moment. first_alters _;
@@ -203,22 +222,33 @@ effect-lawful : (p : Image) (w : World) (name : Who) (queue : List Entry) → wh
 unfolding AtFirst
 effect-lawful p w name queue first = either-lawful p queue (effect p name w []) ((effect-leads (free.freely (first_free p name queue first))).runs w [] tt)
 
-effect_if-lawful : (p : Image) (w : World) (name : Who) (queue : List Entry) (b : Bool) → Lawful queue (settles p (effect p name) w).1 → Lawful queue ((elim b as (λ _. Move) [ true ↦ settles p (effect p name) | false ↦ rests ]) w).1
+effect_if-lawful : (p : Image) (w : World) (name : Who) (queue : List Entry) (b : Bool) → Lawful queue (settles p (effect p name) w).1
+    → Lawful queue ((elim b as (λ _. Move) [ true ↦ settles p (effect p name) | false ↦ rests ]) w).1
 effect_if-lawful p w name queue true h = h
 effect_if-lawful p w name queue false h = tt
 
-finish-lawful : (p : Image) (w : World) (queue : List Entry) (ran : Option Who) → ((name : Who) → ran ≡ Some name → who_of (head_of queue) ≡ Some name) → Lawful queue (effect_of_runner p ran w).1
+finish-lawful : (p : Image) (w : World) (queue : List Entry) (ran : Option Who) → ((name : Who) → ran ≡ Some name → who_of (head_of queue) ≡ Some name)
+    → Lawful queue (effect_of_runner p ran w).1
 finish-lawful p w queue None first = tt
-finish-lawful p w queue (Some name) first = effect_if-lawful p w name queue (is_over (task_of w name).ticks_left) (effect-lawful p w name queue (first name refl))
+finish-lawful p w queue (Some name) first =
+    effect_if-lawful p w name queue (is_over (task_of w name).ticks_left) (effect-lawful p w name queue (first name refl))
 
 AnyQueue : List Entry → World → Type 0
 AnyQueue queue w = Unit {0}
 
 beside : (p : Image) → Others queue_after is_first_entry AnyQueue p
 unfolding AnyQueue None_enter
-beside p queue = (None_enter, free.any_world, free.any_task, free.free_others (none_base p), (λ w h. tt), (λ v xs h. record { follow = no_enters-lawful p queue (in_order xs) (no_enter-in_order xs h); shows = tt }))
+beside p queue = (
+  None_enter,
+  free.any_world,
+  free.any_task,
+  free.free_others (none_base p),
+  (λ w h. tt),
+  (λ v xs h. record { follow = no_enters-lawful p queue (in_order xs) (no_enter-in_order xs h); shows = tt }),
+)
 
-instant-lawful : (p : Image) (w : World) (queue : List Entry) → ((name : Who) → w.ran ≡ Some name → who_of (head_of queue) ≡ Some name) → Lawful queue (instant p w).1
+instant-lawful : (p : Image) (w : World) (queue : List Entry) → ((name : Who) → w.ran ≡ Some name → who_of (head_of queue) ≡ Some name)
+    → Lawful queue (instant p w).1
 unfolding AnyQueue
 instant-lawful p w queue first =
     let done_first = finish_action p w in
@@ -236,7 +266,8 @@ none_opens p =
 opening-lawful : (p : Image) (script : List (ℤ × Item)) → Lawful [] (opening p script).1
 unfolding AnyQueue None_enter
 opening-lawful p script =
-    (settles_onward queue_after is_first_entry AnyQueue p [] None_enter None_enter (opens p) (blank_world p script) (λ v xs h. record { follow = no_enters-lawful p [] (in_order xs) (no_enter-in_order xs h); shows = tt }) (none_opens p) tt).follow
+    (settles_onward queue_after is_first_entry AnyQueue p [] None_enter None_enter (opens p) (blank_world p script)
+    (λ v xs h. record { follow = no_enters-lawful p [] (in_order xs) (no_enter-in_order xs h); shows = tt }) (none_opens p) tt).follow
 
 tock-event : (queue : List Entry) (event : Event) → is_of_tock event ≡ true → is_first_entry queue event ≡ true
 tock-event queue (written.Enter name object mode) e = cc
@@ -248,7 +279,8 @@ queue-behind : (queue : List Entry) (lines : List Event) → lined (seen_behind 
 queue-behind queue [] = refl
 queue-behind queue (x ∷ xs) = queue-behind (queue_after queue x) xs ∙ ap (places_after_all xs) (lined-after queue x)
 
-told-lined : (p : Image) (script : List (ℤ × Item)) (bound : ℕ) (lines : List Event) (w : World) → Tells p script bound lines w → w.places ≡ lined (seen_behind queue_after is_first_entry [] lines)
+told-lined : (p : Image) (script : List (ℤ × Item)) (bound : ℕ) (lines : List Event) (w : World) → Tells p script bound lines w
+    → w.places ≡ lined (seen_behind queue_after is_first_entry [] lines)
 told-lined p script bound _ _ told_first = openings_place_by_lines p script ∙ sym (queue-behind [] (opening p script).1)
 told-lined p script bound _ _ (told_on lines w told going) =
     let i = instant p w in
@@ -261,14 +293,17 @@ told-lined p script bound _ _ (told_on lines w told going) =
     ∙ ap (λ q. lined (seen_behind queue_after is_first_entry q t.1)) (sym (seen_behind-append queue_after is_first_entry [] lines i.1))
     ∙ ap lined (sym (seen_behind-append queue_after is_first_entry [] (lines ++ i.1) t.1))
 
-told-chosen : (p : Image) (script : List (ℤ × Item)) (bound : ℕ) (lines : List Event) (w : World) (name : Who) → Tells p script bound lines w → w.ran ≡ Some name → dispatching.head_of w.places ≡ Some name
+told-chosen : (p : Image) (script : List (ℤ × Item)) (bound : ℕ) (lines : List Event) (w : World) (name : Who) → Tells p script bound lines w
+    → w.ran ≡ Some name → dispatching.head_of w.places ≡ Some name
 told-chosen p script bound _ _ name told_first e = absurd (let none : None ≡ Some name = sym (opening-runner p script) ∙ e in cc)
 told-chosen p script bound _ _ name (told_on lines w told going) e =
     ap dispatching.head_of (tocks_place_nobody p (instant p w).0) ∙ sym (tock-ran p (instant p w).0) ∙ e
 
-told-head : (p : Image) (script : List (ℤ × Item)) (bound : ℕ) (lines : List Event) (w : World) → Tells p script bound lines w → (name : Who) → w.ran ≡ Some name → who_of (head_of (seen_behind queue_after is_first_entry [] lines)) ≡ Some name
+told-head : (p : Image) (script : List (ℤ × Item)) (bound : ℕ) (lines : List Event) (w : World) → Tells p script bound lines w → (name : Who)
+    → w.ran ≡ Some name → who_of (head_of (seen_behind queue_after is_first_entry [] lines)) ≡ Some name
 told-head p script bound lines w told name e =
-    sym (lined-head (seen_behind queue_after is_first_entry [] lines)) ∙ ap dispatching.head_of (sym (told-lined p script bound lines w told)) ∙ told-chosen p script bound lines w name told e
+    sym (lined-head (seen_behind queue_after is_first_entry [] lines)) ∙ ap dispatching.head_of (sym (told-lined p script bound lines w told))
+    ∙ told-chosen p script bound lines w name told e
 
 first_runs : (p : Image) (script : List (ℤ × Item)) (bound : ℕ) → ToldRuns queue_after is_first_entry p script bound []
 first_runs p script bound = record {
@@ -279,4 +314,5 @@ first_runs p script bound = record {
 }
 
 pub runs_enter_first : RunsEnterFirst
-runs_enter_first p script bound = lines_hold queue_after is_first_entry [] (run_of p script bound) (run-follows queue_after is_first_entry (first_runs p script bound))
+runs_enter_first p script bound =
+    lines_hold queue_after is_first_entry [] (run_of p script bound) (run-follows queue_after is_first_entry (first_runs p script bound))

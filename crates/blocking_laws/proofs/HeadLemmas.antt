@@ -10,7 +10,8 @@ use Rattle.ceiling_laws.proofs.Runs.Finer.{fine}
 use Rattle.ceiling_laws.proofs.Runs.Kept.Act.{effect-leads}
 use Rattle.ceiling_laws.proofs.Runs.LevelMoves.{Silences, is_apart, said_so}
 use Rattle.ceiling_laws.proofs.Runs.RunLemmas.{Onward, Others, Settles, behind_onward, either_over, rests_onward, settles_onward, then_onward}
-use Rattle.ceiling_laws.proofs.Runs.Triples.{Alters, Ends, Keeps, State, changes-keeps, for_some-keeps, from-leads, from_at, looks-keeps, nothing-keeps, then-keeps}
+use Rattle.ceiling_laws.proofs.Runs.Triples.{Alters, Ends, Keeps, State, changes-keeps, for_some-keeps}
+use Rattle.ceiling_laws.proofs.Runs.Triples.{from-leads, from_at, looks-keeps, nothing-keeps, then-keeps}
 use Rattle.line_laws.proofs.Ticks.LineByLine.{Follow, Follow-append, Leads_on, OfRuns, run-at_each_line, seen_behind, seen_behind-append}
 use Rattle.machine_laws.proofs.DispatchLemmas.{effect-runner, ran-path, tock-ran}
 use Rattle.machine_laws.proofs.Kept.Run.{before_tick, tock-parts}
@@ -19,7 +20,8 @@ use Rattle.machine_laws.proofs.TimeLemmas.{instants_keep_runner, opening-runner}
 use Rattle.machine_laws.specs.LineKinds.{AllAre, is_of_effect}
 use Rattle.profile_machine.specs.Declarations.{says_object, set_thing, with_object}
 use Rattle.profile_machine.specs.Dispatching.{active, choose, deadline_shown, says_ready}
-use Rattle.profile_machine.specs.Instant.{budgets_due, effect, effect_of_runner, events_due, finish_action, instant, is_over, moments_due, quantum_spent, script_items, timers_due}
+use Rattle.profile_machine.specs.Instant.{budgets_due, effect, effect_of_runner, events_due, finish_action}
+use Rattle.profile_machine.specs.Instant.{instant, is_over, moments_due, quantum_spent, script_items, timers_due}
 use Rattle.profile_machine.specs.Lines.{event_of}
 use Rattle.profile_machine.specs.Masters.{part_of}
 use Rattle.profile_image.specs.Program.{next_of, protected_unit_of}
@@ -73,7 +75,8 @@ all_own-append : (r : Option Who) (p : Image) (xs : List Said) (x : Said) → Al
 all_own-append r p [] x q e = (e, tt)
 all_own-append r p (y ∷ ys) x q e = (q.0, all_own-append r p ys x q.1 e)
 
-all_own-test : (r : Option Who) (p : Image) (x y : Said) (ys placed : List Said) (b : Bool) → AllOwn r p (x ∷ y ∷ ys) → AllOwn r p placed → AllOwn r p (cond b (y ∷ placed) (x ∷ y ∷ ys))
+all_own-test : (r : Option Who) (p : Image) (x y : Said) (ys placed : List Said) (b : Bool) → AllOwn r p (x ∷ y ∷ ys) → AllOwn r p placed
+    → AllOwn r p (cond b (y ∷ placed) (x ∷ y ∷ ys))
 all_own-test r p x y ys placed true h k = (h.1.0, k)
 all_own-test r p x y ys placed false h k = h
 
@@ -115,7 +118,9 @@ module _ (r : Option Who) (p : Image) where
 
   own_tail : (part : Part) (name : Who) → Keeps (Ownly r p) (says_ready p part name Tail)
   unfolding Ownly Ends says_ready
-  own_tail part name = record { runs = λ w said h. all_own-append r p said (said_so part (line.Ready name (active p (task_of w name)) Tail (deadline_shown p (task_of w name)))) h refl }
+  own_tail part name = record {
+    runs = λ w said h. all_own-append r p said (said_so part (line.Ready name (active p (task_of w name)) Tail (deadline_shown p (task_of w name)))) h refl;
+  }
 
   own_base : NamedBase p EveryPart (Ownly r p)
   own_base = record {
@@ -132,19 +137,30 @@ module _ (r : Option Who) (p : Image) where
   unfolding create_task says_created
   own_created name s d id t =
       then-keeps _ _ (goes-keeps (fine own_quiet) name (next_of p s)) (then-keeps _ _ (changes-keeps _ (own_alters (add_task t)))
-      (then-keeps _ _ (for_some-keeps id _ (λ within. looks-keeps _ (λ w. changes-keeps _ (own_alters (set_thing p (record { within = within; declared = d }) (value_of.Task (Some (record { 0 = w.drawn.tasks - 1 }))))))))
+      (then-keeps _ _
+      (for_some-keeps id _
+      (λ within. looks-keeps _
+      (λ w.
+      changes-keeps _ (own_alters (set_thing p (record { within = within; declared = d }) (value_of.Task (Some (record { 0 = w.drawn.tasks - 1 }))))))))
       (looks-keeps _ (λ w. own_says Own (line.New (created.Task (record { 0 = w.drawn.tasks - 1 })) (Some d) t.base) refl))))
 
   own_made : (l : Located) (u : ProtectedUnitNo) → Keeps (Ownly r p) (changes (with_object p l u) ▷ says_object p l u)
   unfolding says_object
-  own_made l u = then-keeps _ _ (changes-keeps _ (own_alters (with_object p l u))) (looks-keeps _ (λ w. own_says Own (line.New (created.Object (record { 0 = w.drawn.objects })) (Some l.declared) (protected_unit_of p u).ceiling) refl))
+  own_made l u =
+      then-keeps _ _ (changes-keeps _ (own_alters (with_object p l u)))
+      (looks-keeps _ (λ w. own_says Own (line.New (created.Object (record { 0 = w.drawn.objects })) (Some l.declared) (protected_unit_of p u).ceiling) refl))
 
-  own_bases : (part : Part) (t : TaskNo) (level : ℕ) → Keeps (Ownly r p) (changes (edit_task (who.Task t) (λ u. record u { base = level })) ▷ says part (line.Base t level))
+  own_bases : (part : Part) (t : TaskNo) (level : ℕ)
+      → Keeps (Ownly r p) (changes (edit_task (who.Task t) (λ u. record u { base = level })) ▷ says part (line.Base t level))
   own_bases part t level = then-keeps _ _ (changes-keeps _ (own_alters _)) (own_says part (line.Base t level) refl)
 
-  own_taken : (level : ℕ) → Keeps (Ownly r p) (changes (edit_task who.Agent (λ u. record u { deferred_base = None })) ▷ set_base p ThePlacing ThePlacing who.Agent level)
+  own_taken : (level : ℕ)
+      → Keeps (Ownly r p) (changes (edit_task who.Agent (λ u. record u { deferred_base = None })) ▷ set_base p ThePlacing ThePlacing who.Agent level)
   unfolding set_base says_base
-  own_taken level = then-keeps _ _ (changes-keeps _ (own_alters (edit_task who.Agent (λ u. record u { deferred_base = None })))) (then-keeps _ _ (changes-keeps _ (own_alters (edit_task who.Agent (λ u. record u { base = level })))) (then-keeps _ _ nothing-keeps (looks-keeps _ (λ w. replace_in-free own_base ThePlacing who.Agent (task_of w who.Agent).state tt))))
+  own_taken level =
+      then-keeps _ _ (changes-keeps _ (own_alters (edit_task who.Agent (λ u. record u { deferred_base = None }))))
+      (then-keeps _ _ (changes-keeps _ (own_alters (edit_task who.Agent (λ u. record u { base = level }))))
+      (then-keeps _ _ nothing-keeps (looks-keeps _ (λ w. replace_in-free own_base ThePlacing who.Agent (task_of w who.Agent).state tt))))
 
   own_opens : Keeps (Ownly r p) (opens p)
   unfolding opens
@@ -159,7 +175,11 @@ somebody_self name = is_somebody (Some name) (Some name) refl
 module _ (actor : Who) (p : Image) where
   own_head : (part : Part) → Keeps (Ownly (Some actor) p) (says_ready p part actor Head)
   unfolding Ownly Ends says_ready
-  own_head part = record { runs = λ w said h. all_own-append (Some actor) p said (said_so part (line.Ready actor (active p (task_of w actor)) Head (deadline_shown p (task_of w actor)))) h (somebody_self actor) }
+  own_head part = record {
+    runs =
+        λ w said h. all_own-append (Some actor) p said
+        (said_so part (line.Ready actor (active p (task_of w actor)) Head (deadline_shown p (task_of w actor)))) h (somebody_self actor);
+  }
 
   own_free : NamedMoves p actor anywhere (Ownly (Some actor) p) (Ownly (Some actor) p) (Ownly (Some actor) p)
   own_free = record {
@@ -172,7 +192,9 @@ module _ (actor : Who) (p : Image) where
     starts = λ w said h. h;
     may = λ w o mode e. tt;
     may_on = λ a b o same m. tt;
-    enters = λ o mode. from-leads (says Own (line.Enter actor o mode)) (λ w said h. h.0) (own_says (Some actor) p Own (line.Enter actor o mode) (somebody_self actor));
+    enters =
+        λ o mode.
+        from-leads (says Own (line.Enter actor o mode)) (λ w said h. h.0) (own_says (Some actor) p Own (line.Enter actor o mode) (somebody_self actor));
     bases_first = λ t level. own_bases (Some actor) p (part_of actor (who.Task t)) t level;
     bases = λ t level. own_bases (Some actor) p ThePlacing t level;
     defers = λ t deferred. own_alters (Some actor) p _;
@@ -204,10 +226,13 @@ own_others r p = λ s. (Ownly r p, any_world, any_task, free_others (own_base r 
 effect_own : (name : Who) (p : Image) (w : World) → Onward see_nothing (own_at (Some name)) Nothing_shown tt (settles p (effect p name) w)
 unfolding Ownly
 effect_own name p w =
-    settles_onward see_nothing (own_at (Some name)) Nothing_shown p tt (Ownly (Some name) p) (Either (Ownly (Some name) p) (Ownly (Some name) p)) (effect p name) w
-    (either_over see_nothing (own_at (Some name)) Nothing_shown p (Ownly (Some name) p) tt (own_settles (Some name) p tt)) (effect-leads (freely (own_free name p))) tt
+    settles_onward see_nothing (own_at (Some name)) Nothing_shown p tt (Ownly (Some name) p) (Either (Ownly (Some name) p) (Ownly (Some name) p))
+    (effect p name) w
+    (either_over see_nothing (own_at (Some name)) Nothing_shown p (Ownly (Some name) p) tt (own_settles (Some name) p tt))
+    (effect-leads (freely (own_free name p))) tt
 
-effect_if_own : (name : Who) (p : Image) (w : World) (test : Bool) → Onward see_nothing (own_at (Some name)) Nothing_shown tt ((elim test as (λ _. Move) [ true ↦ settles p (effect p name) | false ↦ rests ]) w)
+effect_if_own : (name : Who) (p : Image) (w : World) (test : Bool)
+    → Onward see_nothing (own_at (Some name)) Nothing_shown tt ((elim test as (λ _. Move) [ true ↦ settles p (effect p name) | false ↦ rests ]) w)
 unfolding Nothing_shown
 effect_if_own name p w true = effect_own name p w
 effect_if_own name p w false = rests_onward see_nothing (own_at (Some name)) Nothing_shown tt w tt
@@ -219,12 +244,16 @@ effect_of_own (Some name) p w = effect_if_own name p w (is_over (task_of w name)
 
 instant_own : (p : Image) (w : World) → Onward see_nothing (own_at w.ran) Nothing_shown tt (instant p w)
 instant_own p w =
-    then_onward see_nothing (own_at w.ran) Nothing_shown (finish_action p) (script_items p ▶ events_due p ▶ moments_due p ▶ timers_due p ▶ budgets_due p ▶ quantum_spent p) tt w (effect_of_own w.ran p w)
-    (behind_onward see_nothing (own_at w.ran) Nothing_shown (own_others w.ran p) (seen_behind see_nothing (own_at w.ran) tt (finish_action p w).1) (finish_action p w).0)
+    then_onward see_nothing (own_at w.ran) Nothing_shown (finish_action p)
+    (script_items p ▶ events_due p ▶ moments_due p ▶ timers_due p ▶ budgets_due p ▶ quantum_spent p) tt w (effect_of_own w.ran p w)
+    (behind_onward see_nothing (own_at w.ran) Nothing_shown (own_others w.ran p) (seen_behind see_nothing (own_at w.ran) tt (finish_action p w).1)
+    (finish_action p w).0)
 
 opening_own : (p : Image) (script : List (ℤ × Item)) → Onward see_nothing (own_at None) Nothing_shown tt (opening p script)
 unfolding Ownly
-opening_own p script = settles_onward see_nothing (own_at None) Nothing_shown p tt (Ownly None p) (Ownly None p) (opens p) (blank_world p script) (own_settles None p tt) (own_opens None p) tt
+opening_own p script =
+    settles_onward see_nothing (own_at None) Nothing_shown p tt (Ownly None p) (Ownly None p) (opens p) (blank_world p script) (own_settles None p tt)
+    (own_opens None p) tt
 
 follow-own : (r : Option Who) (s : Unit {0}) (xs : List Event) → Follow see_nothing (own_at r) s xs → AllAre (is_own r) xs
 follow-own r s [] h = tt
@@ -235,14 +264,16 @@ follow-own r s (x ∷ xs) h = (h.0, follow-own r tt xs h.1)
 ShowsRunner : Option Who → World → Type 0
 ShowsRunner runner w = w.ran ≡ runner
 
-effects-own : (r : Option Who) (events : List Event) → AllAre is_of_effect events → AllAre (is_own r) events → Follow runner_after is_own r events × (seen_behind runner_after is_own r events ≡ r)
+effects-own : (r : Option Who) (events : List Event) → AllAre is_of_effect events → AllAre (is_own r) events
+    → Follow runner_after is_own r events × (seen_behind runner_after is_own r events ≡ r)
 effects-own r [] a b = (tt, refl)
 effects-own r (x ∷ xs) a b =
     let same : runner_after r x ≡ r = effect-runner r x a.0 in
     let onward = effects-own r xs a.1 b.1 in
     ((b.0, subst (λ q. Follow runner_after is_own q xs) (sym same) onward.0), ap (λ q. seen_behind runner_after is_own q xs) same ∙ onward.1)
 
-effects_lead : (r : Option Who) (events : List Event) (w : World) → AllAre is_of_effect events → AllAre (is_own r) events → w.ran ≡ r → Leads_on runner_after is_own ShowsRunner r events w
+effects_lead : (r : Option Who) (events : List Event) (w : World) → AllAre is_of_effect events → AllAre (is_own r) events → w.ran ≡ r
+    → Leads_on runner_after is_own ShowsRunner r events w
 unfolding ShowsRunner
 effects_lead r events w a b e = let h = effects-own r events a b in record { follow = h.0; shows = e ∙ sym h.1 }
 
@@ -256,11 +287,13 @@ Passes-append r next last xs ys a b = (
   seen_behind-append runner_after is_own r xs ys ∙ ap (λ q. seen_behind runner_after is_own q ys) a.1 ∙ b.1,
 )
 
-run-passes : (same : Bool) (ran : Option Who) (name : Who) (w : World) → same_option same_who ran (Some name) ≡ same → Passes ran (cond same rests (say (written.Run name)) w).1 (Some name)
+run-passes : (same : Bool) (ran : Option Who) (name : Who) (w : World) → same_option same_who ran (Some name) ≡ same
+    → Passes ran (cond same rests (say (written.Run name)) w).1 (Some name)
 run-passes true ran name w e = (tt, ran-path ran name e)
 run-passes false ran name w e = ((refl, tt), refl)
 
-serve_if_free-passes : (serving : Option Release) (frames : List Frame) (releases : List Release) (w : World) → Passes (Some who.Agent) ((serve_if_free serving frames releases w).1 ++ []) (Some who.Agent)
+serve_if_free-passes : (serving : Option Release) (frames : List Frame) (releases : List Release) (w : World)
+    → Passes (Some who.Agent) ((serve_if_free serving frames releases w).1 ++ []) (Some who.Agent)
 serve_if_free-passes None [] [] w = (tt, refl)
 serve_if_free-passes None [] (x ∷ rest) w = ((refl, tt), refl)
 serve_if_free-passes None (f ∷ fs) releases w = (tt, refl)
@@ -294,8 +327,13 @@ tocks_lead p r w e =
 own_lines : OfRuns runner_after is_own ShowsRunner None
 unfolding ShowsRunner
 own_lines = record {
-  openings = λ p script. let o = opening p script in effects_lead None o.1 o.0 (openings_say_effects p script) (follow-own None tt o.1 (opening_own p script).follow) (opening-runner p script);
-  instants = λ p r w e. let i = instant p w in effects_lead r i.1 i.0 (instants_say_effects p w) (subst (λ q. AllAre (is_own q) i.1) e (follow-own w.ran tt i.1 (instant_own p w).follow)) (instants_keep_runner p w ∙ e);
+  openings =
+      λ p script. let o = opening p script in
+      effects_lead None o.1 o.0 (openings_say_effects p script) (follow-own None tt o.1 (opening_own p script).follow) (opening-runner p script);
+  instants =
+      λ p r w e. let i = instant p w in
+      effects_lead r i.1 i.0 (instants_say_effects p w) (subst (λ q. AllAre (is_own q) i.1) e (follow-own w.ran tt i.1 (instant_own p w).follow))
+      (instants_keep_runner p w ∙ e);
   tocks = tocks_lead;
   ends = λ p bound r w reason shown e. refl;
   bound = λ r. refl;

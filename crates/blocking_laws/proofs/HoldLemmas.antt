@@ -1,6 +1,7 @@
 -- Which actions stay open through a tick: those of one subject end in the reverse order of their beginning, and only who runs
 -- begins one.
-use Rattle.std.proofs.Common.{◌≡◌, ℕ, zero, suc, ◌+◌, ◌<◌, ◌≤◌, ◌⊎◌, ◌==◌, Bool, true, false, cond, ◌&&◌, ◌||◌, List, [], ◌∷◌, ◌++◌, map, Option, Some, is_none, refl, sym, ap, subst, ◌∙◌, arith, inl, inr}
+use Rattle.std.proofs.Common.{◌≡◌, ℕ, zero, suc, ◌+◌, ◌<◌, ◌≤◌, ◌⊎◌, ◌==◌, Bool, true, false, cond, ◌&&◌, ◌||◌, List}
+use Rattle.std.proofs.Common.{[], ◌∷◌, ◌++◌, map, Option, Some, is_none, refl, sym, ap, subst, ◌∙◌, arith, inl, inr}
 use Rattle.std.specs.Prelude.{find}
 use Rattle.std.specs.List.{list_any}
 use Rattle.std.proofs.lemmas.Bool.{and_from, and_parts, cases_Bool, eq-eqb, or_parts, or_right as or_on}
@@ -13,7 +14,8 @@ use Rattle.trace_text.specs.Laws.{actions_after, closed, level_of}
 use Rattle.trace_text.specs.Queue.{TraceLine, follows_lines, head_of, seen_from, somebody_eq, up_to, who_eq, who_of}
 use Rattle.trace_text.proofs.LawsFollowed.{lines_followed, somebody_is}
 use Rattle.blocking_laws.specs.Holds.{Hold, Holding, has_hold, holding_after, nothing_held, released}
-use Rattle.blocking_laws.specs.MovingLaws.{KeepsProtocol, Moving, is_among, is_choice, is_fresh_entry, is_moved_rightly, is_on, is_still, is_within, moving_after, nothing_moving, own_level, touched_by}
+use Rattle.blocking_laws.specs.MovingLaws.{KeepsProtocol, Moving, is_among, is_choice, is_fresh_entry, is_moved_rightly}
+use Rattle.blocking_laws.specs.MovingLaws.{is_on, is_still, is_within, moving_after, nothing_moving, own_level, touched_by}
 use Rattle.blocking_laws.proofs.QueueLemmas.{not_who}
 use Rattle.blocking_laws.proofs.WithinLemmas.{Each, some_level}
 use Rattle.blocking_laws.proofs.StepLemmas.{not_holding}
@@ -101,7 +103,8 @@ released_falls n o w (z ∷ zs) falls = elim (cases_Bool (o == z.action.object &
 ]
 
 -- where the last of somebody ends, its earlier ones stay with any that stays
-released_keeps : (x y : Hold) (n o : ℕ) (w : Who) (xs : List Hold) → Falls n xs → is_on o (find (λ a. who_eq w a.who) (actions_of xs)) ≡ true → Member x (released o w xs) → Member y xs → y.action.who ≡ x.action.who → y.begun < x.begun
+released_keeps : (x y : Hold) (n o : ℕ) (w : Who) (xs : List Hold) → Falls n xs → is_on o (find (λ a. who_eq w a.who) (actions_of xs)) ≡ true
+    → Member x (released o w xs) → Member y xs → y.action.who ≡ x.action.who → y.begun < x.begun
     → Member y (released o w xs)
 released_keeps x y n o w [] falls last m k same older = k
 released_keeps x y n o w (z ∷ zs) falls last m k same older = elim (cases_Bool (o == z.action.object && who_eq w z.action.who)) [
@@ -118,11 +121,13 @@ released_keeps x y n o w (z ∷ zs) falls last m k same older = elim (cases_Bool
       let not_own : who_eq w z.action.who ≡ false = elim (cases_Bool (who_eq w z.action.who)) [
         | inr differs ↦ differs
         | inl own ↦
-            let on : (o == z.action.object) ≡ true = subst (λ f. is_on o f ≡ true) (ap (λ t. cond t (Some z.action) (find (λ a. who_eq w a.who) (actions_of zs))) own) last in
+            let on : (o == z.action.object) ≡ true =
+            subst (λ f. is_on o f ≡ true) (ap (λ t. cond t (Some z.action) (find (λ a. who_eq w a.who) (actions_of zs))) own) last in
             let wrong : true ≡ false = sym (and_from (o == z.action.object) (who_eq w z.action.who) on own) ∙ stays in
             cc
       ] in
-      let last_rest : is_on o (find (λ a. who_eq w a.who) (actions_of zs)) ≡ true = subst (λ f. is_on o f ≡ true) (ap (λ t. cond t (Some z.action) (find (λ a. who_eq w a.who) (actions_of zs))) not_own) last in
+      let last_rest : is_on o (find (λ a. who_eq w a.who) (actions_of zs)) ≡ true =
+      subst (λ f. is_on o f ≡ true) (ap (λ t. cond t (Some z.action) (find (λ a. who_eq w a.who) (actions_of zs))) not_own) last in
       let split = member_split x z (released o w zs) (subst (Member x) (ap (λ t. cond t zs (z ∷ released o w zs)) stays) m) in
       subst (Member y) (sym (ap (λ t. cond t zs (z ∷ released o w zs)) stays)) (elim (member_split y z zs k) [
         | inl is ↦ inl is
@@ -153,7 +158,8 @@ pub record Held (s : Passed) (touched : List Who) (count : ℕ) (holds : List Ho
 abbrev pub HeldOf : Passed → List Who → Holding → Moving → Type 0
 HeldOf s touched g m = Held s touched g.count g.holds m.ceilings
 
-one_more : (s : Passed) (touched more : List Who) (count : ℕ) (holds : List Hold) (ceilings : List (ℕ × ℕ)) → ((w : Who) → is_among w more ≡ false → is_among w touched ≡ false) → Held s touched count holds ceilings → Held s more (suc count) holds ceilings
+one_more : (s : Passed) (touched more : List Who) (count : ℕ) (holds : List Hold) (ceilings : List (ℕ × ℕ))
+    → ((w : Who) → is_among w more ≡ false → is_among w touched ≡ false) → Held s touched count holds ceilings → Held s more (suc count) holds ceilings
 one_more s touched more count holds ceilings less k = record {
   falls = falls_more count (suc count) holds (omega arith) k.falls;
   grows = omega (arith, k.grows);
@@ -164,7 +170,8 @@ one_more s touched more count holds ceilings less k = record {
   lasts = k.lasts;
 }
 
-begin_held : (s : Passed) (touched : List Who) (count : ℕ) (a : Action) (holds : List Hold) (ceilings : List (ℕ × ℕ)) → s.ran ≡ Some a.who → is_among a.who touched ≡ false → Held s touched count holds ceilings
+begin_held : (s : Passed) (touched : List Who) (count : ℕ) (a : Action) (holds : List Hold) (ceilings : List (ℕ × ℕ)) → s.ran ≡ Some a.who
+    → is_among a.who touched ≡ false → Held s touched count holds ceilings
     → Held s (a.who ∷ touched) (suc count) (record { action = a; begun = count } ∷ holds) ceilings
 begin_held s touched count a holds ceilings is among k = record {
   falls = (omega arith, k.falls);
@@ -185,7 +192,8 @@ begin_held s touched count a holds ceilings is among k = record {
   lasts = k.lasts;
 }
 
-end_held : (s : Passed) (touched : List Who) (count : ℕ) (o : ℕ) (w : Who) (holds : List Hold) (ceilings : List (ℕ × ℕ)) → is_on o (find (λ a. who_eq w a.who) (actions_of holds)) ≡ true → Held s touched count holds ceilings
+end_held : (s : Passed) (touched : List Who) (count : ℕ) (o : ℕ) (w : Who) (holds : List Hold) (ceilings : List (ℕ × ℕ))
+    → is_on o (find (λ a. who_eq w a.who) (actions_of holds)) ≡ true → Held s touched count holds ceilings
     → Held s (w ∷ touched) (suc count) (released o w holds) ceilings
 end_held s touched count o w holds ceilings last k = record {
   falls = falls_more count (suc count) (released o w holds) (omega arith) (released_falls count o w holds k.falls);
@@ -193,32 +201,50 @@ end_held s touched count o w holds ceilings last k = record {
   old = λ x m low. k.old x (released_member x o w holds m) low;
   new = λ x m high. k.new x (released_member x o w holds m) high;
   stack = λ x y m y_in same older. released_keeps x y count o w holds k.falls last m (k.stack x y (released_member x o w holds m) y_in same older) same older;
-  calm = λ y m apart. let parts = or_parts (who_eq y.action.who w) (is_among y.action.who touched) apart in other_kept y o w holds (not_who y.action.who w parts.0) (k.calm y m parts.1);
+  calm =
+      λ y m apart. let parts = or_parts (who_eq y.action.who w) (is_among y.action.who touched) apart in
+      other_kept y o w holds (not_who y.action.who w parts.0) (k.calm y m parts.1);
   lasts = k.lasts;
 }
 
-object_held : (s : Passed) (touched : List Who) (count n level : ℕ) (holds : List Hold) (ceilings : List (ℕ × ℕ)) → is_none (level_of n ceilings) ≡ true → Held s touched count holds ceilings → Held s touched (suc count) holds ((n, level) ∷ ceilings)
+object_held : (s : Passed) (touched : List Who) (count n level : ℕ) (holds : List Hold) (ceilings : List (ℕ × ℕ)) → is_none (level_of n ceilings) ≡ true
+    → Held s touched count holds ceilings → Held s touched (suc count) holds ((n, level) ∷ ceilings)
 object_held s touched count n level holds ceilings none k =
     let more = one_more s touched touched count holds ceilings (λ w e. e) k in
-    record { falls = more.falls; grows = more.grows; old = more.old; new = more.new; stack = more.stack; calm = more.calm; lasts = λ i c is. some_level i n level ceilings none c (k.lasts i c is) }
+    record {
+      falls = more.falls;
+      grows = more.grows;
+      old = more.old;
+      new = more.new;
+      stack = more.stack;
+      calm = more.calm;
+      lasts = λ i c is. some_level i n level ceilings none c (k.lasts i c is);
+    }
 
 fewer : (w : Who) (touched : List Who) (v : Who) → is_among v (w ∷ touched) ≡ false → is_among v touched ≡ false
 fewer w touched v e = (or_parts (who_eq v w) (is_among v touched) e).1
 
-pub step_held : (s : Passed) (touched : List Who) (g : Holding) (m : Moving) (event : Event) → actions_of g.holds ≡ m.past.actions → s.ran ≡ m.past.runner → is_moved_rightly m event ≡ true → is_fresh_entry touched event ≡ true
+pub step_held : (s : Passed) (touched : List Who) (g : Holding) (m : Moving) (event : Event) → actions_of g.holds ≡ m.past.actions → s.ran ≡ m.past.runner
+    → is_moved_rightly m event ≡ true → is_fresh_entry touched event ≡ true
     → HeldOf s touched g m → HeldOf s (touched_by event ++ touched) (holding_after g event) (moving_after m event)
 step_held s touched g m (line.Enter w o mode) same ran moved first k =
-    let parts = and_parts (somebody_eq m.past.runner (Some w) && somebody_eq (who_of (head_of m.past.queue)) (Some w)) (is_within (own_level w m.past.bases m.agent) (level_of o.0 m.ceilings)) moved in
+    let parts =
+    and_parts (somebody_eq m.past.runner (Some w) && somebody_eq (who_of (head_of m.past.queue)) (Some w))
+    (is_within (own_level w m.past.bases m.agent) (level_of o.0 m.ceilings)) moved in
     let two = and_parts (somebody_eq m.past.runner (Some w)) (somebody_eq (who_of (head_of m.past.queue)) (Some w)) parts.0 in
-    begin_held s touched g.count (record { object = o.0; who = w; mode = mode }) g.holds m.ceilings (ran ∙ somebody_is m.past.runner (Some w) two.0) (not_holding (is_among w touched) first) k
-step_held s touched g m (line.Exit w o) same ran moved first k = end_held s touched g.count o.0 w g.holds m.ceilings (subst (λ xs. is_on o.0 (find (λ a. who_eq w a.who) xs) ≡ true) (sym same) moved) k
+    begin_held s touched g.count (record { object = o.0; who = w; mode = mode }) g.holds m.ceilings (ran ∙ somebody_is m.past.runner (Some w) two.0)
+    (not_holding (is_among w touched) first) k
+step_held s touched g m (line.Exit w o) same ran moved first k =
+    end_held s touched g.count o.0 w g.holds m.ceilings (subst (λ xs. is_on o.0 (find (λ a. who_eq w a.who) xs) ≡ true) (sym same) moved) k
 step_held s touched g m (line.New (created.Object o) name level) same ran moved first k = object_held s touched g.count o.0 level g.holds m.ceilings moved k
 step_held s touched g m (line.Ready w level end d) same ran moved first k = one_more s touched (w ∷ touched) g.count g.holds m.ceilings (fewer w touched) k
 step_held s touched g m (line.Block w why) same ran moved first k = one_more s touched (w ∷ touched) g.count g.holds m.ceilings (fewer w touched) k
-step_held s touched g m (line.Done t) same ran moved first k = one_more s touched (touched_by (line.Done t) ++ touched) g.count g.holds m.ceilings (λ v e. fewer _ touched v e) k
+step_held s touched g m (line.Done t) same ran moved first k =
+    one_more s touched (touched_by (line.Done t) ++ touched) g.count g.holds m.ceilings (λ v e. fewer _ touched v e) k
 step_held s touched g m _ same ran moved first k = one_more s touched touched g.count g.holds m.ceilings (λ w e. e) k
 
-pub still_held : (s : Passed) (touched : List Who) (g : Holding) (m : Moving) (event : Event) → is_still event ≡ true → HeldOf s touched g m → HeldOf s touched (holding_after g event) (moving_after m event)
+pub still_held : (s : Passed) (touched : List Who) (g : Holding) (m : Moving) (event : Event) → is_still event ≡ true → HeldOf s touched g m
+    → HeldOf s touched (holding_after g event) (moving_after m event)
 still_held s touched g m (line.Enter w o mode) still k = cc
 still_held s touched g m (line.Exit w o) still k = cc
 still_held s touched g m (line.New what name level) still k = cc
@@ -230,7 +256,9 @@ released_actions : (o : ℕ) (w : Who) (xs : List Hold) → actions_of (released
 released_actions o w [] = refl
 released_actions o w (z ∷ zs) = elim (cases_Bool (o == z.action.object && who_eq w z.action.who)) [
   | inl same ↦ ap (λ t. actions_of (cond t zs (z ∷ released o w zs))) same ∙ sym (ap (λ t. cond t (actions_of zs) (z.action ∷ closed o w (actions_of zs))) same)
-  | inr other ↦ ap (λ t. actions_of (cond t zs (z ∷ released o w zs))) other ∙ ap (λ xs. z.action ∷ xs) (released_actions o w zs) ∙ sym (ap (λ t. cond t (actions_of zs) (z.action ∷ closed o w (actions_of zs))) other)
+  | inr other ↦
+      ap (λ t. actions_of (cond t zs (z ∷ released o w zs))) other ∙ ap (λ xs. z.action ∷ xs) (released_actions o w zs)
+      ∙ sym (ap (λ t. cond t (actions_of zs) (z.action ∷ closed o w (actions_of zs))) other)
 ]
 
 pub after_actions : (g : Holding) (event : Event) → actions_of (holding_after g event).holds ≡ actions_after (actions_of g.holds) event
@@ -238,7 +266,8 @@ after_actions g (line.Enter w o mode) = refl
 after_actions g (line.Exit w o) = released_actions o.0 w g.holds
 after_actions g _ = refl
 
-next_actions : (g : Holding) (m : Moving) (event : Event) → actions_of g.holds ≡ m.past.actions → actions_of (holding_after g event).holds ≡ (moving_after m event).past.actions
+next_actions : (g : Holding) (m : Moving) (event : Event) → actions_of g.holds ≡ m.past.actions
+    → actions_of (holding_after g event).holds ≡ (moving_after m event).past.actions
 next_actions g m event same = after_actions g event ∙ ap (λ xs. actions_after xs event) same
 
 -- ---- a tick
@@ -246,13 +275,15 @@ next_actions g m event same = after_actions g event ∙ ap (λ xs. actions_after
 abbrev Ends_held : Passed → Holding → Moving → List TraceLine → Type 0
 Ends_held s g m lines = (touched : List Who) × HeldOf s touched (seen_from holding_after g lines) (seen_from moving_after m lines)
 
-still_tick : (s : Passed) (touched : List Who) (g : Holding) (m : Moving) (lines : List TraceLine) → quiet true lines ≡ true → HeldOf s touched g m → Ends_held s g m lines
+still_tick : (s : Passed) (touched : List Who) (g : Holding) (m : Moving) (lines : List TraceLine) → quiet true lines ≡ true → HeldOf s touched g m
+    → Ends_held s g m lines
 still_tick s touched g m [] still k = (touched, k)
 still_tick s touched g m (l ∷ lines) still k =
     let quiets = and_parts (is_still l.1) (quiet true lines) still in
     still_tick s touched (holding_after g l.1) (moving_after m l.1) lines quiets.1 (still_held s touched g m l.1 quiets.0 k)
 
-tick_held : (s : Passed) (touched : List Who) (g : Holding) (m : Moving) (lines : List TraceLine) → actions_of g.holds ≡ m.past.actions → s.ran ≡ m.past.runner → quiet false lines ≡ true → entering touched lines ≡ true → follows_lines moving_after is_moved_rightly m lines ≡ true
+tick_held : (s : Passed) (touched : List Who) (g : Holding) (m : Moving) (lines : List TraceLine) → actions_of g.holds ≡ m.past.actions → s.ran ≡ m.past.runner
+    → quiet false lines ≡ true → entering touched lines ≡ true → follows_lines moving_after is_moved_rightly m lines ≡ true
     → HeldOf s touched g m → Ends_held s g m lines
 tick_held s touched g m [] same ran still enters moved k = (touched, k)
 tick_held s touched g m (l ∷ lines) same ran still enters moved k =
@@ -260,8 +291,11 @@ tick_held s touched g m (l ∷ lines) same ran still enters moved k =
     let entry = and_parts (is_fresh_entry touched l.1) (entering (touched_by l.1 ++ touched) lines) enters in
     let next = step_held s touched g m l.1 same ran move.0 entry.0 k in
     elim (cases_Bool (is_choice l.1)) [
-      | inl choice ↦ still_tick s (touched_by l.1 ++ touched) (holding_after g l.1) (moving_after m l.1) lines (subst (λ b. quiet b lines ≡ true) choice still) next
-      | inr not_so ↦ tick_held s (touched_by l.1 ++ touched) (holding_after g l.1) (moving_after m l.1) lines (next_actions g m l.1 same) (ran ∙ sym (runs_on m.past.runner l.1 not_so)) (subst (λ b. quiet b lines ≡ true) not_so still) entry.1 move.1 next
+      | inl choice ↦
+          still_tick s (touched_by l.1 ++ touched) (holding_after g l.1) (moving_after m l.1) lines (subst (λ b. quiet b lines ≡ true) choice still) next
+      | inr not_so ↦
+          tick_held s (touched_by l.1 ++ touched) (holding_after g l.1) (moving_after m l.1) lines (next_actions g m l.1 same)
+          (ran ∙ sym (runs_on m.past.runner l.1 not_so)) (subst (λ b. quiet b lines ≡ true) not_so still) entry.1 move.1 next
     ]
 
 abbrev pub holding_at : ℕ → List TraceLine → Holding
@@ -273,14 +307,20 @@ holding_actions n lines =
     ∙ sym (seen_part moving_after actions_after (λ (m : Moving). m.past.actions) (λ m event. refl) nothing_moving (up_to n lines))
 
 abbrev pub passed_at : ℕ → List TraceLine → Passed
-passed_at n lines = record { ran = (moving_at n lines).past.runner; count = (holding_at n lines).count; holds = (holding_at n lines).holds; ceilings = (moving_at n lines).ceilings }
+passed_at n lines = record {
+  ran = (moving_at n lines).past.runner;
+  count = (holding_at n lines).count;
+  holds = (holding_at n lines).holds;
+  ceilings = (moving_at n lines).ceilings;
+}
 
 falls_step : (g : Holding) (event : Event) → Falls g.count g.holds → Falls (holding_after g event).count (holding_after g event).holds
 falls_step g (line.Enter w o mode) k = (omega arith, k)
 falls_step g (line.Exit w o) k = falls_more g.count (suc g.count) (released o.0 w g.holds) (omega arith) (released_falls g.count o.0 w g.holds k)
 falls_step g _ k = falls_more g.count (suc g.count) g.holds (omega arith) k
 
-falls_all : (g : Holding) (lines : List TraceLine) → Falls g.count g.holds → Falls (seen_from holding_after g lines).count (seen_from holding_after g lines).holds
+falls_all : (g : Holding) (lines : List TraceLine) → Falls g.count g.holds
+    → Falls (seen_from holding_after g lines).count (seen_from holding_after g lines).holds
 falls_all g [] k = k
 falls_all g (l ∷ lines) k = falls_all (holding_after g l.1) lines (falls_step g l.1 k)
 
@@ -288,39 +328,50 @@ pub falls_at : (n : ℕ) (lines : List TraceLine) → Falls (holding_at n lines)
 falls_at n lines = falls_all nothing_held (up_to n lines) tt
 
 -- what the lines of a tick keep, from behind the one before
-pub held_next : (n : ℕ) (lines : List TraceLine) → KeepsProtocol lines → (touched : List Who) × HeldOf (passed_at n lines) touched (holding_at (suc n) lines) (moving_at (suc n) lines)
+pub held_next : (n : ℕ) (lines : List TraceLine) → KeepsProtocol lines
+    → (touched : List Who) × HeldOf (passed_at n lines) touched (holding_at (suc n) lines) (moving_at (suc n) lines)
 held_next n lines h =
     let begun : HeldOf (passed_at n lines) [] (holding_at n lines) (moving_at n lines) = record {
       falls = falls_at n lines;
       grows = omega arith;
       old = λ x m low. m;
-      new = λ x m high. let below = member_below x (holding_at n lines).count (holding_at n lines).holds (falls_at n lines) m in absurd (omega (arith, below, high));
+      new =
+          λ x m high.
+          let below = member_below x (holding_at n lines).count (holding_at n lines).holds (falls_at n lines) m in absurd (omega (arith, below, high));
       stack = λ x y m k same older. k;
       calm = λ y m apart. m;
       lasts = λ k c is. is;
     } in
-    let led = tick_held (passed_at n lines) [] (holding_at n lines) (moving_at n lines) (of_next n lines) (holding_actions n lines) refl (quiet_next n 0 false lines h.rises (omega arith) h.choice) (entering_next n 0 [] lines h.rises (omega arith) h.moves.first)
-    (follows_next moving_after is_moved_rightly nothing_moving n lines (lines_followed moving_after is_moved_rightly nothing_moving lines h.moves.moved)) begun in (
+    let led =
+    tick_held (passed_at n lines) [] (holding_at n lines) (moving_at n lines) (of_next n lines) (holding_actions n lines) refl
+    (quiet_next n 0 false lines h.rises (omega arith) h.choice) (entering_next n 0 [] lines h.rises (omega arith) h.moves.first)
+    (follows_next moving_after is_moved_rightly nothing_moving n lines
+    (lines_followed moving_after is_moved_rightly nothing_moving lines h.moves.moved)) begun in (
       led.0,
       subst (λ g. HeldOf (passed_at n lines) led.0 g (moving_at (suc n) lines)) (sym (seen_next holding_after nothing_held n lines))
-          (subst (λ m. HeldOf (passed_at n lines) led.0 (seen_from holding_after (holding_at n lines) (of_next n lines)) m) (sym (seen_next moving_after nothing_moving n lines)) led.1),
+          (subst (λ m. HeldOf (passed_at n lines) led.0 (seen_from holding_after (holding_at n lines) (of_next n lines)) m)
+          (sym (seen_next moving_after nothing_moving n lines)) led.1),
     )
 
 -- ---- through more ticks
 
-pub ceilings_last : (n count k c : ℕ) (lines : List TraceLine) → KeepsProtocol lines → level_of k (moving_at n lines).ceilings ≡ Some c → level_of k (moving_at (n + count) lines).ceilings ≡ Some c
+pub ceilings_last : (n count k c : ℕ) (lines : List TraceLine) → KeepsProtocol lines → level_of k (moving_at n lines).ceilings ≡ Some c
+    → level_of k (moving_at (n + count) lines).ceilings ≡ Some c
 ceilings_last n zero k c lines h is = subst (λ i. level_of k (moving_at i lines).ceilings ≡ Some c) (let e : n ≡ n + 0 = omega arith in e) is
 ceilings_last n (suc count) k c lines h is =
-    subst (λ i. level_of k (moving_at i lines).ceilings ≡ Some c) (let e : suc (n + count) ≡ n + suc count = omega arith in e) ((held_next (n + count) lines h).1.lasts k c (ceilings_last n count k c lines h is))
+    subst (λ i. level_of k (moving_at i lines).ceilings ≡ Some c) (let e : suc (n + count) ≡ n + suc count = omega arith in e)
+    ((held_next (n + count) lines h).1.lasts k c (ceilings_last n count k c lines h is))
 
 -- an earlier action of one subject stays as long as a later one
-pub stack_up : (n count : ℕ) (x y : Hold) (lines : List TraceLine) → KeepsProtocol lines → y.action.who ≡ x.action.who → y.begun < x.begun → Member y (holding_at n lines).holds → ((i : ℕ) → n ≤ i → i ≤ n + count → Member x (holding_at i lines).holds)
+pub stack_up : (n count : ℕ) (x y : Hold) (lines : List TraceLine) → KeepsProtocol lines → y.action.who ≡ x.action.who → y.begun < x.begun
+    → Member y (holding_at n lines).holds → ((i : ℕ) → n ≤ i → i ≤ n + count → Member x (holding_at i lines).holds)
     → Member y (holding_at (n + count) lines).holds
 stack_up n zero x y lines h same older m all = subst (λ i. Member y (holding_at i lines).holds) (let e : n ≡ n + 0 = omega arith in e) m
 stack_up n (suc count) x y lines h same older m all =
     let next : suc (n + count) ≡ n + suc count = omega arith in
     let before = stack_up n count x y lines h same older m (λ i from to. all i from (omega (arith, to))) in
-    subst (λ i. Member y (holding_at i lines).holds) next ((held_next (n + count) lines h).1.stack x y (all (suc (n + count)) (omega arith) (omega (arith, next))) before same older)
+    subst (λ i. Member y (holding_at i lines).holds) next
+    ((held_next (n + count) lines h).1.stack x y (all (suc (n + count)) (omega arith) (omega (arith, next))) before same older)
 
 either : (a b : Bool) → (a || b) ≡ true → b ≡ false → a ≡ true
 either true b e f = refl

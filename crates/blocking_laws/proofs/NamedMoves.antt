@@ -11,17 +11,20 @@ use Rattle.ceiling_laws.proofs.Runs.Kept.Priorities.{reprioritize_own-keeps, say
 use Rattle.ceiling_laws.proofs.Runs.Kept.Rendezvous.{begin_accept-keeps, finish_without_room-keeps}
 use Rattle.ceiling_laws.proofs.Runs.Kept.Tasks.{edit_task-alters}
 use Rattle.ceiling_laws.proofs.Runs.LevelMoves.{BaseMoves, EachTask, Fitting, Silences}
-use Rattle.ceiling_laws.proofs.Runs.Triples.{Alters, At, Keeps, Leads, State, With, branch-keeps, branch-leads, changes-keeps, from-leads, from_at, looks-keeps, looks-leads, looks-with, nothing-keeps, then-keeps, then-leads, then-together, when-keeps, when-leads}
+use Rattle.ceiling_laws.proofs.Runs.Triples.{Alters, At, Keeps, Leads, State, With, branch-keeps, branch-leads, changes-keeps, from-leads, from_at, looks-keeps}
+use Rattle.ceiling_laws.proofs.Runs.Triples.{looks-leads, looks-with, nothing-keeps, then-keeps, then-leads, then-together, when-keeps, when-leads}
 use Rattle.ceiling_laws.specs.Cores.{Same}
 use Rattle.ceiling_laws.proofs.Runs.Finer.{fine, fine_base}
 use Rattle.profile_machine.specs.Appointments.{appoint}
 use Rattle.profile_machine.specs.CallEnds.{deliver}
 use Rattle.profile_machine.specs.Declarations.{says_object, with_object}
-use Rattle.profile_machine.specs.Dispatching.{active, block, grant_quantum, granted, keep_level, level_kept_by, ready, says_block, says_ready, to_head, to_tail, without_kept_level, word_of}
+use Rattle.profile_machine.specs.Dispatching.{active, block, grant_quantum, granted, keep_level, level_kept_by, ready}
+use Rattle.profile_machine.specs.Dispatching.{says_block, says_ready, to_head, to_tail, without_kept_level, word_of}
 use Rattle.profile_machine.specs.Frames.{in_protected}
 use Rattle.profile_machine.specs.Inheritance.{falls, inherit, lose, lose_running}
 use Rattle.profile_machine.specs.Masters.{forget_task, part_of}
-use Rattle.profile_machine.specs.Priorities.{defer_base, defer_deadline, is_runnable_at_edf, placing_of, replace_in, says_base, set_base, set_deadline, set_deferred, set_or_defer_base, set_or_defer_deadline, take_base, take_deadline}
+use Rattle.profile_machine.specs.Priorities.{defer_base, defer_deadline, is_runnable_at_edf, placing_of, replace_in, says_base, set_base}
+use Rattle.profile_machine.specs.Priorities.{set_deadline, set_deferred, set_or_defer_base, set_or_defer_deadline, take_base, take_deadline}
 use Rattle.profile_image.specs.Program.{edf_low, has_edf, is_robin_level}
 use Rattle.profile_machine.specs.Protected.{entering}
 use Rattle.profile_machine.specs.Rendezvous.{meet_without_room}
@@ -63,7 +66,8 @@ use Rattle.machine_laws.proofs.Kept.Dispatching.{full_quantum-who}
 pub record NamedBase (p : Image) (Fits : Part → Type 0) (X : State) : Type 0 where
   pub quiet : Silences X
   -- an edit that leaves the base priority, and what is deferred of it
-  pub edits : (name : Who) (f : Task → Task) → ((t : Task) → (f t).who ≡ t.who) → ((t : Task) → (f t).base ≡ t.base) → ((t : Task) → (f t).deferred_base ≡ t.deferred_base) → Alters X (edit_task name f)
+  pub edits : (name : Who) (f : Task → Task) → ((t : Task) → (f t).who ≡ t.who) → ((t : Task) → (f t).base ≡ t.base)
+      → ((t : Task) → (f t).deferred_base ≡ t.deferred_base) → Alters X (edit_task name f)
   -- lines that place somebody, or take it out
   pub tails : (part : Part) (name : Who) → Fits part → Keeps X (says_ready p part name Tail)
   pub blocks : (name : Who) (waits : Waits) → Keeps X (says TheBlock (line.Block name waits))
@@ -88,10 +92,12 @@ pub record NamedMoves (p : Image) (actor : Who) (May : Admitting) (F I J : State
   pub may_on : (a b : World) (o : ObjectNo) → Same a b → May a o → May b o
   pub enters : (o : ObjectNo) (mode : Mode) → Leads (With F (λ w. May w o)) J (says Own (line.Enter actor o mode))
   -- base priorities that are set and deferred; what the agent may have deferred is set too
-  pub bases_first : (t : TaskNo) (level : ℕ) → Leads F I (changes (edit_task (who.Task t) (λ u. record u { base = level })) ▷ says (part_of actor (who.Task t)) (line.Base t level))
+  pub bases_first : (t : TaskNo) (level : ℕ)
+      → Leads F I (changes (edit_task (who.Task t) (λ u. record u { base = level })) ▷ says (part_of actor (who.Task t)) (line.Base t level))
   pub bases : (t : TaskNo) (level : ℕ) → Keeps I (changes (edit_task (who.Task t) (λ u. record u { base = level })) ▷ says ThePlacing (line.Base t level))
   pub defers : (t : TaskNo) (deferred : Option ℕ) → Alters I (edit_task (who.Task t) (λ u. record u { deferred_base = deferred }))
-  pub takes : (v : World) (level : ℕ) → v.agent.deferred_base ≡ Some level → Leads (At I v) I (changes (edit_task who.Agent (λ u. record u { deferred_base = None })) ▷ set_base p ThePlacing ThePlacing who.Agent level)
+  pub takes : (v : World) (level : ℕ) → v.agent.deferred_base ≡ Some level
+      → Leads (At I v) I (changes (edit_task who.Agent (λ u. record u { deferred_base = None })) ▷ set_base p ThePlacing ThePlacing who.Agent level)
   pub creates : (s : StatementNo) (d : DeclNo) (id : Option ScopeId) (t : Task) → Leads (With F (IsNew p t)) I (create_task p actor s d id t)
   pub makes : (l : Located) (u : ProtectedUnitNo) → Keeps I (changes (with_object p l u) ▷ says_object p l u)
 
@@ -128,15 +134,22 @@ module _ {p : Image} {Fits : Part → Type 0} {X : State} (free : NamedBase p Fi
   with_state-alters name state = free.edits name (with_state state) (λ t. refl) (λ t. refl) (λ t. refl)
 
   keep_level-alters : (name : Who) → Alters X (keep_level p name)
-  keep_level-alters name = record { turns = λ w said h. (free.edits name (λ t. record t { kept_level = level_kept_by p w t (edf_low p t.base) }) (λ t. refl) (λ t. refl) (λ t. refl)).turns w said h }
+  keep_level-alters name = record {
+    turns =
+        λ w said h.
+        (free.edits name (λ t. record t { kept_level = level_kept_by p w t (edf_low p t.base) }) (λ t. refl) (λ t. refl) (λ t. refl)).turns w said h;
+  }
 
   pub ready-free : (part : Part) (name : Who) → Fits part → Keeps X (ready p part name)
   unfolding ready
-  ready-free part name fits = then-keeps _ _ (changes-keeps _ (with_state-alters name Runnable)) (then-keeps _ _ (changes-keeps _ (keep_level-alters name)) (to_tail-free part name fits))
+  ready-free part name fits =
+      then-keeps _ _ (changes-keeps _ (with_state-alters name Runnable))
+      (then-keeps _ _ (changes-keeps _ (keep_level-alters name)) (to_tail-free part name fits))
 
   says_block-free : (name : Who) (waiting : Waiting) → Keeps X (says_block TheBlock name waiting)
   unfolding says_block
-  says_block-free name waiting = then-keeps _ _ (changes-keeps _ (free.edits name without_kept_level (λ t. refl) (λ t. refl) (λ t. refl))) (free.blocks name (word_of waiting))
+  says_block-free name waiting =
+      then-keeps _ _ (changes-keeps _ (free.edits name without_kept_level (λ t. refl) (λ t. refl) (λ t. refl))) (free.blocks name (word_of waiting))
 
   block-free : (name : Who) (waiting : Waiting) → Keeps X (block TheBlock name waiting)
   unfolding block
@@ -150,7 +163,10 @@ module _ {p : Image} {Fits : Part → Type 0} {X : State} (free : NamedBase p Fi
 
   lose_running-free : (actor : Who) → Heads p actor Fits X → (cause : Cause) → Fits ThePlacing → Keeps X (lose_running p actor cause)
   unfolding lose_running
-  lose_running-free actor heads cause fits = looks-keeps _ (λ w. then-keeps _ _ (changes-keeps _ (lose-alters actor cause)) (when-keeps (falls p actor w (lose actor cause w)) _ (to_head-free actor heads ThePlacing fits)))
+  lose_running-free actor heads cause fits =
+      looks-keeps _
+      (λ w. then-keeps _ _ (changes-keeps _ (lose-alters actor cause))
+      (when-keeps (falls p actor w (lose actor cause w)) _ (to_head-free actor heads ThePlacing fits)))
 
   fall_from-free : (actor : Who) → Heads p actor Fits X → (before : World) → Fits ThePlacing → Keeps X (fall_from p actor before)
   unfolding fall_from
@@ -165,7 +181,8 @@ module _ {p : Image} {Fits : Part → Type 0} {X : State} (free : NamedBase p Fi
   unfolding set_deadline
   set_deadline-free part placing name d fits =
       then-keeps _ _ (changes-keeps _ (edit_task-alters free.quiet name (λ t. record t { deadline = d }) (λ t. refl)))
-      (then-keeps _ _ (says_deadline-keeps free.quiet part name d) (looks-keeps _ (λ w. when-keeps (is_runnable_at_edf p w name (task_of w name).state) _ (to_tail-free placing name fits))))
+      (then-keeps _ _ (says_deadline-keeps free.quiet part name d)
+      (looks-keeps _ (λ w. when-keeps (is_runnable_at_edf p w name (task_of w name).state) _ (to_tail-free placing name fits))))
 
   pub replace_in-free : (part : Part) (name : Who) (state : tasks.State) → Fits part → Keeps X (replace_in p part name state)
   unfolding replace_in
@@ -176,13 +193,18 @@ module _ {p : Image} {Fits : Part → Type 0} {X : State} (free : NamedBase p Fi
   sets_deadline-free : (actor name : Who) (d : ℤ) → ((part : Part) → Fits part) → Keeps X (set_or_defer_deadline p actor name d)
   unfolding set_or_defer_deadline defer_deadline
   sets_deadline-free actor name d fits =
-      looks-keeps _ (λ w. branch-keeps (in_protected w name && has_edf p) (changes (edit_task name (λ t. record t { deferred_deadline = Some d }))) (set_deadline p (part_of actor name) (placing_of actor name) name d)
-      (changes-keeps _ (edit_task-alters free.quiet name (λ t. record t { deferred_deadline = Some d }) (λ t. refl))) (set_deadline-free (part_of actor name) (placing_of actor name) name d (fits (placing_of actor name))))
+      looks-keeps _
+      (λ w. branch-keeps (in_protected w name && has_edf p) (changes (edit_task name (λ t. record t { deferred_deadline = Some d })))
+      (set_deadline p (part_of actor name) (placing_of actor name) name d)
+      (changes-keeps _ (edit_task-alters free.quiet name (λ t. record t { deferred_deadline = Some d }) (λ t. refl)))
+      (set_deadline-free (part_of actor name) (placing_of actor name) name d (fits (placing_of actor name))))
 
   take_deadline-free : (name : Who) (moment : Option ℤ) → Fits ThePlacing → Keeps X (take_deadline p name moment)
   unfolding take_deadline
   take_deadline-free name None fits = nothing-keeps
-  take_deadline-free name (Some d) fits = then-keeps _ _ (changes-keeps _ (edit_task-alters free.quiet name (λ t. record t { deferred_deadline = None }) (λ t. refl))) (set_deadline-free ThePlacing ThePlacing name d fits)
+  take_deadline-free name (Some d) fits =
+      then-keeps _ _ (changes-keeps _ (edit_task-alters free.quiet name (λ t. record t { deferred_deadline = None }) (λ t. refl)))
+      (set_deadline-free ThePlacing ThePlacing name d fits)
 
   pub base_free : (Parts : Fitting) → ((part : Part) (name : Who) → Parts part name → Fits part) → BaseMoves p Parts any_world X
   base_free Parts fits = record {
@@ -195,7 +217,8 @@ module _ {p : Image} {Fits : Part → Type 0} {X : State} (free : NamedBase p Fi
     wakes = λ part name f. from-leads (ready p part name) (λ w said h. h.0) (ready-free part name (fits part name f));
   }
 
-  pub later_free : (actor : Who) → Heads p actor Fits X → (Parts : Fitting) → ((part : Part) (name : Who) → Parts part name → Fits part) → Fits ThePlacing → ((name : Who) → Parts Own name) → ((name : Who) → Parts (OfOther name) name) → LaterMoves p actor Parts any_world X
+  pub later_free : (actor : Who) → Heads p actor Fits X → (Parts : Fitting) → ((part : Part) (name : Who) → Parts part name → Fits part) → Fits ThePlacing
+      → ((name : Who) → Parts Own name) → ((name : Who) → Parts (OfOther name) name) → LaterMoves p actor Parts any_world X
   later_free actor heads Parts fits placing fits_own fits_other = record {
     base = base_free Parts fits;
     fits_own = fits_own;
@@ -223,17 +246,22 @@ module _ {p : Image} {actor : Who} {May : Admitting} {F I J : State} (free : Nam
   set_base-first : (t : TaskNo) (level : ℕ) → Leads F I (set_base p (part_of actor (who.Task t)) (placing_of actor (who.Task t)) (who.Task t) level)
   unfolding set_base says_base
   set_base-first t level =
-      then-together (changes (edit_task (who.Task t) (λ u. record u { base = level }))) (says (part_of actor (who.Task t)) (line.Base t level)) _ (free.bases_first t level) (looks-keeps _ (λ w. replace_in-free free.later (placing_of actor (who.Task t)) (who.Task t) (task_of w (who.Task t)).state tt))
+      then-together (changes (edit_task (who.Task t) (λ u. record u { base = level }))) (says (part_of actor (who.Task t)) (line.Base t level)) _
+      (free.bases_first t level)
+      (looks-keeps _ (λ w. replace_in-free free.later (placing_of actor (who.Task t)) (who.Task t) (task_of w (who.Task t)).state tt))
 
   set_base-placing : (t : TaskNo) (level : ℕ) → Keeps I (set_base p ThePlacing ThePlacing (who.Task t) level)
   unfolding set_base says_base
   set_base-placing t level =
-      then-together (changes (edit_task (who.Task t) (λ u. record u { base = level }))) (says ThePlacing (line.Base t level)) _ (free.bases t level) (looks-keeps _ (λ w. replace_in-free free.later ThePlacing (who.Task t) (task_of w (who.Task t)).state tt))
+      then-together (changes (edit_task (who.Task t) (λ u. record u { base = level }))) (says ThePlacing (line.Base t level)) _ (free.bases t level)
+      (looks-keeps _ (λ w. replace_in-free free.later ThePlacing (who.Task t) (task_of w (who.Task t)).state tt))
 
   sets_base-free : (t : TaskNo) (level : ℕ) → Leads F I (set_or_defer_base p actor (who.Task t) level)
   unfolding set_or_defer_base defer_base
   sets_base-free t level =
-      looks-leads _ (λ w. branch-leads (in_protected w (who.Task t)) (changes (edit_task (who.Task t) (λ u. record u { deferred_base = Some level }))) (set_base p (part_of actor (who.Task t)) (placing_of actor (who.Task t)) (who.Task t) level)
+      looks-leads _
+      (λ w. branch-leads (in_protected w (who.Task t)) (changes (edit_task (who.Task t) (λ u. record u { deferred_base = Some level })))
+      (set_base p (part_of actor (who.Task t)) (placing_of actor (who.Task t)) (who.Task t) level)
       (from-leads _ free.starts (changes-keeps _ (free.defers t (Some level)))) (set_base-first t level))
 
   take_base-at : (name : Who) (v : World) (deferred : Option ℕ) → (task_of v name).deferred_base ≡ deferred → Leads (At I v) I (take_base p name deferred)
@@ -246,14 +274,17 @@ module _ {p : Image} {actor : Who} {May : Admitting} {F I J : State} (free : Nam
   unfolding set_deferred
   sets_deferred-free name =
       looks-with _ (λ v said h. when-leads (not (in_protected v name)) _
-      (λ is. then-leads (take_base p name (task_of v name).deferred_base) _ (take_base-at name v (task_of v name).deferred_base refl) (take_deadline-free free.later name (task_of v name).deferred_deadline tt))
+      (λ is. then-leads (take_base p name (task_of v name).deferred_base) _ (take_base-at name v (task_of v name).deferred_base refl)
+      (take_deadline-free free.later name (task_of v name).deferred_deadline tt))
       (λ w s k. k.0))
 
-  meets_late-free : (t : TaskNo) (s : StatementNo) (c : Call) → Keeps I (meet_without_room p TheFinish (who.Task t) s c (deliver p TheFinish c.number (call_ended.ToRaise exception.Storage)))
+  meets_late-free : (t : TaskNo) (s : StatementNo) (c : Call)
+      → Keeps I (meet_without_room p TheFinish (who.Task t) s c (deliver p TheFinish c.number (call_ended.ToRaise exception.Storage)))
   meets_late-free t s c =
       then-keeps _ _ (begin_accept-keeps free.later.quiet p TheFinish (who.Task t) s c)
       (then-keeps _ _ (finish_without_room-keeps free.later.quiet TheFinish (who.Task t) c)
-      (then-keeps _ _ (deliver-keeps (fine_base (base_free free.later any_part (λ part name f. tt))) TheFinish c.number (call_ended.ToRaise exception.Storage) (λ name. tt))
+      (then-keeps _ _
+      (deliver-keeps (fine_base (base_free free.later any_part (λ part name f. tt))) TheFinish c.number (call_ended.ToRaise exception.Storage) (λ name. tt))
       (then-keeps _ _ (ready-free free.later TheFinish (who.Task t) tt) (raises-keeps (fine free.later.quiet) TheFinish (who.Task t) exception.Storage))))
 
   pub freely : ActingMoves p actor any_part late_part any_world May anybody anybody F I J I I I (λ v. I) (λ v. I) (λ v. I) (λ v. J) (λ v name. I)
@@ -275,7 +306,8 @@ module _ {p : Image} {actor : Who} {May : Admitting} {F I J : State} (free : Nam
         rests = λ w said h. h;
         fits_finish = λ name. tt;
         tails = to_tail-free free.later ThePlacing actor tt;
-        waits_at_select = λ accepts delay. from-leads _ free.starts (changes-keeps _ (with_state-alters free.later actor (Blocked (waits_for.Select accepts delay true))));
+        waits_at_select =
+            λ accepts delay. from-leads _ free.starts (changes-keeps _ (with_state-alters free.later actor (Blocked (waits_for.Select accepts delay true))));
         appoints_first = λ t moment is. free.appoints_first t moment;
         appoints = λ t moment is. free.later.appoints t moment;
         loses = λ cause. lose_running-free free.later actor free.heads_later cause tt;

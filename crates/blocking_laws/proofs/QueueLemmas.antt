@@ -1,6 +1,7 @@
 -- The ready queues that lines show: who is found there, who stands before whom, and who is first, where no entry has a
 -- deadline.
-use Rattle.std.proofs.Common.{◌≡◌, ℕ, ℤ, ◌<◌, ◌≤◌, ◌⊎◌, ◌==◌, Bool, true, false, not, cond, ◌&&◌, ◌||◌, ltb, List, [], ◌∷◌, ◌++◌, Option, Some, None, is_some, refl, sym, ap, subst, ◌∙◌, arith, inl, inr}
+use Rattle.std.proofs.Common.{◌≡◌, ℕ, ℤ, ◌<◌, ◌≤◌, ◌⊎◌, ◌==◌, Bool, true, false, not, cond, ◌&&◌, ◌||◌, ltb, List}
+use Rattle.std.proofs.Common.{[], ◌∷◌, ◌++◌, Option, Some, None, is_some, refl, sym, ap, subst, ◌∙◌, arith, inl, inr}
 use Rattle.std.proofs.lemmas.Bool.{cases_Bool, cases_lt, eq-eqb, eqb-true, ltb-false, ltb-true}
 use Rattle.trace_text.specs.declared.events.Entry.{Entry}
 use Rattle.trace_text.specs.declared.events.Who.{Who}
@@ -150,7 +151,8 @@ precedes-last v u (x ∷ q) e f there none = elim (cases_Bool (who_eq v x.who)) 
   | inl same ↦ precedes_at v u x (q ++ f ∷ []) same
   | inr behind ↦ elim (cases_Bool (who_eq u x.who)) [
     | inl here ↦ let wrong : Some x ≡ None = sym (found_at u x q here) ∙ none in cc
-    | inr on ↦ precedes_behind v u x (q ++ f ∷ []) behind on ∙ precedes-last v u q e f (sym (found_behind v x q behind) ∙ there) (sym (found_behind u x q on) ∙ none)
+    | inr on ↦
+        precedes_behind v u x (q ++ f ∷ []) behind on ∙ precedes-last v u q e f (sym (found_behind v x q behind) ∙ there) (sym (found_behind u x q on) ∙ none)
   ]
 ]
 
@@ -237,7 +239,8 @@ alone x h same =
     })
 
 -- the first of the rest goes before who stands before it
-over : (x o : Entry) (q : List Entry) → entry_of x.who q ≡ None → Heads o q → (x.level < o.level) ⊎ ((x.level ≡ o.level) × (is_some o.deadline ≡ true)) → Heads o (x ∷ q)
+over : (x o : Entry) (q : List Entry) → entry_of x.who q ≡ None → Heads o q → (x.level < o.level) ⊎ ((x.level ≡ o.level) × (is_some o.deadline ≡ true))
+    → Heads o (x ∷ q)
 over x o q none rest above =
     let another : who_eq o.who x.who ≡ false = elim (cases_who o.who x.who) [
       | inl same ↦ let wrong : Some o ≡ None = sym rest.there ∙ subst (λ w. entry_of w q ≡ None) (sym same) none in cc
@@ -290,7 +293,8 @@ under x o q rest stays = record {
       ];
 }
 
-heads_of : (x : Entry) (q : List Entry) (o : Option Entry) → head_of q ≡ o → entry_of x.who q ≡ None → ((f : Entry) → o ≡ Some f → Heads f q) → (q ≡ []) ⊎ ((f : Entry) × (o ≡ Some f))
+heads_of : (x : Entry) (q : List Entry) (o : Option Entry) → head_of q ≡ o → entry_of x.who q ≡ None → ((f : Entry) → o ≡ Some f → Heads f q)
+    → (q ≡ []) ⊎ ((f : Entry) × (o ≡ Some f))
     → (h : Entry) → Some (first_of x o) ≡ Some h → Heads h (x ∷ q)
 heads_of x q None is none rest kind h e = elim kind [
   | inl empty ↦ subst (λ r. Heads h (x ∷ r)) (sym empty) (alone x h e)

@@ -49,14 +49,17 @@ one_of_four false false false false (inr (inl e)) = e
 one_of_four false false false false (inr (inr (inl e))) = e
 one_of_four false false false false (inr (inr (inr e))) = e
 
-pub ticks_hold_from : {S : Type 0} (see : S → Event → S) (right : S → Bool) (first last tick : ℕ) (s : S) (lines : List TraceLine) → follows_ticks_from see right first last tick s lines ≡ true
+pub ticks_hold_from : {S : Type 0} (see : S → Event → S) (right : S → Bool) (first last tick : ℕ) (s : S) (lines : List TraceLine)
+    → follows_ticks_from see right first last tick s lines ≡ true
     → (n : ℕ) → tick ≤ n → first ≤ n → n ≤ last → right (seen_from see s (up_to n lines)) ≡ true
 ticks_hold_from see right first last tick s [] e n low from high = last_of_two (ltb last tick) (right s) e (le-ltb last tick (omega arith))
 ticks_hold_from see right first last tick s (line ∷ lines) e n low from high =
-    let parts = and_parts (leb line.0 tick || leb line.0 first || ltb last tick || right s) (follows_ticks_from see right first last line.0 (see s line.1) lines) e in
+    let parts =
+    and_parts (leb line.0 tick || leb line.0 first || ltb last tick || right s) (follows_ticks_from see right first last line.0 (see s line.1) lines) e in
     elim (cases_lt n line.0) [
       | inl below ↦ rw (lt-leb line.0 n below)
-          (last_of_four (leb line.0 tick) (leb line.0 first) (ltb last tick) (right s) parts.0 (lt-leb line.0 tick (omega arith)) (lt-leb line.0 first (omega arith)) (le-ltb last tick (omega arith)))
+          (last_of_four (leb line.0 tick) (leb line.0 first) (ltb last tick) (right s) parts.0 (lt-leb line.0 tick (omega arith))
+          (lt-leb line.0 first (omega arith)) (le-ltb last tick (omega arith)))
       | inr at ↦ rw (le-leb line.0 n at) (ticks_hold_from see right first last line.0 (see s line.1) lines parts.1 n at from high)
     ]
 
@@ -67,16 +70,20 @@ later_of a b = elim (cases_lt a b) [
   | inr at ↦ (a, (omega arith, (at, inl refl)))
 ]
 
-pub ticks_followed_from : {S : Type 0} (see : S → Event → S) (right : S → Bool) (first last : ℕ) → first ≤ last → (tick : ℕ) (s : S) (lines : List TraceLine) → RisesFrom tick lines
+pub ticks_followed_from : {S : Type 0} (see : S → Event → S) (right : S → Bool) (first last : ℕ) → first ≤ last → (tick : ℕ) (s : S) (lines : List TraceLine)
+    → RisesFrom tick lines
     → ((n : ℕ) → tick ≤ n → first ≤ n → n ≤ last → right (seen_from see s (up_to n lines)) ≡ true) → follows_ticks_from see right first last tick s lines ≡ true
 ticks_followed_from see right first last order tick s [] rises h = one_of_two (ltb last tick) (right s) (elim (cases_lt last tick) [
   | inl below ↦ inl (lt-ltb last tick below)
   | inr at ↦ let n = later_of tick first in inr (h n.0 n.1.0 n.1.1.0 (omega (arith, n.1.1.1)))
 ])
 ticks_followed_from {S} see right first last order tick s (line ∷ lines) rises h =
-    let later : follows_ticks_from see right first last line.0 (see s line.1) lines ≡ true = ticks_followed_from see right first last order line.0 (see s line.1) lines rises.1
-    (λ n low from high. subst (λ (t : Bool). right (seen_from see s (cond t (line ∷ up_to n lines) [])) ≡ true) (le-leb line.0 n low) (h n (omega (arith, rises.0)) from high)) in
-    let here : (leb line.0 tick || leb line.0 first || ltb last tick || right s) ≡ true = one_of_four (leb line.0 tick) (leb line.0 first) (ltb last tick) (right s) (elim (cases_lt tick line.0) [
+    let later : follows_ticks_from see right first last line.0 (see s line.1) lines ≡ true =
+    ticks_followed_from see right first last order line.0 (see s line.1) lines rises.1
+    (λ n low from high. subst (λ (t : Bool). right (seen_from see s (cond t (line ∷ up_to n lines) [])) ≡ true) (le-leb line.0 n low)
+    (h n (omega (arith, rises.0)) from high)) in
+    let here : (leb line.0 tick || leb line.0 first || ltb last tick || right s) ≡ true =
+    one_of_four (leb line.0 tick) (leb line.0 first) (ltb last tick) (right s) (elim (cases_lt tick line.0) [
       | inr at ↦ inl (le-leb line.0 tick at)
       | inl below ↦ elim (cases_lt first line.0) [
         | inr at ↦ inr (inl (le-leb line.0 first at))
@@ -85,7 +92,9 @@ ticks_followed_from {S} see right first last order tick s (line ∷ lines) rises
           | inr on ↦
               let n = later_of tick first in
               let before : n.0 < line.0 = omega (arith, n.1.1.1) in
-              inr (inr (inr (subst (λ (t : Bool). right (seen_from see s (cond t (line ∷ up_to n.0 lines) [])) ≡ true) (lt-leb line.0 n.0 before) (h n.0 n.1.0 n.1.1.0 (omega (arith, n.1.1.1))))))
+              inr (inr (inr
+              (subst (λ (t : Bool). right (seen_from see s (cond t (line ∷ up_to n.0 lines) [])) ≡ true) (lt-leb line.0 n.0 before)
+              (h n.0 n.1.0 n.1.1.0 (omega (arith, n.1.1.1))))))
         ]
       ]
     ]) in
@@ -102,16 +111,20 @@ all_at test (y ∷ xs) (z ∷ front) x back e same =
     let rest : xs ≡ front ++ x ∷ back = cc in
     all_at test xs front x back (and_parts (test y) (list_all test xs) e).1 rest
 
-pub all_from : {X : Type 0} (test : X → Bool) (xs : List X) → ((front : List X) (x : X) (back : List X) → xs ≡ front ++ x ∷ back → test x ≡ true) → list_all test xs ≡ true
+pub all_from : {X : Type 0} (test : X → Bool) (xs : List X) → ((front : List X) (x : X) (back : List X) → xs ≡ front ++ x ∷ back → test x ≡ true)
+    → list_all test xs ≡ true
 all_from test [] h = refl
-all_from test (x ∷ xs) h = and_from (test x) (list_all test xs) (h [] x xs refl) (all_from test xs (λ front y back e. h (x ∷ front) y back (ap (λ ys. x ∷ ys) e)))
+all_from test (x ∷ xs) h =
+    and_from (test x) (list_all test xs) (h [] x xs refl) (all_from test xs (λ front y back e. h (x ∷ front) y back (ap (λ ys. x ∷ ys) e)))
 
-pub lines_hold_behind : (first last : ℕ) (test : Event → Bool) (lines : List TraceLine) → follows_lines_behind first last test lines ≡ true → AtLinesBehind first last test lines
+pub lines_hold_behind : (first last : ℕ) (test : Event → Bool) (lines : List TraceLine) → follows_lines_behind first last test lines ≡ true
+    → AtLinesBehind first last test lines
 lines_hold_behind first last test lines e front line back same low high =
     last_of_three (leb line.0 first) (ltb last line.0) (test line.1)
     (all_at (λ (x : TraceLine). leb x.0 first || ltb last x.0 || test x.1) lines front line back e same) (lt-leb line.0 first low) (le-ltb last line.0 high)
 
-pub lines_followed_behind : (first last : ℕ) (test : Event → Bool) (lines : List TraceLine) → AtLinesBehind first last test lines → follows_lines_behind first last test lines ≡ true
+pub lines_followed_behind : (first last : ℕ) (test : Event → Bool) (lines : List TraceLine) → AtLinesBehind first last test lines
+    → follows_lines_behind first last test lines ≡ true
 lines_followed_behind first last test lines h = all_from (λ (x : TraceLine). leb x.0 first || ltb last x.0 || test x.1) lines
     (λ front line back same. one_of_three (leb line.0 first) (ltb last line.0) (test line.1) (elim (cases_lt first line.0) [
       | inr at ↦ inl (le-leb line.0 first at)
@@ -127,7 +140,9 @@ none_there (x ∷ xs) e = cc
 
 pub stretch_told : (first last : ℕ) (lines : List TraceLine) → is_stretch first last lines ≡ true → Stretch first last lines
 stretch_told first last lines e =
-    let a = and_parts (leb first last && is_empty (past_at first lines).actions && follows_ticks_from past_after is_plain first last 0 nothing_past lines) (follows_lines_behind first last sets_no_base lines) e in
+    let a =
+    and_parts (leb first last && is_empty (past_at first lines).actions && follows_ticks_from past_after is_plain first last 0 nothing_past lines)
+    (follows_lines_behind first last sets_no_base lines) e in
     let b = and_parts (leb first last && is_empty (past_at first lines).actions) (follows_ticks_from past_after is_plain first last 0 nothing_past lines) a.0 in
     let c = and_parts (leb first last) (is_empty (past_at first lines).actions) b.0 in
     record {
@@ -139,5 +154,9 @@ stretch_told first last lines e =
 
 pub told_stretch : (first last : ℕ) (lines : List TraceLine) → RisesFrom 0 lines → Stretch first last lines → is_stretch first last lines ≡ true
 told_stretch first last lines rises h =
-    rw (le-leb first last h.order, h.free, ticks_followed_from past_after is_plain first last h.order 0 nothing_past lines rises (λ tick zero low high. h.plain tick low high))
+    rw (
+      le-leb first last h.order,
+      h.free,
+      ticks_followed_from past_after is_plain first last h.order 0 nothing_past lines rises (λ tick zero low high. h.plain tick low high),
+    )
     (lines_followed_behind first last sets_no_base lines h.bases)

@@ -1,4 +1,5 @@
--- Blocked at most once: laws of the stretches of a list of lines (D.2.1, D.3). Nothing here knows how the lines came about.
+-- Blocked at most once: laws of the stretches of a list of lines (D.2.1, D.3). Nothing here knows how the lines came
+-- about.
 use Rattle.std.specs.Prelude.{◌≡◌, ℕ, ◌<◌, ◌≤◌, Bool, true, false, nat_lt, nat_le, IsTrue, List, Option, Some, None}
 use Rattle.ann_base.specs.declared.identities.TaskNo.{TaskNo}
 use Rattle.trace_text.specs.declared.events.Entry.{Entry}
@@ -50,8 +51,8 @@ runs_lower task past = is_lower (base_of_runner past.runner past.bases) (level_o
 abbrev pub Waits : TaskNo → ℕ → ℕ → List TraceLine → Type 0
 Waits task begun until = AtTicksFrom past_after nothing_past begun until (λ past. IsTrue (stands_at_base task past))
 
--- At each of these ticks at which a task of lower base priority runs it is this one, and behind all ticks up to that one it
--- has had an action open.
+-- At each of these ticks at which a task of lower base priority runs it is this one, and behind all ticks up to that
+-- one it has had an action open.
 pub record BlockedBy (who : Who) (task : TaskNo) (begun until : ℕ) (lines : List TraceLine) : Type 0 where
   pub runs : (tick : ℕ) → begun ≤ tick → tick ≤ until → tick < last_from 0 lines
       → runs_lower task (past_at tick lines) ≡ true → (past_at tick lines).runner ≡ Some who

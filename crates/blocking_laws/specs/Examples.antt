@@ -96,8 +96,8 @@ blocked_twice =
     (12, line.End ended.Bound) ∷
     []
 
--- From behind one tick to behind another everything is as in a stretch, but that somebody inherits a priority without an
--- action; and a call finds its object held.
+-- From behind one tick to behind another everything is as in a stretch, but that somebody inherits a priority without
+-- an action; and a call finds its object held.
 pub record HeldByInheritance (first inherits last : ℕ) (lines : List TraceLine) : Type 0 where
   pub free : (past_at first lines).actions ≡ []
   pub bases : follows_lines_behind first last sets_no_base lines ≡ true

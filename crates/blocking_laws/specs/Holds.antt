@@ -1,6 +1,7 @@
--- The protected actions that lines show as open, each with the number of the line by which it began; and the classical form
--- of blocking: one action, on an object whose ceiling is not below the level of who waits (D.3).
-use Rattle.std.specs.Prelude.{◌≡◌, ℕ, zero, suc, ◌+◌, ◌<◌, ◌≤◌, Bool, true, false, ◌&&◌, ◌==◌, if◌then◌else◌, IsTrue, List, [], ◌∷◌, Option, Some}
+-- The protected actions that lines show as open, each with the number of the line by which it began; and the classical
+-- form of blocking: one action, on an object whose ceiling is not below the level of who waits (D.3).
+use Rattle.std.specs.Prelude.{◌≡◌, ℕ, zero, suc, ◌+◌, ◌<◌, ◌≤◌, Bool, true, false, ◌&&◌}
+use Rattle.std.specs.Prelude.{◌==◌, if◌then◌else◌, IsTrue, List, [], ◌∷◌, Option, Some}
 use Rattle.std.specs.List.{list_any}
 use Rattle.trace_text.specs.declared.events.Action.{Action}
 use Rattle.trace_text.specs.declared.events.Event.{Event}
@@ -61,9 +62,9 @@ WaitsAt who level begun until =
 abbrev pub runs_below : ℕ → Past → Bool
 runs_below level past = is_lower (base_of_runner past.runner past.bases) (Some level)
 
--- ONE ACTION. At each of the ticks at which a task of lower base priority runs it runs in one action, which has been open
--- behind all of them, on an object whose ceiling is not below the level; and at none, if it waits from the first tick of the
--- stretch on.
+-- ONE ACTION. At each of the ticks at which a task of lower base priority runs it runs in one action, which has been
+-- open behind all of them, on an object whose ceiling is not below the level; and at none, if it waits from the first
+-- tick of the stretch on.
 pub record OneAction (level first begun until : ℕ) (lines : List TraceLine) : Type 0 where
   pub hold : Hold
   pub runs : (tick : ℕ) → begun ≤ tick → tick ≤ until → tick < last_from 0 lines
@@ -92,10 +93,11 @@ runs_in level hold lines tick = somebody_eq (past_at tick lines).runner (Some ho
     && has_hold hold (seen_from holding_after nothing_held (up_to tick lines)).holds
     && is_within (Some level) (ceiling_at hold.action.object tick lines)
 
--- Of the ticks at which somebody waits at a level, tasks of lower base priority run at no more than anybody runs in one such
--- action.
+-- Of the ticks at which somebody waits at a level, tasks of lower base priority run at no more than anybody runs in one
+-- such action.
 abbrev pub BlockingBoundOk : List TraceLine → Type 0
-BlockingBoundOk lines = (first last : ℕ) → Stretch first last lines → (who : Who) (level begun until : ℕ) → first ≤ begun
+BlockingBoundOk lines =
+    (first last : ℕ) → Stretch first last lines → (who : Who) (level begun until : ℕ) → first ≤ begun
     → begun ≤ until → until ≤ last → WaitsAt who level begun until lines → (count most : ℕ) → begun + count ≤ suc until
     → begun + count ≤ last_from 0 lines
     → ((hold : Hold) → count_ticks begun count (runs_in level hold lines) ≤ most)

@@ -1,23 +1,27 @@
--- Who is moved in the ready queues, and who enters a protected object: laws on lists of lines, and beside each a test that
--- computes (D.2.1, D.3, 9.5.1).
-use Rattle.std.specs.Prelude.{ℕ, ℤ, Bool, true, false, not, ◌&&◌, ◌||◌, ◌==◌, nat_le, IsTrue, List, [], ◌∷◌, ◌++◌, Option, Some, None, is_none, is_some, filter, find}
+-- Who is moved in the ready queues, and who enters a protected object: laws on lists of lines, and beside each a test
+-- that computes (D.2.1, D.3, 9.5.1).
+use Rattle.std.specs.Prelude.{ℕ, ℤ, Bool, true, false, not, ◌&&◌, ◌||◌, ◌==◌, nat_le, IsTrue, List}
+use Rattle.std.specs.Prelude.{[], ◌∷◌, ◌++◌, Option, Some, None, is_none, is_some, filter, find}
 use Rattle.std.specs.List.{list_all, list_any}
 use Rattle.ann_base.specs.declared.identities.ObjectNo.{ObjectNo}
 use Rattle.trace_text.specs.declared.events.Action.{Action}
 use Rattle.trace_text.specs.declared.events.Created.TheVariants as created
 use Rattle.trace_text.specs.declared.events.Event.{Event}
-use Rattle.trace_text.specs.declared.events.Event.TheVariants.{New, Ready, Block, Run, Idle, Done, Base, Enter, Exit, Held}
+use Rattle.trace_text.specs.declared.events.Event.TheVariants.{New, Ready, Block, Run, Idle}
+use Rattle.trace_text.specs.declared.events.Event.TheVariants.{Done, Base, Enter, Exit, Held}
 use Rattle.trace_text.specs.declared.events.QueueEnd.TheVariants.{Head, Tail}
 use Rattle.trace_text.specs.declared.events.Who.{Who}
 use Rattle.trace_text.specs.declared.events.Who.TheVariants as subject
-use Rattle.trace_text.specs.Laws.{CeilingOk, DispatchOk, ExclusiveOk, ceilings_after, follows_ceilings, follows_dispatch, follows_exclusion, follows_order, level_of}
-use Rattle.trace_text.specs.Queue.{TraceLine, AtEachLine, AtEachTick, RisesFrom, entry_of, follows_lines, follows_ticks, head_of, somebody_eq, who_eq, who_of}
+use Rattle.trace_text.specs.Laws.{CeilingOk, DispatchOk, ExclusiveOk, ceilings_after, follows_ceilings}
+use Rattle.trace_text.specs.Laws.{follows_dispatch, follows_exclusion, follows_order, level_of}
+use Rattle.trace_text.specs.Queue.{TraceLine, AtEachLine, AtEachTick, RisesFrom, entry_of}
+use Rattle.trace_text.specs.Queue.{follows_lines, follows_ticks, head_of, somebody_eq, who_eq, who_of}
 use Rattle.ceiling_laws.specs.PlaceLaws.{level_in}
 use Rattle.blocking_laws.specs.BlockingLaws.{is_from}
 use Rattle.blocking_laws.specs.Stretches.{Past, has_open, nothing_past, past_after}
 
--- What lines show besides: the level at which the agent was last placed behind all others, the ceilings, who has found an
--- object held since it last entered one, and who stood above its own level when it entered the first of its objects.
+-- What lines show besides: the level at which the agent was last placed behind all others, the ceilings, who has found
+-- an object held since it last entered one, and who stood above its own level when it entered the first of its objects.
 pub record Moving : Type 0 where
   pub past : Past
   pub agent : Option ℕ
@@ -73,8 +77,8 @@ moving_after moving event = record {
   raised = raised_after moving.past moving.agent moving.raised event;
 }
 
--- Somebody comes to an object: it has run up to now, stands first in the ready queues, and its base priority is not above
--- the ceiling.
+-- Somebody comes to an object: it has run up to now, stands first in the ready queues, and its base priority is not
+-- above the ceiling.
 abbrev pub comes_rightly : Who → ObjectNo → Moving → Bool
 comes_rightly who object moving =
     somebody_eq moving.past.runner (Some who) && somebody_eq (who_of (head_of moving.past.queue)) (Some who)
@@ -111,9 +115,10 @@ is_on object (Some action) = object == action.object
 abbrev pub exits_last : Who → ObjectNo → Moving → Bool
 exits_last who object moving = is_on object.0 (find (λ action. who_eq who action.who) moving.past.actions)
 
--- MOVED. Only who has run is placed before others. Who has an action open is not placed behind others, unless it has found
--- an object held, and neither blocks nor ends. Who enters an object or finds one held comes to it rightly. The agent is
--- placed behind others at one level alone. Actions end in the reverse order of their beginning. No number is given twice.
+-- MOVED. Only who has run is placed before others. Who has an action open is not placed behind others, unless it has
+-- found an object held, and neither blocks nor ends. Who enters an object or finds one held comes to it rightly. The
+-- agent is placed behind others at one level alone. Actions end in the reverse order of their beginning. No number is
+-- given twice.
 abbrev pub is_moved_rightly : Moving → Event → Bool
 is_moved_rightly moving (Ready who level Head deadline) =
     is_known who moving && is_dated_rightly who deadline && somebody_eq moving.past.runner (Some who)
@@ -135,7 +140,8 @@ MovedOk = AtEachLine moving_after nothing_moving (λ moving event. IsTrue (is_mo
 abbrev pub follows_moves : List TraceLine → Bool
 follows_moves = follows_lines moving_after is_moved_rightly nothing_moving
 
--- HOLDERS STAND. At each tick, who has an action open stands in the ready queues at the ceiling of its object, or above it.
+-- HOLDERS STAND. At each tick, who has an action open stands in the ready queues at the ceiling of its object, or above
+-- it.
 abbrev pub holders_stand : Moving → Bool
 holders_stand moving =
     list_all (λ action. is_from (level_of action.object moving.ceilings) (entry_of action.who moving.past.queue))
@@ -147,8 +153,9 @@ HoldersStandOk = AtEachTick moving_after nothing_moving (λ moving. IsTrue (hold
 abbrev pub follows_holders : List TraceLine → Bool
 follows_holders = follows_ticks moving_after holders_stand 0 nothing_moving
 
--- HOLDERS STAND LOW. At each tick, who has an action open and stood at its own level at most when it entered the first of
--- its objects stands at most at the highest of these: its own level, and the ceilings of the objects that it has open.
+-- HOLDERS STAND LOW. At each tick, who has an action open and stood at its own level at most when it entered the first
+-- of its objects stands at most at the highest of these: its own level, and the ceilings of the objects that it has
+-- open.
 abbrev pub is_among : Who → List Who → Bool
 is_among who names = list_any (λ other. who_eq who other) names
 
@@ -159,7 +166,8 @@ is_explained moving who level = is_within level (own_level who moving.past.bases
 
 abbrev pub holders_stand_low : Moving → Bool
 holders_stand_low moving =
-    list_all (λ action. is_among action.who moving.raised || is_explained moving action.who (level_in (entry_of action.who moving.past.queue)))
+    list_all (λ action. is_among action.who moving.raised
+    || is_explained moving action.who (level_in (entry_of action.who moving.past.queue)))
     moving.past.actions
 
 abbrev pub HoldersStandLowOk : List TraceLine → Type 0
@@ -168,8 +176,8 @@ HoldersStandLowOk = AtEachTick moving_after nothing_moving (λ moving. IsTrue (h
 abbrev pub follows_low_holders : List TraceLine → Bool
 follows_low_holders = follows_ticks moving_after holders_stand_low 0 nothing_moving
 
--- ENTERS FIRST. Who enters an object, or finds one held, has in that tick been neither placed nor taken out, and has neither
--- entered nor left one.
+-- ENTERS FIRST. Who enters an object, or finds one held, has in that tick been neither placed nor taken out, and has
+-- neither entered nor left one.
 abbrev pub touched_by : Event → List Who
 touched_by (Ready who level end deadline) = who ∷ []
 touched_by (Block who why) = who ∷ []
@@ -194,8 +202,8 @@ enters_from tick touched (line ∷ lines) = is_fresh_entry (touched_at (line.0 =
 abbrev pub enters_first : List TraceLine → Bool
 enters_first = enters_from 0 []
 
--- CHOICE. Behind the line that says who runs, nobody is made, placed or taken out in that tick, and nobody enters or leaves
--- an object.
+-- CHOICE. Behind the line that says who runs, nobody is made, placed or taken out in that tick, and nobody enters or
+-- leaves an object.
 abbrev pub is_choice : Event → Bool
 is_choice (Run who) = true
 is_choice Idle = true

@@ -1,6 +1,7 @@
--- Stretches of a list of lines: parts in which priorities change by protected actions alone. At first no action is open;
--- who has none open stands at most at its base priority; and no base priority is set (D.1, D.3, D.5.1).
-use Rattle.std.specs.Prelude.{◌≡◌, ℕ, ℤ, ◌≤◌, Bool, true, false, ◌&&◌, ◌||◌, nat_lt, nat_le, IsTrue, List, [], Option, Some, None}
+-- Stretches of a list of lines: parts in which priorities change by protected actions alone. At first no action is
+-- open; who has none open stands at most at its base priority; and no base priority is set (D.1, D.3, D.5.1).
+use Rattle.std.specs.Prelude.{◌≡◌, ℕ, ℤ, ◌≤◌, Bool, true, false, ◌&&◌, ◌||◌}
+use Rattle.std.specs.Prelude.{nat_lt, nat_le, IsTrue, List, [], Option, Some, None}
 use Rattle.std.specs.List.{list_all, list_any}
 use Rattle.ann_base.specs.Lists.{is_empty}
 use Rattle.trace_text.specs.declared.events.Action.{Action}
@@ -38,8 +39,8 @@ past_at tick lines = seen_from past_after nothing_past (up_to tick lines)
 abbrev pub has_open : Who → List Action → Bool
 has_open who = list_any (λ action. who_eq who action.who)
 
--- A level that is at most this base priority, and below it where there is a deadline. Of the agent, whose base priority no
--- line tells, nothing is asked.
+-- A level that is at most this base priority, and below it where there is a deadline. Of the agent, whose base priority
+-- no line tells, nothing is asked.
 abbrev pub is_own_level : Option ℕ → ℕ → Option ℤ → Bool
 is_own_level None level deadline = true
 is_own_level (Some base) level None = nat_le level base

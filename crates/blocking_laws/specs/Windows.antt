@@ -1,5 +1,5 @@
--- What holds of the lines behind one tick and up to another, and what holds behind each tick from one to another; beside
--- each a test that computes.
+-- What holds of the lines behind one tick and up to another, and what holds behind each tick from one to another;
+-- beside each a test that computes.
 use Rattle.std.specs.Prelude.{◌≡◌, ℕ, ◌<◌, ◌≤◌, Bool, ◌&&◌, ◌||◌, nat_lt, nat_le, IsTrue, List, [], ◌∷◌, ◌++◌}
 use Rattle.std.specs.List.{list_all}
 use Rattle.trace_text.specs.declared.events.Event.{Event}
@@ -18,8 +18,8 @@ abbrev pub AtTicksFrom : {S : Type 0} → (S → Event → S) → S → ℕ → 
 AtTicksFrom see s first last Right lines = (tick : ℕ) → first ≤ tick → tick ≤ last
     → Right (seen_from see s (up_to tick lines))
 
--- The same by a test that follows the lines, and asks whenever the tick changes and one of the ticks that pass is meant;
--- what is shown so far is that of a tick.
+-- The same by a test that follows the lines, and asks whenever the tick changes and one of the ticks that pass is
+-- meant; what is shown so far is that of a tick.
 abbrev pub follows_ticks_from : {S : Type 0} → (S → Event → S) → (S → Bool) → ℕ → ℕ → ℕ → S → List TraceLine → Bool
 follows_ticks_from see right first last tick s [] = nat_lt last tick || right s
 follows_ticks_from see right first last tick s (line ∷ lines) =

@@ -1,7 +1,8 @@
-//! Blocked at most once (ISO/IEC 8652:2012, D.2.1, D.3): laws of the stretches of a list of lines, in which priorities change by
-//! protected actions alone. In a stretch no call finds its object held, and while a task stays ready tasks of lower base
-//! priority run only in protected actions of one of them, of which one was open before. Each law is the contract of a function
-//! that does nothing.
+//! Blocked at most once (ISO/IEC 8652:2012, D.2.1, D.3): laws of the stretches of a list of lines,
+//! in which priorities change by protected actions alone. In a stretch no call finds its object
+//! held, and while a task stays ready tasks of lower base priority run only in protected actions of
+//! one of them, of which one was open before. Each law is the contract of a function that does
+//! nothing.
 #![tactic(auto)]
 
 mod protocol;

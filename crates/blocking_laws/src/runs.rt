@@ -1,5 +1,5 @@
-//! Blocking in every run: laws of the profile machine's definitions alone, which hold of every program, script and bound. Each is
-//! the contract of a function that does nothing.
+//! Blocking in every run: laws of the profile machine's definitions alone, which hold of every
+//! program, script and bound. Each is the contract of a function that does nothing.
 ghost use Rattle.blocking_laws.specs.OwnLines.{RunsEnterFirst, RunsTellOwnLines};
 ghost use Rattle.blocking_laws.specs.RunLaws.{RightMovesBoundBlocking};
 
@@ -9,8 +9,9 @@ use line_laws::{runs_are_in_tick_order, runs_keep_exclusion};
 use machine_laws::dispatching::runs_dispatch;
 use machine_laws::runs::ticks_never_fall;
 
-/// A run of a source whose interrupts have no deadlines bounds blocking in each of its stretches, if its lines move everybody
-/// rightly: since it keeps the laws of dispatching, of ceilings and of exclusion, and chooses last in each tick.
+/// A run of a source whose interrupts have no deadlines bounds blocking in each of its stretches,
+/// if its lines move everybody rightly: since it keeps the laws of dispatching, of ceilings and of
+/// exclusion, and chooses last in each tick.
 pub fn right_moves_bound_blocking()
     ensures { RightMovesBoundBlocking }
 {
@@ -22,14 +23,14 @@ pub fn right_moves_bound_blocking()
     protocol_bounds_blocking();
 }
 
-/// In every run only who has run up to then is placed before others, and only it enters an object: nobody else is preferred to
-/// those of its level (D.2.3).
+/// In every run only who has run up to then is placed before others, and only it enters an object:
+/// nobody else is preferred to those of its level (D.2.3).
 pub fn only_who_runs_goes_before()
     ensures { RunsTellOwnLines }
 {}
 
-/// In every run whoever enters an object stands first in the ready queues at that line: nobody is placed before it in the effect
-/// of its action before the action has begun (D.2.1, 9.5.1).
+/// In every run whoever enters an object stands first in the ready queues at that line: nobody is
+/// placed before it in the effect of its action before the action has begun (D.2.1, 9.5.1).
 pub fn who_enters_is_first()
     ensures { RunsEnterFirst }
 {}

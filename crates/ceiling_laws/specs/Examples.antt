@@ -12,7 +12,9 @@ use Rattle.profile_image.specs.declared.script_items.Item.TheVariants.{Interrupt
 use Rattle.profile_image.specs.declared.values.Constraint.TheVariants.{Free}
 use Rattle.profile_image.specs.declared.declarations.DeclarationKind.TheVariants as kind
 use Rattle.profile_image.specs.declared.statements.StatementForm.TheVariants as form
-use Rattle.profile_machine.specs.Notation.{decl, stmt, scope, subprogram, protected_unit, declaration, statement, scope_text, subprogram_text, protected_unit_text, attachment, dispatching_range, policies, main_procedure}
+use Rattle.profile_machine.specs.Notation.{decl, stmt, scope, subprogram, protected_unit, declaration}
+use Rattle.profile_machine.specs.Notation.{statement, scope_text, subprogram_text, protected_unit_text}
+use Rattle.profile_machine.specs.Notation.{attachment, dispatching_range, policies, main_procedure}
 use Rattle.profile_machine.specs.Run.{run_of}
 use Rattle.trace_text.specs.Laws.{follows_ceilings}
 

@@ -3,7 +3,8 @@ use Rattle.ceiling_laws.specs.CeilingLaws.{edf_is_below_interrupts}
 use Rattle.ceiling_laws.specs.Puts.{last_put, place_by, with_put}
 use Rattle.ceiling_laws.specs.RunLaws.{Tells, levels_told}
 use Rattle.profile_machine.specs.Dispatching.{active_of, block, ready, to_head, to_tail}
-use Rattle.profile_machine.specs.Instant.{budgets_due, events_due, is_over, moments_due, quantum_spent, script_items, timers_due}
+use Rattle.profile_machine.specs.Instant.{budgets_due, events_due, is_over, moments_due}
+use Rattle.profile_machine.specs.Instant.{quantum_spent, script_items, timers_due}
 use Rattle.profile_machine.specs.Run.{run_of, tock}
 use Rattle.profile_machine.specs.Steps.{Done, done, settled, ◌▶◌}
 use Rattle.profile_machine.specs.Tasks.{is_runnable, task_at, task_of, waiting_of}

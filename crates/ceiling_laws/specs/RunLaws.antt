@@ -13,7 +13,8 @@ use Rattle.profile_machine.specs.declared.world.World.{World}
 use Rattle.profile_machine.specs.declared.world.objects.Object.{Object}
 use Rattle.profile_machine.specs.declared.world.tasks.Task.{Task}
 use Rattle.std.specs.Prelude.{Bool, IsTrue, List, None, Some, [], true, ℕ, ℤ, ◌&&◌, ◌++◌, ◌∷◌, ◌≡◌, ◌≤◌}
-use Rattle.trace_text.specs.Laws.{CeilingOk, Levels, base_of, bases_after, ceilings_after, is_below_ceiling, level_of, no_levels, see_levels}
+use Rattle.trace_text.specs.Laws.{CeilingOk, Levels, base_of, bases_after, ceilings_after}
+use Rattle.trace_text.specs.Laws.{is_below_ceiling, level_of, no_levels, see_levels}
 use Rattle.trace_text.specs.Queue.{entry_of}
 use Rattle.trace_text.specs.declared.events.Entry.{Entry}
 use Rattle.trace_text.specs.declared.events.Event.{Event}

@@ -1,6 +1,7 @@
-//! Ceilings of protected objects (ISO/IEC 8652:2012, D.3): laws of the profile machine's definitions alone, which hold of every
-//! program. Each is the contract of a function that does nothing. `instant_laws` has what an instant and its parts keep,
-//! `ceiling_runs` what the lines of every run tell, and `ceiling_places` where they show somebody, and with it that every run keeps
+//! Ceilings of protected objects (ISO/IEC 8652:2012, D.3): laws of the profile machine's
+//! definitions alone, which hold of every program. Each is the contract of a function that does
+//! nothing. `instant_laws` has what an instant and its parts keep, `ceiling_runs` what the lines of
+//! every run tell, and `ceiling_places` where they show somebody, and with it that every run keeps
 //! the law of ceilings.
 #![tactic(auto)]
 

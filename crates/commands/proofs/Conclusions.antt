@@ -6,7 +6,8 @@ use Rattle.ada_verdicts.specs.declared.refusals.Refusal.{Refusal}
 use Rattle.event_script.specs.declared.faults.ScriptFault.{ScriptFault}
 use Rattle.sched_tests.specs.declared.duties.TableFault.{TableFault}
 use Rattle.commands.specs.declared.outcomes.Outcome.{Outcome}
-use Rattle.commands.specs.declared.outcomes.Outcome.TheVariants.{Ended, Accepted, Tested, Traced, WordsRefused, SourceRefused, ScriptRefused, TableRefused, TraceRefused, ReadFault, WriteFault, NoMemory}
+use Rattle.commands.specs.declared.outcomes.Outcome.TheVariants.{Ended, Accepted, Tested, Traced, WordsRefused, SourceRefused}
+use Rattle.commands.specs.declared.outcomes.Outcome.TheVariants.{ScriptRefused, TableRefused, TraceRefused, ReadFault, WriteFault, NoMemory}
 use Rattle.commands.specs.Outside.{SinkChange, SinkFailed, GainedPrefix}
 use Rattle.commands.specs.Outcomes.{stop_status, status_of, note_of, IsNoted, IsNotedInPart, Concludes}
 

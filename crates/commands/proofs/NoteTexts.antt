@@ -10,7 +10,8 @@ first_half line column = (codes "source refused " ++ line) ++ (codes ":" ++ colu
 abbrev pub second_half : ℕ → List ℕ → List ℕ
 second_half letter number = (codes " " ++ letter ∷ []) ++ (number ++ codes "\n")
 
-pub refusal-by : (refusal : Refusal) (line column : List ℕ) (letter : ℕ) (number : List ℕ) → line ≡ decimal refusal.place.line → column ≡ decimal refusal.place.column → letter ≡ letter_of refusal.code → number ≡ decimal (number_of refusal.code) →
+pub refusal-by : (refusal : Refusal) (line column : List ℕ) (letter : ℕ) (number : List ℕ) → line ≡ decimal refusal.place.line
+    → column ≡ decimal refusal.place.column → letter ≡ letter_of refusal.code → number ≡ decimal (number_of refusal.code) →
     first_half line column ++ second_half letter number ≡ refusal_text refusal
 refusal-by refusal line column letter number l c k n =
     ap (λ text. first_half text column ++ second_half letter number) l

@@ -27,7 +27,8 @@ use Rattle.trace_laws.specs.declared.verdicts.Verdict.{Verdict}
 use Rattle.trace_laws.specs.Verdicts.{laws_answer}
 use Rattle.commands.specs.declared.requests.TraceWork.TheVariants as question
 use Rattle.commands.specs.declared.outcomes.Outcome.{Outcome}
-use Rattle.commands.specs.declared.outcomes.Outcome.TheVariants.{Ended, Accepted, Tested, Traced, WordsRefused, SourceRefused, ScriptRefused, TableRefused, TraceRefused, ReadFault, WriteFault, NoMemory}
+use Rattle.commands.specs.declared.outcomes.Outcome.TheVariants.{Ended, Accepted, Tested, Traced, WordsRefused, SourceRefused}
+use Rattle.commands.specs.declared.outcomes.Outcome.TheVariants.{ScriptRefused, TableRefused, TraceRefused, ReadFault, WriteFault, NoMemory}
 use Rattle.commands.specs.declared.requests.Work.{Work}
 use Rattle.commands.specs.declared.requests.TableTest.{TableTest}
 use Rattle.commands.specs.declared.requests.TraceWork.{TraceWork}
@@ -37,7 +38,8 @@ use Rattle.commands.specs.declared.requests.Work.TheVariants as work
 use Rattle.commands.specs.Requests.{SourceAsked, LoadAsked, TableAsked, TraceAsked}
 use Rattle.commands.specs.Outside.{ShelfChange, SinkChange, IsKept, Gained, GainedPrefix}
 use Rattle.commands.specs.Traces.{trace_answer, verdict_answer, report_answer, file_answer}
-use Rattle.commands.specs.Performed.{text_for, outcome_for, ArePrintableFor, without_image, ServesImage, ServesBytes, TestsDuties, TestsBytes, TellsTrace, Performs, IsDone, IsRefused, IsCutShort, IsTested, IsNoTable, IsTestCutShort}
+use Rattle.commands.specs.Performed.{text_for, outcome_for, ArePrintableFor, without_image, ServesImage, ServesBytes, TestsDuties}
+use Rattle.commands.specs.Performed.{TestsBytes, TellsTrace, Performs, IsDone, IsRefused, IsCutShort, IsTested, IsNoTable, IsTestCutShort}
 
 -- ---- from an image to the bytes
 
@@ -55,10 +57,18 @@ same_image a b h = ap (image_in a) h
 abbrev pub IsAnswered : List ℕ → Image → Type 0
 IsAnswered bytes image = (other : Image) → IsAccepted bytes other → accepted_as other ≡ Ok image
 
-pub is_done : (items : List (ℤ × Item)) (asked : Work) (bytes : List ℕ) (image : Image) (out : SinkChange) (o : Outcome) → IsAccepted bytes image → IsAnswered bytes image →
+pub is_done : (items : List (ℤ × Item)) (asked : Work) (bytes : List ℕ) (image : Image) (out : SinkChange) (o : Outcome) → IsAccepted bytes image
+    → IsAnswered bytes image →
     Gained out (text_for items asked image) → outcome_for items asked image ≡ o → ArePrintableFor items asked image → IsDone items asked bytes out o
 is_done items asked bytes image out o accepted only text is printable =
-    record { image = image; accepted = accepted; only = λ other fits. same_image other image (only other fits); text = text; outcome_is = is; printable = printable }
+    record {
+      image = image;
+      accepted = accepted;
+      only = λ other fits. same_image other image (only other fits);
+      text = text;
+      outcome_is = is;
+      printable = printable;
+    }
 
 -- what is done with the image of accepted bytes is done with the bytes
 pub accepted_served : (asked : Work) (bytes : List ℕ) (image : Image) (out : SinkChange) (o : Outcome) → IsAccepted bytes image →
@@ -81,8 +91,12 @@ never image refusal h = cc
 
 -- bytes that are refused are not accepted; where memory ran out nothing is written
 pub refused_served : (asked : Work) (bytes : List ℕ) (refused : OrMemory Refusal) (out : SinkChange) → Answers {X = Image} (Err refused) (judged bytes) →
-    ((image : Image) → IsAccepted bytes image → Answers {X = Image} (Err refused) (accepted_as image)) → IsKept out → ServesBytes asked bytes out (without_image refused)
-refused_served asked bytes (answer.Fault refusal) out reason only kept = (record { reason = reason; never = λ image fits. never image refusal (only image fits) }, kept)
+    ((image : Image) → IsAccepted bytes image → Answers {X = Image} (Err refused) (accepted_as image)) → IsKept out
+    → ServesBytes asked bytes out (without_image refused)
+refused_served asked bytes (answer.Fault refusal) out reason only kept = (
+  record { reason = reason; never = λ image fits. never image refusal (only image fits) },
+  kept,
+)
 refused_served asked bytes answer.Memory out reason only kept = inl kept
 
 -- ---- from the bytes that were read to those of the file
@@ -100,13 +114,18 @@ read_as bytes file read = elim (cases_lt MAX_SOURCE (length file)) [
 -- what is refused of the bytes is refused of the file
 pub refused_file : (bytes file : List ℕ) (refusal : Refusal) → LongSourcesAreRefused → IsReadAs bytes file → IsRefused bytes refusal → IsRefused file refusal
 refused_file bytes file refusal law (inl same) refused = subst (λ source. IsRefused source refusal) same refused
-refused_file bytes file refusal law (inr long) refused = record { reason = (law file long.1).0 ∙ sym (law bytes long.0).0 ∙ refused.reason; never = (law file long.1).1 }
+refused_file bytes file refusal law (inr long) refused = record {
+  reason = (law file long.1).0 ∙ sym (law bytes long.0).0 ∙ refused.reason;
+  never = (law file long.1).1;
+}
 
-pub done_file : (items : List (ℤ × Item)) (asked : Work) (bytes file : List ℕ) (out : SinkChange) (o : Outcome) → LongSourcesAreRefused → IsReadAs bytes file → IsDone items asked bytes out o → IsDone items asked file out o
+pub done_file : (items : List (ℤ × Item)) (asked : Work) (bytes file : List ℕ) (out : SinkChange) (o : Outcome) → LongSourcesAreRefused → IsReadAs bytes file
+    → IsDone items asked bytes out o → IsDone items asked file out o
 done_file items asked bytes file out o law (inl same) done = subst (λ source. IsDone items asked source out o) same done
 done_file items asked bytes file out o law (inr long) done = absurd ((law bytes long.0).1 done.image done.accepted)
 
-pub cut_file : (items : List (ℤ × Item)) (asked : Work) (bytes file : List ℕ) (out : SinkChange) → LongSourcesAreRefused → IsReadAs bytes file → IsCutShort items asked bytes out → IsCutShort items asked file out
+pub cut_file : (items : List (ℤ × Item)) (asked : Work) (bytes file : List ℕ) (out : SinkChange) → LongSourcesAreRefused → IsReadAs bytes file
+    → IsCutShort items asked bytes out → IsCutShort items asked file out
 cut_file items asked bytes file out law (inl same) cut = subst (λ source. IsCutShort items asked source out) same cut
 cut_file items asked bytes file out law (inr long) cut = absurd ((law bytes long.0).1 cut.0 cut.1)
 
@@ -119,11 +138,14 @@ where_told (Holds source) bytes F read holds = holds source (read_as bytes sourc
 
 -- what is done with the bytes that were read is done for the words
 pub bytes_served : (source : List ℕ) (asked : Work) (shelf : ShelfChange) (out : SinkChange) (bytes : List ℕ) (o : Outcome) → LongSourcesAreRefused →
-    WhereTold (told shelf.files source) (λ file. bytes ≡ take (MAX_SOURCE + 1) file) → ServesBytes asked bytes out o → Performs (Some (SourceAsked source asked)) shelf out o
+    WhereTold (told shelf.files source) (λ file. bytes ≡ take (MAX_SOURCE + 1) file) → ServesBytes asked bytes out o
+    → Performs (Some (SourceAsked source asked)) shelf out o
 bytes_served source asked shelf out bytes (Ended stop) law read h =
-    where_told (told shelf.files source) bytes (λ file. IsDone [] asked file out (Ended stop)) read (λ file same. done_file [] asked bytes file out (Ended stop) law same h)
+    where_told (told shelf.files source) bytes (λ file. IsDone [] asked file out (Ended stop)) read
+    (λ file same. done_file [] asked bytes file out (Ended stop) law same h)
 bytes_served source asked shelf out bytes Accepted law read h =
-    where_told (told shelf.files source) bytes (λ file. IsDone [] asked file out Accepted) read (λ file same. done_file [] asked bytes file out Accepted law same h)
+    where_told (told shelf.files source) bytes (λ file. IsDone [] asked file out Accepted) read
+    (λ file same. done_file [] asked bytes file out Accepted law same h)
 bytes_served source asked shelf out bytes (Tested failed) law read h = absurd h
 bytes_served source asked shelf out bytes (Traced broken) law read h = absurd h
 bytes_served source asked shelf out bytes WordsRefused law read h = absurd h
@@ -140,7 +162,8 @@ bytes_served source asked shelf out bytes NoMemory law read (inr cut) =
     inr (where_told (told shelf.files source) bytes (λ file. IsCutShort [] asked file out) read (λ file same. cut_file [] asked bytes file out law same cut))
 
 -- what is done with the source of a load is done for the words
-pub load_served : (tasks : ℕ) (shelf : ShelfChange) (out : SinkChange) (o : Outcome) → ServesBytes (work.Summary DEFAULT_TICKS) (load_text tasks) out o → Performs (Some (LoadAsked tasks)) shelf out o
+pub load_served : (tasks : ℕ) (shelf : ShelfChange) (out : SinkChange) (o : Outcome) → ServesBytes (work.Summary DEFAULT_TICKS) (load_text tasks) out o
+    → Performs (Some (LoadAsked tasks)) shelf out o
 load_served tasks shelf out (Ended stop) h = h
 load_served tasks shelf out Accepted h = h
 load_served tasks shelf out (Tested failed) h = absurd h
@@ -157,7 +180,8 @@ load_served tasks shelf out NoMemory h = h
 -- ---- tables
 
 -- what is done with the duties of a table is done with its bytes
-pub duties_tested : (test : TableTest) (bytes : List ℕ) (duties : List Duty) (out : SinkChange) (o : Outcome) → table_of bytes ≡ Ok duties → TestsDuties test duties out o → TestsBytes test bytes out o
+pub duties_tested : (test : TableTest) (bytes : List ℕ) (duties : List Duty) (out : SinkChange) (o : Outcome) → table_of bytes ≡ Ok duties
+    → TestsDuties test duties out o → TestsBytes test bytes out o
 duties_tested test bytes duties out (Ended stop) read h = h
 duties_tested test bytes duties out Accepted read h = h
 duties_tested test bytes duties out (Tested failed) read h = record { duties = duties; read = read; text = h.0; failed_is = h.1; beyond = h.2 }
@@ -175,8 +199,15 @@ duties_tested test bytes duties out NoMemory read h = absurd h
 same_table : (bytes file : List ℕ) → CutTablesAreReadAlike → bytes ≡ take (TABLE_BYTES + 1) file → table_of bytes ≡ table_of file
 same_table bytes file law read = ap table_of read ∙ law file
 
-tested_file : (test : TableTest) (bytes file : List ℕ) (out : SinkChange) (failed : Bool) → table_of bytes ≡ table_of file → IsTested test bytes out failed → IsTested test file out failed
-tested_file test bytes file out failed same h = record { duties = h.duties; read = sym same ∙ h.read; text = h.text; failed_is = h.failed_is; beyond = h.beyond }
+tested_file : (test : TableTest) (bytes file : List ℕ) (out : SinkChange) (failed : Bool) → table_of bytes ≡ table_of file → IsTested test bytes out failed
+    → IsTested test file out failed
+tested_file test bytes file out failed same h = record {
+  duties = h.duties;
+  read = sym same ∙ h.read;
+  text = h.text;
+  failed_is = h.failed_is;
+  beyond = h.beyond;
+}
 
 table_told : (file : ToldFile) (bytes : List ℕ) (F : List ℕ → Type 0) → CutTablesAreReadAlike → WhereTold file (λ table. bytes ≡ take (TABLE_BYTES + 1) table) →
     ((table : List ℕ) → table_of bytes ≡ table_of table → F table) → WhereTold file F
@@ -185,7 +216,8 @@ table_told Missing bytes F law read holds = read
 table_told (Holds table) bytes F law read holds = holds table (same_table bytes table law read)
 
 pub bytes_tested : (table : List ℕ) (test : TableTest) (shelf : ShelfChange) (out : SinkChange) (bytes : List ℕ) (o : Outcome) → CutTablesAreReadAlike →
-    WhereTold (told shelf.files table) (λ file. bytes ≡ take (TABLE_BYTES + 1) file) → TestsBytes test bytes out o → Performs (Some (TableAsked table test)) shelf out o
+    WhereTold (told shelf.files table) (λ file. bytes ≡ take (TABLE_BYTES + 1) file) → TestsBytes test bytes out o
+    → Performs (Some (TableAsked table test)) shelf out o
 bytes_tested table test shelf out bytes (Ended stop) law read h = absurd h
 bytes_tested table test shelf out bytes Accepted law read h = absurd h
 bytes_tested table test shelf out bytes (Tested failed) law read h =
@@ -205,36 +237,47 @@ bytes_tested table test shelf out bytes NoMemory law read h = inl h
 -- ---- traces
 
 -- a fact of the bytes that are told
-same_answer : (file : ToldFile) (work : TraceWork) (told_so : Result (List ℕ × Bool) ℕ) (F : Result (List ℕ × Bool) ℕ → Type 0) → WhereTold file (λ bytes. trace_answer work bytes ≡ told_so) → F told_so → WhereTold file (λ bytes. F (trace_answer work bytes))
+same_answer : (file : ToldFile) (work : TraceWork) (told_so : Result (List ℕ × Bool) ℕ) (F : Result (List ℕ × Bool) ℕ → Type 0)
+    → WhereTold file (λ bytes. trace_answer work bytes ≡ told_so) → F told_so → WhereTold file (λ bytes. F (trace_answer work bytes))
 same_answer Untold work told_so F is h = tt
 same_answer Missing work told_so F is h = is
 same_answer (Holds bytes) work told_so F is h = subst F (sym is) h
 
 -- what is told of the answer on a trace is done for the words
 pub answer_told : (trace : List ℕ) (work : TraceWork) (shelf : ShelfChange) (out : SinkChange) (answer : Result (List ℕ × Bool) ℕ) (o : Outcome) →
-    WhereTold (told shelf.files trace) (λ bytes. trace_answer work bytes ≡ answer) → TellsTrace answer out o → Performs (Some (TraceAsked trace work)) shelf out o
+    WhereTold (told shelf.files trace) (λ bytes. trace_answer work bytes ≡ answer) → TellsTrace answer out o
+    → Performs (Some (TraceAsked trace work)) shelf out o
 answer_told trace work shelf out answer (Ended stop) is h = absurd h
 answer_told trace work shelf out answer Accepted is h = absurd h
 answer_told trace work shelf out answer (Tested failed) is h = absurd h
-answer_told trace work shelf out answer (Traced broken) is h = same_answer (told shelf.files trace) work answer (λ a. (text : List ℕ) × (a ≡ Ok (text, broken)) × Gained out text) is h
+answer_told trace work shelf out answer (Traced broken) is h =
+    same_answer (told shelf.files trace) work answer (λ a. (text : List ℕ) × (a ≡ Ok (text, broken)) × Gained out text) is h
 answer_told trace work shelf out answer WordsRefused is h = absurd h
 answer_told trace work shelf out answer (SourceRefused refusal) is h = absurd h
 answer_told trace work shelf out answer (ScriptRefused fault) is h = absurd h
 answer_told trace work shelf out answer (TableRefused fault) is h = absurd h
 answer_told trace work shelf out answer (TraceRefused line) is h = (same_answer (told shelf.files trace) work answer (λ a. a ≡ Err line) is h.0, h.1)
 answer_told trace work shelf out answer ReadFault is h = absurd h
-answer_told trace work shelf out answer WriteFault is h = (h.0, same_answer (told shelf.files trace) work answer (λ a. (text : List ℕ) × (broken : Bool) × (a ≡ Ok (text, broken)) × GainedPrefix out text) is h.1)
-answer_told trace work shelf out answer NoMemory is h = inr (same_answer (told shelf.files trace) work answer (λ a. (text : List ℕ) × (broken : Bool) × (a ≡ Ok (text, broken)) × GainedPrefix out text) is h)
+answer_told trace work shelf out answer WriteFault is h = (
+  h.0,
+  same_answer (told shelf.files trace) work answer (λ a. (text : List ℕ) × (broken : Bool) × (a ≡ Ok (text, broken)) × GainedPrefix out text) is h.1,
+)
+answer_told trace work shelf out answer NoMemory is h =
+    inr (same_answer (told shelf.files trace) work answer (λ a. (text : List ℕ) × (broken : Bool) × (a ≡ Ok (text, broken)) × GainedPrefix out text) is h)
 
 -- the answer of a verdict
-pub verdict_told : (file : ToldFile) (verdict : Verdict) → WhereTold file (λ bytes. laws_answer bytes ≡ verdict) → WhereTold file (λ bytes. trace_answer question.Laws bytes ≡ verdict_answer verdict)
+pub verdict_told : (file : ToldFile) (verdict : Verdict) → WhereTold file (λ bytes. laws_answer bytes ≡ verdict)
+    → WhereTold file (λ bytes. trace_answer question.Laws bytes ≡ verdict_answer verdict)
 verdict_told Untold verdict is = tt
 verdict_told Missing verdict is = is
 verdict_told (Holds bytes) verdict is = ap verdict_answer is
 
 -- the answer of a report: what is kept of the lines is what they show
-kept_text : ((lines : List TraceLine) → Formed lines → accounts_in (reported_of lines) ≡ accounts_of lines) → ((lines : List TraceLine) → Formed lines → (reported_of lines).agent_run ≡ run_of subject.Agent lines) → ((lines : List TraceLine) → Formed lines → (reported_of lines).idle ≡ idle_of lines) →
-    ((lines : List TraceLine) → (reported_of lines).seen.tick ≡ last_from 0 lines) → (lines : List TraceLine) (report : Reported) → Formed lines → StandsFor report lines → report_text lines ≡ text_in report
+kept_text : ((lines : List TraceLine) → Formed lines → accounts_in (reported_of lines) ≡ accounts_of lines)
+    → ((lines : List TraceLine) → Formed lines → (reported_of lines).agent_run ≡ run_of subject.Agent lines)
+    → ((lines : List TraceLine) → Formed lines → (reported_of lines).idle ≡ idle_of lines) →
+    ((lines : List TraceLine) → (reported_of lines).seen.tick ≡ last_from 0 lines) → (lines : List TraceLine) (report : Reported) → Formed lines
+    → StandsFor report lines → report_text lines ≡ text_in report
 kept_text accounts agent idle ticks lines report formed stands =
     sym (ap text_in stands
     ∙ ap (λ xs. account_texts xs ++ totals_text (reported_of lines).agent_run (reported_of lines).idle (reported_of lines).seen.tick) (accounts lines formed)
@@ -242,15 +285,20 @@ kept_text accounts agent idle ticks lines report formed stands =
     ∙ ap (λ n. account_texts (accounts_of lines) ++ totals_text (run_of subject.Agent lines) n (reported_of lines).seen.tick) (idle lines formed)
     ∙ ap (λ n. account_texts (accounts_of lines) ++ totals_text (run_of subject.Agent lines) (idle_of lines) n) (ticks lines))
 
-report_here : ((lines : List TraceLine) (report : Reported) → Formed lines → StandsFor report lines → report_text lines ≡ text_in report) → (bytes : List ℕ) (told_so : FileReport) → IsReported bytes told_so → trace_answer question.Report bytes ≡ file_answer told_so
+report_here : ((lines : List TraceLine) (report : Reported) → Formed lines → StandsFor report lines → report_text lines ≡ text_in report)
+    → (bytes : List ℕ) (told_so : FileReport) → IsReported bytes told_so → trace_answer question.Report bytes ≡ file_answer told_so
 report_here text bytes (reported.Formed report) h = ap report_answer h.1 ∙ ap (λ t. Ok (t, false)) (text h.0 report h.2 h.3)
 report_here text bytes (reported.Refused line) h = ap report_answer h
 
-file_told : (file : ToldFile) (told_so : FileReport) → ((bytes : List ℕ) → IsReported bytes told_so → trace_answer question.Report bytes ≡ file_answer told_so) → WhereTold file (λ bytes. IsReported bytes told_so) → WhereTold file (λ bytes. trace_answer question.Report bytes ≡ file_answer told_so)
+file_told : (file : ToldFile) (told_so : FileReport) → ((bytes : List ℕ) → IsReported bytes told_so → trace_answer question.Report bytes ≡ file_answer told_so)
+    → WhereTold file (λ bytes. IsReported bytes told_so) → WhereTold file (λ bytes. trace_answer question.Report bytes ≡ file_answer told_so)
 file_told Untold told_so f h = tt
 file_told Missing told_so f h = h
 file_told (Holds bytes) told_so f h = f bytes h
 
-pub reported_told : ((lines : List TraceLine) → Formed lines → accounts_in (reported_of lines) ≡ accounts_of lines) → ((lines : List TraceLine) → Formed lines → (reported_of lines).agent_run ≡ run_of subject.Agent lines) → ((lines : List TraceLine) → Formed lines → (reported_of lines).idle ≡ idle_of lines) →
-    ((lines : List TraceLine) → (reported_of lines).seen.tick ≡ last_from 0 lines) → (file : ToldFile) (told_so : FileReport) → WhereTold file (λ bytes. IsReported bytes told_so) → WhereTold file (λ bytes. trace_answer question.Report bytes ≡ file_answer told_so)
+pub reported_told : ((lines : List TraceLine) → Formed lines → accounts_in (reported_of lines) ≡ accounts_of lines)
+    → ((lines : List TraceLine) → Formed lines → (reported_of lines).agent_run ≡ run_of subject.Agent lines)
+    → ((lines : List TraceLine) → Formed lines → (reported_of lines).idle ≡ idle_of lines) →
+    ((lines : List TraceLine) → (reported_of lines).seen.tick ≡ last_from 0 lines) → (file : ToldFile) (told_so : FileReport)
+    → WhereTold file (λ bytes. IsReported bytes told_so) → WhereTold file (λ bytes. trace_answer question.Report bytes ≡ file_answer told_so)
 reported_told accounts agent idle ticks file told_so h = file_told file told_so (λ bytes. report_here (kept_text accounts agent idle ticks) bytes told_so) h

@@ -1,7 +1,8 @@
 -- What words ask for: `run SOURCE` and `run SOURCE SCRIPT`, each also with `--ticks N` at the end, `accept SOURCE`,
 -- `load N`, `rta TABLE`, `demand TABLE`, `laws TRACE` and `report TRACE`. A name is not empty and does not begin with a
 -- hyphen. N is from 1 to 1,000,000,000, of a load from 1 to 200, in plain decimal without leading zeros.
-use Rattle.std.specs.Prelude.{ℕ, ◌+◌, ◌-◌, ◌*◌, ◌==◌, nat_le, ◌&&◌, if◌then◌else◌, List, [], ◌∷◌, Option, Some, None, codes}
+use Rattle.std.specs.Prelude.{ℕ, ◌+◌, ◌-◌, ◌*◌, ◌==◌, nat_le, ◌&&◌, if◌then◌else◌}
+use Rattle.std.specs.Prelude.{List, [], ◌∷◌, Option, Some, None, codes}
 use Rattle.std.specs.Option.{option_map}
 use Rattle.std.specs.Char.{is_ascii_digit}
 use Rattle.std.specs.Str.{bytes_eq}

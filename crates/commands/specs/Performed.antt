@@ -22,7 +22,9 @@ use Rattle.commands.specs.declared.requests.TraceWork.{TraceWork}
 use Rattle.commands.specs.declared.outcomes.NoItems.{NoItems}
 use Rattle.commands.specs.declared.outcomes.NoItems.TheVariants as missing
 use Rattle.commands.specs.declared.outcomes.Outcome.{Outcome}
-use Rattle.commands.specs.declared.outcomes.Outcome.TheVariants.{Ended, Accepted, Tested, Traced, WordsRefused, SourceRefused, ScriptRefused, TableRefused, TraceRefused, ReadFault, WriteFault, NoMemory}
+use Rattle.commands.specs.declared.outcomes.Outcome.TheVariants.{Ended, Accepted, Tested, Traced, WordsRefused}
+use Rattle.commands.specs.declared.outcomes.Outcome.TheVariants.{SourceRefused, ScriptRefused, TableRefused}
+use Rattle.commands.specs.declared.outcomes.Outcome.TheVariants.{TraceRefused, ReadFault, WriteFault, NoMemory}
 use Rattle.load_runs.specs.Source.{load_text}
 use Rattle.commands.specs.declared.requests.TheConstants.{DEFAULT_TICKS}
 use Rattle.commands.specs.Requests.{Asked, SourceAsked, ScriptAsked, LoadAsked, TableAsked, TraceAsked}

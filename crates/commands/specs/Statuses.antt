@@ -1,5 +1,6 @@
 -- What each status of the program tells: the words of the clauses of `top`.
-use Rattle.std.specs.Prelude.{◌≡◌, ◌≢◌, ◌≤◌, ◌⊎◌, ℕ, ℤ, Bool, false, true, List, [], Option, Some, None, Result, Ok, Err, codes}
+use Rattle.std.specs.Prelude.{◌≡◌, ◌≢◌, ◌≤◌, ◌⊎◌, ℕ, ℤ, Bool, false, true, List}
+use Rattle.std.specs.Prelude.{[], Option, Some, None, Result, Ok, Err, codes}
 use Rattle.outside_bytes.specs.Files.{told, Holds, WhereTold}
 use Rattle.profile_image.specs.declared.script_items.Item.{Item}
 use Rattle.profile_image.specs.declared.image.Image.{Image}
@@ -26,7 +27,9 @@ use Rattle.commands.specs.declared.requests.TableTest.TheVariants as test
 use Rattle.commands.specs.declared.requests.TraceWork.{TraceWork}
 use Rattle.commands.specs.declared.requests.TraceWork.TheVariants as question
 use Rattle.commands.specs.declared.outcomes.Outcome.{Outcome}
-use Rattle.commands.specs.declared.outcomes.Outcome.TheVariants.{Ended, Accepted, Tested, Traced, WordsRefused, SourceRefused, ScriptRefused, TableRefused, TraceRefused, ReadFault, WriteFault, NoMemory}
+use Rattle.commands.specs.declared.outcomes.Outcome.TheVariants.{Ended, Accepted, Tested, Traced, WordsRefused}
+use Rattle.commands.specs.declared.outcomes.Outcome.TheVariants.{SourceRefused, ScriptRefused, TableRefused}
+use Rattle.commands.specs.declared.outcomes.Outcome.TheVariants.{TraceRefused, ReadFault, WriteFault, NoMemory}
 use Rattle.load_runs.specs.Source.{load_text}
 use Rattle.commands.specs.declared.requests.TheConstants.{DEFAULT_TICKS}
 use Rattle.commands.specs.Requests.{Asked, SourceAsked, ScriptAsked, LoadAsked, TableAsked, TraceAsked}
@@ -35,7 +38,8 @@ use Rattle.commands.specs.Runs.{text_of_run, stop_of, text_under, summary_under,
 use Rattle.commands.specs.Tests.{test_text, test_status, NeverOver}
 use Rattle.commands.specs.Traces.{verdict_answer, trace_answer, traced_status, trace_note}
 use Rattle.commands.specs.Outcomes.{stop_status, status_of, note_of, refusal_text, script_note}
-use Rattle.commands.specs.Performed.{OfAsked, OfSource, OfNoScript, OfItems, OfTable, OfTrace, IsDone, IsRefused, IsNoTable, IsTraced, IsNoTrace, IsFileCutShort, IsUnread}
+use Rattle.commands.specs.Performed.{OfAsked, OfSource, OfNoScript, OfItems, OfTable, OfTrace, IsDone}
+use Rattle.commands.specs.Performed.{IsRefused, IsNoTable, IsTraced, IsNoTrace, IsFileCutShort, IsUnread}
 
 -- neither a fault of the outside nor want of memory
 abbrev pub IsUndisturbed : ℕ → Type 0
@@ -177,7 +181,8 @@ pub record WrittenKeeps (law : Image → List (ℤ × Item) → ℕ → List Tra
 
 -- Where a run is asked for of a source that is there, without a script or under one that is there, the lines that were
 -- written keep a law, which may speak of the image, the items and the bound too.
-abbrev pub RunTold : (Image → List (ℤ × Item) → ℕ → List TraceLine → Type 0) → Option Asked → ShelfChange → SinkChange → Type 0
+abbrev pub RunTold : (Image → List (ℤ × Item) → ℕ → List TraceLine → Type 0) → Option Asked → ShelfChange → SinkChange
+    → Type 0
 RunTold law None shelf out = Unit {0}
 RunTold law (Some (SourceAsked source (work.Run ticks))) shelf out =
     WhereTold (told shelf.files source) (λ bytes. WrittenKeeps law [] ticks bytes out)

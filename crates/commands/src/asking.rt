@@ -2,7 +2,9 @@
 ghost use Rattle.std.specs.Prelude.{◌≡◌, ◌≤◌, ◌<◌, IfSome};
 ghost use Rattle.std.specs.Option.{option_map, option_copied};
 ghost use Rattle.commands.specs.Requests.{seen, HasTicks};
-ghost use Rattle.commands.specs.Asked.{asked_of, run_of, run_up_to, run_under, accept_of, load_of, load_up_to, test_of, trace_of, name_of, ticks_of, ticks_from};
+ghost use Rattle.commands.specs.Asked.{asked_of, run_of, run_up_to, run_under};
+ghost use Rattle.commands.specs.Asked.{accept_of, load_of, load_up_to, test_of};
+ghost use Rattle.commands.specs.Asked.{trace_of, name_of, ticks_of, ticks_from};
 
 use crate::requests::{DEFAULT_TICKS, MOST_TICKS, Request, TableTest, TraceWork, Work};
 use load_runs::MOST_TASKS;

@@ -5,7 +5,8 @@ ghost use Rattle.outside_bytes.specs.Pieces.{HoldsPrefix};
 ghost use Rattle.commands.specs.Outside.{sink_of};
 ghost use Rattle.commands.specs.Traces.{trace_note};
 ghost use Rattle.sched_tests.specs.Reports.{table_note};
-ghost use Rattle.commands.specs.Outcomes.{Concludes, IsNoted, IsNotedInPart, note_of, refusal_text, script_note};
+ghost use Rattle.commands.specs.Outcomes.{Concludes, IsNoted, IsNotedInPart};
+ghost use Rattle.commands.specs.Outcomes.{note_of, refusal_text, script_note};
 
 use crate::Outcome;
 use crate::words::{write_labelled, write_words};
@@ -16,9 +17,9 @@ use itoa::Buffer;
 use outside_bytes::{write_all, write_four};
 use sched_tests::TableFault;
 
-/// The status of an outcome, with which the program ends (README.md has the table of them). Where the command was not
-/// done a note of one line says so on `notes`; where the note cannot be written the status is 8, and a prefix of it was
-/// written.
+/// The status of an outcome, with which the program ends (README.md has the table of them). Where
+/// the command was not done a note of one line says so on `notes`; where the note cannot be written
+/// the status is 8, and a prefix of it was written.
 pub fn conclude<K: Sink>(notes: &mut K, outcome: Outcome) -> u8
     ensures concluded { Concludes outcome (sink_of K.held K.faults notes.old notes.new) result }
     ensures monotone { K.faults notes.old ≤ K.faults notes.new }
@@ -30,7 +31,8 @@ pub fn conclude<K: Sink>(notes: &mut K, outcome: Outcome) -> u8
     }
 }
 
-/// Writes the note on an outcome, a line where the command was not done. After a failure a prefix of it was written.
+/// Writes the note on an outcome, a line where the command was not done. After a failure a prefix
+/// of it was written.
 fn write_note<K: Sink>(notes: &mut K, outcome: Outcome) -> Result<(), Failed>
     ensures noted { OnOk result
         (IsNoted (note_of outcome) (sink_of K.held K.faults notes.old notes.new)) }
@@ -55,7 +57,8 @@ fn write_note<K: Sink>(notes: &mut K, outcome: Outcome) -> Result<(), Failed>
     }
 }
 
-/// Writes `source refused LINE:COLUMN CODE` and a line feed. After a failure a prefix of it was written.
+/// Writes `source refused LINE:COLUMN CODE` and a line feed. After a failure a prefix of it was
+/// written.
 fn write_refusal<K: Sink>(notes: &mut K, refusal: Refusal) -> Result<(), Failed>
     ensures written { OnOk result
         (K.held notes.new ≡ extended (K.held notes.old) (refusal_text refusal)) }

@@ -43,8 +43,9 @@ pub enum Outcome {
 }
 
 impl Outcome {
-    /// The status with which the program ends: 0 to 3 as a run stopped, 0 where a source is accepted, 0 or 12 as a test
-    /// ended, 0 or 10 as a trace keeps the laws, 4 to 9, 11 and 13 where the command was not done.
+    /// The status with which the program ends: 0 to 3 as a run stopped, 0 where a source is
+    /// accepted, 0 or 12 as a test ended, 0 or 10 as a trace keeps the laws, 4 to 9, 11 and 13
+    /// where the command was not done.
     pub fn status(&self) -> u8
         ensures { result ≡ status_of self.now }
     {

@@ -1,10 +1,12 @@
 //! Writing what the tests of a table tell.
-ghost use Rattle.std.specs.Prelude.{◌≡◌, ◌≤◌, [], ◌∷◌, ◌++◌, ◌||◌, not, codes, decimal, is_some, None, Some, OnOk, OnErr, IfOk, IfSome};
+ghost use Rattle.std.specs.Prelude.{◌≡◌, ◌≤◌, [], ◌∷◌, ◌++◌, ◌||◌, not, codes, decimal};
+ghost use Rattle.std.specs.Prelude.{is_some, None, Some, OnOk, OnErr, IfOk, IfSome};
 ghost use Rattle.std.specs.List.{slice_get};
 ghost use Rattle.ann_base.specs.Outside.{Rose, extended};
 ghost use Rattle.outside_bytes.specs.Pieces.{HoldsPrefix};
 ghost use Rattle.sched_tests.specs.Demand.{first_over_of};
-ghost use Rattle.sched_tests.specs.Reports.{response_line, rta_text, is_missed, busy_text, demand_text};
+ghost use Rattle.sched_tests.specs.Reports.{response_line, rta_text};
+ghost use Rattle.sched_tests.specs.Reports.{is_missed, busy_text, demand_text};
 ghost use Rattle.commands.specs.declared.requests.TableTest.TheVariants as test;
 ghost use Rattle.commands.specs.Tests.{HoldsBeyond};
 
@@ -13,8 +15,8 @@ use ann_base::{Failed, Sink};
 use itoa::Buffer;
 use sched_tests::{LONGEST, Table, busy, first_over, response};
 
-/// Writes the response time of each duty, line by line in the order of the table, and answers whether one of them
-/// misses. After a failure a prefix of the lines was written.
+/// Writes the response time of each duty, line by line in the order of the table, and answers
+/// whether one of them misses. After a failure a prefix of the lines was written.
 pub fn write_responses<K: Sink>(out: &mut K, table: &Table) -> Result<bool, Failed>
     ensures written { OnOk result
         (K.held out.new ≡ extended (K.held out.old) (rta_text table.now)) }
@@ -80,8 +82,8 @@ fn write_response<K: Sink>(out: &mut K, name: &[u8], time: Option<u32>) -> Resul
     }
 }
 
-/// Writes what the demand test tells, and answers whether a window is overrun. Where a busy period is written, no
-/// window of any length is overrun. After a failure a prefix of it was written.
+/// Writes what the demand test tells, and answers whether a window is overrun. Where a busy period
+/// is written, no window of any length is overrun. After a failure a prefix of it was written.
 pub fn write_demand<K: Sink>(out: &mut K, table: &Table) -> Result<bool, Failed>
     ensures written { OnOk result
         (K.held out.new ≡ extended (K.held out.old) (demand_text table.now)) }

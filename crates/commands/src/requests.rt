@@ -44,14 +44,15 @@ pub enum Request<'a> {
         source: &'a [u8],
         work: Work,
     },
-    /// `run SOURCE SCRIPT`, also with `--ticks N` at the end: the trace of its run under the script up to this many
-    /// ticks, from 1 to `MOST_TICKS`.
+    /// `run SOURCE SCRIPT`, also with `--ticks N` at the end: the trace of its run under the script
+    /// up to this many ticks, from 1 to `MOST_TICKS`.
     Script {
         source: &'a [u8],
         script: &'a [u8],
         ticks: u64,
     },
-    /// `load N`: the summary of the run of a load of so many tasks, from 1 to `MOST_TASKS`, up to `DEFAULT_TICKS` ticks.
+    /// `load N`: the summary of the run of a load of so many tasks, from 1 to `MOST_TASKS`, up to
+    /// `DEFAULT_TICKS` ticks.
     Load {
         tasks: u32,
     },

@@ -11,13 +11,15 @@ use outside_bytes::read_file;
 use sched_tests::{TABLE_BYTES, Table, cut_tables_are_read_alike, read_table};
 use std::alloc::Global;
 
-/// How many bytes of a table are read: one more than it may have, so that one that is too long is seen to be.
+/// How many bytes of a table are read: one more than it may have, so that one that is too long is
+/// seen to be.
 const BYTES: usize = TABLE_BYTES + 1;
 
-/// Reads the named table of duties, and tests it: what the test tells goes to `out`, line by line (docs/SCHEDULING.md).
+/// Reads the named table of duties, and tests it: what the test tells goes to `out`, line by line
+/// (docs/SCHEDULING.md).
 ///
-/// Where the file cannot be read or is no table, nothing is written. Where `out` fails or memory runs out, at most a prefix
-/// of the lines was written. The outcome says which of these came.
+/// Where the file cannot be read or is no table, nothing is written. Where `out` fails or memory
+/// runs out, at most a prefix of the lines was written. The outcome says which of these came.
 pub fn serve_table<S: Shelf, K: Sink>(
     alloc: Global,
     table: &[u8],

@@ -1,5 +1,6 @@
 //! Telling what a trace shows.
-ghost use Rattle.std.specs.Prelude.{◌≡◌, ◌≤◌, [], ◌∷◌, ◌++◌, codes, decimal, false, Some, Ok, OnOk, OnErr};
+ghost use Rattle.std.specs.Prelude.{◌≡◌, ◌≤◌, [], ◌∷◌, ◌++◌, codes};
+ghost use Rattle.std.specs.Prelude.{decimal, false, Some, Ok, OnOk, OnErr};
 ghost use Rattle.ann_base.specs.Outside.{Rose, extended};
 ghost use Rattle.outside_bytes.specs.Pieces.{HoldsPrefix};
 ghost use Rattle.commands.specs.declared.requests.TraceWork.TheVariants as question;
@@ -18,11 +19,11 @@ use std::alloc::Global;
 use trace_files::{FileReport, judge_file, report_file, write_report};
 use trace_laws::{Law, Verdict};
 
-/// Reads the named trace, and tells what is asked of it: the verdict of the laws, or the report of its tasks, goes to `out`
-/// (docs/TRACES.md).
+/// Reads the named trace, and tells what is asked of it: the verdict of the laws, or the report of
+/// its tasks, goes to `out` (docs/TRACES.md).
 ///
-/// Where the file cannot be read or is no trace, nothing is written. Where `out` fails or memory runs out, at most a prefix
-/// of the answer was written. The outcome says which of these came.
+/// Where the file cannot be read or is no trace, nothing is written. Where `out` fails or memory
+/// runs out, at most a prefix of the answer was written. The outcome says which of these came.
 pub fn serve_trace<S: Shelf, K: Sink>(
     alloc: Global,
     trace: &[u8],

@@ -6,7 +6,8 @@ ghost use Rattle.outside_bytes.specs.Pieces.{HoldsPrefix};
 use ann_base::{Failed, Sink};
 use outside_bytes::{write_all, write_four};
 
-/// Writes two words with a space between them, and a line feed. After a failure a prefix of it was written.
+/// Writes two words with a space between them, and a line feed. After a failure a prefix of it was
+/// written.
 #[tactic(auto, using(crate::proofs::WordTexts::two_words))]
 pub fn write_words<K: Sink>(sink: &mut K, first: &[u8], second: &[u8]) -> Result<(), Failed>
     ensures written { OnOk result

@@ -1,6 +1,7 @@
 -- What is asked of the names of a program, and what every line of its runs then is: printable, where it names
 -- something.
-use Rattle.std.specs.Prelude.{◌≢◌, ◌≤◌, ◌<◌, ◌^◌, ℕ, ℤ, Bool, false, not, ◌&&◌, leb, IsTrue, List, [], ◌∷◌, All, bytes_eq, codes, length}
+use Rattle.std.specs.Prelude.{◌≢◌, ◌≤◌, ◌<◌, ◌^◌, ℕ, ℤ, Bool, false, not, ◌&&◌, leb}
+use Rattle.std.specs.Prelude.{IsTrue, List, [], ◌∷◌, All, bytes_eq, codes, length}
 use Rattle.std.specs.List.{list_all}
 use Rattle.ann_base.specs.declared.names.TheConstants.{NAME_BYTES}
 use Rattle.trace_text.specs.declared.events.EntryName.{EntryName}
@@ -11,7 +12,8 @@ use Rattle.trace_text.specs.declared.events.Ended.{Ended}
 use Rattle.trace_text.specs.declared.events.Ended.TheVariants as why
 use Rattle.trace_text.specs.declared.events.Event.{Event}
 use Rattle.trace_text.specs.declared.events.Event.TheVariants as line
-use Rattle.trace_text.specs.Text.{is_name_from, IsName, IsExceptionName, IsPutText, IsPrintable, IsWithin, ArePrintable, IsFinishedWithin}
+use Rattle.trace_text.specs.Text.{is_name_from, IsName, IsExceptionName, IsPutText}
+use Rattle.trace_text.specs.Text.{IsPrintable, IsWithin, ArePrintable, IsFinishedWithin}
 use Rattle.profile_image.specs.declared.image.Image.{Image}
 use Rattle.profile_image.specs.declared.script_items.Item.{Item}
 use Rattle.profile_machine.specs.declared.world.lines.Line.{Line}

@@ -1,5 +1,6 @@
 -- What a Put_Line of a program can put (A.10.7), and what every text then is that a run puts.
-use Rattle.std.specs.Prelude.{◌≡◌, ◌≤◌, ◌<◌, ◌+◌, ◌^◌, ℕ, ℤ, pos, negsuc, Bool, true, cond, leb, IsTrue, List, [], ◌∷◌, ◌++◌, length}
+use Rattle.std.specs.Prelude.{◌≡◌, ◌≤◌, ◌<◌, ◌+◌, ◌^◌, ℕ, ℤ, pos, negsuc, Bool}
+use Rattle.std.specs.Prelude.{true, cond, leb, IsTrue, List, [], ◌∷◌, ◌++◌, length}
 use Rattle.std.specs.List.{list_all, AllByRecursion}
 use Rattle.ann_base.specs.declared.names.TheConstants.{NAME_BYTES}
 use Rattle.trace_text.specs.declared.events.Event.{Event}

@@ -1,6 +1,7 @@
 -- What the lines of ticks tell, which say who runs and which release is taken up: laws on lists of lines, and beside
 -- each a test that computes. Nothing here knows how the lines came about.
-use Rattle.std.specs.Prelude.{ℕ, ℤ, suc, Bool, true, false, not, ◌&&◌, ◌||◌, ◌==◌, nat_le, IsTrue, List, [], Option, Some, None, is_some}
+use Rattle.std.specs.Prelude.{ℕ, ℤ, suc, Bool, true, false, not, ◌&&◌, ◌||◌, ◌==◌}
+use Rattle.std.specs.Prelude.{nat_le, IsTrue, List, [], Option, Some, None, is_some}
 use Rattle.trace_text.specs.declared.events.Who.{Who}
 use Rattle.trace_text.specs.declared.events.Who.TheVariants as subject
 use Rattle.trace_text.specs.declared.events.Event.{Event}

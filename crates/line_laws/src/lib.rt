@@ -1,6 +1,7 @@
-//! Laws of the lines of every run, each line with its tick: what the lines say that tell who runs and which release is taken up, which
-//! lines can be printed, and that protected actions, the leaving of regions and the service of handlers keep their laws
-//! (ISO/IEC 8652:2012, 7.6.1, 9.5.1, C.3, D.2). They are laws of the profile machine's definitions alone, and hold of every program,
+//! Laws of the lines of every run, each line with its tick: what the lines say that tell who runs
+//! and which release is taken up, which lines can be printed, and that protected actions, the
+//! leaving of regions and the service of handlers keep their laws (ISO/IEC 8652:2012, 7.6.1, 9.5.1,
+//! C.3, D.2). They are laws of the profile machine's definitions alone, and hold of every program,
 //! script and bound. Each is the contract of a function that does nothing.
 #![tactic(auto)]
 

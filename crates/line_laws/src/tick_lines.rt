@@ -1,35 +1,43 @@
-//! The lines of ticks, which say who runs and which release is taken up: laws of the profile machine's definitions alone,
-//! which hold of every program, script and bound. Each is the contract of a function that does nothing.
+//! The lines of ticks, which say who runs and which release is taken up: laws of the profile
+//! machine's definitions alone, which hold of every program, script and bound. Each is the contract
+//! of a function that does nothing.
 //!
-//! `proofs/Ticks/LineByLine.antt` has the skeleton of a law of lines: what the opening, an instant and a tock keep of what lines
-//! show, every run keeps.
+//! `proofs/Ticks/LineByLine.antt` has the skeleton of a law of lines: what the opening, an instant
+//! and a tock keep of what lines show, every run keeps.
 ghost use Rattle.std.specs.Prelude.{◌≡◌, ◌↔◌, IsTrue, List, false};
 ghost use Rattle.trace_text.specs.Queue.{TraceLine};
-ghost use Rattle.line_laws.specs.TickLaws.{SwitchesOk, ReleasesInOrder, StuckOk, follows_switches, follows_releases, follows_tick_order, follows_stuck, RunsSwitch, RunsReleaseInOrder, RunsAreInTickOrder, RunsAreRightlyStuck};
-ghost use Rattle.line_laws.specs.Examples.{kept_lines, told_twice, passed_over, served_early, chosen_early, not_stuck};
+ghost use Rattle.line_laws.specs.TickLaws.{SwitchesOk, ReleasesInOrder, StuckOk, follows_switches};
+ghost use Rattle.line_laws.specs.TickLaws.{follows_releases, follows_tick_order, follows_stuck};
+ghost use Rattle.line_laws.specs.TickLaws.{RunsSwitch, RunsReleaseInOrder, RunsAreInTickOrder};
+ghost use Rattle.line_laws.specs.TickLaws.{RunsAreRightlyStuck};
+ghost use Rattle.line_laws.specs.Examples.{kept_lines, told_twice, passed_over};
+ghost use Rattle.line_laws.specs.Examples.{served_early, chosen_early, not_stuck};
 
-/// In every run each `run` line names another than who ran before it, an `idle` line stands only where somebody ran, and a
-/// `serve` line only where the agent runs. So the `run` lines of a run count its switches.
+/// In every run each `run` line names another than who ran before it, an `idle` line stands only
+/// where somebody ran, and a `serve` line only where the agent runs. So the `run` lines of a run
+/// count its switches.
 #[tactic(auto, using(crate::proofs::Ticks::SwitchLemmas::runs_switch))]
 pub fn runs_switch()
     ensures { RunsSwitch }
 {}
 
-/// In every run the `release` lines bear 1, 2, 3 and so on, and so do the `serve` lines, none of which stands before the
-/// `release` line of its number: releases are taken up in the order in which they came, and none is passed over.
+/// In every run the `release` lines bear 1, 2, 3 and so on, and so do the `serve` lines, none of
+/// which stands before the `release` line of its number: releases are taken up in the order in
+/// which they came, and none is passed over.
 #[tactic(auto, using(crate::proofs::Ticks::ReleaseLemmas::runs_release_in_order))]
 pub fn runs_release_in_order()
     ensures { RunsReleaseInOrder }
 {}
 
-/// In every run the lines of effects of a tick stand first, then at most one `run` or `idle`, then at most one `serve`; or
-/// those of effects, and the `end` line.
+/// In every run the lines of effects of a tick stand first, then at most one `run` or `idle`, then
+/// at most one `serve`; or those of effects, and the `end` line.
 #[tactic(auto, using(crate::proofs::Ticks::OrderLemmas::runs_are_in_tick_order))]
 pub fn runs_are_in_tick_order()
     ensures { RunsAreInTickOrder }
 {}
 
-/// A run is said to be stuck only where nobody is in the ready queues: where a task could go on, no run ends for want of one.
+/// A run is said to be stuck only where nobody is in the ready queues: where a task could go on, no
+/// run ends for want of one.
 #[tactic(auto, using(crate::proofs::Ticks::StuckLemmas::runs_are_rightly_stuck))]
 pub fn runs_are_rightly_stuck()
     ensures { RunsAreRightlyStuck }

@@ -1,5 +1,6 @@
 -- A tally with one line more.
-use Rattle.std.proofs.Common.{◌≡◌, ◌≤◌, ◌+◌, ℕ, Bool, true, false, cond, List, [], ◌∷◌, ◌++◌, Result, Ok, Err, OnOk, length, map, drop, refl, sym, ap, ◌∙◌, subst, append-nil, arith, decimal}
+use Rattle.std.proofs.Common.{◌≡◌, ◌≤◌, ◌+◌, ℕ, Bool, true, false, cond, List, [], ◌∷◌, ◌++◌, Result, Ok, Err}
+use Rattle.std.proofs.Common.{OnOk, length, map, drop, refl, sym, ap, ◌∙◌, subst, append-nil, arith, decimal}
 use Rattle.std.proofs.lemmas.List.{drop_all}
 use Rattle.std.proofs.lemmas.List.Sums.{sum_by_push}
 use Rattle.std.specs.List.{flat_map}
@@ -18,7 +19,8 @@ use Rattle.load_runs.specs.Tallies.{Tallies, counted, count_in, count_text}
 abbrev count_as : Word → ℕ → Count
 count_as w n = record { word = w; count = n }
 
-counted-by : (w : Word) (before after : ℕ) (has : Bool) → after ≡ before + cond has 1 0 → cond has (count_as w (before + 1)) (count_as w before) ≡ count_as w after
+counted-by : (w : Word) (before after : ℕ) (has : Bool) → after ≡ before + cond has 1 0
+    → cond has (count_as w (before + 1)) (count_as w before) ≡ count_as w after
 counted-by w before after true e = ap (count_as w) (let m : before + 1 ≡ after = omega (arith, e) in m)
 counted-by w before after false e = ap (count_as w) (let m : before ≡ after = omega (arith, e) in m)
 
@@ -28,7 +30,8 @@ counted-in lines line w =
     counted-by w (count_of w lines) (count_of w (lines ++ line ∷ [])) (bytes_eq (word_text (word_of line.1)) (word_text w))
     (sum_by_push (λ (l : TraceLine). cond (bytes_eq (word_text (word_of l.1)) (word_text w)) 1 0) lines line)
 
-counted-all : (lines : List TraceLine) (line : TraceLine) (words : List Word) → map (counted (word_of line.1)) (map (count_in lines) words) ≡ map (count_in (lines ++ line ∷ [])) words
+counted-all : (lines : List TraceLine) (line : TraceLine) (words : List Word)
+    → map (counted (word_of line.1)) (map (count_in lines) words) ≡ map (count_in (lines ++ line ∷ [])) words
 counted-all lines line [] = refl
 counted-all lines line (w ∷ words) =
     ap (λ c. c ∷ map (counted (word_of line.1)) (map (count_in lines) words)) (counted-in lines line w)
@@ -46,7 +49,8 @@ not-empty [] (byte ∷ middle) e = cc
 not-empty (byte ∷ front) middle e = cc
 
 -- a line is counted, and its text is the last
-tallied : (old now : Tally) (piece : List ℕ) (word : Word) (line : TraceLine) → word ≡ word_of line.1 → piece ≡ line_text line.0 line.1 → now.counts.items ≡ map (counted word) old.counts.items → now.last.items ≡ piece →
+tallied : (old now : Tally) (piece : List ℕ) (word : Word) (line : TraceLine) → word ≡ word_of line.1 → piece ≡ line_text line.0 line.1
+    → now.counts.items ≡ map (counted word) old.counts.items → now.last.items ≡ piece →
     (before : List TraceLine) → Tallies old before → Tallies now (before ++ line ∷ [])
 tallied old now piece word line w p counts last before is = record {
   counts = counts ∙ ap (λ v. map (counted v) old.counts.items) w ∙ ap (map (counted (word_of line.1))) is.counts ∙ counted-all before line all_words;
@@ -60,10 +64,12 @@ same-line a b r e f = cc
 not-both : (r : Result TraceLine BadLine) (bad : BadLine) (line : TraceLine) → r ≡ Err bad → r ≡ Ok line → ⊥
 not-both r bad line e f = cc
 
-tallied-read : (old now : Tally) (piece : List ℕ) (word : Word) (read : TraceLine) (r : Result TraceLine BadLine) → r ≡ Ok read → ((tick : ℕ) (event : Event) → IsPrintableLine tick event → piece ≡ line_text tick event → r ≡ Ok (tick, event)) →
+tallied-read : (old now : Tally) (piece : List ℕ) (word : Word) (read : TraceLine) (r : Result TraceLine BadLine) → r ≡ Ok read
+    → ((tick : ℕ) (event : Event) → IsPrintableLine tick event → piece ≡ line_text tick event → r ≡ Ok (tick, event)) →
     piece ≡ line_text read.0 read.1 → word ≡ word_of read.1 → now.counts.items ≡ map (counted word) old.counts.items → now.last.items ≡ piece →
     (before lines : List TraceLine) → Tallies old before → length lines ≤ 1 → ArePrintable lines → piece ≡ text_of lines → Tallies now (before ++ lines)
-tallied-read old now piece word read r is only text w counts last before [] t one printable e = absurd (not-empty (decimal read.0) (spaced (words_of read.1)) (sym e ∙ text))
+tallied-read old now piece word read r is only text w counts last before [] t one printable e =
+    absurd (not-empty (decimal read.0) (spaced (words_of read.1)) (sym e ∙ text))
 tallied-read old now piece word read r is only text w counts last before (line ∷ []) t one printable e =
     let p : piece ≡ line_text line.0 line.1 = e ∙ append-nil (line_text line.0 line.1) in
     let same : read ≡ line = same-line read line r is (only line.0 line.1 printable.0 p) in
@@ -71,14 +77,18 @@ tallied-read old now piece word read r is only text w counts last before (line �
 tallied-read old now piece word read r is only text w counts last before (line ∷ next ∷ lines) t one printable e = absurd (omega (arith, one))
 
 -- the same of a call that may fail
-pub read-tallied : {X E : Type 0} (done : Result X E) (old now : Tally) (piece : List ℕ) (word : Word) (read : TraceLine) (r : Result TraceLine BadLine) → r ≡ Ok read → ((tick : ℕ) (event : Event) → IsPrintableLine tick event → piece ≡ line_text tick event → r ≡ Ok (tick, event)) →
-    piece ≡ line_text read.0 read.1 → word ≡ word_of read.1 → OnOk done (now.counts.items ≡ map (counted word) old.counts.items) → OnOk done (now.last.items ≡ piece) →
-    OnOk done ((before lines : List TraceLine) → Tallies old before → length lines ≤ 1 → ArePrintable lines → piece ≡ text_of lines → Tallies now (before ++ lines))
+pub read-tallied : {X E : Type 0} (done : Result X E) (old now : Tally) (piece : List ℕ) (word : Word) (read : TraceLine) (r : Result TraceLine BadLine)
+    → r ≡ Ok read → ((tick : ℕ) (event : Event) → IsPrintableLine tick event → piece ≡ line_text tick event → r ≡ Ok (tick, event)) →
+    piece ≡ line_text read.0 read.1 → word ≡ word_of read.1 → OnOk done (now.counts.items ≡ map (counted word) old.counts.items)
+    → OnOk done (now.last.items ≡ piece) →
+    OnOk done
+    ((before lines : List TraceLine) → Tallies old before → length lines ≤ 1 → ArePrintable lines → piece ≡ text_of lines → Tallies now (before ++ lines))
 read-tallied (Ok x) old now piece word read r is only text w counts last = tallied-read old now piece word read r is only text w counts last
 read-tallied (Err e) old now piece word read r is only text w counts last = tt
 
 -- what is no line is empty
-pub tallied-none : (tally : Tally) (piece : List ℕ) (r : Result TraceLine BadLine) (bad : BadLine) → r ≡ Err bad → ((tick : ℕ) (event : Event) → IsPrintableLine tick event → piece ≡ line_text tick event → r ≡ Ok (tick, event)) →
+pub tallied-none : (tally : Tally) (piece : List ℕ) (r : Result TraceLine BadLine) (bad : BadLine) → r ≡ Err bad
+    → ((tick : ℕ) (event : Event) → IsPrintableLine tick event → piece ≡ line_text tick event → r ≡ Ok (tick, event)) →
     (before lines : List TraceLine) → Tallies tally before → length lines ≤ 1 → ArePrintable lines → piece ≡ text_of lines → Tallies tally (before ++ lines)
 tallied-none tally piece r bad is only before [] t one printable e = subst (Tallies tally) (sym (append-nil before)) t
 tallied-none tally piece r bad is only before (line ∷ []) t one printable e =
@@ -91,9 +101,12 @@ texts-counted lines [] = refl
 texts-counted lines (w ∷ words) = ap (λ text. count_text (count_in lines w) ++ text) (texts-counted lines words)
 
 -- the texts of all counts, and the last line, are the summary
-pub summary-told : (tally : Tally) (items : List Count) (i : ℕ) (text last all : List ℕ) → items ≡ tally.counts.items → length items ≤ i → text ++ flat_map count_text (drop i tally.counts.items) ≡ flat_map count_text tally.counts.items → last ≡ tally.last.items → all ≡ text ++ last →
+pub summary-told : (tally : Tally) (items : List Count) (i : ℕ) (text last all : List ℕ) → items ≡ tally.counts.items → length items ≤ i
+    → text ++ flat_map count_text (drop i tally.counts.items) ≡ flat_map count_text tally.counts.items → last ≡ tally.last.items → all ≡ text ++ last →
     (lines : List TraceLine) → Tallies tally lines → all ≡ summary_of lines
 summary-told tally items i text last all same end counts l e lines t =
     let none : drop i tally.counts.items ≡ [] = drop_all i tally.counts.items (subst (λ (xs : List Count). length xs ≤ i) same end) in
-    let whole : text ≡ flat_map count_text tally.counts.items = sym (append-nil text) ∙ ap (λ (xs : List Count). text ++ flat_map count_text xs) (sym none) ∙ counts in
-    e ∙ ap (λ (xs : List ℕ). text ++ xs) (l ∙ t.last) ∙ ap (λ (xs : List ℕ). xs ++ last_line lines) (whole ∙ ap (flat_map count_text) t.counts ∙ texts-counted lines all_words)
+    let whole : text ≡ flat_map count_text tally.counts.items =
+    sym (append-nil text) ∙ ap (λ (xs : List Count). text ++ flat_map count_text xs) (sym none) ∙ counts in
+    e ∙ ap (λ (xs : List ℕ). text ++ xs) (l ∙ t.last)
+    ∙ ap (λ (xs : List ℕ). xs ++ last_line lines) (whole ∙ ap (flat_map count_text) t.counts ∙ texts-counted lines all_words)

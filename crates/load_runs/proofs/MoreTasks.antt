@@ -16,8 +16,11 @@ bodies-more : (first count : ℕ) → 0 < count → body_text first ++ bodies_fr
 bodies-more first zero h = absurd (omega (arith, h))
 bodies-more first (suc count) h = ap (λ n. body_text first ++ bodies_from (first + 1) n) (let e : suc count - 1 ≡ count = omega arith in e)
 
-pub one_more_declaration : (text : List ℕ) (first count : ℕ) → 0 < count → (text ++ declaration_text first) ++ declarations_from (first + 1) (count - 1) ≡ text ++ declarations_from first count
-one_more_declaration text first count h = append_assoc text (declaration_text first) (declarations_from (first + 1) (count - 1)) ∙ ap (λ xs. text ++ xs) (declarations-more first count h)
+pub one_more_declaration : (text : List ℕ) (first count : ℕ) → 0 < count
+    → (text ++ declaration_text first) ++ declarations_from (first + 1) (count - 1) ≡ text ++ declarations_from first count
+one_more_declaration text first count h =
+    append_assoc text (declaration_text first) (declarations_from (first + 1) (count - 1)) ∙ ap (λ xs. text ++ xs) (declarations-more first count h)
 
-pub one_more_body : (text : List ℕ) (first count : ℕ) → 0 < count → (text ++ body_text first) ++ bodies_from (first + 1) (count - 1) ≡ text ++ bodies_from first count
+pub one_more_body : (text : List ℕ) (first count : ℕ) → 0 < count
+    → (text ++ body_text first) ++ bodies_from (first + 1) (count - 1) ≡ text ++ bodies_from first count
 one_more_body text first count h = append_assoc text (body_text first) (bodies_from (first + 1) (count - 1)) ∙ ap (λ xs. text ++ xs) (bodies-more first count h)

@@ -16,7 +16,9 @@ declaration_text task = codes "   task T"
 -- a task waits ten times for the beginning of its next period
 abbrev pub body_text : ℕ → List ℕ
 body_text task =
-    codes "   task body T" ++ (decimal task ++ (codes " is\n      Next : Time := Clock;\n   begin\n      for K in 1 .. 10 loop\n         Next := Next + Microseconds ("
+    codes "   task body T"
+    ++ (decimal task
+    ++ (codes " is\n      Next : Time := Clock;\n   begin\n      for K in 1 .. 10 loop\n         Next := Next + Microseconds ("
     ++ (decimal (period_of task) ++ (codes ");\n         delay until Next;\n      end loop;\n   end T"
     ++ (decimal task ++ codes ";\n")))))
 

@@ -1,5 +1,5 @@
-//! A load: a program of many periodic tasks, whose size is a number of the command line, and the tally of the lines of its
-//! run.
+//! A load: a program of many periodic tasks, whose size is a number of the command line, and the
+//! tally of the lines of its run.
 #![tactic(auto)]
 
 mod source;

@@ -1,6 +1,7 @@
 //! The source of a load.
 ghost use Rattle.std.specs.Prelude.{◌≡◌, ◌≤◌, ◌+◌, ◌++◌, decimal, IfOk, OnOk};
-ghost use Rattle.load_runs.specs.Source.{load_text, declaration_text, body_text, declarations_from, bodies_from};
+ghost use Rattle.load_runs.specs.Source.{load_text, declaration_text, body_text};
+ghost use Rattle.load_runs.specs.Source.{declarations_from, bodies_from};
 
 use ann_base::NoMemory;
 use itoa::Buffer;
@@ -9,8 +10,8 @@ use std::alloc::Global;
 /// The most tasks of a load.
 pub const MOST_TASKS: u32 = 200;
 
-/// The source of a load: a procedure with so many tasks on the 14 lowest priorities, each of which waits ten times for
-/// the beginning of its next period.
+/// The source of a load: a procedure with so many tasks on the 14 lowest priorities, each of which
+/// waits ten times for the beginning of its next period.
 pub fn load_source(alloc: Global, tasks: u32) -> Result<Vec<u8>, NoMemory>
     requires { tasks ≤ MOST_TASKS }
     ensures text { IfOk result (λ bytes. bytes.items ≡ load_text tasks) }

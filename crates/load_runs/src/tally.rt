@@ -18,7 +18,8 @@ pub struct Count {
     pub count: u64,
 }
 
-/// What is kept of lines: how often each event word occurred, in the order of a summary, and the text of the last line.
+/// What is kept of lines: how often each event word occurred, in the order of a summary, and the
+/// text of the last line.
 #[derive(Drop)]
 pub struct Tally {
     counts: Vec<Count>,

@@ -1,7 +1,8 @@
 -- Lists that are made part by part, where each part may be an exception.
 use Rattle.std.specs.Prelude.{option_to_list}
 use Rattle.std.specs.Bool.{then_some}
-use Rattle.std.proofs.Common.{◌≡◌, ℕ, ℤ, ◌-◌, ◌<◌, ◌≤◌, suc, Bool, true, false, List, [], ◌∷◌, ◌++◌, Option, Some, None, Ok, Err, length, drop, get_or, refl, ap, sym, ◌∙◌}
+use Rattle.std.proofs.Common.{◌≡◌, ℕ, ℤ, ◌-◌, ◌<◌, ◌≤◌, suc, Bool, true, false, List, [], ◌∷◌, ◌++◌}
+use Rattle.std.proofs.Common.{Option, Some, None, Ok, Err, length, drop, get_or, refl, ap, sym, ◌∙◌}
 use Rattle.std.proofs.Math.Seq.{drop-cons}
 use Rattle.std.proofs.lemmas.List.{append_assoc, append-nil, drop_all}
 use Rattle.std.specs.List.{slice_get}
@@ -33,7 +34,8 @@ with_before-none (Err e) = refl
 
 -- ---- alternatives
 
-alternative-ok : (r : Valued Bool) (kind : SelectKind) (k : Option SelectKind) (kinds : List SelectKind) (rest : Valued (List SelectKind)) → (r >>= λ b. Ok (then_some b kind)) ≡ Ok k → with_before kinds (r >>= λ b. rest >>= with_open b kind) ≡ with_before (kinds ++ option_to_list k) rest
+alternative-ok : (r : Valued Bool) (kind : SelectKind) (k : Option SelectKind) (kinds : List SelectKind) (rest : Valued (List SelectKind))
+    → (r >>= λ b. Ok (then_some b kind)) ≡ Ok k → with_before kinds (r >>= λ b. rest >>= with_open b kind) ≡ with_before (kinds ++ option_to_list k) rest
 alternative-ok (Ok true) kind (Some x) kinds (Ok xs) e = let h : kind ≡ x = cc in ap Ok (ap (λ z. kinds ++ (z ∷ xs)) h ∙ joined kinds x xs)
 alternative-ok (Ok true) kind (Some x) kinds (Err f) e = refl
 alternative-ok (Ok true) kind None kinds rest e = cc
@@ -42,28 +44,34 @@ alternative-ok (Ok false) kind None kinds (Err f) e = refl
 alternative-ok (Ok false) kind (Some x) kinds rest e = cc
 alternative-ok (Err f) kind k kinds rest e = cc
 
-alternative-err : (r : Valued Bool) (kind : SelectKind) (x : Raised) (kinds : List SelectKind) (rest : Valued (List SelectKind)) → (r >>= λ b. Ok (then_some b kind)) ≡ Err x → with_before kinds (r >>= λ b. rest >>= with_open b kind) ≡ Err x
+alternative-err : (r : Valued Bool) (kind : SelectKind) (x : Raised) (kinds : List SelectKind) (rest : Valued (List SelectKind))
+    → (r >>= λ b. Ok (then_some b kind)) ≡ Err x → with_before kinds (r >>= λ b. rest >>= with_open b kind) ≡ Err x
 alternative-err (Ok b) kind x kinds rest e = cc
 alternative-err (Err f) kind x kinds rest e = cc
 
-pub alternatives-more : (q : Seen) (alternatives : List SelectAlternative) (i : ℕ) (d : SelectAlternative) (k : Option SelectKind) (kinds : List SelectKind) → i < length alternatives → open_kind q (get_or alternatives i d) ≡ Ok k → with_before kinds (open_alternatives q (drop i alternatives)) ≡ with_before (kinds ++ option_to_list k) (open_alternatives q (drop (suc i) alternatives))
+pub alternatives-more : (q : Seen) (alternatives : List SelectAlternative) (i : ℕ) (d : SelectAlternative) (k : Option SelectKind) (kinds : List SelectKind)
+    → i < length alternatives → open_kind q (get_or alternatives i d) ≡ Ok k
+    → with_before kinds (open_alternatives q (drop i alternatives)) ≡ with_before (kinds ++ option_to_list k) (open_alternatives q (drop (suc i) alternatives))
 alternatives-more q alternatives i d k kinds l e =
     ap (λ zs. with_before kinds (open_alternatives q zs)) (drop-cons alternatives i d l)
     ∙ alternative-ok (is_open q (get_or alternatives i d).guard) (get_or alternatives i d).kind k kinds (open_alternatives q (drop (suc i) alternatives)) e
 
-pub alternatives-fail : (q : Seen) (alternatives : List SelectAlternative) (i : ℕ) (d : SelectAlternative) (x : Raised) (kinds : List SelectKind) → i < length alternatives → open_kind q (get_or alternatives i d) ≡ Err x → with_before kinds (open_alternatives q (drop i alternatives)) ≡ Err x
+pub alternatives-fail : (q : Seen) (alternatives : List SelectAlternative) (i : ℕ) (d : SelectAlternative) (x : Raised) (kinds : List SelectKind)
+    → i < length alternatives → open_kind q (get_or alternatives i d) ≡ Err x → with_before kinds (open_alternatives q (drop i alternatives)) ≡ Err x
 alternatives-fail q alternatives i d x kinds l e =
     ap (λ zs. with_before kinds (open_alternatives q zs)) (drop-cons alternatives i d l)
     ∙ alternative-err (is_open q (get_or alternatives i d).guard) (get_or alternatives i d).kind x kinds (open_alternatives q (drop (suc i) alternatives)) e
 
-pub alternatives-end : (q : Seen) (alternatives : List SelectAlternative) (i : ℕ) (kinds : List SelectKind) → length alternatives ≤ i → with_before kinds (open_alternatives q (drop i alternatives)) ≡ Ok kinds
+pub alternatives-end : (q : Seen) (alternatives : List SelectAlternative) (i : ℕ) (kinds : List SelectKind) → length alternatives ≤ i
+    → with_before kinds (open_alternatives q (drop i alternatives)) ≡ Ok kinds
 alternatives-end q alternatives i kinds l = ap (λ zs. with_before kinds (open_alternatives q zs)) (drop_all i alternatives l) ∙ with_before-all kinds
 
 pub ruleset alternative_laws = (alternatives-more, alternatives-fail, alternatives-end, with_before-none)
 
 -- ---- accepts
 
-pub accepts-more : (k : SelectKind) (kinds : List SelectKind) (accepts : List StatementNo) → accepts ++ open_accepts (k ∷ kinds) ≡ (accepts ++ option_to_list (accept_in k)) ++ open_accepts kinds
+pub accepts-more : (k : SelectKind) (kinds : List SelectKind) (accepts : List StatementNo)
+    → accepts ++ open_accepts (k ∷ kinds) ≡ (accepts ++ option_to_list (accept_in k)) ++ open_accepts kinds
 accepts-more (select.Accept s) kinds accepts = joined accepts s (open_accepts kinds)
 accepts-more (select.Delay s) kinds accepts = unjoined accepts (open_accepts kinds)
 accepts-more select.Terminate kinds accepts = unjoined accepts (open_accepts kinds)
@@ -75,13 +83,15 @@ pub ruleset accept_laws = (accepts-more, accepts-end)
 
 -- ---- delays
 
-delay-ok : (r : Valued ℤ) (f : ℤ → DelayMoment) (d : Option DelayMoment) (delays : List DelayMoment) (rest : Valued (List DelayMoment)) → (r >>= λ m. Ok (Some (f m))) ≡ Ok d → with_before delays (r >>= λ m. rest >>= λ xs. Ok (f m ∷ xs)) ≡ with_before (delays ++ option_to_list d) rest
+delay-ok : (r : Valued ℤ) (f : ℤ → DelayMoment) (d : Option DelayMoment) (delays : List DelayMoment) (rest : Valued (List DelayMoment))
+    → (r >>= λ m. Ok (Some (f m))) ≡ Ok d → with_before delays (r >>= λ m. rest >>= λ xs. Ok (f m ∷ xs)) ≡ with_before (delays ++ option_to_list d) rest
 delay-ok (Ok m) f (Some x) delays (Ok xs) e = let h : f m ≡ x = cc in ap Ok (ap (λ z. delays ++ (z ∷ xs)) h ∙ joined delays x xs)
 delay-ok (Ok m) f (Some x) delays (Err g) e = refl
 delay-ok (Ok m) f None delays rest e = cc
 delay-ok (Err g) f d delays rest e = cc
 
-delay-err : (r : Valued ℤ) (f : ℤ → DelayMoment) (x : Raised) (delays : List DelayMoment) (rest : Valued (List DelayMoment)) → (r >>= λ m. Ok (Some (f m))) ≡ Err x → with_before delays (r >>= λ m. rest >>= λ xs. Ok (f m ∷ xs)) ≡ Err x
+delay-err : (r : Valued ℤ) (f : ℤ → DelayMoment) (x : Raised) (delays : List DelayMoment) (rest : Valued (List DelayMoment))
+    → (r >>= λ m. Ok (Some (f m))) ≡ Err x → with_before delays (r >>= λ m. rest >>= λ xs. Ok (f m ∷ xs)) ≡ Err x
 delay-err (Ok m) f x delays rest e = cc
 delay-err (Err g) f x delays rest e = cc
 
@@ -92,12 +102,14 @@ kept-before : {X : Type 0} (xs : List X) (d : Option X) (rest : Valued (List X))
 kept-before xs None rest e = before-none xs rest
 kept-before xs (Some x) rest e = cc
 
-pub delays-more : (q : Seen) (k : SelectKind) (kinds : List SelectKind) (d : Option DelayMoment) (delays : List DelayMoment) → delay_in q k ≡ Ok d → with_before delays (open_delays q (k ∷ kinds)) ≡ with_before (delays ++ option_to_list d) (open_delays q kinds)
+pub delays-more : (q : Seen) (k : SelectKind) (kinds : List SelectKind) (d : Option DelayMoment) (delays : List DelayMoment) → delay_in q k ≡ Ok d
+    → with_before delays (open_delays q (k ∷ kinds)) ≡ with_before (delays ++ option_to_list d) (open_delays q kinds)
 delays-more q (select.Accept s) kinds d delays e = let h : None ≡ d = cc in kept-before delays d (open_delays q kinds) h
 delays-more q (select.Delay s) kinds d delays e = delay-ok (delay_moment q s) (λ m. record { delay = s; at = m }) d delays (open_delays q kinds) e
 delays-more q select.Terminate kinds d delays e = let h : None ≡ d = cc in kept-before delays d (open_delays q kinds) h
 
-pub delays-fail : (q : Seen) (k : SelectKind) (kinds : List SelectKind) (x : Raised) (delays : List DelayMoment) → delay_in q k ≡ Err x → with_before delays (open_delays q (k ∷ kinds)) ≡ Err x
+pub delays-fail : (q : Seen) (k : SelectKind) (kinds : List SelectKind) (x : Raised) (delays : List DelayMoment) → delay_in q k ≡ Err x
+    → with_before delays (open_delays q (k ∷ kinds)) ≡ Err x
 delays-fail q (select.Accept s) kinds x delays e = cc
 delays-fail q (select.Delay s) kinds x delays e = delay-err (delay_moment q s) (λ m. record { delay = s; at = m }) x delays (open_delays q kinds) e
 delays-fail q select.Terminate kinds x delays e = cc
@@ -109,7 +121,8 @@ pub ruleset delay_laws = (delays-more, delays-fail, with_before-all, with_before
 pub least-none : (delays : List DelayMoment) (n : ℕ) → length delays ≤ n → least_delay (drop n delays) ≡ None
 least-none delays n l = ap least_delay (drop_all n delays l)
 
-pub least-before : (delays : List DelayMoment) (n : ℕ) (m : DelayMoment) → 0 < n → slice_get delays (n - 1) ≡ Some m → least_delay (drop (n - 1) delays) ≡ Some (earlier m (least_delay (drop n delays)))
+pub least-before : (delays : List DelayMoment) (n : ℕ) (m : DelayMoment) → 0 < n → slice_get delays (n - 1) ≡ Some m
+    → least_delay (drop (n - 1) delays) ≡ Some (earlier m (least_delay (drop n delays)))
 least-before delays n m h e = ap least_delay (dropped-before delays n m h e)
 
 pub least-kept : (delays : List DelayMoment) (n : ℕ) → 0 < n → slice_get delays (n - 1) ≡ None → least_delay (drop (n - 1) delays) ≡ least_delay (drop n delays)

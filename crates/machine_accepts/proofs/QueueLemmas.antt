@@ -28,10 +28,12 @@ none-by : (policy : Queuing) (w : World) → next_by policy w [] ≡ None
 none-by queuing.Fifo w = refl
 none-by queuing.Priority w = refl
 
-pub next-none : (p : Image) (w : World) (name : Who) (accepts : List StatementNo) (n : ℕ) → length accepts ≤ n → next_call p w (queues_of_accepts p w name (drop n accepts)) ≡ None
+pub next-none : (p : Image) (w : World) (name : Who) (accepts : List StatementNo) (n : ℕ) → length accepts ≤ n
+    → next_call p w (queues_of_accepts p w name (drop n accepts)) ≡ None
 next-none p w name accepts n l = ap (λ ss. next_call p w (queues_of_accepts p w name ss)) (drop_all n accepts l) ∙ none-by p.policies.queuing w
 
-next-cons : (policy : Queuing) (w : World) (queue : List CallNo) (queues : List (List CallNo)) → next_by policy w (queue ∷ queues) ≡ next_with policy w (first_of queue) (next_by policy w queues)
+next-cons : (policy : Queuing) (w : World) (queue : List CallNo) (queues : List (List CallNo))
+    → next_by policy w (queue ∷ queues) ≡ next_with policy w (first_of queue) (next_by policy w queues)
 next-cons queuing.Fifo w [] queues = refl
 next-cons queuing.Fifo w (c ∷ cs) queues = refl
 next-cons queuing.Priority w [] queues = refl
@@ -59,12 +61,15 @@ not-dropped-before xs n h e =
     not-dropped xs (n - 1) e ∙ ap (λ m. drop m xs) s
 
 -- one accept before those from a place on
-pub next-before : (p : Image) (w : World) (name : Who) (accepts : List StatementNo) (n : ℕ) (s : StatementNo) → 0 < n → slice_get accepts (n - 1) ≡ Some s → next_call p w (queues_of_accepts p w name (drop (n - 1) accepts)) ≡ next_with p.policies.queuing w (first_of (queue_of_accept p w name (form_of p s))) (next_call p w (queues_of_accepts p w name (drop n accepts)))
+pub next-before : (p : Image) (w : World) (name : Who) (accepts : List StatementNo) (n : ℕ) (s : StatementNo) → 0 < n → slice_get accepts (n - 1) ≡ Some s
+    → next_call p w (queues_of_accepts p w name (drop (n - 1) accepts))
+    ≡ next_with p.policies.queuing w (first_of (queue_of_accept p w name (form_of p s))) (next_call p w (queues_of_accepts p w name (drop n accepts)))
 next-before p w name accepts n s h e =
     ap (λ ss. next_call p w (queues_of_accepts p w name ss)) (dropped-before accepts n s h e)
     ∙ next-cons p.policies.queuing w (queue_of_accept p w name (form_of p s)) (queues_of_accepts p w name (drop n accepts))
 
-pub next-kept : (p : Image) (w : World) (name : Who) (accepts : List StatementNo) (n : ℕ) → 0 < n → slice_get accepts (n - 1) ≡ None → next_call p w (queues_of_accepts p w name (drop (n - 1) accepts)) ≡ next_call p w (queues_of_accepts p w name (drop n accepts))
+pub next-kept : (p : Image) (w : World) (name : Who) (accepts : List StatementNo) (n : ℕ) → 0 < n → slice_get accepts (n - 1) ≡ None
+    → next_call p w (queues_of_accepts p w name (drop (n - 1) accepts)) ≡ next_call p w (queues_of_accepts p w name (drop n accepts))
 next-kept p w name accepts n h e = ap (λ ss. next_call p w (queues_of_accepts p w name ss)) (not-dropped-before accepts n h e)
 
 pub ruleset accept_queue_laws = (next-none, next-before, next-kept)

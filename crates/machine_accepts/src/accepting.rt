@@ -1,7 +1,11 @@
 //! The accept statement, and accepts that wait (ISO/IEC 8652:2012, 9.5.2).
 ghost use Rattle.std.specs.Prelude.{◌≡◌, ◌∷◌, [], OnOk, option_copied};
 ghost use Rattle.profile_machine.specs.Calls.{next_call, place_of_entry};
-ghost use Rattle.profile_machine.specs.Rendezvous.{accept_scope, accepts_entry, first_accept, accept_for, open_accept, has_room_for_accept, begin_accept, finish_without_room, accept_with_room, accept_call, own_queue, accept_or_wait, accept};
+ghost use Rattle.profile_machine.specs.Rendezvous.{accept_scope, accepts_entry, first_accept};
+ghost use Rattle.profile_machine.specs.Rendezvous.{accept_for, open_accept, has_room_for_accept};
+ghost use Rattle.profile_machine.specs.Rendezvous.{begin_accept, finish_without_room};
+ghost use Rattle.profile_machine.specs.Rendezvous.{accept_with_room, accept_call, own_queue};
+ghost use Rattle.profile_machine.specs.Rendezvous.{accept_or_wait, accept};
 ghost use Rattle.profile_machine.specs.Tasks.{waiting_of};
 ghost use Rattle.machine_frames.specs.Did.{Did};
 

@@ -1,7 +1,9 @@
 //! The open alternatives of a selective accept (ISO/IEC 8652:2012, 9.7.1).
 ghost use Rattle.std.specs.Prelude.{◌≡◌, ◌++◌, IfOk, OnOk, option_to_list};
 ghost use Rattle.ann_base.specs.Answers.{Answers};
-ghost use Rattle.profile_machine.specs.Rendezvous.{is_open, open_alternatives, open_accepts, has_terminate, delay_moment_in, delay_moment, open_delays, earlier, least_delay, is_closed};
+ghost use Rattle.profile_machine.specs.Rendezvous.{is_open, open_alternatives, open_accepts};
+ghost use Rattle.profile_machine.specs.Rendezvous.{has_terminate, delay_moment_in, delay_moment};
+ghost use Rattle.profile_machine.specs.Rendezvous.{open_delays, earlier, least_delay, is_closed};
 ghost use Rattle.machine_accepts.specs.Parts.{open_kind, accept_in, delay_in};
 
 use ann_base::{Moment, NoMemory, OrMemory, Raised};

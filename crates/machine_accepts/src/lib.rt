@@ -1,5 +1,5 @@
-//! Accept statements and selective accepts: calls of a task's entries are accepted, or waited for. Each function has the name
-//! of the machine's definition of which it is the counterpart.
+//! Accept statements and selective accepts: calls of a task's entries are accepted, or waited for.
+//! Each function has the name of the machine's definition of which it is the counterpart.
 #![tactic(auto)]
 
 mod accepting;

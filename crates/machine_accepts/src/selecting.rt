@@ -1,7 +1,11 @@
 //! The selective accept (ISO/IEC 8652:2012, 9.7.1).
 ghost use Rattle.std.specs.Prelude.{◌≡◌, IfOk, OnOk};
 ghost use Rattle.profile_machine.specs.Calls.{next_call, place_of_entry};
-ghost use Rattle.profile_machine.specs.Rendezvous.{own_queue, open_accepts, queue_of_accept, queues_of_accepts, accept_chosen, wait_at_select, appoint_delay, select_delay, select_wait, select_otherwise, select_by_call, select_open, selective_accept};
+ghost use Rattle.profile_machine.specs.Rendezvous.{own_queue, open_accepts, queue_of_accept};
+ghost use Rattle.profile_machine.specs.Rendezvous.{queues_of_accepts, accept_chosen};
+ghost use Rattle.profile_machine.specs.Rendezvous.{wait_at_select, appoint_delay, select_delay};
+ghost use Rattle.profile_machine.specs.Rendezvous.{select_wait, select_otherwise, select_by_call};
+ghost use Rattle.profile_machine.specs.Rendezvous.{select_open, selective_accept};
 ghost use Rattle.world_tables.specs.Lists.{first_of};
 ghost use Rattle.machine_frames.specs.Did.{Did};
 

@@ -2,7 +2,8 @@
 //! 9.5.3, D.4).
 ghost use Rattle.std.specs.Prelude.{◌≡◌, IfOk};
 ghost use Rattle.profile_machine.specs.Calls.{better_of, next_call};
-ghost use Rattle.profile_machine.specs.Protected.{seen_by_barrier, is_barrier_open, is_open_entry, is_open_body, open_queues, served_next};
+ghost use Rattle.profile_machine.specs.Protected.{seen_by_barrier, is_barrier_open, is_open_entry};
+ghost use Rattle.profile_machine.specs.Protected.{is_open_body, open_queues, served_next};
 ghost use Rattle.profile_machine.specs.Values.{object_of, queue_at};
 ghost use Rattle.world_tables.specs.Lists.{first_of};
 ghost use Rattle.machine_barriers.specs.Heads.{next_with, next_or};

@@ -12,7 +12,8 @@ use Rattle.profile_machine.specs.Unwinding.{any_struck}
 use Rattle.profile_machine.specs.CallEnds.{end_abortable, end_abortable_in, end_top_abortable}
 use Rattle.machine_calls.specs.Endings.{ending_by, ending_in, ended}
 
-ended_in : (p : Image) (part : Part) (name : Who) (f : Frame) (below : List Frame) (mark : Mark) (w : World) (said : List Said) → end_abortable_in p part name f below mark w said ≡ ended p part name (ending_by w f (any_struck below) mark) w said
+ended_in : (p : Image) (part : Part) (name : Who) (f : Frame) (below : List Frame) (mark : Mark) (w : World) (said : List Said)
+    → end_abortable_in p part name f below mark w said ≡ ended p part name (ending_by w f (any_struck below) mark) w said
 unfolding end_abortable end_abortable_in
 ended_in p part name f below (Scope m) w said = refl
 ended_in p part name f below (Handled s) w said = refl
@@ -23,7 +24,8 @@ ended_in p part name f below (InInitialize l) w said = refl
 ended_in p part name f below (InFinalize o) w said = refl
 ended_in p part name f below (InAssign m) w said = refl
 
-pub end_top_abortable-is : (p : Image) (part : Part) (name : Who) (frames : List Frame) (w : World) (said : List Said) → end_top_abortable p part name frames w said ≡ ended p part name (ending_in w frames) w said
+pub end_top_abortable-is : (p : Image) (part : Part) (name : Who) (frames : List Frame) (w : World) (said : List Said)
+    → end_top_abortable p part name frames w said ≡ ended p part name (ending_in w frames) w said
 unfolding end_top_abortable
 end_top_abortable-is p part name [] w said = refl
 end_top_abortable-is p part name (f ∷ below) w said = ended_in p part name f below f.mark w said

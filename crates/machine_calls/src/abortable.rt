@@ -1,7 +1,9 @@
 //! How an abortable part is triggered, and how it ends (ISO/IEC 8652:2012, 9.7.4).
 ghost use Rattle.std.specs.Prelude.{◌≡◌, OnOk};
 ghost use Rattle.world_tables.specs.Lists.{rest_of};
-ghost use Rattle.profile_machine.specs.CallEnds.{trigger_at, trigger_outcome, forget_trigger, run_triggered, is_end, is_own_abort, behind_abortable, end_top_abortable};
+ghost use Rattle.profile_machine.specs.CallEnds.{trigger_at, trigger_outcome, forget_trigger};
+ghost use Rattle.profile_machine.specs.CallEnds.{run_triggered, is_end, is_own_abort};
+ghost use Rattle.profile_machine.specs.CallEnds.{behind_abortable, end_top_abortable};
 ghost use Rattle.profile_machine.specs.Frames.{frames_of};
 ghost use Rattle.profile_machine.specs.Steps.{looks};
 ghost use Rattle.profile_machine.specs.Unwinding.{any_struck};

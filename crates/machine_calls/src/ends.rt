@@ -1,7 +1,10 @@
 //! How calls end: finished, cancelled, or gone (ISO/IEC 8652:2012, 9.5.2 to 9.7, 9.8).
 ghost use Rattle.std.specs.Prelude.{◌≡◌, OnOk};
 ghost use Rattle.profile_machine.specs.Calls.{edit_call};
-ghost use Rattle.profile_machine.specs.CallEnds.{go_by_outcome, resume, waits_for_call, waits_for_end, end_wait, end_for_abortable, end_for_caller, end_for, with_outcome, end_with, end_call, deliver, gone};
+ghost use Rattle.profile_machine.specs.CallEnds.{go_by_outcome, resume, waits_for_call};
+ghost use Rattle.profile_machine.specs.CallEnds.{waits_for_end, end_wait, end_for_abortable};
+ghost use Rattle.profile_machine.specs.CallEnds.{end_for_caller, end_for, with_outcome};
+ghost use Rattle.profile_machine.specs.CallEnds.{end_with, end_call, deliver, gone};
 ghost use Rattle.profile_machine.specs.Tasks.{waiting_of};
 ghost use Rattle.machine_frames.specs.Did.{Did};
 

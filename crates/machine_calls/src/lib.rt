@@ -1,5 +1,6 @@
-//! How entry calls end: abortable parts and their triggers, unwinding by abort, and where a caller goes on (ISO/IEC 8652:2012,
-//! 9.5.2, 9.7, 9.8). Each function has the name of the machine's definition of which it is the counterpart.
+//! How entry calls end: abortable parts and their triggers, unwinding by abort, and where a caller
+//! goes on (ISO/IEC 8652:2012, 9.5.2, 9.7, 9.8). Each function has the name of the machine's
+//! definition of which it is the counterpart.
 #![tactic(auto)]
 
 mod abortable;

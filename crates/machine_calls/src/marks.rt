@@ -1,6 +1,9 @@
 //! Abortable parts among the open constructs of a task (ISO/IEC 8652:2012, 9.7.4).
 ghost use Rattle.std.specs.Prelude.{◌≡◌, true, not};
-ghost use Rattle.profile_machine.specs.CallEnds.{is_abortable_of, depth_of_abortable, abortable_depth, edit_depth, edit_frame, edit_abortable, edit_abortable_at, triggered_mark, waited_mark, is_cancelled};
+ghost use Rattle.profile_machine.specs.CallEnds.{is_abortable_of, depth_of_abortable};
+ghost use Rattle.profile_machine.specs.CallEnds.{abortable_depth, edit_depth, edit_frame};
+ghost use Rattle.profile_machine.specs.CallEnds.{edit_abortable, edit_abortable_at};
+ghost use Rattle.profile_machine.specs.CallEnds.{triggered_mark, waited_mark, is_cancelled};
 ghost use Rattle.profile_machine.specs.Frames.{with_mark};
 ghost use Rattle.profile_machine.specs.Unwinding.{struck_frame};
 ghost use Rattle.profile_image.specs.Words.{is_the, same_call};

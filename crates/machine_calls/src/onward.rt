@@ -1,6 +1,7 @@
 //! Where a caller goes on behind its call (ISO/IEC 8652:2012, 9.5.3, 9.7).
 ghost use Rattle.std.specs.Prelude.{◌≡◌};
-ghost use Rattle.profile_machine.specs.CallEnds.{call_in, onward_when_done, otherwise_in, onward_when_cancelled};
+ghost use Rattle.profile_machine.specs.CallEnds.{call_in, onward_when_done};
+ghost use Rattle.profile_machine.specs.CallEnds.{otherwise_in, onward_when_cancelled};
 
 use machine_program::{Program, form_of, next_of};
 use profile_image::{StatementForm, StatementNo};

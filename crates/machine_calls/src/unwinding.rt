@@ -3,7 +3,8 @@
 ghost use Rattle.std.specs.Prelude.{◌≡◌, OnOk};
 ghost use Rattle.profile_machine.specs.Frames.{frames_of};
 ghost use Rattle.profile_machine.specs.Tasks.{task_of};
-ghost use Rattle.profile_machine.specs.Unwinding.{may_unwind, leave_by_abort, stop_waiting, wake_and_leave, unwind};
+ghost use Rattle.profile_machine.specs.Unwinding.{may_unwind, leave_by_abort};
+ghost use Rattle.profile_machine.specs.Unwinding.{stop_waiting, wake_and_leave, unwind};
 ghost use Rattle.machine_frames.specs.Did.{Did};
 ghost use Rattle.machine_calls.specs.declared.unwinding.Unwinding.TheVariants.{Cancels};
 ghost use Rattle.machine_calls.specs.UnwindingSteps.{unwind_so};
@@ -135,7 +136,8 @@ fn unwind_so(
     }
 }
 
-/// Whether the one with this name may be unwound: a construct of it is struck, and nothing defers the abort.
+/// Whether the one with this name may be unwound: a construct of it is struck, and nothing defers
+/// the abort.
 pub fn frames_may_unwind(world: &World, name: Who) -> bool
     ensures { result ≡ may_unwind (frames_of world.now name) }
 {

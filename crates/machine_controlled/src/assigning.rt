@@ -1,7 +1,10 @@
-//! The steps of an assignment of a controlled object (ISO/IEC 8652:2012, 7.6): Finalize of the target, the copy of the
-//! components, and Adjust.
+//! The steps of an assignment of a controlled object (ISO/IEC 8652:2012, 7.6): Finalize of the
+//! target, the copy of the components, and Adjust.
 ghost use Rattle.std.specs.Prelude.{◌≡◌, ◌-◌, OnOk, IfOk};
-ghost use Rattle.profile_machine.specs.Controlled.{leave_without_room, finalize_target_by, adjust_by, components_at, cells_of_components, copy_components_of, copy_object, do_step, step_with, end_in_assign};
+ghost use Rattle.profile_machine.specs.Controlled.{leave_without_room, finalize_target_by};
+ghost use Rattle.profile_machine.specs.Controlled.{adjust_by, components_at, cells_of_components};
+ghost use Rattle.profile_machine.specs.Controlled.{copy_components_of, copy_object, do_step};
+ghost use Rattle.profile_machine.specs.Controlled.{step_with, end_in_assign};
 ghost use Rattle.machine_frames.specs.Did.{Did};
 
 use crate::finalizing::open_finalize;
@@ -187,7 +190,8 @@ fn step_with(
     }
 }
 
-/// The next step of an assignment is done. Where its mark is being left by an exception, Program_Error is raised.
+/// The next step of an assignment is done. Where its mark is being left by an exception,
+/// Program_Error is raised.
 #[tactic(auto, unfolding(profile_machine::specs::Controlled::end_in_assign))]
 pub fn end_in_assign(
     alloc: Global,

@@ -1,6 +1,8 @@
 //! An assignment of a controlled object begins (ISO/IEC 8652:2012, 7.6).
 ghost use Rattle.std.specs.Prelude.{◌≡◌, OnOk};
-ghost use Rattle.profile_machine.specs.Controlled.{new_assign_mark, begin_assignment, assign_registered, assign_located, assign_controlled};
+ghost use Rattle.profile_machine.specs.Controlled.{new_assign_mark, begin_assignment};
+ghost use Rattle.profile_machine.specs.Controlled.{assign_registered, assign_located};
+ghost use Rattle.profile_machine.specs.Controlled.{assign_controlled};
 ghost use Rattle.machine_frames.specs.Did.{Did};
 
 use crate::registration::{registered_at, same_located};

@@ -2,7 +2,10 @@
 ghost use Rattle.std.specs.Prelude.{◌≡◌, OnOk, find, option_copied};
 ghost use Rattle.std.specs.List.{list_any};
 ghost use Rattle.profile_machine.specs.Cost.{of_region};
-ghost use Rattle.profile_machine.specs.Controlled.{open_finalize, finalize_by, finalize_now, assigns_to, is_assigning_to, is_being_assigned, finalize, next_to_finalize, is_assign_mark, is_assignment, behind_finalize, end_in_finalize};
+ghost use Rattle.profile_machine.specs.Controlled.{open_finalize, finalize_by, finalize_now};
+ghost use Rattle.profile_machine.specs.Controlled.{assigns_to, is_assigning_to, is_being_assigned};
+ghost use Rattle.profile_machine.specs.Controlled.{finalize, next_to_finalize, is_assign_mark};
+ghost use Rattle.profile_machine.specs.Controlled.{is_assignment, behind_finalize, end_in_finalize};
 ghost use Rattle.profile_machine.specs.Frames.{top_of};
 ghost use Rattle.machine_frames.specs.Did.{Did};
 
@@ -201,8 +204,8 @@ fn behind_finalize(
     }
 }
 
-/// Finalize has ended. An exception of it goes on where it belongs to an assignment; else the other objects of the
-/// region are finalized.
+/// Finalize has ended. An exception of it goes on where it belongs to an assignment; else the other
+/// objects of the region are finalized.
 #[tactic(auto, unfolding(profile_machine::specs::Controlled::end_in_finalize))]
 pub fn end_in_finalize(p: &Program, effect: &mut Effect, name: Who, leaving: Leaving)
     ensures { Did (end_in_finalize p.now name leaving) effect.old effect.new }

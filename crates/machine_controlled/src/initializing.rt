@@ -1,6 +1,7 @@
 //! Initialize (ISO/IEC 8652:2012, 7.6): an object is registered behind it.
 ghost use Rattle.std.specs.Prelude.{◌≡◌, OnOk};
-ghost use Rattle.profile_machine.specs.Controlled.{initialize_by, initialize, registers, end_in_initialize};
+ghost use Rattle.profile_machine.specs.Controlled.{initialize_by, initialize};
+ghost use Rattle.profile_machine.specs.Controlled.{registers, end_in_initialize};
 ghost use Rattle.machine_frames.specs.Did.{Did};
 
 use crate::operations::{has_room_to_finalize, initialize_of, open_operation};
@@ -47,7 +48,8 @@ fn initialize_by(
     }
 }
 
-/// The object of a declaration is initialized. Without an override of Initialize it is registered at once.
+/// The object of a declaration is initialized. Without an override of Initialize it is registered
+/// at once.
 #[tactic(auto, unfolding(profile_machine::specs::Controlled::initialize))]
 pub fn initialize(
     alloc: Global,

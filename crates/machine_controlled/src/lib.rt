@@ -1,6 +1,6 @@
-//! Controlled objects: Initialize, Finalize and assignment (ISO/IEC 8652:2012, 7.6, 7.6.1). Each function has the name
-//! of the machine's definition of which it is the counterpart. A number that its type cannot hold is answered as want
-//! of memory.
+//! Controlled objects: Initialize, Finalize and assignment (ISO/IEC 8652:2012, 7.6, 7.6.1). Each
+//! function has the name of the machine's definition of which it is the counterpart. A number that
+//! its type cannot hold is answered as want of memory.
 #![tactic(auto)]
 
 mod assigning;

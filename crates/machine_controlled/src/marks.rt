@@ -1,6 +1,8 @@
 //! Edits of the mark on top.
 ghost use Rattle.std.specs.Prelude.{◌≡◌};
-ghost use Rattle.profile_machine.specs.Controlled.{edit_scope_mark, edit_top_scope, finalize_has_raised, at_step, edit_assign, edit_top_assign};
+ghost use Rattle.profile_machine.specs.Controlled.{edit_scope_mark, edit_top_scope};
+ghost use Rattle.profile_machine.specs.Controlled.{finalize_has_raised, at_step};
+ghost use Rattle.profile_machine.specs.Controlled.{edit_assign, edit_top_assign};
 ghost use Rattle.profile_machine.specs.Tasking.{being_left_mark};
 
 use machine_frames::task_mut;

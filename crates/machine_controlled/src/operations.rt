@@ -2,7 +2,9 @@
 ghost use Rattle.std.specs.Prelude.{◌≡◌, ◌+◌, IfOk, OnOk, option_and_then};
 ghost use Rattle.profile_image.specs.Program.{scope_of, subprogram_of};
 ghost use Rattle.profile_machine.specs.Scopes.{home, innermost};
-ghost use Rattle.profile_machine.specs.Controlled.{type_of, first_place, operation_beginning, open_operation, marks_of_operation, has_room_to_finalize, has_room_to_adjust};
+ghost use Rattle.profile_machine.specs.Controlled.{type_of, first_place, operation_beginning};
+ghost use Rattle.profile_machine.specs.Controlled.{open_operation, marks_of_operation};
+ghost use Rattle.profile_machine.specs.Controlled.{has_room_to_finalize, has_room_to_adjust};
 ghost use Rattle.machine_frames.specs.Did.{Did};
 
 use ann_base::NoMemory;

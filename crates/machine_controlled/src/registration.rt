@@ -1,7 +1,10 @@
 //! Registered controlled objects (ISO/IEC 8652:2012, 7.6), the newest first.
 ghost use Rattle.std.specs.Prelude.{◌≡◌, OnOk, find, option_copied};
 ghost use Rattle.profile_image.specs.Words.{without};
-ghost use Rattle.profile_machine.specs.Controlled.{region_or_none, top_region, controlled_drawn, registered_as, register, is_number, no_longer_registered, same_located, is_located, registered_at, registered_object};
+ghost use Rattle.profile_machine.specs.Controlled.{region_or_none, top_region, controlled_drawn};
+ghost use Rattle.profile_machine.specs.Controlled.{registered_as, register, is_number};
+ghost use Rattle.profile_machine.specs.Controlled.{no_longer_registered, same_located};
+ghost use Rattle.profile_machine.specs.Controlled.{is_located, registered_at, registered_object};
 ghost use Rattle.machine_frames.specs.Did.{Did};
 
 use crate::operations::first_place;

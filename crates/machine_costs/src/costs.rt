@@ -1,6 +1,8 @@
 //! What an action costs, in ticks (this profile's choice).
 ghost use Rattle.std.specs.Prelude.{◌≡◌};
-ghost use Rattle.profile_machine.specs.Cost.{of_region, has_registered, cost_of_leaving, cost_of_step, cost_of_mark, cost_of_form, cost_of_statement, cost_of_first, cost};
+ghost use Rattle.profile_machine.specs.Cost.{of_region, has_registered, cost_of_leaving};
+ghost use Rattle.profile_machine.specs.Cost.{cost_of_step, cost_of_mark, cost_of_form};
+ghost use Rattle.profile_machine.specs.Cost.{cost_of_statement, cost_of_first, cost};
 
 use ann_base::RegionNo;
 use machine_frames::top_of;

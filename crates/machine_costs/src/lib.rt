@@ -1,5 +1,5 @@
-//! What an action costs, in ticks (this profile's choice). Each function has the name of the machine's
-//! definition of which it is the counterpart.
+//! What an action costs, in ticks (this profile's choice). Each function has the name of the
+//! machine's definition of which it is the counterpart.
 #![tactic(auto)]
 
 mod costs;

@@ -2,7 +2,9 @@
 ghost use Rattle.std.specs.Prelude.{◌≡◌, IfOk, OnOk, leb, length};
 ghost use Rattle.ann_base.specs.Answers.{Answers};
 ghost use Rattle.profile_image.specs.declared.limits.TheConstants.{MOST_LIVE_TASKS};
-ghost use Rattle.profile_machine.specs.Tasking.{unit_of_kind, unit_of_declaration, optional_span, outer_of_task, created_task, task_drawn, add_task, create_task, create};
+ghost use Rattle.profile_machine.specs.Tasking.{unit_of_kind, unit_of_declaration};
+ghost use Rattle.profile_machine.specs.Tasking.{optional_span, outer_of_task, created_task};
+ghost use Rattle.profile_machine.specs.Tasking.{task_drawn, add_task, create_task, create};
 ghost use Rattle.machine_frames.specs.Did.{Did};
 ghost use Rattle.machine_creation.specs.Created.{span_given, asks_span, last_drawn, names_object};
 

@@ -25,11 +25,13 @@ onward : {X Y Z : Type 0} (r : Valued X) (f : X → Valued Y) (g : Y → Valued 
 onward (Ok x) f g = refl
 onward (Err e) f g = refl
 
-scalar_by : (p : Image) (v : Variable) (w : World) (r : Valued Value) → (r >>= λ x. store p v x w) ≡ ((r >>= λ x. checked (declaration_of p v.declared).constraint x >>= λ y. Ok (first.Scalar y)) >>= λ f. Ok (written p v f w))
+scalar_by : (p : Image) (v : Variable) (w : World) (r : Valued Value)
+    → (r >>= λ x. store p v x w) ≡ ((r >>= λ x. checked (declaration_of p v.declared).constraint x >>= λ y. Ok (first.Scalar y)) >>= λ f. Ok (written p v f w))
 scalar_by p v w (Err e) = refl
 scalar_by p v w (Ok x) = sym (onward (checked (declaration_of p v.declared).constraint x) (λ y. Ok (first.Scalar y)) (λ f. Ok (written p v f w)))
 
-copied_by : (p : Image) (v : Variable) (w : World) (r : Valued Variable) → (r >>= λ f. Ok (copy_cells p v f w)) ≡ ((r >>= λ f. Ok (first.Copied f)) >>= λ f. Ok (written p v f w))
+copied_by : (p : Image) (v : Variable) (w : World) (r : Valued Variable)
+    → (r >>= λ f. Ok (copy_cells p v f w)) ≡ ((r >>= λ f. Ok (first.Copied f)) >>= λ f. Ok (written p v f w))
 copied_by p v w (Err e) = refl
 copied_by p v w (Ok f) = refl
 
@@ -43,13 +45,18 @@ written_behind p [] b w = refl
 written_behind p (x ∷ bs) b w = written_behind p bs b (written p x.variable x.value w)
 
 -- the others, where the first value is found or is not
-others_by : (q : Seen) (own : ℕ) (l : Located) (cs : List DeclNo) (bs : List Begun) (w : World) (v : Variable) (r : Valued FirstValue) → ((ds : List Begun) → components_initialized q own l cs (all_written q.program ds w) ≡ (first_values q own l cs ds >>= λ all. Ok (all_written q.program all w))) → ((r >>= λ f. Ok (written q.program v f (all_written q.program bs w))) >>= components_initialized q own l cs) ≡ (((r >>= λ f. Ok (record { variable = v; value = f })) >>= λ b. first_values q own l cs (bs ++ b ∷ [])) >>= λ all. Ok (all_written q.program all w))
+others_by : (q : Seen) (own : ℕ) (l : Located) (cs : List DeclNo) (bs : List Begun) (w : World) (v : Variable) (r : Valued FirstValue)
+    → ((ds : List Begun)
+    → components_initialized q own l cs (all_written q.program ds w) ≡ (first_values q own l cs ds >>= λ all. Ok (all_written q.program all w)))
+    → ((r >>= λ f. Ok (written q.program v f (all_written q.program bs w))) >>= components_initialized q own l cs)
+    ≡ (((r >>= λ f. Ok (record { variable = v; value = f })) >>= λ b. first_values q own l cs (bs ++ b ∷ [])) >>= λ all. Ok (all_written q.program all w))
 others_by q own l cs bs w v (Err e) again = refl
 others_by q own l cs bs w v (Ok f) again =
     let b : Begun = record { variable = v; value = f } in
     ap (components_initialized q own l cs) (sym (written_behind q.program bs b w)) ∙ again (bs ++ b ∷ [])
 
-components_behind : (q : Seen) (own : ℕ) (l : Located) (cs : List DeclNo) (bs : List Begun) (w : World) → components_initialized q own l cs (all_written q.program bs w) ≡ (first_values q own l cs bs >>= λ all. Ok (all_written q.program all w))
+components_behind : (q : Seen) (own : ℕ) (l : Located) (cs : List DeclNo) (bs : List Begun) (w : World)
+    → components_initialized q own l cs (all_written q.program bs w) ≡ (first_values q own l cs bs >>= λ all. Ok (all_written q.program all w))
 components_behind q own l [] bs w = refl
 components_behind q own l (c ∷ cs) bs w =
     let v = component_at q.program own l c in

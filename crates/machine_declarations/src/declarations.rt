@@ -1,7 +1,9 @@
 //! The declaration of an object, by its kind (ISO/IEC 8652:2012, 3.3.1, 7.6, 9.4, D.14, D.15).
 ghost use Rattle.std.specs.Prelude.{OnOk};
 ghost use Rattle.machine_scopes.specs.Stored.{Stores};
-ghost use Rattle.profile_machine.specs.Declarations.{object_declared, controlled_declared, declared, declare_quietly, declare_by, declare};
+ghost use Rattle.profile_machine.specs.Declarations.{object_declared, controlled_declared};
+ghost use Rattle.profile_machine.specs.Declarations.{declared, declare_quietly};
+ghost use Rattle.profile_machine.specs.Declarations.{declare_by, declare};
 ghost use Rattle.profile_machine.specs.Values.{seen_by};
 ghost use Rattle.machine_frames.specs.Did.{Did};
 

@@ -1,12 +1,15 @@
-//! Initial values (ISO/IEC 8652:2012, 3.3.1). All of them are found in the world before the declaration; where one
-//! raises an exception, none is written.
+//! Initial values (ISO/IEC 8652:2012, 3.3.1). All of them are found in the world before the
+//! declaration; where one raises an exception, none is written.
 ghost use Rattle.std.specs.Prelude.{◌≡◌, IfOk, OnOk, [], take, drop};
 ghost use Rattle.ann_base.specs.Answers.{Answers};
 ghost use Rattle.machine_scopes.specs.Stored.{Stores};
-ghost use Rattle.profile_machine.specs.Declarations.{default_cells, set_defaults, initial_of, initialized, components_initialized};
+ghost use Rattle.profile_machine.specs.Declarations.{default_cells, set_defaults, initial_of};
+ghost use Rattle.profile_machine.specs.Declarations.{initialized, components_initialized};
 ghost use Rattle.profile_image.specs.declared.declarations.Initial.TheVariants as initially;
 ghost use Rattle.profile_machine.specs.Values.{seen_by};
-ghost use Rattle.machine_declarations.specs.FirstValues.{first_value, written, first_of_component, first_values, all_written, value_set, components_set};
+ghost use Rattle.machine_declarations.specs.FirstValues.{first_value, written};
+ghost use Rattle.machine_declarations.specs.FirstValues.{first_of_component, first_values};
+ghost use Rattle.machine_declarations.specs.FirstValues.{all_written, value_set, components_set};
 
 use ann_base::{NoMemory, OrMemory, Raised};
 use machine_parameters::{checked_for, copy_cells};
@@ -176,8 +179,8 @@ fn value_set(
 
 /// The cells of an object or component get its initial value.
 ///
-/// Errors: `Constraint` where it is out of its range, and the exceptions of its evaluation; the world is then as it
-/// was.
+/// Errors: `Constraint` where it is out of its range, and the exceptions of its evaluation; the
+/// world is then as it was.
 pub(crate) fn initialized(
     alloc: Global,
     p: &Program,

@@ -1,6 +1,8 @@
 //! The declaration of a protected object (ISO/IEC 8652:2012, 9.4).
 ghost use Rattle.std.specs.Prelude.{◌≡◌, IfOk, OnOk};
-ghost use Rattle.profile_machine.specs.Declarations.{located_here, set_thing, object_drawn, no_calls, new_object, with_object, says_object, declare_protected};
+ghost use Rattle.profile_machine.specs.Declarations.{located_here, set_thing, object_drawn};
+ghost use Rattle.profile_machine.specs.Declarations.{no_calls, new_object, with_object};
+ghost use Rattle.profile_machine.specs.Declarations.{says_object, declare_protected};
 ghost use Rattle.machine_frames.specs.Did.{Did};
 ghost use Rattle.machine_declarations.specs.Parts.{made_here, declare_protected_at};
 

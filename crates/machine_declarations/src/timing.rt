@@ -1,7 +1,9 @@
 //! The declaration of timing events, timers and group budgets (ISO/IEC 8652:2012, D.14, D.15).
 ghost use Rattle.std.specs.Prelude.{◌≡◌, ◌^◌, ◌≤◌, IfOk, OnOk, OnErr};
 ghost use Rattle.machine_scopes.specs.Stored.{Stores};
-ghost use Rattle.profile_machine.specs.Declarations.{event_drawn, event_declared, with_budget, budget_declared, timed_task, with_timer, timer_declared};
+ghost use Rattle.profile_machine.specs.Declarations.{event_drawn, event_declared};
+ghost use Rattle.profile_machine.specs.Declarations.{with_budget, budget_declared};
+ghost use Rattle.profile_machine.specs.Declarations.{timed_task, with_timer, timer_declared};
 ghost use Rattle.profile_machine.specs.Values.{seen_by, must_be_task};
 
 use crate::objects::{located_here, set_thing};
@@ -100,7 +102,8 @@ fn with_timer(task: TaskNo, world: &mut World) -> Result<(), NoMemory>
 
 /// A timer of the task that the named constant identifies is declared.
 ///
-/// Errors: `Program` for Null_Task_Id, `TimerResource` while 256 timers exist; the world is then as it was.
+/// Errors: `Program` for Null_Task_Id, `TimerResource` while 256 timers exist; the world is then as
+/// it was.
 pub(crate) fn timer_declared(
     p: &Program,
     name: Who,

@@ -24,9 +24,11 @@ and_assoc false b c = refl
 
 all_later-append : (d : ℤ) (xs ys : List Rival) → all_later d (xs ++ ys) ≡ (all_later d xs && all_later d ys)
 all_later-append d [] ys = refl
-all_later-append d (x ∷ xs) ys = ap (λ b. int_lt d x.deadline && b) (all_later-append d xs ys) ∙ and_assoc (int_lt d x.deadline) (all_later d xs) (all_later d ys)
+all_later-append d (x ∷ xs) ys =
+    ap (λ b. int_lt d x.deadline && b) (all_later-append d xs ys) ∙ and_assoc (int_lt d x.deadline) (all_later d xs) (all_later d ys)
 
-pub all_later-joined : (d : ℤ) (level : ℕ) (xs ys : List Rival) → all_later d (of_level level (xs ++ ys)) ≡ (all_later d (of_level level xs) && all_later d (of_level level ys))
+pub all_later-joined : (d : ℤ) (level : ℕ) (xs ys : List Rival)
+    → all_later d (of_level level (xs ++ ys)) ≡ (all_later d (of_level level xs) && all_later d (of_level level ys))
 all_later-joined d level xs ys = ap (all_later d) (filter-append _ xs ys) ∙ all_later-append d (of_level level xs) (of_level level ys)
 
 pub ruleset later_laws = (all_later-joined)
@@ -38,7 +40,8 @@ module _ (test : ℕ → Bool) where
   least-le [] least = omega arith
   least-le (x ∷ xs) least = let h = least-le xs least in omega arith
 
-  pub greatest_level-append : (xs ys : List Rival) (least : ℕ) → greatest_level test (xs ++ ys) least ≡ max (greatest_level test xs least) (greatest_level test ys least)
+  pub greatest_level-append : (xs ys : List Rival) (least : ℕ)
+      → greatest_level test (xs ++ ys) least ≡ max (greatest_level test xs least) (greatest_level test ys least)
   greatest_level-append [] ys least = let h = least-le ys least in omega arith
   greatest_level-append (x ∷ xs) ys least = let h = greatest_level-append xs ys least in omega arith
 
@@ -51,7 +54,8 @@ module _ (test : ℕ → Bool) where
     within [] least e = omega arith
     within (a ∷ more) least e = let h = within more least e in let c = ap (λ b. cond b ceiling least) e in omega arith
 
-    pub greatest_level-entered : (actions : List Action) (least : ℕ) → 0 < length actions → test ceiling ≡ true → greatest_level test (inside_object w ceiling actions) least ≡ max ceiling least
+    pub greatest_level-entered : (actions : List Action) (least : ℕ) → 0 < length actions → test ceiling ≡ true
+        → greatest_level test (inside_object w ceiling actions) least ≡ max ceiling least
     greatest_level-entered [] least h e = absurd (omega arith)
     greatest_level-entered (a ∷ more) least h e =
         let above = within more least e in

@@ -1,7 +1,8 @@
 //! Inherited priorities, each under its cause (ISO/IEC 8652:2012, D.1, D.3).
 ghost use Rattle.std.specs.Prelude.{◌≡◌, OnOk};
 ghost use Rattle.std.specs.List.{position_from};
-ghost use Rattle.profile_machine.specs.Inheritance.{same_cause, inherit, lose, inherit_running, lose_running};
+ghost use Rattle.profile_machine.specs.Inheritance.{same_cause, inherit, lose};
+ghost use Rattle.profile_machine.specs.Inheritance.{inherit_running, lose_running};
 ghost use Rattle.profile_image.specs.Words.{without};
 ghost use Rattle.machine_frames.specs.Did.{Did};
 

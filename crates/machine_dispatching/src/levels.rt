@@ -12,7 +12,8 @@ use profile_machine::world::{Inherited, Task, World};
 use trace_text::Who;
 use world_tables::List;
 
-/// The level of a task of its own: the base priority, or the level that it keeps where its base lies in an EDF range.
+/// The level of a task of its own: the base priority, or the level that it keeps where its base
+/// lies in an EDF range.
 pub fn own_level(p: &Program, task: &Task) -> Level
     ensures { result ≡ own_level p.now task.now }
 {
@@ -37,7 +38,8 @@ pub fn greatest_inherited(inherited: &List<Inherited>, least: Level) -> Level
     greatest
 }
 
-/// The active priority of a task: the greatest of its own level and of those that it inherits (D.1).
+/// The active priority of a task: the greatest of its own level and of those that it inherits
+/// (D.1).
 pub fn active(p: &Program, task: &Task) -> Level
     ensures { result ≡ active p.now task.now }
 {

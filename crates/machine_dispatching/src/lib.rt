@@ -1,6 +1,6 @@
-//! Who runs: active priorities, the ready queues, blocking, delays, inherited priorities and appointments, and what
-//! is done when an effect is over. Each function has the name of the machine's definition of which it is the
-//! counterpart.
+//! Who runs: active priorities, the ready queues, blocking, delays, inherited priorities and
+//! appointments, and what is done when an effect is over. Each function has the name of the
+//! machine's definition of which it is the counterpart.
 #![tactic(auto)]
 
 mod blocking;

@@ -1,7 +1,9 @@
 //! Placing on the ready queues (ISO/IEC 8652:2012, D.2.1, D.2.3, D.2.5, D.2.6).
 ghost use Rattle.std.specs.Prelude.{◌≡◌, OnOk};
 ghost use Rattle.std.specs.Bool.{then_some};
-ghost use Rattle.profile_machine.specs.Dispatching.{level_kept_by, keep_level, deadline_shown, granted, grant_quantum, says_ready, to_tail, to_head, ready};
+ghost use Rattle.profile_machine.specs.Dispatching.{level_kept_by, keep_level};
+ghost use Rattle.profile_machine.specs.Dispatching.{deadline_shown, granted, grant_quantum};
+ghost use Rattle.profile_machine.specs.Dispatching.{says_ready, to_tail, to_head, ready};
 ghost use Rattle.profile_image.specs.Program.{edf_low, is_edf_level};
 ghost use Rattle.profile_machine.specs.Tasks.{task_of, edit_task};
 ghost use Rattle.machine_frames.specs.Did.{Did};
@@ -32,7 +34,8 @@ fn set_kept_level(world: &mut World, name: Who, level: Option<Level>)
     }
 }
 
-/// A task that is activated or released keeps the level that it then has, where its base lies in an EDF range (D.2.6).
+/// A task that is activated or released keeps the level that it then has, where its base lies in an
+/// EDF range (D.2.6).
 pub fn keep_level(p: &Program, world: &mut World, name: Who)
     ensures { world.new ≡ keep_level p.now name world.old }
 {
@@ -104,7 +107,8 @@ fn set_quantum(world: &mut World, name: Who, quantum: u64)
     }
 }
 
-/// A task at the tail of its base level gets the full quantum of the level, where that is round robin (D.2.5).
+/// A task at the tail of its base level gets the full quantum of the level, where that is round
+/// robin (D.2.5).
 #[tactic(auto, using(crate::proofs::LevelLemmas::with_quantum))]
 pub fn grant_quantum(p: &Program, world: &mut World, name: Who)
     ensures { world.new ≡ grant_quantum p.now name world.old }

@@ -9,8 +9,8 @@ use ann_base::NoMemory;
 use profile_machine::world::{Line, Placed, ReadyQueues, World};
 use trace_text::Who;
 
-/// The ready queues follow a line: `ready` places, `block` and `done` take out, no other line moves anybody. That
-/// holds whatever the names are with which the line is written.
+/// The ready queues follow a line: `ready` places, `block` and `done` take out, no other line moves
+/// anybody. That holds whatever the names are with which the line is written.
 pub fn places_after(places: &mut ReadyQueues, line: &Line) -> Result<(), NoMemory>
     ensures { OnOk result
         ((p : Image) → places.new ≡ places_after (event_of p line.now) places.old) }

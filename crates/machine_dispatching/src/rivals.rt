@@ -1,7 +1,9 @@
-//! The level that a task on an EDF range keeps (ISO/IEC 8652:2012, D.2.6): that of an object in which everybody has a
-//! later deadline, with no ready task of an earlier one between.
+//! The level that a task on an EDF range keeps (ISO/IEC 8652:2012, D.2.6): that of an object in
+//! which everybody has a later deadline, with no ready task of an earlier one between.
 ghost use Rattle.std.specs.Prelude.{◌≡◌, ◌&&◌, not};
-ghost use Rattle.profile_machine.specs.Dispatching.{all_later, of_level, from_to, inside_object, inside_objects, ready_rivals, may_stand_at, greatest_level, edf_level};
+ghost use Rattle.profile_machine.specs.Dispatching.{all_later, of_level, from_to, inside_object};
+ghost use Rattle.profile_machine.specs.Dispatching.{inside_objects, ready_rivals, may_stand_at};
+ghost use Rattle.profile_machine.specs.Dispatching.{greatest_level, edf_level};
 ghost use Rattle.profile_machine.specs.Tasks.{is_runnable, is_who};
 
 use crate::levels::{active, deadline_of};
@@ -40,7 +42,8 @@ fn are_later_inside(world: &World, level: Level, deadline: Moment) -> bool
     true
 }
 
-// Whether the other tasks that are ready at levels from `low` on and below `level` have later deadlines.
+// Whether the other tasks that are ready at levels from `low` on and below `level` have later
+// deadlines.
 fn are_later_ready(
     p: &Program,
     name: Who,
@@ -80,7 +83,8 @@ fn may_stand_at(p: &Program, world: &World, task: &Task, low: Level, ceiling: Le
         && are_later_ready(p, task.who, &world.tasks, low, ceiling, task.deadline)
 }
 
-// The ceiling of an object where somebody is inside and the task may keep it, else `least`, if that is not less.
+// The ceiling of an object where somebody is inside and the task may keep it, else `least`, if that
+// is not less.
 #[tactic(auto, using(crate::proofs::LevelLemmas::level_laws))]
 fn level_inside(
     p: &Program,
@@ -104,8 +108,9 @@ fn level_inside(
     }
 }
 
-/// The level that a task keeps whose base lies in the EDF range from `low` on: the greatest ceiling below its base of
-/// an object in which somebody is and which it may enter, and no less than `low` and what it inherits.
+/// The level that a task keeps whose base lies in the EDF range from `low` on: the greatest ceiling
+/// below its base of an object in which somebody is and which it may enter, and no less than `low`
+/// and what it inherits.
 #[tactic(auto, using(crate::proofs::LevelLemmas::level_laws))]
 pub fn edf_level(p: &Program, world: &World, task: &Task, low: Level, inherited: Level) -> Level
     ensures { result

@@ -1,4 +1,5 @@
-//! An effect that is over: its lines are put in order, and the ready queues follow them (ISO/IEC 8652:2012, D.2.1).
+//! An effect that is over: its lines are put in order, and the ready queues follow them (ISO/IEC
+//! 8652:2012, D.2.1).
 ghost use Rattle.std.specs.Prelude.{◌≡◌, ◌++◌, OnOk, []};
 ghost use Rattle.profile_image.specs.declared.image.Image.{Image};
 ghost use Rattle.profile_machine.specs.Steps.{places_after_all};
@@ -40,9 +41,9 @@ fn settle_said(alloc: Global, effect: &mut Effect, lines: &mut List<Line>) -> Re
     follow(&mut effect.world.places, lines, ordered)
 }
 
-/// An effect is over: its lines are put in order behind those that are there, and the ready queues follow them. What
-/// is left is an effect that has said nothing. The clause speaks of the lines as they are written, whatever the names.
-/// Most effects say nothing, and there is nothing to do then.
+/// An effect is over: its lines are put in order behind those that are there, and the ready queues
+/// follow them. What is left is an effect that has said nothing. The clause speaks of the lines as
+/// they are written, whatever the names. Most effects say nothing, and there is nothing to do then.
 pub fn settle(alloc: Global, effect: &mut Effect, lines: &mut List<Line>) -> Result<(), NoMemory>
     ensures settled { OnOk result
         ((p : Image) → Settles p effect.old lines.old effect.new.world lines.new) }

@@ -1,5 +1,6 @@
-//! Entry calls: whose entry is called, the number that a call draws, calls of protected entries, and requeues. Each function
-//! has the name of the machine's definition of which it is the counterpart.
+//! Entry calls: whose entry is called, the number that a call draws, calls of protected entries,
+//! and requeues. Each function has the name of the machine's definition of which it is the
+//! counterpart.
 #![tactic(auto)]
 
 mod making;

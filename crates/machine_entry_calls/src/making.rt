@@ -32,8 +32,8 @@ fn add_call(world: &mut World, c: Call) -> Result<(), NoMemory>
 }
 
 /// The call is made, and answered as it is then. The caller goes on behind its statement first, so
-/// that where it blocks or has the object open its frame names what it does once the call has ended;
-/// the end of the call may say otherwise.
+/// that where it blocks or has the object open its frame names what it does once the call has
+/// ended; the end of the call may say otherwise.
 ///
 /// Errors: memory ran out, or the numbers of calls are used up.
 pub fn make_call(p: &Program, effect: &mut Effect, c: Call) -> Result<Call, NoMemory>

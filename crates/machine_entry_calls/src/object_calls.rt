@@ -1,9 +1,13 @@
 //! Calls of protected entries (ISO/IEC 8652:2012, 9.5.3): tested first, then made. A call runs at
 //! once where the barrier is open.
 ghost use Rattle.std.specs.Prelude.{◌≡◌, OnOk};
-ghost use Rattle.profile_machine.specs.EntryCalls.{make_call, call_runs, call_without_room, has_room_for_action, call_runs_if_room, call_passes, call_refused, call_closed, call_by_barrier, call_object};
+ghost use Rattle.profile_machine.specs.EntryCalls.{make_call, call_runs, call_without_room};
+ghost use Rattle.profile_machine.specs.EntryCalls.{has_room_for_action, call_runs_if_room};
+ghost use Rattle.profile_machine.specs.EntryCalls.{call_passes, call_refused, call_closed};
+ghost use Rattle.profile_machine.specs.EntryCalls.{call_by_barrier, call_object};
 ghost use Rattle.machine_frames.specs.Did.{Did};
-ghost use Rattle.machine_entry_calls.specs.Objects.{enters, starts, fails, exits, called_by_barrier};
+ghost use Rattle.machine_entry_calls.specs.Objects.{enters, starts, fails};
+ghost use Rattle.machine_entry_calls.specs.Objects.{exits, called_by_barrier};
 
 use crate::making::{end_at_once, has_room_if_queued, make_call};
 use ann_base::{NoMemory, ObjectNo, Raised};

@@ -1,6 +1,7 @@
 //! Whose entry a name names (ISO/IEC 8652:2012, 9.5.3).
 ghost use Rattle.std.specs.Prelude.{◌≡◌, option_and_then};
-ghost use Rattle.profile_machine.specs.EntryCalls.{owner_task, owner_by_unit, owner_in_scope, own_unit, owner_of_entry};
+ghost use Rattle.profile_machine.specs.EntryCalls.{owner_task, owner_by_unit};
+ghost use Rattle.profile_machine.specs.EntryCalls.{owner_in_scope, own_unit, owner_of_entry};
 ghost use Rattle.profile_machine.specs.Scopes.{scope_in_use};
 
 use ann_base::{ObjectNo, Raised, TaskNo};

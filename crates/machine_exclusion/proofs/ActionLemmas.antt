@@ -21,7 +21,8 @@ and-true : (b : Bool) → (b && true) ≡ b
 and-true true = refl
 and-true false = refl
 
-others-step : {X : Type 0} (of read : Bool) (test : X → Bool) (x : X) (left : List X) (any : Bool) → test x ≡ read → any ≡ not (list_all test left) → ((not of && not read) || any) ≡ not (list_all test (cond (not of) (x ∷ left) left))
+others-step : {X : Type 0} (of read : Bool) (test : X → Bool) (x : X) (left : List X) (any : Bool) → test x ≡ read → any ≡ not (list_all test left)
+    → ((not of && not read) || any) ≡ not (list_all test (cond (not of) (x ∷ left) left))
 others-step true read test x left any t e = e
 others-step false true test x left any t e = rw t e
 others-step false false test x left any t e = rw t refl
@@ -39,13 +40,15 @@ pub any-has_open : (name : Who) (xs : List Action) → list_any (is_action_of na
 any-has_open name xs = any-left (is_action_of name) xs
 
 -- another has one open that writes
-pub any-excludes_read : (name : Who) (mode : Mode) (xs : List Action) → mode ≡ Read → list_any (λ a. not (is_action_of name a) && not (is_read a.mode)) xs ≡ excludes mode (without (is_action_of name) xs)
+pub any-excludes_read : (name : Who) (mode : Mode) (xs : List Action) → mode ≡ Read
+    → list_any (λ a. not (is_action_of name a) && not (is_read a.mode)) xs ≡ excludes mode (without (is_action_of name) xs)
 any-excludes_read name mode xs e =
     any-other (is_action_of name) (λ a. is_read a.mode) xs ∙ not-all (λ a. is_read a.mode) (without (is_action_of name) xs)
     ∙ ap (λ m. excludes m (without (is_action_of name) xs)) (sym e)
 
 -- another has one open
-pub any-excludes_write : (name : Who) (mode : Mode) (xs : List Action) → mode ≡ Write → list_any (λ a. not (is_action_of name a)) xs ≡ excludes mode (without (is_action_of name) xs)
+pub any-excludes_write : (name : Who) (mode : Mode) (xs : List Action) → mode ≡ Write
+    → list_any (λ a. not (is_action_of name a)) xs ≡ excludes mode (without (is_action_of name) xs)
 any-excludes_write name mode xs e =
     any-left (λ a. not (is_action_of name a)) xs ∙ sym (and-true (not (is_empty (without (is_action_of name) xs))))
     ∙ ap (λ m. excludes m (without (is_action_of name) xs)) (sym e)

@@ -1,6 +1,7 @@
 //! Protected actions begin, and the ceiling is inherited (ISO/IEC 8652:2012, 9.5.1, D.3).
 ghost use Rattle.std.specs.Prelude.{◌≡◌, OnOk};
-ghost use Rattle.profile_machine.specs.Protected.{new_protected_mark, open_action, ceiling_of, begin_action_on, outer_of_body, body_of_object};
+ghost use Rattle.profile_machine.specs.Protected.{new_protected_mark, open_action, ceiling_of};
+ghost use Rattle.profile_machine.specs.Protected.{begin_action_on, outer_of_body, body_of_object};
 ghost use Rattle.profile_machine.specs.Values.{object_of};
 ghost use Rattle.machine_frames.specs.Did.{Did};
 

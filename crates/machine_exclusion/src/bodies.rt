@@ -2,7 +2,9 @@
 ghost use Rattle.std.specs.Prelude.{◌≡◌, ◌+◌, OnOk, Some};
 ghost use Rattle.profile_image.specs.Program.{marks_of};
 ghost use Rattle.profile_machine.specs.Calls.{edit_call};
-ghost use Rattle.profile_machine.specs.Protected.{begun_call, begin_call, body_opens, body_scope_of, edit_top_protected, has_room_for_body};
+ghost use Rattle.profile_machine.specs.Protected.{begun_call, begin_call, body_opens};
+ghost use Rattle.profile_machine.specs.Protected.{body_scope_of, edit_top_protected};
+ghost use Rattle.profile_machine.specs.Protected.{has_room_for_body};
 ghost use Rattle.machine_frames.specs.Did.{Did};
 
 use crate::actions::body_of_object;

@@ -1,7 +1,9 @@
 //! Whether a protected action may begin (ISO/IEC 8652:2012, 9.5.1, D.3).
 ghost use Rattle.std.specs.Prelude.{◌≡◌, ◌&&◌, OnOk, not};
 ghost use Rattle.std.specs.List.{list_any};
-ghost use Rattle.profile_machine.specs.Protected.{is_action_of, has_open, is_read, excludes, is_above_ceiling, entering_object, entering, find_held};
+ghost use Rattle.profile_machine.specs.Protected.{is_action_of, has_open, is_read};
+ghost use Rattle.profile_machine.specs.Protected.{excludes, is_above_ceiling};
+ghost use Rattle.profile_machine.specs.Protected.{entering_object, entering, find_held};
 ghost use Rattle.profile_machine.specs.Tasks.{task_of};
 ghost use Rattle.profile_image.specs.Words.{without};
 ghost use Rattle.machine_frames.specs.Did.{Did};

@@ -1,6 +1,6 @@
-//! Protected objects as protected actions find them: who may begin one, ceilings, the bodies of entries, and what a
-//! body's parameters leave to its call (ISO/IEC 8652:2012, 9.5.1, 9.5.2, 9.5.3, D.3). Each function has the name of
-//! the machine's definition of which it is the counterpart.
+//! Protected objects as protected actions find them: who may begin one, ceilings, the bodies of
+//! entries, and what a body's parameters leave to its call (ISO/IEC 8652:2012, 9.5.1, 9.5.2, 9.5.3,
+//! D.3). Each function has the name of the machine's definition of which it is the counterpart.
 #![tactic(auto)]
 
 mod actions;

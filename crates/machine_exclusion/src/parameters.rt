@@ -3,7 +3,8 @@ ghost use Rattle.std.specs.Prelude.{◌≡◌, ◌++◌, drop, slice_get, take, 
 ghost use Rattle.std.specs.List.{cons_option};
 ghost use Rattle.profile_machine.specs.Calls.{edit_call};
 ghost use Rattle.profile_machine.specs.Scopes.{cells_of, scope_in_use};
-ghost use Rattle.profile_machine.specs.Serving.{with_values, keep_values, keeps_sending, end_body_of_entry};
+ghost use Rattle.profile_machine.specs.Serving.{with_values, keep_values};
+ghost use Rattle.profile_machine.specs.Serving.{keeps_sending, end_body_of_entry};
 ghost use Rattle.machine_frames.specs.Did.{Did};
 
 use ann_base::{CallNo, NoMemory};

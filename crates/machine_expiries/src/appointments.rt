@@ -1,7 +1,8 @@
-//! Appointments whose moment is now: timing events, then delays, time-outs and triggers, each in the order in which they
-//! were set (ISO/IEC 8652:2012, 9.6, 9.7, D.15).
+//! Appointments whose moment is now: timing events, then delays, time-outs and triggers, each in
+//! the order in which they were set (ISO/IEC 8652:2012, 9.6, 9.7, D.15).
 ghost use Rattle.std.specs.Prelude.{◌≡◌, [], OnOk, Some, option_map};
-ghost use Rattle.profile_machine.specs.Instant.{take_delay, end_delay, time_out, is_the_same_due, come_due, all_due, appointments_due};
+ghost use Rattle.profile_machine.specs.Instant.{take_delay, end_delay, time_out, is_the_same_due};
+ghost use Rattle.profile_machine.specs.Instant.{come_due, all_due, appointments_due};
 ghost use Rattle.profile_machine.specs.Tasks.{waiting_of};
 ghost use Rattle.profile_machine.specs.Steps.{looks};
 ghost use Rattle.profile_machine.specs.Appointments.{first_due};
@@ -114,7 +115,8 @@ fn all_due(fuel: usize, p: &Program, events: bool, effect: &mut Effect) -> Resul
     }
 }
 
-/// The third part of an instant, of timing events, and the fourth, of what is none: what is due comes about.
+/// The third part of an instant, of timing events, and the fourth, of what is none: what is due
+/// comes about.
 ///
 /// Errors: memory ran out.
 pub fn appointments_due(

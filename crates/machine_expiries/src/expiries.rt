@@ -1,7 +1,9 @@
-//! Timers whose value the last tick reached, the budget that it brought to zero, and a quantum that it spent
-//! (ISO/IEC 8652:2012, D.14, D.2.5).
+//! Timers whose value the last tick reached, the budget that it brought to zero, and a quantum that
+//! it spent (ISO/IEC 8652:2012, D.14, D.2.5).
 ghost use Rattle.std.specs.Prelude.{◌≡◌, [], IfOk, OnOk};
-ghost use Rattle.profile_machine.specs.Instant.{expire, expire_timer, timers_due, run_out, budgets_due, has_spent_quantum, spend_quantum, quantum_spent};
+ghost use Rattle.profile_machine.specs.Instant.{expire, expire_timer, timers_due};
+ghost use Rattle.profile_machine.specs.Instant.{run_out, budgets_due, has_spent_quantum};
+ghost use Rattle.profile_machine.specs.Instant.{spend_quantum, quantum_spent};
 ghost use Rattle.profile_machine.specs.Steps.{for_each, for_some};
 ghost use Rattle.profile_machine.specs.Tasks.{task_of};
 ghost use Rattle.profile_machine.specs.Values.{timer_of};

@@ -1,5 +1,6 @@
-//! What has come due at a moment: items of the script, timing events, delays, time-outs and triggers, timers, group budgets and
-//! quanta. Each function has the name of the machine's definition of which it is the counterpart.
+//! What has come due at a moment: items of the script, timing events, delays, time-outs and
+//! triggers, timers, group budgets and quanta. Each function has the name of the machine's
+//! definition of which it is the counterpart.
 #![tactic(auto)]
 
 mod appointments;

@@ -1,6 +1,8 @@
 //! The items of the script whose moment has come (docs/LANGUAGE.md): interrupts, ports and masks.
 ghost use Rattle.std.specs.Prelude.{◌≡◌, [], OnOk};
-ghost use Rattle.profile_machine.specs.Instant.{with_port, with_masked, with_kept_interrupt, interrupt_comes, deliver_kept_interrupt, script_item, items_due, script_items};
+ghost use Rattle.profile_machine.specs.Instant.{with_port, with_masked, with_kept_interrupt};
+ghost use Rattle.profile_machine.specs.Instant.{interrupt_comes, deliver_kept_interrupt};
+ghost use Rattle.profile_machine.specs.Instant.{script_item, items_due, script_items};
 ghost use Rattle.profile_image.specs.Words.{edit_at, is_flag};
 ghost use Rattle.profile_image.specs.declared.script_items.Item.TheVariants as item;
 ghost use Rattle.machine_frames.specs.Did.{Did};
@@ -140,7 +142,8 @@ fn items_due(fuel: usize, p: &Program, effect: &mut Effect) -> Result<(), NoMemo
     items_due(fuel - 1, p, effect)
 }
 
-/// The second part of an instant: the items of the script whose moment has come, by moment and then by line.
+/// The second part of an instant: the items of the script whose moment has come, by moment and then
+/// by line.
 ///
 /// Errors: memory ran out.
 pub fn script_items(

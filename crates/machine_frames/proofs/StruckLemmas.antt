@@ -1,5 +1,6 @@
 -- Whether struck constructs may be left, from the top on, and the last of a list.
-use Rattle.std.proofs.Common.{◌≡◌, ℕ, ◌+◌, suc, zero, Bool, true, false, not, ◌&&◌, ◌||◌, cond, List, [], ◌∷◌, Some, None, length, slice_set, refl, sym, ap, arith}
+use Rattle.std.proofs.Common.{◌≡◌, ℕ, ◌+◌, suc, zero, Bool, true, false, not, ◌&&◌, ◌||◌, cond}
+use Rattle.std.proofs.Common.{List, [], ◌∷◌, Some, None, length, slice_set, refl, sym, ap, arith}
 use Rattle.std.specs.List.{slice_get}
 use Rattle.profile_machine.specs.declared.world.marks.Frame.{Frame}
 use Rattle.profile_machine.specs.Frames.{defers}
@@ -7,7 +8,8 @@ use Rattle.profile_machine.specs.Unwinding.{any_struck, is_being_left, may_leave
 use Rattle.machine_frames.specs.Struck.{may_leave_next, may_leave_from}
 
 -- where none is struck, none may be left
-none_struck : (struck outer defer may left : Bool) → (outer ≡ false → may ≡ false) → (struck || outer) ≡ false → cond outer (not defer && may) (struck && not left) ≡ false
+none_struck : (struck outer defer may left : Bool) → (outer ≡ false → may ≡ false) → (struck || outer) ≡ false
+    → cond outer (not defer && may) (struck && not left) ≡ false
 none_struck true outer defer may left k e = cc
 none_struck false true defer may left k e = cc
 none_struck false false defer may left k e = refl
@@ -23,7 +25,9 @@ at_first false may k = sym (k refl)
 pub may_leave_from-first : (frames : List Frame) → may_leave_from false false frames ≡ may_leave_struck frames
 may_leave_from-first frames = at_first (any_struck frames) (may_leave_struck frames) (unstruck frames)
 
-next : (struck outer defer may left deferred before : Bool) → cond outer (not (deferred || defer) && may) (cond struck (not deferred && not left) before) ≡ cond (struck || outer) (not deferred && cond outer (not defer && may) (struck && not left)) before
+next : (struck outer defer may left deferred before : Bool)
+    → cond outer (not (deferred || defer) && may) (cond struck (not deferred && not left) before)
+    ≡ cond (struck || outer) (not deferred && cond outer (not defer && may) (struck && not left)) before
 next true true defer may left true before = refl
 next true true defer may left false before = refl
 next true false defer may left deferred before = refl
@@ -31,7 +35,8 @@ next false true defer may left true before = refl
 next false true defer may left false before = refl
 next false false defer may left deferred before = refl
 
-pub may_leave_from-next : (f : Frame) (fs : List Frame) (deferred may : Bool) → may_leave_from (deferred || defers f.mark) (may_leave_next f deferred may) fs ≡ may_leave_from deferred may (f ∷ fs)
+pub may_leave_from-next : (f : Frame) (fs : List Frame) (deferred may : Bool)
+    → may_leave_from (deferred || defers f.mark) (may_leave_next f deferred may) fs ≡ may_leave_from deferred may (f ∷ fs)
 may_leave_from-next f fs deferred may = next f.struck (any_struck fs) (defers f.mark) (may_leave_struck fs) (is_being_left f.mark) deferred may
 
 pub ruleset struck_laws = (may_leave_from-first, may_leave_from-next)

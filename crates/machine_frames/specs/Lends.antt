@@ -13,7 +13,8 @@ use Rattle.profile_image.specs.Words.{set_where}
 
 -- the tasks end with the last value behind r in the place of the first with this name, and at `None` stay as they are
 abbrev pub lends_found : MutBor (List Task) → Who → Option (MutBor Task) → Fml
-lends_found s name r = LendsIf (roster_row task_row task_numbered) task_row s r (λ t. set_where (is_who name) t s.now) s.now
+lends_found s name r =
+    LendsIf (roster_row task_row task_numbered) task_row s r (λ t. set_where (is_who name) t s.now) s.now
 
 -- the world ends with the last value behind r in the place of the task with this name, and at `None` stays as it is
 abbrev pub lends_task : MutBor World → Who → Option (MutBor Task) → Fml

@@ -1,6 +1,8 @@
-//! Appointments: timing events, delays, time-outs and triggering delays (ISO/IEC 8652:2012, 9.6, 9.7, D.15).
+//! Appointments: timing events, delays, time-outs and triggering delays (ISO/IEC 8652:2012, 9.6,
+//! 9.7, D.15).
 ghost use Rattle.std.specs.Prelude.{◌≡◌, OnOk};
-ghost use Rattle.profile_machine.specs.Appointments.{appoint, drop_appointment, is_appointed, drop_delay};
+ghost use Rattle.profile_machine.specs.Appointments.{appoint, drop_appointment};
+ghost use Rattle.profile_machine.specs.Appointments.{is_appointed, drop_delay};
 ghost use Rattle.profile_machine.specs.DueOf.{is_due_of};
 
 use ann_base::{Moment, NoMemory};

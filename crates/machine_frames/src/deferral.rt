@@ -1,4 +1,5 @@
-//! Marks that defer abort, and whether a task is inside a protected action (ISO/IEC 8652:2012, 9.5.1, 9.8, D.6).
+//! Marks that defer abort, and whether a task is inside a protected action (ISO/IEC 8652:2012,
+//! 9.5.1, 9.8, D.6).
 ghost use Rattle.std.specs.Prelude.{◌≡◌, ◌||◌};
 ghost use Rattle.profile_machine.specs.Frames.{in_protected, is_deferred};
 

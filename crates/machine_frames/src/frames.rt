@@ -1,6 +1,10 @@
-//! The frames of a task: opening constructs, leaving them, and going on (ISO/IEC 8652:2012, 5, 6, 7.6.1, 11).
+//! The frames of a task: opening constructs, leaving them, and going on (ISO/IEC 8652:2012, 5, 6,
+//! 7.6.1, 11).
 ghost use Rattle.std.specs.Prelude.{◌≡◌, OnOk, option_copied};
-ghost use Rattle.profile_machine.specs.Frames.{top_of, onward_of, leaving_of, goes, leaves, raises, push, pop, new_frame, statement_of_purpose, statement_of_mark, within_of, stands_in, exit_loop, pass_on};
+ghost use Rattle.profile_machine.specs.Frames.{top_of, onward_of, leaving_of, goes};
+ghost use Rattle.profile_machine.specs.Frames.{leaves, raises, push, pop, new_frame};
+ghost use Rattle.profile_machine.specs.Frames.{statement_of_purpose, statement_of_mark};
+ghost use Rattle.profile_machine.specs.Frames.{within_of, stands_in, exit_loop, pass_on};
 ghost use Rattle.profile_machine.specs.Steps.{says};
 ghost use Rattle.profile_image.specs.Words.{same_option, same_statement};
 ghost use Rattle.machine_frames.specs.Did.{Did};

@@ -1,5 +1,6 @@
-//! Frames: the tasks of a world, the steps that open constructs, leave them and go on, and the room that they take.
-//! Each function has the name of the machine's definition of which it is the counterpart.
+//! Frames: the tasks of a world, the steps that open constructs, leave them and go on, and the room
+//! that they take. Each function has the name of the machine's definition of which it is the
+//! counterpart.
 #![tactic(auto)]
 
 mod appointments;

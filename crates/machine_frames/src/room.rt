@@ -1,6 +1,7 @@
 //! Room (own): 1,000 marks of a task, 65,536 marks in all, and 65,536 cells.
 ghost use Rattle.std.specs.Prelude.{◌≡◌, ◌+◌, leb, length};
-ghost use Rattle.profile_image.specs.declared.limits.TheConstants.{MOST_MARKS_OF_TASK, MOST_MARKS, MOST_CELLS};
+ghost use Rattle.profile_image.specs.declared.limits.TheConstants.{MOST_MARKS_OF_TASK};
+ghost use Rattle.profile_image.specs.declared.limits.TheConstants.{MOST_MARKS, MOST_CELLS};
 ghost use Rattle.profile_machine.specs.Frames.{frames_of, marks_in_use, cells_in_use, has_room};
 
 use crate::tasks::task_at;

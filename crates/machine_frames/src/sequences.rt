@@ -1,4 +1,5 @@
-//! Sequences with handlers: each is opened at no cost by the task that has come to it (ISO/IEC 8652:2012, 11.2).
+//! Sequences with handlers: each is opened at no cost by the task that has come to it (ISO/IEC
+//! 8652:2012, 11.2).
 ghost use Rattle.std.specs.Prelude.{OnOk};
 ghost use Rattle.profile_machine.specs.Frames.{open_handled, open_at, open_sequence, open_if_ready};
 ghost use Rattle.machine_frames.specs.Did.{Did};
@@ -13,8 +14,8 @@ use profile_image::{StatementForm, StatementNo};
 use profile_machine::world::{Mark, Part};
 use trace_text::Who;
 
-/// The sequence with handlers that begins here is opened, if one does. Without room for its mark Storage_Error is
-/// raised.
+/// The sequence with handlers that begins here is opened, if one does. Without room for its mark
+/// Storage_Error is raised.
 #[tactic(auto, unfolding(profile_machine::specs::Frames::open_handled))]
 pub fn open_handled(
     p: &Program,
@@ -60,8 +61,8 @@ pub fn open_at(
     }
 }
 
-/// The task opens the sequence to which it has come: behind the effect of its action, or, where it has waited, in the
-/// effect that ends the wait.
+/// The task opens the sequence to which it has come: behind the effect of its action, or, where it
+/// has waited, in the effect that ends the wait.
 #[tactic(auto, unfolding(profile_machine::specs::Frames::open_sequence))]
 pub fn open_sequence(
     p: &Program,

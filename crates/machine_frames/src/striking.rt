@@ -1,7 +1,9 @@
 //! Constructs that abort or a completed trigger has struck, and whether they may be left now
 //! (ISO/IEC 8652:2012, 9.8).
 ghost use Rattle.std.specs.Prelude.{◌≡◌};
-ghost use Rattle.profile_machine.specs.Unwinding.{struck_frame, edit_last, strike_outermost, is_being_left, may_leave_struck, is_unwinding, may_unwind};
+ghost use Rattle.profile_machine.specs.Unwinding.{struck_frame, edit_last, strike_outermost};
+ghost use Rattle.profile_machine.specs.Unwinding.{is_being_left, may_leave_struck};
+ghost use Rattle.profile_machine.specs.Unwinding.{is_unwinding, may_unwind};
 ghost use Rattle.machine_frames.specs.Struck.{may_leave_next};
 
 use crate::tasks::task_mut;

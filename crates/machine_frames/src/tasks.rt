@@ -3,7 +3,9 @@ ghost use Rattle.std.specs.Prelude.{◌≡◌, Some, option_copied};
 ghost use Rattle.std.specs.List.{position_from};
 ghost use Rattle.std.specs.Option.{option_copied_mut};
 ghost use Rattle.std.specs.Borrow.{sem};
-ghost use Rattle.profile_machine.specs.Tasks.{is_who, found_task, task_at, task_of, new_task, number_of, is_runnable, is_made, waiting_in, waiting_of, edit_task, with_state, with_ticks};
+ghost use Rattle.profile_machine.specs.Tasks.{is_who, found_task, task_at, task_of, new_task};
+ghost use Rattle.profile_machine.specs.Tasks.{number_of, is_runnable, is_made, waiting_in};
+ghost use Rattle.profile_machine.specs.Tasks.{waiting_of, edit_task, with_state, with_ticks};
 ghost use Rattle.machine_frames.specs.Lends.{lends_found, lends_task};
 
 use ann_base::{Level, TaskNo};

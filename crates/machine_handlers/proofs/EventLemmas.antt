@@ -18,14 +18,16 @@ use Rattle.machine_handlers.specs.SettingSteps.{event_is_set, event_is_cancelled
 use Rattle.machine_handlers.proofs.GivenLemmas.{bound}
 use Rattle.machine_handlers.proofs.SettingLemmas.{setting_of-is}
 
-pub set_event-is : (p : Image) (name : Who) (s : StatementNo) (d : DeclNo) (set : Setting) (handler : Option HandlerName) (w : World) (said : List Said) → set_event p name s d set handler w said ≡ given Own name (event_setting (seen_by p w name) d set handler) (event_is_set p name s) w said
+pub set_event-is : (p : Image) (name : Who) (s : StatementNo) (d : DeclNo) (set : Setting) (handler : Option HandlerName) (w : World) (said : List Said)
+    → set_event p name s d set handler w said ≡ given Own name (event_setting (seen_by p w name) d set handler) (event_is_set p name s) w said
 unfolding set_event
 set_event-is p name s d set handler w said =
     let q = seen_by p w name in
     bound name w said (number_of_thing q d) _ _ (event_is_set p name s) (λ e.
     setting_of-is name q said e (pos w.time) set handler _ (event_is_set p name s) (λ h v. refl))
 
-pub cancel_event-is : (p : Image) (name : Who) (s : StatementNo) (d : DeclNo) (target : VariableName) (w : World) (said : List Said) → cancel_event p name s d target w said ≡ given Own name (thing_named (seen_by p w name) d target) (event_is_cancelled p name s) w said
+pub cancel_event-is : (p : Image) (name : Who) (s : StatementNo) (d : DeclNo) (target : VariableName) (w : World) (said : List Said)
+    → cancel_event p name s d target w said ≡ given Own name (thing_named (seen_by p w name) d target) (event_is_cancelled p name s) w said
 unfolding cancel_event
 cancel_event-is p name s d target w said =
     let q = seen_by p w name in

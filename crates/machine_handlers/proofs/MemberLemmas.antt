@@ -17,7 +17,9 @@ use Rattle.machine_handlers.specs.Settings.{member_named}
 use Rattle.machine_handlers.specs.SettingSteps.{member_changes}
 use Rattle.machine_handlers.proofs.GivenLemmas.{bound}
 
-pub add_member-is : (p : Image) (name : Who) (s : StatementNo) (d : DeclNo) (e : ExprNo) (w : World) (said : List Said) → add_member p name s d e w said ≡ given Own name (member_named (seen_by p w name) d e) (λ m. member_changes p name s m.who (is_none m.member_of) (Some m.budget)) w said
+pub add_member-is : (p : Image) (name : Who) (s : StatementNo) (d : DeclNo) (e : ExprNo) (w : World) (said : List Said)
+    → add_member p name s d e w said
+    ≡ given Own name (member_named (seen_by p w name) d e) (λ m. member_changes p name s m.who (is_none m.member_of) (Some m.budget)) w said
 unfolding add_member change_member
 add_member-is p name s d e w said =
     let q = seen_by p w name in
@@ -25,7 +27,9 @@ add_member-is p name s d e w said =
     bound name w said (number_of_thing q d) _ _ then (λ b.
     bound name w said (named_live q e) _ _ then (λ t. refl))
 
-pub remove_member-is : (p : Image) (name : Who) (s : StatementNo) (d : DeclNo) (e : ExprNo) (w : World) (said : List Said) → remove_member p name s d e w said ≡ given Own name (member_named (seen_by p w name) d e) (λ m. member_changes p name s m.who (is_the_budget m.budget m.member_of) None) w said
+pub remove_member-is : (p : Image) (name : Who) (s : StatementNo) (d : DeclNo) (e : ExprNo) (w : World) (said : List Said)
+    → remove_member p name s d e w said
+    ≡ given Own name (member_named (seen_by p w name) d e) (λ m. member_changes p name s m.who (is_the_budget m.budget m.member_of) None) w said
 unfolding remove_member change_member
 remove_member-is p name s d e w said =
     let q = seen_by p w name in

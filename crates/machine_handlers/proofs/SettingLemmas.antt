@@ -15,7 +15,10 @@ use Rattle.machine_handlers.specs.declared.settings.Set.{Set}
 use Rattle.machine_handlers.specs.Settings.{set_with}
 use Rattle.machine_handlers.proofs.GivenLemmas.{bound, refused}
 
-pub setting_of-is : (name : Who) (q : Seen) (said : List Said) (n : ℕ) (base : ℤ) (set : Setting) (handler : Option HandlerName) (step : Option HandlerOf → ℤ → Step) (h : Set → Step) → ((handles : Option HandlerOf) (v : ℤ) → step handles v q.world said ≡ h (record { number = n; handler = handles; value = v }) q.world said) → setting_of q.program name q base set handler step q.world said ≡ given Own name (set_with q n base set handler) h q.world said
+pub setting_of-is : (name : Who) (q : Seen) (said : List Said) (n : ℕ) (base : ℤ) (set : Setting) (handler : Option HandlerName)
+    (step : Option HandlerOf → ℤ → Step) (h : Set → Step)
+    → ((handles : Option HandlerOf) (v : ℤ) → step handles v q.world said ≡ h (record { number = n; handler = handles; value = v }) q.world said)
+    → setting_of q.program name q base set handler step q.world said ≡ given Own name (set_with q n base set handler) h q.world said
 setting_of-is name q said n base set handler step h k =
     bound name q.world said (handler_named q handler) _ _ h (λ handles.
     refused name q.world said (is_some handles && not (has_room_for_release q.world)) exception.Storage _ _ h

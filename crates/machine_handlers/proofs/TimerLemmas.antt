@@ -18,16 +18,20 @@ use Rattle.machine_handlers.specs.SettingSteps.{timer_is_set, timer_is_cancelled
 use Rattle.machine_handlers.proofs.GivenLemmas.{bound}
 use Rattle.machine_handlers.proofs.SettingLemmas.{setting_of-is}
 
-pub set_timer-is : (p : Image) (name : Who) (s : StatementNo) (d : DeclNo) (set : Setting) (handler : Option HandlerName) (w : World) (said : List Said) → set_timer p name s d set handler w said ≡ given Own name (timer_setting (seen_by p w name) d set handler) (λ x. timer_is_set p name s x.clock x.set) w said
+pub set_timer-is : (p : Image) (name : Who) (s : StatementNo) (d : DeclNo) (set : Setting) (handler : Option HandlerName) (w : World) (said : List Said)
+    → set_timer p name s d set handler w said
+    ≡ given Own name (timer_setting (seen_by p w name) d set handler) (λ x. timer_is_set p name s x.clock x.set) w said
 unfolding set_timer
 set_timer-is p name s d set handler w said =
     let q = seen_by p w name in
     bound name w said (number_of_thing q d) _ _ (λ x. timer_is_set p name s x.clock x.set) (λ k.
     bound name w said (clock_of_timer q k) _ _ (λ x. timer_is_set p name s x.clock x.set) (λ clock.
     setting_of-is name q said k (pos clock) set handler _ (timer_is_set p name s clock) (λ h v. refl)
-    ∙ bound name w said (set_with q k (pos clock) set handler) (timer_is_set p name s clock) (λ x. Ok (record { clock = clock; set = x })) (λ x. timer_is_set p name s x.clock x.set) (λ x. refl)))
+    ∙ bound name w said (set_with q k (pos clock) set handler) (timer_is_set p name s clock) (λ x. Ok (record { clock = clock; set = x }))
+    (λ x. timer_is_set p name s x.clock x.set) (λ x. refl)))
 
-pub cancel_timer-is : (p : Image) (name : Who) (s : StatementNo) (d : DeclNo) (target : VariableName) (w : World) (said : List Said) → cancel_timer p name s d target w said ≡ given Own name (timer_named (seen_by p w name) d target) (timer_is_cancelled p name s) w said
+pub cancel_timer-is : (p : Image) (name : Who) (s : StatementNo) (d : DeclNo) (target : VariableName) (w : World) (said : List Said)
+    → cancel_timer p name s d target w said ≡ given Own name (timer_named (seen_by p w name) d target) (timer_is_cancelled p name s) w said
 unfolding cancel_timer
 cancel_timer-is p name s d target w said =
     let q = seen_by p w name in

@@ -11,7 +11,8 @@ use Rattle.profile_machine.specs.Frames.{goes, raise_if}
 use Rattle.profile_machine.specs.Tasks.{edit_task}
 use Rattle.profile_machine.specs.Appointments.{is_appointed}
 use Rattle.profile_machine.specs.Values.{is_event, budget_of}
-use Rattle.profile_machine.specs.Handlers.{answer, cancel_event_setting, event_set_to, clear_timer, timer_set_to, is_set_timer, member_of, edit_budget, with_handler}
+use Rattle.profile_machine.specs.Handlers.{answer, cancel_event_setting, event_set_to, clear_timer}
+use Rattle.profile_machine.specs.Handlers.{timer_set_to, is_set_timer, member_of, edit_budget, with_handler}
 use Rattle.machine_handlers.specs.declared.settings.Set.{Set}
 use Rattle.machine_handlers.specs.declared.settings.Named.{Named}
 

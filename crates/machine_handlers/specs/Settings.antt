@@ -11,7 +11,8 @@ use Rattle.profile_image.specs.declared.expressions.VariableName.{VariableName}
 use Rattle.profile_machine.specs.declared.world.appointments.HandlerOf.{HandlerOf}
 use Rattle.profile_machine.specs.Operators.{Valued}
 use Rattle.profile_machine.specs.Values.{Seen, number_of_thing, variable, moment}
-use Rattle.profile_machine.specs.Handlers.{handler_named, set_value, has_room_for_release, is_interrupt_handler, clock_of_timer, named_live}
+use Rattle.profile_machine.specs.Handlers.{handler_named, set_value, has_room_for_release}
+use Rattle.profile_machine.specs.Handlers.{is_interrupt_handler, clock_of_timer, named_live}
 use Rattle.machine_handlers.specs.declared.members.Member.{Member}
 use Rattle.machine_handlers.specs.declared.budgets.Filling.{Filling}
 use Rattle.machine_handlers.specs.declared.budgets.BudgetSet.{BudgetSet}

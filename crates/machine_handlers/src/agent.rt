@@ -1,6 +1,8 @@
 //! The agent calls handlers (ISO/IEC 8652:2012, C.3, D.15).
 ghost use Rattle.std.specs.Prelude.{◌≡◌, IfOk, OnOk};
-ghost use Rattle.profile_machine.specs.Handlers.{argument_values, begin_handler, begin_handler_if_room, enter_handler, call_handler};
+ghost use Rattle.profile_machine.specs.Handlers.{argument_values, begin_handler};
+ghost use Rattle.profile_machine.specs.Handlers.{begin_handler_if_room};
+ghost use Rattle.profile_machine.specs.Handlers.{enter_handler, call_handler};
 ghost use Rattle.machine_frames.specs.Did.{Did};
 
 use ann_base::NoMemory;

@@ -1,7 +1,8 @@
 //! Group budgets (ISO/IEC 8652:2012, D.14.2).
 ghost use Rattle.std.specs.Prelude.{OnOk};
 ghost use Rattle.ann_base.specs.Answers.{Answers};
-ghost use Rattle.profile_machine.specs.Handlers.{replenish, add_to_budget, set_budget, cancel_budget};
+ghost use Rattle.profile_machine.specs.Handlers.{replenish, add_to_budget};
+ghost use Rattle.profile_machine.specs.Handlers.{set_budget, cancel_budget};
 ghost use Rattle.machine_frames.specs.Did.{Did};
 ghost use Rattle.machine_handlers.specs.Settings.{amount_named, budget_setting};
 ghost use Rattle.machine_handlers.specs.SettingSteps.{budget_is_cancelled};

@@ -1,6 +1,7 @@
 //! Timing events (ISO/IEC 8652:2012, D.15).
 ghost use Rattle.std.specs.Prelude.{OnOk};
-ghost use Rattle.profile_machine.specs.Handlers.{answer, appoint_event, event_set_to, set_event, cancel_event};
+ghost use Rattle.profile_machine.specs.Handlers.{answer, appoint_event, event_set_to};
+ghost use Rattle.profile_machine.specs.Handlers.{set_event, cancel_event};
 ghost use Rattle.machine_frames.specs.Did.{Did};
 ghost use Rattle.machine_handlers.specs.SettingSteps.{event_is_set, event_is_cancelled};
 

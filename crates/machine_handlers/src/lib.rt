@@ -1,6 +1,6 @@
-//! Handlers: the statements that set and cancel timing events, timers and group budgets, and the agent that calls the
-//! handlers that are released (ISO/IEC 8652:2012, D.14, D.15). Each function has the name of the machine's definition of
-//! which it is the counterpart.
+//! Handlers: the statements that set and cancel timing events, timers and group budgets, and the
+//! agent that calls the handlers that are released (ISO/IEC 8652:2012, D.14, D.15). Each function
+//! has the name of the machine's definition of which it is the counterpart.
 #![tactic(auto)]
 
 mod agent;

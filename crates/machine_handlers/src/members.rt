@@ -1,7 +1,8 @@
 //! Members of group budgets (ISO/IEC 8652:2012, D.14.2).
 ghost use Rattle.std.specs.Prelude.{◌≡◌, OnOk};
 ghost use Rattle.ann_base.specs.Answers.{Answers, AnswersAs};
-ghost use Rattle.profile_machine.specs.Handlers.{member_of, is_the_budget, named_live, add_member, remove_member};
+ghost use Rattle.profile_machine.specs.Handlers.{member_of, is_the_budget, named_live};
+ghost use Rattle.profile_machine.specs.Handlers.{add_member, remove_member};
 ghost use Rattle.profile_machine.specs.Tasks.{edit_task};
 ghost use Rattle.machine_frames.specs.Did.{Did};
 ghost use Rattle.machine_handlers.specs.Settings.{member_named};

@@ -1,8 +1,10 @@
 //! Handlers and moments that a setting names (ISO/IEC 8652:2012, D.14, D.15).
 ghost use Rattle.std.specs.Prelude.{◌≡◌, pos};
 ghost use Rattle.ann_base.specs.Answers.{Answers};
-ghost use Rattle.profile_machine.specs.Handlers.{handler_named, set_value, is_interrupt_handler, clock_of_timer};
-ghost use Rattle.machine_handlers.specs.Settings.{set_with, event_setting, timer_setting, thing_named, timer_named};
+ghost use Rattle.profile_machine.specs.Handlers.{handler_named, set_value};
+ghost use Rattle.profile_machine.specs.Handlers.{is_interrupt_handler, clock_of_timer};
+ghost use Rattle.machine_handlers.specs.Settings.{set_with, event_setting, timer_setting};
+ghost use Rattle.machine_handlers.specs.Settings.{thing_named, timer_named};
 
 use ann_base::{Moment, OrMemory, Raised};
 use machine_exclusion::ceiling_of;

@@ -1,6 +1,8 @@
 //! Timers of tasks (ISO/IEC 8652:2012, D.14.1).
 ghost use Rattle.std.specs.Prelude.{◌≡◌, OnOk};
-ghost use Rattle.profile_machine.specs.Handlers.{clear_timer, with_timer_set, timer_set_beyond, timer_set_to, set_timer, is_set_timer, cancel_timer};
+ghost use Rattle.profile_machine.specs.Handlers.{clear_timer, with_timer_set};
+ghost use Rattle.profile_machine.specs.Handlers.{timer_set_beyond, timer_set_to};
+ghost use Rattle.profile_machine.specs.Handlers.{set_timer, is_set_timer, cancel_timer};
 ghost use Rattle.machine_frames.specs.Did.{Did};
 ghost use Rattle.machine_handlers.specs.SettingSteps.{timer_is_set, timer_is_cancelled};
 

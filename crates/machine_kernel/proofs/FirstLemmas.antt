@@ -14,11 +14,15 @@ later_than_first (negsuc a) (pos b) tick l = grind (arith, ints)
 later_than_first (negsuc a) (negsuc b) tick l = refl
 
 -- and so does none of those behind it
-behind_first : (a : ℤ) (rest : List Appointment) (tick : ℕ) → ((k : ℕ) (d : Appointment) → k < length rest → a ≤ℤ (slice_index_or rest k d).moment) → first_appointed rest (sooner a tick) ≡ sooner a tick
+behind_first : (a : ℤ) (rest : List Appointment) (tick : ℕ) → ((k : ℕ) (d : Appointment) → k < length rest → a ≤ℤ (slice_index_or rest k d).moment)
+    → first_appointed rest (sooner a tick) ≡ sooner a tick
 behind_first a [] tick later = refl
-behind_first a (b ∷ rest) tick later = ap (first_appointed rest) (later_than_first a b.moment tick (later 0 b (omega arith))) ∙ behind_first a rest tick (λ k d l. later (suc k) d (omega (arith, l)))
+behind_first a (b ∷ rest) tick later =
+    ap (first_appointed rest) (later_than_first a b.moment tick (later 0 b (omega arith)))
+    ∙ behind_first a rest tick (λ k d l. later (suc k) d (omega (arith, l)))
 
-pub by_first : (a : Appointment) (appointments : List Appointment) (tick : ℕ) → IsByMoment appointments → first_of appointments ≡ Some a → first_appointed appointments tick ≡ sooner a.moment tick
+pub by_first : (a : Appointment) (appointments : List Appointment) (tick : ℕ) → IsByMoment appointments → first_of appointments ≡ Some a
+    → first_appointed appointments tick ≡ sooner a.moment tick
 by_first a [] tick order e = cc
 by_first a (b ∷ rest) tick order e =
     let same : b ≡ a = cc in

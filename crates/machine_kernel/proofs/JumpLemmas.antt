@@ -1,5 +1,6 @@
 -- A jump over idle ticks leaves what is left of a run as it is, and stays within the bound.
-use Rattle.std.proofs.Common.{◌≡◌, ℕ, suc, ◌+◌, ◌-◌, ◌<◌, ◌≤◌, ℤ, pos, negsuc, ◌≤ℤ◌, max, Bool, true, false, cond, not, ◌&&◌, ltb, List, [], ◌∷◌, Option, Some, None, is_none, refl, sym, subst, ap, ◌∙◌, arith}
+use Rattle.std.proofs.Common.{◌≡◌, ℕ, suc, ◌+◌, ◌-◌, ◌<◌, ◌≤◌, ℤ, pos, negsuc, ◌≤ℤ◌, max, Bool, true, false, cond, not}
+use Rattle.std.proofs.Common.{◌&&◌, ltb, List, [], ◌∷◌, Option, Some, None, is_none, refl, sym, subst, ap, ◌∙◌, arith}
 use Rattle.std.proofs.lemmas.Int.{ints}
 use Rattle.std.proofs.lemmas.Bool.{ltb-true, ltb-false}
 use Rattle.profile_image.specs.declared.image.Image.{Image}
@@ -94,8 +95,17 @@ record Idle (w : World) : Type 0 where
   pub budget : w.budget_due ≡ None
   pub ahead : (is_empty w.appointments && is_empty w.script) ≡ false
 
-idle-parts : (w : World) (places ran ended timers budget none : Bool) → is_empty w.places ≡ places → is_none w.ran ≡ ran → is_none w.ended ≡ ended → is_empty w.timers_due ≡ timers → is_none w.budget_due ≡ budget → (is_empty w.appointments && is_empty w.script) ≡ none → (places && ran && ended && timers && budget && not none) ≡ true → Idle w
-idle-parts w true true true true true false a b c d e f h = record { places = none-there w.places a; ran = none-given w.ran b; ended = none-given w.ended c; timers = none-there w.timers_due d; budget = none-given w.budget_due e; ahead = f }
+idle-parts : (w : World) (places ran ended timers budget none : Bool) → is_empty w.places ≡ places → is_none w.ran ≡ ran → is_none w.ended ≡ ended
+    → is_empty w.timers_due ≡ timers → is_none w.budget_due ≡ budget → (is_empty w.appointments && is_empty w.script) ≡ none
+    → (places && ran && ended && timers && budget && not none) ≡ true → Idle w
+idle-parts w true true true true true false a b c d e f h = record {
+  places = none-there w.places a;
+  ran = none-given w.ran b;
+  ended = none-given w.ended c;
+  timers = none-there w.timers_due d;
+  budget = none-given w.budget_due e;
+  ahead = f;
+}
 idle-parts w false ran ended timers budget none a b c d e f h = cc
 idle-parts w true false ended timers budget none a b c d e f h = cc
 idle-parts w true true false timers budget none a b c d e f h = cc
@@ -104,7 +114,9 @@ idle-parts w true true true true false none a b c d e f h = cc
 idle-parts w true true true true true true a b c d e f h = cc
 
 idle-world : (w : World) → is_idle w ≡ true → Idle w
-idle-world w h = idle-parts w (is_empty w.places) (is_none w.ran) (is_none w.ended) (is_empty w.timers_due) (is_none w.budget_due) (is_empty w.appointments && is_empty w.script) refl refl refl refl refl refl h
+idle-world w h =
+    idle-parts w (is_empty w.places) (is_none w.ran) (is_none w.ended) (is_empty w.timers_due) (is_none w.budget_due)
+    (is_empty w.appointments && is_empty w.script) refl refl refl refl refl refl h
 
 same-world : (w : World) (n : ℕ) → Idle w → record w { time = n } ≡ idle_at w n
 same-world w n i =
@@ -118,7 +130,8 @@ same-world w n i =
 
 module _ (stretches : IdleStretches) (p : Image) (bound : ℕ) (w : World) where
   -- to a tick that is still to come
-  stretch-run : (m : ℕ) → Idle w → w.time < m → m ≤ bound → NoneBefore m w.appointments → FirstNotBefore m w.script → run_from (suc (bound - m)) p bound (record w { time = m }) ≡ run_from (suc (bound - w.time)) p bound w
+  stretch-run : (m : ℕ) → Idle w → w.time < m → m ≤ bound → NoneBefore m w.appointments → FirstNotBefore m w.script
+      → run_from (suc (bound - m)) p bound (record w { time = m }) ≡ run_from (suc (bound - w.time)) p bound w
   stretch-run m i a b h s =
       let there : w.time + (m - w.time) ≡ m = omega arith in
       let within : w.time + (m - w.time) ≤ bound = omega arith in
@@ -131,7 +144,9 @@ module _ (stretches : IdleStretches) (p : Image) (bound : ℕ) (w : World) where
       ∙ ap (run_from (suc (bound - w.time)) p bound) (sym (same-world w w.time i))
 
   -- to the first tick at which something is due, or nowhere
-  first-run : (b : Bool) → ltb w.time (first_ahead bound w) ≡ b → Idle w → run_from (suc (bound - max w.time (first_ahead bound w))) p bound (record w { time = max w.time (first_ahead bound w) }) ≡ run_from (suc (bound - w.time)) p bound w
+  first-run : (b : Bool) → ltb w.time (first_ahead bound w) ≡ b → Idle w
+      → run_from (suc (bound - max w.time (first_ahead bound w))) p bound (record w { time = max w.time (first_ahead bound w) })
+      ≡ run_from (suc (bound - w.time)) p bound w
   first-run true e i =
       let later : w.time < first_ahead bound w = ltb-true w.time (first_ahead bound w) e in
       let some : 0 < first_ahead bound w = omega arith in
@@ -145,7 +160,10 @@ module _ (stretches : IdleStretches) (p : Image) (bound : ℕ) (w : World) where
       let same : max w.time (first_ahead bound w) ≡ w.time = omega arith in
       ap (λ n. run_from (suc (bound - n)) p bound (record w { time = n })) same
 
-  run-by : (b : Bool) → is_idle w ≡ b → run_from (suc (bound - (cond b (record w { time = max w.time (first_ahead bound w) }) w).time)) p bound (cond b (record w { time = max w.time (first_ahead bound w) }) w) ≡ run_from (suc (bound - w.time)) p bound w
+  run-by : (b : Bool) → is_idle w ≡ b
+      → run_from (suc (bound - (cond b (record w { time = max w.time (first_ahead bound w) }) w).time)) p bound
+      (cond b (record w { time = max w.time (first_ahead bound w) }) w)
+      ≡ run_from (suc (bound - w.time)) p bound w
   run-by true e = first-run (ltb w.time (first_ahead bound w)) refl (idle-world w e)
   run-by false e = refl
 

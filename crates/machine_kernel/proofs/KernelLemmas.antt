@@ -1,5 +1,6 @@
 -- From one step of a kernel to what its caller may rely on.
-use Rattle.std.proofs.Common.{◌≡◌, ◌<◌, ℕ, zero, suc, ℤ, Bool, true, false, List, [], ◌∷◌, ◌++◌, Option, Some, None, Result, Ok, Err, OnOk, IfOk, IsTrue, nat_le, nat_lt, rules, subst, refl, sym, ap, ◌∙◌, append_assoc}
+use Rattle.std.proofs.Common.{◌≡◌, ◌<◌, ℕ, zero, suc, ℤ, Bool, true, false, List, [], ◌∷◌, ◌++◌, Option, Some, None, Result}
+use Rattle.std.proofs.Common.{Ok, Err, OnOk, IfOk, IsTrue, nat_le, nat_lt, rules, subst, refl, sym, ap, ◌∙◌, append_assoc}
 use Rattle.std.proofs.lemmas.Bool.{ltb-true}
 use Rattle.profile_image.specs.declared.image.Image.{Image}
 use Rattle.profile_image.specs.declared.script_items.Item.{Item}
@@ -28,7 +29,8 @@ text_of-first [] rest = refl
 text_of-first (x ∷ xs) rest = refl
 
 -- what was written, and what is to come, is as before the step
-told-future : (old now : List ℕ) (s t : Shown) → Moves s → t ≡ advanced s → now ≡ old ++ written_of s.owed → now ++ text_of (future_of t) ≡ old ++ text_of (future_of s)
+told-future : (old now : List ℕ) (s t : Shown) → Moves s → t ≡ advanced s → now ≡ old ++ written_of s.owed
+    → now ++ text_of (future_of t) ≡ old ++ text_of (future_of s)
 told-future old now s t m e told =
     rw (e, told) (append_assoc old (written_of s.owed) (text_of (future_of (advanced s)))
     ∙ ap (λ text. old ++ text) (sym (text_of-first s.owed (future_of (advanced s))) ∙ ap text_of (advanced-future s m)))
@@ -45,7 +47,8 @@ is-true : (b : Bool) → IsTrue b → b ≡ true
 is-true true h = refl
 is-true false h = search rules
 
-in-time : (p : Image) (at_instant : Bool) (stop : Option Stopped) (now bound : ℕ) → IsTrue (is_in_time at_instant stop now bound) → at_instant ≡ false → why_ended p stop ≡ None → now < bound
+in-time : (p : Image) (at_instant : Bool) (stop : Option Stopped) (now bound : ℕ) → IsTrue (is_in_time at_instant stop now bound) → at_instant ≡ false
+    → why_ended p stop ≡ None → now < bound
 in-time p true stop now bound h at e = cc
 in-time p false None now bound h at e = ltb-true now bound (is-true (nat_lt now bound) h)
 in-time p false (Some reached) now bound h at e = cc
@@ -60,22 +63,27 @@ kernel-moves k stands passes idles = record {
 
 -- ---- the clauses of a step
 
-pub next-future : (old now : List ℕ) (j k : Kernel) → InstantsTakeNoTime → TocksTakeOneTick → IdleStretches → (r : Result Next NoMemory) → OnOk r (shown k ≡ advanced (shown j)) → OnOk r (now ≡ old ++ written_of (shown j).owed) → OnOk r (now ++ text_of (future k) ≡ old ++ text_of (future j))
+pub next-future : (old now : List ℕ) (j k : Kernel) → InstantsTakeNoTime → TocksTakeOneTick → IdleStretches → (r : Result Next NoMemory)
+    → OnOk r (shown k ≡ advanced (shown j)) → OnOk r (now ≡ old ++ written_of (shown j).owed) → OnOk r (now ++ text_of (future k) ≡ old ++ text_of (future j))
 unfolding future
 next-future old now j k stands passes idles (Ok x) step told = told-future old now (shown j) (shown k) (kernel-moves j stands passes idles) step told
 next-future old now j k stands passes idles (Err e) step told = tt
 
-pub next-lines : (j k : Kernel) → InstantsTakeNoTime → TocksTakeOneTick → IdleStretches → (r : Result Next NoMemory) → OnOk r (shown k ≡ advanced (shown j)) → OnOk r (first_line (shown j).owed ++ future k ≡ future j)
+pub next-lines : (j k : Kernel) → InstantsTakeNoTime → TocksTakeOneTick → IdleStretches → (r : Result Next NoMemory) → OnOk r (shown k ≡ advanced (shown j))
+    → OnOk r (first_line (shown j).owed ++ future k ≡ future j)
 unfolding future
-next-lines j k stands passes idles (Ok x) step = ap (λ s. first_line (shown j).owed ++ future_of s) step ∙ advanced-future (shown j) (kernel-moves j stands passes idles)
+next-lines j k stands passes idles (Ok x) step =
+    ap (λ s. first_line (shown j).owed ++ future_of s) step ∙ advanced-future (shown j) (kernel-moves j stands passes idles)
 next-lines j k stands passes idles (Err e) step = tt
 
-pub next-stop : (j k : Kernel) → InstantsTakeNoTime → TocksTakeOneTick → IdleStretches → (r : Result Next NoMemory) → OnOk r (shown k ≡ advanced (shown j)) → OnOk r (stop_to_come k ≡ stop_to_come j)
+pub next-stop : (j k : Kernel) → InstantsTakeNoTime → TocksTakeOneTick → IdleStretches → (r : Result Next NoMemory) → OnOk r (shown k ≡ advanced (shown j))
+    → OnOk r (stop_to_come k ≡ stop_to_come j)
 unfolding stop_to_come
 next-stop j k stands passes idles (Ok x) step = told-stop (shown j) (shown k) (kernel-moves j stands passes idles) step
 next-stop j k stands passes idles (Err e) step = tt
 
-pub next-going : (j k : Kernel) → InstantsTakeNoTime → TocksTakeOneTick → IdleStretches → (r : Result Next NoMemory) → OnOk r (shown k ≡ advanced (shown j)) → IfOk r (IfGoing ((shown j).owed ≡ [] → (shown j).stop ≡ None)) → IfOk r (IfGoing (left_to_do k < left_to_do j))
+pub next-going : (j k : Kernel) → InstantsTakeNoTime → TocksTakeOneTick → IdleStretches → (r : Result Next NoMemory) → OnOk r (shown k ≡ advanced (shown j))
+    → IfOk r (IfGoing ((shown j).owed ≡ [] → (shown j).stop ≡ None)) → IfOk r (IfGoing (left_to_do k < left_to_do j))
 unfolding left_to_do
 next-going j k stands passes idles (Ok did.Going) step none = told-left (shown j) (shown k) (kernel-moves j stands passes idles) step none
 next-going j k stands passes idles (Ok did.Ended) step none = tt
@@ -104,12 +112,14 @@ none_before (suc n) = search rules
 pub at_first : (now bound : ℕ) → now ≡ 0 → IsTrue (nat_le now bound)
 at_first now bound e = subst (λ n. IsTrue (nat_le n bound)) (sym e) (none_before bound)
 
-pub open-future : (p : Image) (script : List (ℤ × Item)) (bound : ℕ) → RunsBeginAtZero → (r : Result Kernel NoMemory) → IfOk r (λ k. shown k ≡ opened p script bound) → IfOk r (λ k. future k ≡ lines_of_run p script bound)
+pub open-future : (p : Image) (script : List (ℤ × Item)) (bound : ℕ) → RunsBeginAtZero → (r : Result Kernel NoMemory)
+    → IfOk r (λ k. shown k ≡ opened p script bound) → IfOk r (λ k. future k ≡ lines_of_run p script bound)
 unfolding future
 open-future p script bound begins (Ok k) e = ap future_of e ∙ opened-future p script bound (begins p script)
 open-future p script bound begins (Err fault) e = tt
 
-pub open-stop : (p : Image) (script : List (ℤ × Item)) (bound : ℕ) → RunsBeginAtZero → (r : Result Kernel NoMemory) → IfOk r (λ k. shown k ≡ opened p script bound) → IfOk r (λ k. stop_to_come k ≡ stop_of_run p script bound)
+pub open-stop : (p : Image) (script : List (ℤ × Item)) (bound : ℕ) → RunsBeginAtZero → (r : Result Kernel NoMemory)
+    → IfOk r (λ k. shown k ≡ opened p script bound) → IfOk r (λ k. stop_to_come k ≡ stop_of_run p script bound)
 unfolding stop_to_come
 open-stop p script bound begins (Ok k) e = ap stop_of e ∙ opened-stop p script bound (begins p script)
 open-stop p script bound begins (Err fault) e = tt

@@ -1,7 +1,8 @@
-//! Idle ticks: while nobody is ready and nothing is due, nothing is said and only the time goes on, so the ticks up to the
-//! first moment that is ahead are jumped over.
+//! Idle ticks: while nobody is ready and nothing is due, nothing is said and only the time goes on,
+//! so the ticks up to the first moment that is ahead are jumped over.
 ghost use Rattle.std.specs.Prelude.{◌≡◌, ◌≤◌};
-ghost use Rattle.machine_kernel.specs.Jump.{sooner, first_appointed, first_item, is_idle, first_tick, jumped};
+ghost use Rattle.machine_kernel.specs.Jump.{sooner, first_appointed, first_item};
+ghost use Rattle.machine_kernel.specs.Jump.{is_idle, first_tick, jumped};
 
 use ann_base::Moment;
 use profile_image::Item;

@@ -1,5 +1,6 @@
 //! The kernel: it opens a run, and goes on by at most one line a call.
-ghost use Rattle.std.specs.Prelude.{◌≡◌, ◌≤◌, ◌<◌, ◌+◌, [], Some, None, true, false, IsTrue, length};
+ghost use Rattle.std.specs.Prelude.{◌≡◌, ◌≤◌, ◌<◌, ◌+◌, [], Some};
+ghost use Rattle.std.specs.Prelude.{None, true, false, IsTrue, length};
 ghost use Rattle.line_writing.specs.declared.buffer.TheConstants.{BUFFER_BYTES};
 ghost use Rattle.trace_text.specs.declared.lines.TheConstants.{LINE_BYTES};
 ghost use Rattle.machine_kernel.specs.Reached.{is_in_time};
@@ -42,7 +43,8 @@ pub struct Kernel {
     /// Whether an instant comes next, or a tock.
     at_instant: bool,
     stop: Option<Stopped>,
-    /// The tick of the lines that are owed: first those of an instant, then those of a tock, then the last of the run.
+    /// The tick of the lines that are owed: first those of an instant, then those of a tock, then
+    /// the last of the run.
     told_at: u64,
     said: List<Line>,
     ticks: List<TickLine>,
@@ -72,14 +74,18 @@ impl Drop for Kernel {
 impl Kernel {
     ghost use Rattle.std.specs.Prelude.{◌++◌, OnOk, IfOk, IfSome, OnErr};
     ghost use Rattle.trace_text.specs.Text.{ArePrintable, IsPrintable, text_of};
-    ghost use Rattle.machine_kernel.specs.Kernel.{shown, future, stop_to_come, left_to_do, OwesNothing, Takes};
+    ghost use Rattle.machine_kernel.specs.Kernel.{shown, future, stop_to_come};
+    ghost use Rattle.machine_kernel.specs.Kernel.{left_to_do, OwesNothing, Takes};
     ghost use Rattle.std.specs.Option.{IsSome};
     ghost use Rattle.machine_kernel.specs.Next.{IfGoing, IfEnded, IsOver};
-    ghost use Rattle.machine_kernel.specs.Future.{advanced, opened, goes_by, after_instant, after_tock, unless_stopped, written_of, first_line};
+    ghost use Rattle.machine_kernel.specs.Future.{advanced, opened, goes_by};
+    ghost use Rattle.machine_kernel.specs.Future.{after_instant, after_tock};
+    ghost use Rattle.machine_kernel.specs.Future.{unless_stopped, written_of, first_line};
     ghost use Rattle.profile_machine.specs.Instant.{instant};
     ghost use Rattle.profile_machine.specs.Run.{tock};
 
-    /// The opening world of the run of a program with a script, up to a bound. Its first lines are owed.
+    /// The opening world of the run of a program with a script, up to a bound. Its first lines are
+    /// owed.
     pub(crate) fn open(
         alloc: Global,
         image: Image,
@@ -106,8 +112,9 @@ impl Kernel {
         })
     }
 
-    /// Appends the first owed line; where none is owed, goes on by an instant or a tock, until a stop is reached.
-    /// It needs LINE_BYTES free bytes. After an error the kernel is not used again.
+    /// Appends the first owed line; where none is owed, goes on by an instant or a tock, until a
+    /// stop is reached. It needs LINE_BYTES free bytes. After an error the kernel is not used
+    /// again.
     ///
     /// Errors: memory ran out, or a line has a name or a text that no trace can have.
     pub fn next(&mut self, out: &mut LineBuffer) -> Result<Next, NoMemory>
@@ -144,8 +151,9 @@ impl Kernel {
         }
     }
 
-    /// One step: an owed line is told, or the run goes on. A line is made in a call of its own, since a function pays at its entry
-    /// for the room of what it keeps, and most steps tell no line.
+    /// One step: an owed line is told, or the run goes on. A line is made in a call of its own,
+    /// since a function pays at its entry for the room of what it keeps, and most steps tell no
+    /// line.
     fn step(&mut self, out: &mut LineBuffer) -> Result<Next, NoMemory>
         requires { length out.old + LINE_BYTES ≤ BUFFER_BYTES }
         ensures step { OnOk result (shown self.new ≡ advanced (shown self.old)) }

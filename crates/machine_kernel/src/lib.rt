@@ -1,7 +1,7 @@
 //! The run of a program, line by line.
 //!
-//! A kernel keeps a world of the profile machine. Each call of `next` writes an owed line, or goes on by an instant or a
-//! tock of that world. Idle ticks that say nothing are jumped over.
+//! A kernel keeps a world of the profile machine. Each call of `next` writes an owed line, or goes
+//! on by an instant or a tock of that world. Idle ticks that say nothing are jumped over.
 #![tactic(auto)]
 
 mod idle;

@@ -11,7 +11,8 @@ use profile_image::{Image, Item};
 use std::alloc::Global;
 use world_tables::List;
 
-/// The opening world of the run of a program with a script, up to a bound in ticks. Its first lines are owed.
+/// The opening world of the run of a program with a script, up to a bound in ticks. Its first lines
+/// are owed.
 ///
 /// Errors: memory ran out.
 pub fn boot(

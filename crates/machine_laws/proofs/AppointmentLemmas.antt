@@ -73,4 +73,5 @@ pub InOrder-adjacent : (xs : List Appointment) → InOrder xs → all_adjacent (
 InOrder-adjacent [] h = refl
 InOrder-adjacent (x ∷ []) h = refl
 InOrder-adjacent (x ∷ y ∷ rest) h =
-    and_from (int_le x.moment y.moment) (all_adjacent (λ a b. int_le a.moment b.moment) (y ∷ rest)) (above-test x.moment y.moment h.0) (InOrder-adjacent (y ∷ rest) h.1)
+    and_from (int_le x.moment y.moment) (all_adjacent (λ a b. int_le a.moment b.moment) (y ∷ rest)) (above-test x.moment y.moment h.0)
+    (InOrder-adjacent (y ∷ rest) h.1)

@@ -78,6 +78,7 @@ pub finely_at_once : FinestMoves AnyWorld Anybody Anybody AtOnce AtOnce
 finely_at_once = finest (finely at_once)
 
 -- so what was later before a change is later behind it
-pub later_behind : (f : World → World) (w : World) (moment : ℤ) → Alters AnyWorld AtOnce f → int_lt (pos w.time) moment ≡ true → int_lt (pos (f w).time) moment ≡ true
+pub later_behind : (f : World → World) (w : World) (moment : ℤ) → Alters AnyWorld AtOnce f → int_lt (pos w.time) moment ≡ true
+    → int_lt (pos (f w).time) moment ≡ true
 unfolding Alters
 later_behind f w moment kept later = subst (λ n. int_lt (pos n) moment ≡ true) (sym (ap (λ x. x.0) (kept w tt))) later

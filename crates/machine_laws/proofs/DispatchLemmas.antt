@@ -1,5 +1,6 @@
 -- Every run keeps the law of dispatching: what its lines show is what its worlds have, and a tock runs the first.
-use Rattle.std.proofs.Common.{◌≡◌, ℕ, ℤ, zero, suc, ◌<◌, ◌≤◌, Bool, true, false, cond, leb, List, [], ◌∷◌, ◌++◌, Option, Some, None, refl, sym, ap, subst, ◌∙◌, arith}
+use Rattle.std.proofs.Common.{◌≡◌, ℕ, ℤ, zero, suc, ◌<◌, ◌≤◌, Bool, true, false, cond, leb, List}
+use Rattle.std.proofs.Common.{[], ◌∷◌, ◌++◌, Option, Some, None, refl, sym, ap, subst, ◌∙◌, arith}
 use Rattle.std.proofs.lemmas.Bool.{eqb-true}
 use Rattle.trace_text.specs.declared.events.Event.{Event}
 use Rattle.trace_text.specs.declared.events.Event.TheVariants as line
@@ -34,7 +35,8 @@ after_all : Sight → List Event → Sight
 after_all s [] = s
 after_all s (x ∷ xs) = after_all (see s x) xs
 
-seen-at_tick : (n : ℕ) (s : Sight) (events : List Event) (rest : List TraceLine) → seen_from see s (at_tick n events ++ rest) ≡ seen_from see (after_all s events) rest
+seen-at_tick : (n : ℕ) (s : Sight) (events : List Event) (rest : List TraceLine)
+    → seen_from see s (at_tick n events ++ rest) ≡ seen_from see (after_all s events) rest
 unfolding after_all
 seen-at_tick n s [] rest = refl
 seen-at_tick n s (x ∷ xs) rest = seen-at_tick n (see s x) xs rest
@@ -86,12 +88,14 @@ pub ran-path : (ran : Option Who) (name : Who) → same_option same_who ran (Som
 ran-path None name e = cc
 ran-path (Some other) name e = ap Some (same_who-path other name e)
 
-run-test : (same : Bool) (ran : Option Who) (name : Who) (w : World) → (same ≡ true → ran ≡ Some name) → runner_by ran (cond same rests (say (line.Run name)) w).1 ≡ Some name
+run-test : (same : Bool) (ran : Option Who) (name : Who) (w : World) → (same ≡ true → ran ≡ Some name)
+    → runner_by ran (cond same rests (say (line.Run name)) w).1 ≡ Some name
 unfolding runner_by
 run-test true ran name w k = k refl
 run-test false ran name w k = refl
 
-serve_if_free-runner : (r : Option Who) (serving : Option Release) (frames : List Frame) (releases : List Release) (w : World) → runner_by r ((serve_if_free serving frames releases w).1 ++ []) ≡ r
+serve_if_free-runner : (r : Option Who) (serving : Option Release) (frames : List Frame) (releases : List Release) (w : World)
+    → runner_by r ((serve_if_free serving frames releases w).1 ++ []) ≡ r
 unfolding runner_by
 serve_if_free-runner r None [] [] w = refl
 serve_if_free-runner r None [] (x ∷ rest) w = refl
@@ -168,7 +172,8 @@ tock-first p s w h =
 Held : Sight → ℕ → List TraceLine → Type 0
 Held s now lines = (tick : ℕ) → now ≤ tick → tick < last_from now lines → Runs_first (seen_from see s (up_to tick lines))
 
-up_to-at_tick : (tick now : ℕ) (events : List Event) (rest : List TraceLine) → now ≤ tick → up_to tick (at_tick now events ++ rest) ≡ at_tick now events ++ up_to tick rest
+up_to-at_tick : (tick now : ℕ) (events : List Event) (rest : List TraceLine) → now ≤ tick
+    → up_to tick (at_tick now events ++ rest) ≡ at_tick now events ++ up_to tick rest
 up_to-at_tick tick now [] rest a = refl
 up_to-at_tick tick now (x ∷ xs) rest a = let within : leb now tick ≡ true = grind arith in rw within (ap (λ l. (now, x) ∷ l) (up_to-at_tick tick now xs rest a))
 
@@ -188,11 +193,13 @@ last_from-later : (m n : ℕ) (rest : List TraceLine) → m ≤ n → last_from 
 last_from-later m n [] a = a
 last_from-later m n (x ∷ xs) a = omega arith
 
-seen-up_to : (tick now : ℕ) (s : Sight) (events : List Event) (rest : List TraceLine) → now ≤ tick → seen_from see s (up_to tick (at_tick now events ++ rest)) ≡ seen_from see (after_all s events) (up_to tick rest)
+seen-up_to : (tick now : ℕ) (s : Sight) (events : List Event) (rest : List TraceLine) → now ≤ tick
+    → seen_from see s (up_to tick (at_tick now events ++ rest)) ≡ seen_from see (after_all s events) (up_to tick rest)
 seen-up_to tick now s events rest a = ap (seen_from see s) (up_to-at_tick tick now events rest a) ∙ seen-at_tick now s events (up_to tick rest)
 
 -- the lines of one turn, and what is left of the run
-Held-turn : (s : Sight) (now : ℕ) (events : List Event) (rest : List TraceLine) → RisesFrom (suc now) rest → Runs_first (after_all s events) → Held (after_all s events) (suc now) rest → Held s now (at_tick now events ++ rest)
+Held-turn : (s : Sight) (now : ℕ) (events : List Event) (rest : List TraceLine) → RisesFrom (suc now) rest → Runs_first (after_all s events)
+    → Held (after_all s events) (suc now) rest → Held s now (at_tick now events ++ rest)
 unfolding Held
 Held-turn s now events rest rises first later tick a b =
     let seen = seen-up_to tick now s events rest a in
@@ -207,7 +214,8 @@ Held-stopped : (s : Sight) (now : ℕ) (events : List Event) → Held s now (at_
 unfolding Held
 Held-stopped s now events tick a b = absurd (let none : tick < now = subst (λ n. tick < n) (last_from-alone now events) b in omega arith)
 
-turn-held : (s : Sight) (now : ℕ) (i t : World × List Event) (rest : Ran) (reason : Option Ended) → RisesFrom (suc now) rest.lines → Runs_first (after_all s (i.1 ++ t.1)) → Held (after_all s (i.1 ++ t.1)) (suc now) rest.lines → Held s now (turn now i t rest reason).lines
+turn-held : (s : Sight) (now : ℕ) (i t : World × List Event) (rest : Ran) (reason : Option Ended) → RisesFrom (suc now) rest.lines
+    → Runs_first (after_all s (i.1 ++ t.1)) → Held (after_all s (i.1 ++ t.1)) (suc now) rest.lines → Held s now (turn now i t rest reason).lines
 unfolding turn
 turn-held s now i t rest (Some reason) rises first later = Held-stopped s now (i.1 ++ line.End reason ∷ [])
 turn-held s now i t rest None rises first later = Held-turn s now (i.1 ++ t.1) rest.lines rises first later
@@ -233,5 +241,7 @@ runs_dispatch p script bound tick b =
     let o = opening p script in
     let rest = (run_from (suc bound) p bound o.0).lines in
     let within : tick < last_from 0 rest = subst (λ n. tick < n) (last_from-at_tick 0 o.1 rest) b in
-    let held : Held (after_all nothing_seen o.1) 0 rest = subst (λ n. Held (after_all nothing_seen o.1) n rest) (opening_now p script) (run_from-held (suc bound) p bound o.0 (after_all nothing_seen o.1) (opening-shows p script)) in
+    let held : Held (after_all nothing_seen o.1) 0 rest =
+    subst (λ n. Held (after_all nothing_seen o.1) n rest) (opening_now p script)
+    (run_from-held (suc bound) p bound o.0 (after_all nothing_seen o.1) (opening-shows p script)) in
     subst (λ q. q.runner ≡ who_of (head_of q.queue)) (sym (seen-up_to tick 0 nothing_seen o.1 rest (omega arith))) (held tick (omega arith) within)

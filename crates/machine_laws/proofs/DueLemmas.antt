@@ -1,6 +1,7 @@
 -- How many appointments are due: no step makes them more, steps 3 and 4 of an instant make them none, and what is set
 -- is later than now.
-use Rattle.std.proofs.Common.{◌≡◌, ℕ, zero, suc, ℤ, ◌≤◌, ◌<◌, Bool, true, false, cond, not, ◌&&◌, eqb, List, [], ◌∷◌, length, Option, Some, None, refl, sym, subst, ap, ◌∙◌, arith}
+use Rattle.std.proofs.Common.{◌≡◌, ℕ, zero, suc, ℤ, ◌≤◌, ◌<◌, Bool, true, false, cond, not, ◌&&◌, eqb}
+use Rattle.std.proofs.Common.{List, [], ◌∷◌, length, Option, Some, None, refl, sym, subst, ap, ◌∙◌, arith}
 use Rattle.std.specs.Prelude.{int_lt, int_le, pos}
 use Rattle.std.specs.List.{list_all}
 use Rattle.std.proofs.lemmas.Int.{ints}
@@ -20,7 +21,8 @@ use Rattle.profile_machine.specs.Steps.{Move, Step, Done, done, goes_on_with, se
 use Rattle.profile_machine.specs.Tasks.{task_at, edit_task_found, edit_task}
 use Rattle.profile_machine.specs.Appointments.{drop_appointment, put_appointment, is_an_event, first_due}
 use Rattle.profile_machine.specs.Dispatching.{choose}
-use Rattle.profile_machine.specs.Instant.{is_the_same_due, come_due, take_due, all_due, appointments_due, events_due, moments_due, finish_action, script_items, timers_due, budgets_due, quantum_spent, instant}
+use Rattle.profile_machine.specs.Instant.{is_the_same_due, come_due, take_due, all_due, appointments_due, events_due, moments_due}
+use Rattle.profile_machine.specs.Instant.{finish_action, script_items, timers_due, budgets_due, quantum_spent, instant}
 use Rattle.profile_machine.specs.Run.{opening, tock, blank_world, opens}
 use Rattle.machine_laws.specs.DueLaws.{all_later, none_before}
 use Rattle.machine_laws.specs.Reached.{Comes, opened, ticked, Reached, before, behind}
@@ -72,11 +74,13 @@ later-is_due : (events : Bool) (now : ℕ) (a : Appointment) → int_lt (pos now
 later-is_due events now a h = and_left (int_le a.moment (pos now)) (same_bool (is_an_event a.due) events) (past now a.moment h)
 
 -- whichever list a test picks
-either_count : (events : Bool) (now n : ℕ) (b : Bool) (xs ys : List Appointment) → count_due events now xs ≡ n → count_due events now ys ≡ n → count_due events now (cond b xs ys) ≡ n
+either_count : (events : Bool) (now n : ℕ) (b : Bool) (xs ys : List Appointment) → count_due events now xs ≡ n → count_due events now ys ≡ n
+    → count_due events now (cond b xs ys) ≡ n
 either_count events now n true xs ys h k = h
 either_count events now n false xs ys h k = k
 
-put-count : (events : Bool) (now : ℕ) (new : Appointment) (xs : List Appointment) → is_due events now new ≡ false → count_due events now (put_appointment new xs) ≡ count_due events now xs
+put-count : (events : Bool) (now : ℕ) (new : Appointment) (xs : List Appointment) → is_due events now new ≡ false
+    → count_due events now (put_appointment new xs) ≡ count_due events now xs
 put-count events now new [] h = counted-none (is_due events now new) 0 h
 put-count events now new (x ∷ xs) h =
     either_count events now (count_due events now (x ∷ xs)) (int_lt new.moment x.moment) (new ∷ x ∷ xs) (x ∷ put_appointment new xs)
@@ -85,9 +89,13 @@ put-count events now new (x ∷ xs) h =
 
 -- ---- one that is dropped
 
-either_most : (events : Bool) (now n : ℕ) (b : Bool) (x : Appointment) (xs : List Appointment) → cond (is_due events now x) (suc (count_due events now xs)) (count_due events now xs) ≤ n → count_due events now (cond b (x ∷ xs) xs) ≤ n
+either_most : (events : Bool) (now n : ℕ) (b : Bool) (x : Appointment) (xs : List Appointment)
+    → cond (is_due events now x) (suc (count_due events now xs)) (count_due events now xs) ≤ n → count_due events now (cond b (x ∷ xs) xs) ≤ n
 either_most events now n true x xs h = h
-either_most events now n false x xs h = let fewer : count_due events now xs ≤ cond (is_due events now x) (suc (count_due events now xs)) (count_due events now xs) = counted-rest (is_due events now x) (count_due events now xs) in omega (arith, fewer, h)
+either_most events now n false x xs h =
+    let fewer : count_due events now xs ≤ cond (is_due events now x) (suc (count_due events now xs)) (count_due events now xs) =
+    counted-rest (is_due events now x) (count_due events now xs) in
+    omega (arith, fewer, h)
 
 without-count : (events : Bool) (now : ℕ) (test : Appointment → Bool) (xs : List Appointment) → count_due events now (without test xs) ≤ count_due events now xs
 without-count events now test [] = omega arith
@@ -107,7 +115,8 @@ module _ (events : Bool) where
   still : (w : World) → (w.time ≡ w.time) × (due_in w ≤ due_in w)
   still w = (refl, omega arith)
 
-  edit_found-still : (name : Who) (f : Task → Task) (w : World) (found : Option Task) → ((edit_task_found name f w found).time ≡ w.time) × (due_in (edit_task_found name f w found) ≤ due_in w)
+  edit_found-still : (name : Who) (f : Task → Task) (w : World) (found : Option Task)
+      → ((edit_task_found name f w found).time ≡ w.time) × (due_in (edit_task_found name f w found) ≤ due_in w)
   edit_found-still name f w None = still w
   edit_found-still (who.Task t) f w (Some x) = still w
   edit_found-still who.Agent f w (Some x) = still w
@@ -205,12 +214,16 @@ module _ (events : Bool) (now : ℕ) (same : Appointment → Bool) (a : Appointm
       → (first_due events now xs ≡ Some a → count_due events now (without same xs) < count_due events now xs)
       → count_due events now (without same (x ∷ xs)) < count_due events now (x ∷ xs)
   fewer_at x xs true is h onward =
-      let dropped = ap (count_due events now) (picked-other (same x) (x ∷ without same xs) (without same xs) (subst (λ y. same y ≡ true) (sym (ap (or_that x) h)) itself)) in
+      let dropped =
+      ap (count_due events now)
+      (picked-other (same x) (x ∷ without same xs) (without same xs) (subst (λ y. same y ≡ true) (sym (ap (or_that x) h)) itself)) in
       let one = counted-one (is_due events now x) (count_due events now xs) is in
       let others = without-count events now same xs in
       omega (arith, dropped, one, others)
   fewer_at x xs false is h onward =
-      let kept = either_count events now (count_due events now (without same xs)) (not (same x)) (x ∷ without same xs) (without same xs) (counted-none (is_due events now x) (count_due events now (without same xs)) is) refl in
+      let kept =
+      either_count events now (count_due events now (without same xs)) (not (same x)) (x ∷ without same xs) (without same xs)
+      (counted-none (is_due events now x) (count_due events now (without same xs)) is) refl in
       let none = counted-none (is_due events now x) (count_due events now xs) is in
       let others = onward h in
       omega (arith, kept, none, others)
@@ -230,7 +243,8 @@ module _ (p : Image) (events : Bool) where
   settled-none : (d : Done) → due_in events (world_behind d) ≤ 0 → due_in events (settled p d).0 ≤ 0
   settled-none (done w said) none = none
 
-  taken_if : (fuel : ℕ) (found : Option Appointment) (w : World) (said : List Said) → first_due events w.time w.appointments ≡ found → due_in events w ≤ suc fuel
+  taken_if : (fuel : ℕ) (found : Option Appointment) (w : World) (said : List Said) → first_due events w.time w.appointments ≡ found
+      → due_in events w ≤ suc fuel
       → ((v : World) (said : List Said) → due_in events v ≤ fuel → due_in events (world_behind (all_due fuel p events v said)) ≤ 0)
       → due_in events (world_behind (take_due p (all_due fuel p events) found w said)) ≤ 0
   unfolding Keeps
@@ -238,7 +252,10 @@ module _ (p : Image) (events : Bool) where
   taken_if fuel (Some a) w said is most others =
       let dropped = drop_appointment (is_the_same_due a.due) w in
       let less = fewer events w.time (λ x. is_the_same_due a.due x.due) a (is_itself a.due) w.appointments is in
-      let kept = (kept-world (NeverMore events) dropped said (come_due p a.due dropped said) (come_due-keeps (all_of (never_more events)).fine (all_of (never_more events)).settings (releasing (all_of (never_more events))) p a.due dropped tt said)).1.1 in
+      let kept =
+      (kept-world (NeverMore events) dropped said (come_due p a.due dropped said)
+      (come_due-keeps (all_of (never_more events)).fine (all_of (never_more events)).settings
+      (releasing (all_of (never_more events))) p a.due dropped tt said)).1.1 in
       none_behind fuel (all_due fuel p events) (come_due p a.due dropped said) (omega (arith, less, kept, most)) others
 
   taken : (fuel : ℕ) (w : World) (said : List Said) → due_in events w ≤ fuel → due_in events (world_behind (all_due fuel p events w said)) ≤ 0
@@ -247,7 +264,8 @@ module _ (p : Image) (events : Bool) where
   taken (suc fuel) w said most = taken_if fuel (first_due events w.time w.appointments) w said refl most (taken fuel)
 
   appointments_due-none : (w : World) → due_in events (appointments_due p events w).0 ≤ 0
-  appointments_due-none w = settled-none (all_due (length w.appointments) p events w []) (taken (length w.appointments) w [] (count_due-length events w.time w.appointments))
+  appointments_due-none w =
+      settled-none (all_due (length w.appointments) p events w []) (taken (length w.appointments) w [] (count_due-length events w.time w.appointments))
 
 -- ---- instants
 
@@ -256,8 +274,11 @@ behind_moments p = timers_due p ▶ budgets_due p ▶ quantum_spent p
 
 behind_moments-leads : (events : Bool) (p : Image) → Leads AnyWorld (NeverMore events) (behind_moments p)
 behind_moments-leads events p =
-    then-leads (move_chains (all_of (never_more events)).fine) (timers_due p) (budgets_due p ▶ quantum_spent p) (timers_due-leads (all_of (never_more events)).fine (all_of (never_more events)).settings (releasing (all_of (never_more events))) p)
-    (then-leads (move_chains (all_of (never_more events)).fine) (budgets_due p) (quantum_spent p) (budgets_due-leads (all_of (never_more events)).fine (all_of (never_more events)).settings (releasing (all_of (never_more events))) p) (quantum_spent-leads (all_of (never_more events)).fine p))
+    then-leads (move_chains (all_of (never_more events)).fine) (timers_due p) (budgets_due p ▶ quantum_spent p)
+    (timers_due-leads (all_of (never_more events)).fine (all_of (never_more events)).settings (releasing (all_of (never_more events))) p)
+    (then-leads (move_chains (all_of (never_more events)).fine) (budgets_due p) (quantum_spent p)
+    (budgets_due-leads (all_of (never_more events)).fine (all_of (never_more events)).settings (releasing (all_of (never_more events))) p)
+    (quantum_spent-leads (all_of (never_more events)).fine p))
 
 instant-none : (events : Bool) (p : Image) (w : World) → due_in events (instant p w).0 ≤ 0
 unfolding Leads
@@ -279,7 +300,8 @@ instant-none false p w =
 
 -- ---- none is due: all are later
 
-not_due : (due event : Bool) (n m : ℕ) → cond (due && same_bool event true) (suc n) n ≤ 0 → cond (due && same_bool event false) (suc m) m ≤ 0 → (due ≡ false) × (n ≤ 0) × (m ≤ 0)
+not_due : (due event : Bool) (n m : ℕ) → cond (due && same_bool event true) (suc n) n ≤ 0 → cond (due && same_bool event false) (suc m) m ≤ 0
+    → (due ≡ false) × (n ≤ 0) × (m ≤ 0)
 not_due true true n m h k = absurd (omega (arith, h))
 not_due true false n m h k = absurd (omega (arith, k))
 not_due false event n m h k = (refl, h, k)
@@ -288,7 +310,8 @@ all_are_later : (now : ℕ) (xs : List Appointment) → count_due true now xs �
 all_are_later now [] h k = refl
 all_are_later now (a ∷ rest) h k =
     let parts = not_due (int_le a.moment (pos now)) (is_an_event a.due) (count_due true now rest) (count_due false now rest) h k in
-    and_from (int_lt (pos now) a.moment) (list_all (λ b. int_lt (pos now) b.moment) rest) (is_later now a.moment parts.0) (all_are_later now rest parts.1 parts.2)
+    and_from (int_lt (pos now) a.moment) (list_all (λ b. int_lt (pos now) b.moment) rest) (is_later now a.moment parts.0)
+    (all_are_later now rest parts.1 parts.2)
 
 pub instants_leave_none_due : (p : Image) (w : World) → all_later (instant p w).0 ≡ true
 instants_leave_none_due p w = all_are_later (instant p w).0.time (instant p w).0.appointments (instant-none true p w) (instant-none false p w)
@@ -297,7 +320,8 @@ instants_leave_none_due p w = all_are_later (instant p w).0.time (instant p w).0
 
 all_too : (f g : Appointment → Bool) → ((a : Appointment) → f a ≡ true → g a ≡ true) → (xs : List Appointment) → list_all f xs ≡ true → list_all g xs ≡ true
 all_too f g k [] h = refl
-all_too f g k (x ∷ xs) h = and_from (g x) (list_all g xs) (k x ((and_parts (f x) (list_all f xs) h).0)) (all_too f g k xs ((and_parts (f x) (list_all f xs) h).1))
+all_too f g k (x ∷ xs) h =
+    and_from (g x) (list_all g xs) (k x ((and_parts (f x) (list_all f xs) h).0)) (all_too f g k xs ((and_parts (f x) (list_all f xs) h).1))
 
 not_before : (now : ℕ) (moment : ℤ) → int_lt (pos now) moment ≡ true → int_le (pos now) moment ≡ true
 not_before now moment h = grind (arith, ints)
@@ -326,7 +350,8 @@ tock-none p w h k =
     let others = (before_tick-leads (all_of (never_more false)) (tocks_of (never_more-tocks false)) p (choose w) w tt).1 in
     let later = all_are_later ready.time ready.appointments (omega (arith, events, h)) (omega (arith, others, k)) in
     subst (λ t. none_before t.0 ≡ true) (sym (tock-parts p w))
-    (all_too (λ a. int_lt (pos ready.time) a.moment) (λ a. int_le (pos (suc ready.time)) a.moment) (λ a e. not_before_next ready.time a.moment e) ready.appointments later)
+    (all_too (λ a. int_lt (pos ready.time) a.moment) (λ a. int_le (pos (suc ready.time)) a.moment)
+    (λ a e. not_before_next ready.time a.moment e) ready.appointments later)
 
 comes-none : (p : Image) (script : List (ℤ × Item)) (bound : ℕ) (w : World) → Comes p script bound w → none_before w ≡ true
 comes-none p script bound _ opened = opening-none p script

@@ -145,19 +145,25 @@ pub record FineMoves (G : GoodWorld) (May Other : Naming) (R : StepRelation) (Q 
   pub listed : (w : World) → G w → EachIs Other w.tasks
   pub awaits : (name : Who) (w : World) → G w → waits_for_activation (waiting_of w name) ≡ true → Other name
   -- tasks: an edit of anybody that leaves alone who it is, its marks, its state and its master; one of marks alone
-  pub edits_task : (name : Who) (f : Task → Task) (w : World) → G w → ((t : Task) → (f t).who ≡ t.who) → ((t : Task) → (f t).frames ≡ t.frames) → ((t : Task) → (f t).state ≡ t.state) → ((t : Task) → (f t).master ≡ t.master) → R w [] (edit_task name f w)
-  pub edits_frames : (name : Who) (f : List Frame → List Frame) (w : World) → G w → ((fs : List Frame) → natures (f fs) ≡ natures fs) → R w [] (edit_task name (λ t. with_frames (f t.frames) t) w)
+  pub edits_task : (name : Who) (f : Task → Task) (w : World) → G w → ((t : Task) → (f t).who ≡ t.who) → ((t : Task) → (f t).frames ≡ t.frames)
+      → ((t : Task) → (f t).state ≡ t.state) → ((t : Task) → (f t).master ≡ t.master) → R w [] (edit_task name f w)
+  pub edits_frames : (name : Who) (f : List Frame → List Frame) (w : World) → G w → ((fs : List Frame) → natures (f fs) ≡ natures fs)
+      → R w [] (edit_task name (λ t. with_frames (f t.frames) t) w)
   -- a mark is opened by who has one, behind its going on; by a task; and one that is no protected action ends
-  pub pushes_on : (name : Who) (onward : Option StatementNo) (f g : Frame) (w : World) → G w → May name → top_of w name ≡ Some g → (nature f.mark).region ≡ None → (nature f.mark).release ≡ None → (nature f.mark).abortable ≡ false → R w [] (push name f (gone_on name onward w))
-  pub opens_abortable : (name : Who) (f : Frame) (w : World) → G w → Other name → (nature f.mark).region ≡ None → (nature f.mark).release ≡ None → R w [] (push name f w)
+  pub pushes_on : (name : Who) (onward : Option StatementNo) (f g : Frame) (w : World) → G w → May name → top_of w name ≡ Some g → (nature f.mark).region ≡ None
+      → (nature f.mark).release ≡ None → (nature f.mark).abortable ≡ false → R w [] (push name f (gone_on name onward w))
+  pub opens_abortable : (name : Who) (f : Frame) (w : World) → G w → Other name → (nature f.mark).region ≡ None → (nature f.mark).release ≡ None
+      → R w [] (push name f w)
   pub pops : (name : Who) (f : Frame) (w : World) → G w → May name → top_of w name ≡ Some f → is_protected f.mark ≡ false → R w [] (pop name w)
   -- states, and places
   pub readies : (name : Who) (w : World) → G w → Other name → R w [] (edit_task name (with_state Runnable) w)
   pub blocks : (name : Who) (waiting : Waiting) (w : World) → G w → Other name → R w [] (edit_task name (with_state (Blocked waiting)) w)
   pub places : (p : Image) (part : Part) (name : Who) (end : QueueEnd) (w : World) → G w → May name → R w (ready_line p part name end w ∷ []) w
-  pub says_blocked : (part : Part) (name : Who) (waiting : Waiting) (w : World) → G w → Other name → R w (record { part = part; line = said.Block name (word_of waiting) } ∷ []) w
+  pub says_blocked : (part : Part) (name : Who) (waiting : Waiting) (w : World) → G w → Other name
+      → R w (record { part = part; line = said.Block name (word_of waiting) } ∷ []) w
   -- a new task has the next number and the region of its creator, which goes on first
-  pub adds_task : (name : Who) (onward : Option StatementNo) (t : Task) (w : World) → G w → Other name → t.who ≡ who.Task (record { 0 = w.drawn.tasks }) → t.frames ≡ [] → t.master ≡ Some (top_region w name) → R w [] (add_task t (gone_on name onward w))
+  pub adds_task : (name : Who) (onward : Option StatementNo) (t : Task) (w : World) → G w → Other name → t.who ≡ who.Task (record { 0 = w.drawn.tasks })
+      → t.frames ≡ [] → t.master ≡ Some (top_region w name) → R w [] (add_task t (gone_on name onward w))
   pub forgets_task : (name : Who) (w : World) → G w → R w [] (forget_task name w)
   pub sets_quantum : (level ticks : ℕ) (w : World) → G w → R w [] (record w { quanta = edit_at level (λ _. ticks) w.quanta })
   pub ends_environment : (leaving : Leaving) (w : World) → G w → R w [] (end_environment leaving w)
@@ -170,11 +176,15 @@ pub record FineMoves (G : GoodWorld) (May Other : Naming) (R : StepRelation) (Q 
   pub adds_call : (c : Call) (w : World) → G w → R w [] (add_call c w)
   pub forgets_call : (c : CallNo) (w : World) → G w → R w [] (forget_call c w)
   -- protected objects: no other edit changes the actions that are open
-  pub edits_object : (o : ObjectNo) (f : Object → Object) (w : World) → G w → ((x : Object) → (f x).number ≡ x.number) → ((x : Object) → (f x).actions ≡ x.actions) → R w [] (edit_object o f w)
-  pub adds_object : (p : Image) (l : Located) (u : ProtectedUnitNo) (w : World) → G w → R w [] (record w { objects = new_object p l u (suc w.drawn.objects) ∷ w.objects; drawn = object_drawn w.drawn })
+  pub edits_object : (o : ObjectNo) (f : Object → Object) (w : World) → G w → ((x : Object) → (f x).number ≡ x.number)
+      → ((x : Object) → (f x).actions ≡ x.actions) → R w [] (edit_object o f w)
+  pub adds_object : (p : Image) (l : Located) (u : ProtectedUnitNo) (w : World) → G w
+      → R w [] (record w { objects = new_object p l u (suc w.drawn.objects) ∷ w.objects; drawn = object_drawn w.drawn })
   -- protected actions: one begins, one begins and ends at once round other lines and a change, and one may not begin
-  pub enters : (name : Who) (o : ObjectNo) (mode : Mode) (w : World) → G w → LetsIn name o mode w → R w (own (said.Enter name o mode) ∷ []) (open_action name o mode w)
-  pub visits : (name : Who) (o : ObjectNo) (mode : Mode) (xs : List Said) (w v : World) → G w → LetsIn name o mode w → AreQuiet xs → R w [] v → R w (own (said.Enter name o mode) ∷ xs ++ own (said.Exit name o) ∷ []) v
+  pub enters : (name : Who) (o : ObjectNo) (mode : Mode) (w : World) → G w → LetsIn name o mode w
+      → R w (own (said.Enter name o mode) ∷ []) (open_action name o mode w)
+  pub visits : (name : Who) (o : ObjectNo) (mode : Mode) (xs : List Said) (w v : World) → G w → LetsIn name o mode w → AreQuiet xs → R w [] v
+      → R w (own (said.Enter name o mode) ∷ xs ++ own (said.Exit name o) ∷ []) v
   pub finds_held : (name : Who) (o : ObjectNo) (mode : Mode) (w : World) → G w → FindsHeld name o mode w → R w (own (said.Held name o mode) ∷ []) w
   -- appointments: one that is set is later than now
   pub appoints : (due : Due) (moment : ℤ) (w : World) → G w → int_lt (pos w.time) moment ≡ true → R w [] (appoint due moment w)
@@ -195,13 +205,16 @@ pub record FineMoves (G : GoodWorld) (May Other : Naming) (R : StepRelation) (Q 
   pub sets_port : (n : ℕ) (value : ℤ) (w : World) → G w → R w [] (with_port n value w)
   pub masks : (n : ℕ) (flag : Bool) (w : World) → G w → R w [] (with_masked n flag w)
   pub keeps_interrupt : (n : ℕ) (flag : Bool) (w : World) → G w → R w [] (with_kept_interrupt n flag w)
-  pub cuts_script : (x : ℤ × Item) (rest : List (ℤ × Item)) (w : World) → G w → w.script ≡ x ∷ rest → int_le x.0 (pos w.time) ≡ true → R w [] (with_script rest w)
+  pub cuts_script : (x : ℤ × Item) (rest : List (ℤ × Item)) (w : World) → G w → w.script ≡ x ∷ rest → int_le x.0 (pos w.time) ≡ true
+      → R w [] (with_script rest w)
 
 -- Who acts opens marks; of who acts beside a protected action, or in an abortable part, it is known that it is another; and
 -- who waits for dependents in a region of its own is another too.
 pub record Openings (G : GoodWorld) (May Other : Naming) (Owns : Who → RegionNo → Type 0) (R : StepRelation) : Type 0 where
-  pub pushes : (name : Who) (f : Frame) (w : World) → G w → May name → (nature f.mark).region ≡ None → (nature f.mark).release ≡ None → (nature f.mark).abortable ≡ false → R w [] (push name f w)
-  pub opens_scope : (p : Image) (name : Who) (scope : ScopeNo) (b : Beginning) (purpose : Purpose) (w : World) → G w → May name → R w [] (open_scope p name scope b purpose w)
+  pub pushes : (name : Who) (f : Frame) (w : World) → G w → May name → (nature f.mark).region ≡ None → (nature f.mark).release ≡ None
+      → (nature f.mark).abortable ≡ false → R w [] (push name f w)
+  pub opens_scope : (p : Image) (name : Who) (scope : ScopeNo) (b : Beginning) (purpose : Purpose) (w : World) → G w → May name
+      → R w [] (open_scope p name scope b purpose w)
   pub outside : (name : Who) (w : World) → G w → May name → in_protected w name ≡ false → Other name
   pub within_part : (name : Who) (f : Frame) (w : World) → G w → May name → top_of w name ≡ Some f → is_abortable f.mark ≡ true → Other name
   pub owned : (name : Who) (f : Frame) (r : RegionNo) (w : World) → G w → May name → top_of w name ≡ Some f → region_of_mark f.mark ≡ Some r → Owns name r
@@ -209,7 +222,8 @@ pub record Openings (G : GoodWorld) (May Other : Naming) (Owns : Who → RegionN
 
 -- The protected action on top ends, of a release that may end.
 pub record Exits (G : GoodWorld) (May : Naming) (MayEnd : Who → Option ℕ → Type 0) (R : StepRelation) : Type 0 where
-  pub exits : (name : Who) (m : ProtectedMark) (w : World) → G w → May name → MayEnd name m.release → R w (own (said.Exit name m.object) ∷ []) (close_action name m.object (pop name w))
+  pub exits : (name : Who) (m : ProtectedMark) (w : World) → G w → May name → MayEnd name m.release
+      → R w (own (said.Exit name m.object) ∷ []) (close_action name m.object (pop name w))
 
 -- ---- what changes of anybody from any world keep, these keep
 
@@ -261,11 +275,13 @@ module _ {R : StepRelation} {Q : MoveRelation} (moves : Moves R Q) where
       let gone = edit_top name (goes_on onward) w in
       moves.goes_on w gone (push name f gone) (goes_on-edited name onward w) (pushed name f gone)
 
-  task_added : (name : Who) (onward : Option StatementNo) (t : Task) (w : World) → t.who ≡ who.Task (record { 0 = w.drawn.tasks }) → R w [] (add_task t (edit_top name (goes_on onward) w))
+  task_added : (name : Who) (onward : Option StatementNo) (t : Task) (w : World) → t.who ≡ who.Task (record { 0 = w.drawn.tasks })
+      → R w [] (add_task t (edit_top name (goes_on onward) w))
   task_added name onward t w a =
       let gone = edit_top name (goes_on onward) w in
       moves.goes_on w gone (add_task t gone) (goes_on-edited name onward w)
-      (moves.adds_task t gone (a ∙ ap (λ d. who.Task (record { 0 = d.tasks })) (sym (edit_task-drawn name (λ u. with_frames (edit_first (goes_on onward) u.frames) u) w))))
+      (moves.adds_task t gone
+      (a ∙ ap (λ d. who.Task (record { 0 = d.tasks })) (sym (edit_task-drawn name (λ u. with_frames (edit_first (goes_on onward) u.frames) u) w))))
 
   region_drawn-if : (kept : Bool) (w : World) → R w [] (draw_region kept w)
   region_drawn-if true w = moves.draws_region w
@@ -276,10 +292,13 @@ module _ {R : StepRelation} {Q : MoveRelation} (moves : Moves R Q) where
       let begun = begin_scope p name scope b w in
       let drawn = draw_region (scope_of p scope).kept begun in
       let f = new_frame (new_scope_mark (next_id w) (region_of_next (scope_of p scope).kept w) purpose) (scope_of p scope).first in
-      moves.goes_on w begun (push name f drawn) (moves.begins_scope p name scope b w) (moves.goes_on begun drawn (push name f drawn) (region_drawn-if (scope_of p scope).kept begun) (pushed name f drawn))
+      moves.goes_on w begun (push name f drawn) (moves.begins_scope p name scope b w)
+      (moves.goes_on begun drawn (push name f drawn) (region_drawn-if (scope_of p scope).kept begun) (pushed name f drawn))
 
   exited : (name : Who) (m : ProtectedMark) (w : World) → R w (own (said.Exit name m.object) ∷ []) (close_action name m.object (pop name w))
-  exited name m w = moves.goes_on w (pop name w) (close_action name m.object (pop name w)) {xs = []} {ys = own (said.Exit name m.object) ∷ []} (frames-edited name rest_of w) (moves.exits name m.object (pop name w))
+  exited name m w =
+      moves.goes_on w (pop name w) (close_action name m.object (pop name w)) {xs = []} {ys = own (said.Exit name m.object) ∷ []} (frames-edited name rest_of w)
+      (moves.exits name m.object (pop name w))
 
   pub finely : FineMoves AnyWorld Anybody Anybody R Q
   finely = record {

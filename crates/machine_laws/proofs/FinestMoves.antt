@@ -69,7 +69,8 @@ use Rattle.profile_machine.specs.Run.{with_serving}
 use Rattle.machine_laws.proofs.Chains.{Chains, MoveChains}
 use Rattle.machine_laws.proofs.Kept.Combinators.{Keeps, Leads, said-keeps, settles-leads}
 use Rattle.machine_laws.proofs.FineMoves as coarse
-use Rattle.machine_laws.proofs.FineMoves.{GoodWorld, Naming, EachIs, AnyWorld, Anybody, AnyRegion, AnyRelease, FineMoves, Openings, Exits, finely, openings, exits, release_in, is_abortable, ready_line, gone_on, first_is_false}
+use Rattle.machine_laws.proofs.FineMoves.{GoodWorld, Naming, EachIs, AnyWorld, Anybody, AnyRegion, AnyRelease, FineMoves, Openings}
+use Rattle.machine_laws.proofs.FineMoves.{Exits, finely, openings, exits, release_in, is_abortable, ready_line, gone_on, first_is_false}
 
 -- ---- what a mark is, whatever is edited in it: its region, the release that ends with it, the object of its action, and a kind
 
@@ -103,7 +104,13 @@ pub record Nature : Type 0 where
   pub abortable : Bool
 
 abbrev pub nature : Mark → Nature
-nature mark = record { region = region_of_mark mark; leaving = being_left_in mark; release = release_in mark; action = action_in mark; abortable = is_abortable mark }
+nature mark = record {
+  region = region_of_mark mark;
+  leaving = being_left_in mark;
+  release = release_in mark;
+  action = action_in mark;
+  abortable = is_abortable mark;
+}
 
 abbrev pub natures : List Frame → List Nature
 natures [] = []
@@ -157,24 +164,33 @@ pub record FinestMoves (G : GoodWorld) (May Other : Naming) (R : StepRelation) (
   pub listed : (w : World) → G w → EachIs Other w.tasks
   pub awaits : (name : Who) (w : World) → G w → waits_for_activation (waiting_of w name) ≡ true → Other name
   -- tasks: an edit of anybody that leaves alone who it is, its marks, its state, its master and its clock; one of marks alone
-  pub edits_task : (name : Who) (f : Task → Task) (w : World) → G w → ((t : Task) → (f t).who ≡ t.who) → ((t : Task) → (f t).frames ≡ t.frames) → ((t : Task) → (f t).state ≡ t.state) → ((t : Task) → (f t).master ≡ t.master) → ((t : Task) → (f t).cpu_ticks ≡ t.cpu_ticks) → R w [] (edit_task name f w)
-  pub edits_frames : (name : Who) (f : List Frame → List Frame) (w : World) → G w → ((fs : List Frame) → natures (f fs) ≡ natures fs) → R w [] (edit_task name (λ t. with_frames (f t.frames) t) w)
+  pub edits_task : (name : Who) (f : Task → Task) (w : World) → G w → ((t : Task) → (f t).who ≡ t.who) → ((t : Task) → (f t).frames ≡ t.frames)
+      → ((t : Task) → (f t).state ≡ t.state) → ((t : Task) → (f t).master ≡ t.master) → ((t : Task) → (f t).cpu_ticks ≡ t.cpu_ticks)
+      → R w [] (edit_task name f w)
+  pub edits_frames : (name : Who) (f : List Frame → List Frame) (w : World) → G w → ((fs : List Frame) → natures (f fs) ≡ natures fs)
+      → R w [] (edit_task name (λ t. with_frames (f t.frames) t) w)
   -- a mark is opened by who has one, behind its going on; by a task; and one that is no protected action ends
-  pub pushes_on : (name : Who) (onward : Option StatementNo) (f g : Frame) (w : World) → G w → May name → top_of w name ≡ Some g → (nature f.mark).region ≡ None → (nature f.mark).release ≡ None → (nature f.mark).action ≡ None → (nature f.mark).abortable ≡ false → R w [] (push name f (gone_on name onward w))
-  pub opens_abortable : (name : Who) (f : Frame) (w : World) → G w → Other name → (nature f.mark).region ≡ None → (nature f.mark).release ≡ None → (nature f.mark).action ≡ None → R w [] (push name f w)
+  pub pushes_on : (name : Who) (onward : Option StatementNo) (f g : Frame) (w : World) → G w → May name → top_of w name ≡ Some g → (nature f.mark).region ≡ None
+      → (nature f.mark).release ≡ None → (nature f.mark).action ≡ None → (nature f.mark).abortable ≡ false → R w [] (push name f (gone_on name onward w))
+  pub opens_abortable : (name : Who) (f : Frame) (w : World) → G w → Other name → (nature f.mark).region ≡ None → (nature f.mark).release ≡ None
+      → (nature f.mark).action ≡ None → R w [] (push name f w)
   pub pops : (name : Who) (f : Frame) (w : World) → G w → May name → top_of w name ≡ Some f → is_protected f.mark ≡ false → R w [] (pop name w)
   -- a region begins to be left, and has been left when none of its objects is registered
-  pub begins_leaving : (name : Who) (f : Frame) (m : ScopeMark) (r : RegionNo) (leaving : Leaving) (w : World) → G w → May name → top_of w name ≡ Some f → f.mark ≡ Scope m → m.region ≡ Some r → m.being_left ≡ false
+  pub begins_leaving : (name : Who) (f : Frame) (m : ScopeMark) (r : RegionNo) (leaving : Leaving) (w : World) → G w → May name → top_of w name ≡ Some f
+      → f.mark ≡ Scope m → m.region ≡ Some r → m.being_left ≡ false
       → R w (own (said.Leave name r (leaves_as leaving)) ∷ []) (edit_top name (left_so_frame leaving) (edit_top_scope name being_left_mark w))
-  pub has_left : (name : Who) (f : Frame) (m : ScopeMark) (r : RegionNo) (w : World) → G w → May name → top_of w name ≡ Some f → f.mark ≡ Scope m → m.region ≡ Some r → m.being_left ≡ true → next_to_finalize w r ≡ None
+  pub has_left : (name : Who) (f : Frame) (m : ScopeMark) (r : RegionNo) (w : World) → G w → May name → top_of w name ≡ Some f → f.mark ≡ Scope m
+      → m.region ≡ Some r → m.being_left ≡ true → next_to_finalize w r ≡ None
       → R w (own (said.Left name r) ∷ []) (pop name w)
   -- states, and places
   pub readies : (name : Who) (w : World) → G w → Other name → R w [] (edit_task name (with_state Runnable) w)
   pub blocks : (name : Who) (waiting : Waiting) (w : World) → G w → Other name → R w [] (edit_task name (with_state (Blocked waiting)) w)
   pub places : (p : Image) (part : Part) (name : Who) (end : QueueEnd) (w : World) → G w → May name → R w (ready_line p part name end w ∷ []) w
-  pub says_blocked : (part : Part) (name : Who) (waiting : Waiting) (w : World) → G w → Other name → R w (record { part = part; line = said.Block name (word_of waiting) } ∷ []) w
+  pub says_blocked : (part : Part) (name : Who) (waiting : Waiting) (w : World) → G w → Other name
+      → R w (record { part = part; line = said.Block name (word_of waiting) } ∷ []) w
   -- a new task has the next number, the region of its creator, which goes on first, and a clock at 0
-  pub adds_task : (name : Who) (onward : Option StatementNo) (t : Task) (w : World) → G w → Other name → t.who ≡ who.Task (record { 0 = w.drawn.tasks }) → t.frames ≡ [] → t.master ≡ Some (top_region w name) → t.cpu_ticks ≡ 0 → R w [] (add_task t (gone_on name onward w))
+  pub adds_task : (name : Who) (onward : Option StatementNo) (t : Task) (w : World) → G w → Other name → t.who ≡ who.Task (record { 0 = w.drawn.tasks })
+      → t.frames ≡ [] → t.master ≡ Some (top_region w name) → t.cpu_ticks ≡ 0 → R w [] (add_task t (gone_on name onward w))
   pub forgets_task : (name : Who) (w : World) → G w → R w [] (forget_task name w)
   pub sets_quantum : (level ticks : ℕ) (w : World) → G w → R w [] (record w { quanta = edit_at level (λ _. ticks) w.quanta })
   pub ends_environment : (leaving : Leaving) (w : World) → G w → R w [] (end_environment leaving w)
@@ -187,19 +203,24 @@ pub record FinestMoves (G : GoodWorld) (May Other : Naming) (R : StepRelation) (
   pub adds_call : (c : Call) (w : World) → G w → R w [] (add_call c w)
   pub forgets_call : (c : CallNo) (w : World) → G w → R w [] (forget_call c w)
   -- protected objects: no other edit changes the actions that are open
-  pub edits_object : (o : ObjectNo) (f : Object → Object) (w : World) → G w → ((x : Object) → (f x).number ≡ x.number) → ((x : Object) → (f x).actions ≡ x.actions) → R w [] (edit_object o f w)
-  pub adds_object : (p : Image) (l : Located) (u : ProtectedUnitNo) (w : World) → G w → R w [] (record w { objects = new_object p l u (suc w.drawn.objects) ∷ w.objects; drawn = object_drawn w.drawn })
+  pub edits_object : (o : ObjectNo) (f : Object → Object) (w : World) → G w → ((x : Object) → (f x).number ≡ x.number)
+      → ((x : Object) → (f x).actions ≡ x.actions) → R w [] (edit_object o f w)
+  pub adds_object : (p : Image) (l : Located) (u : ProtectedUnitNo) (w : World) → G w
+      → R w [] (record w { objects = new_object p l u (suc w.drawn.objects) ∷ w.objects; drawn = object_drawn w.drawn })
   -- protected actions: one that begins is inside; one begins and ends at once round other lines and a change; and one may not begin
   pub inside : (name : Who) (o : ObjectNo) (mode : Mode) (w : World) → G w → LetsIn name o mode w → G (open_action name o mode w)
-  pub visits : (name : Who) (o : ObjectNo) (mode : Mode) (xs : List Said) (w v : World) → G w → LetsIn name o mode w → AreQuiet xs → R w [] v → R w (own (said.Enter name o mode) ∷ xs ++ own (said.Exit name o) ∷ []) v
+  pub visits : (name : Who) (o : ObjectNo) (mode : Mode) (xs : List Said) (w v : World) → G w → LetsIn name o mode w → AreQuiet xs → R w [] v
+      → R w (own (said.Enter name o mode) ∷ xs ++ own (said.Exit name o) ∷ []) v
   pub finds_held : (name : Who) (o : ObjectNo) (mode : Mode) (w : World) → G w → FindsHeld name o mode w → R w (own (said.Held name o mode) ∷ []) w
   -- appointments that are no events: one that is set is later than now
   pub appoints : (due : Due) (moment : ℤ) (w : World) → G w → is_an_event due ≡ false → int_lt (pos w.time) moment ≡ true → R w [] (appoint due moment w)
   pub drops_appointment : (test : Due → Bool) (w : World) → G w → SparesEvents test → R w [] (drop_appointment test w)
   -- controlled objects: a new one has the next number; of a region that is being left the newest is finalized; and one that is
   -- registered is assigned to
-  pub registers : (name : Who) (l : Located) (w : World) → G w → R w (own (said.Init name (suc w.drawn.controlled) (top_region w name) l.declared) ∷ []) (registered_as (suc w.drawn.controlled) (top_region w name) l w)
-  pub finalizes : (name : Who) (f : Frame) (m : ScopeMark) (r : RegionNo) (x : Registered) (w : World) → G w → May name → top_of w name ≡ Some f → f.mark ≡ Scope m → m.region ≡ Some r → m.being_left ≡ true → next_to_finalize w r ≡ Some x
+  pub registers : (name : Who) (l : Located) (w : World) → G w
+      → R w (own (said.Init name (suc w.drawn.controlled) (top_region w name) l.declared) ∷ []) (registered_as (suc w.drawn.controlled) (top_region w name) l w)
+  pub finalizes : (name : Who) (f : Frame) (m : ScopeMark) (r : RegionNo) (x : Registered) (w : World) → G w → May name → top_of w name ≡ Some f
+      → f.mark ≡ Scope m → m.region ≡ Some r → m.being_left ≡ true → next_to_finalize w r ≡ Some x
       → R w (own (said.Final name x.object) ∷ []) (no_longer_registered x.object w)
   pub replaces : (name : Who) (l : Located) (x : Registered) (w : World) → G w → registered_at w l ≡ Some x → R w (own (said.Replace name x.object) ∷ []) w
   -- events, timers and budgets that are declared, and what is left of a budget
@@ -225,7 +246,8 @@ module _ {G : GoodWorld} {May Other : Naming} {R : StepRelation} {Q : MoveRelati
 
 -- What sets or cancels what is released later, the clock of a task that goes on, and the outside.
 pub record SettingMoves (G : GoodWorld) (R : StepRelation) : Type 0 where
-  pub appoints_event : (n : ℕ) (h : HandlerOf) (moment : ℤ) (w : World) → G w → int_lt (pos w.time) moment ≡ true → R w [] (appoint (due_for.Event n h) moment w)
+  pub appoints_event : (n : ℕ) (h : HandlerOf) (moment : ℤ) (w : World) → G w → int_lt (pos w.time) moment ≡ true
+      → R w [] (appoint (due_for.Event n h) moment w)
   pub drops_any : (test : Due → Bool) (w : World) → G w → R w [] (drop_appointment test w)
   pub clears_timer : (k : ℕ) (w : World) → G w → R w [] (clear_timer k w)
   pub sets_timer : (k : ℕ) (h : HandlerOf) (value : ℤ) (w : World) → G w → R w [] (with_timer_set k h value w)
@@ -237,19 +259,23 @@ pub record SettingMoves (G : GoodWorld) (R : StepRelation) : Type 0 where
   pub sets_port : (n : ℕ) (value : ℤ) (w : World) → G w → R w [] (with_port n value w)
   pub masks : (n : ℕ) (flag : Bool) (w : World) → G w → R w [] (with_masked n flag w)
   pub keeps_interrupt : (n : ℕ) (flag : Bool) (w : World) → G w → R w [] (with_kept_interrupt n flag w)
-  pub cuts_script : (x : ℤ × Item) (rest : List (ℤ × Item)) (w : World) → G w → w.script ≡ x ∷ rest → int_le x.0 (pos w.time) ≡ true → R w [] (with_script rest w)
+  pub cuts_script : (x : ℤ × Item) (rest : List (ℤ × Item)) (w : World) → G w → w.script ≡ x ∷ rest → int_le x.0 (pos w.time) ≡ true
+      → R w [] (with_script rest w)
 
 -- an action begins: what is said and done between `enter` and its mark is done inside
 abbrev pub Begins : GoodWorld → StepRelation → Who → ObjectNo → Mode → Option CallNo → Option ℕ → Type 0
 Begins G R name o mode call release =
-    (w v : World) (xs : List Said) → G w → LetsIn name o mode w → R (open_action name o mode w) xs v → R w (own (said.Enter name o mode) ∷ xs) (push name (new_frame (new_protected_mark o mode call release) None) v)
+    (w v : World) (xs : List Said) → G w → LetsIn name o mode w → R (open_action name o mode w) xs v
+    → R w (own (said.Enter name o mode) ∷ xs) (push name (new_frame (new_protected_mark o mode call release) None) v)
 
 -- Who acts opens marks, and begins actions that are no handler's; of who acts beside a protected action, or in an abortable part, it
 -- is known that it is another.
 pub record MarkOpenings (G : GoodWorld) (May Other : Naming) (R : StepRelation) : Type 0 where
-  pub pushes : (name : Who) (f : Frame) (w : World) → G w → May name → (nature f.mark).region ≡ None → (nature f.mark).release ≡ None → (nature f.mark).action ≡ None → (nature f.mark).abortable ≡ false → R w [] (push name f w)
+  pub pushes : (name : Who) (f : Frame) (w : World) → G w → May name → (nature f.mark).region ≡ None → (nature f.mark).release ≡ None
+      → (nature f.mark).action ≡ None → (nature f.mark).abortable ≡ false → R w [] (push name f w)
   pub begins : (name : Who) (o : ObjectNo) (mode : Mode) (call : Option CallNo) → May name → Begins G R name o mode call None
-  pub opens_scope : (p : Image) (name : Who) (scope : ScopeNo) (b : Beginning) (purpose : Purpose) (w : World) → G w → May name → R w [] (open_scope p name scope b purpose w)
+  pub opens_scope : (p : Image) (name : Who) (scope : ScopeNo) (b : Beginning) (purpose : Purpose) (w : World) → G w → May name
+      → R w [] (open_scope p name scope b purpose w)
   pub outside : (name : Who) (w : World) → G w → May name → in_protected w name ≡ false → Other name
   pub within_part : (name : Who) (f : Frame) (w : World) → G w → May name → top_of w name ≡ Some f → is_abortable f.mark ≡ true → Other name
 
@@ -264,7 +290,8 @@ Holding = Who → ObjectNo → World → Type 0
 
 -- The protected action on top ends, of a release that may end.
 pub record ActionEnds (G : GoodWorld) (May : Naming) (MayEnd : Who → Option ℕ → Type 0) (Holds : Holding) (R : StepRelation) : Type 0 where
-  pub exits : (name : Who) (m : ProtectedMark) (w : World) → G w → May name → MayEnd name m.release → Holds name m.object w → R w (own (said.Exit name m.object) ∷ []) (close_action name m.object (pop name w))
+  pub exits : (name : Who) (m : ProtectedMark) (w : World) → G w → May name → MayEnd name m.release → Holds name m.object w
+      → R w (own (said.Exit name m.object) ∷ []) (close_action name m.object (pop name w))
 
 -- The handler of a release is called, and the release has been served.
 pub record HandlerMoves (G : GoodWorld) (R : StepRelation) : Type 0 where
@@ -317,7 +344,8 @@ coarse-natures (f ∷ fs) = ap (λ n. n ∷ coarse.natures fs) (coarse-nature f.
 same-natures : (fs gs : List Frame) → natures fs ≡ natures gs → coarse.natures fs ≡ coarse.natures gs
 same-natures fs gs same = coarse-natures fs ∙ ap all_coarsened same ∙ sym (coarse-natures gs)
 
-scope-nature : (f : ScopeMark → ScopeMark) → ((m : ScopeMark) → (f m).region ≡ m.region) → (mark : Mark) → coarse.nature (edit_scope_mark f mark) ≡ coarse.nature mark
+scope-nature : (f : ScopeMark → ScopeMark) → ((m : ScopeMark) → (f m).region ≡ m.region) → (mark : Mark)
+    → coarse.nature (edit_scope_mark f mark) ≡ coarse.nature mark
 scope-nature f same (Scope m) = ap (λ r. record { region = r; release = None; action = false; abortable = false }) (same m)
 scope-nature f same (Handled s) = refl
 scope-nature f same (InProtected m) = refl
@@ -327,7 +355,8 @@ scope-nature f same (InInitialize l) = refl
 scope-nature f same (InFinalize o) = refl
 scope-nature f same (InAssign m) = refl
 
-first-natures : (f : Frame → Frame) (fs : List Frame) → ((x : Frame) → coarse.nature (f x).mark ≡ coarse.nature x.mark) → coarse.natures (edit_first f fs) ≡ coarse.natures fs
+first-natures : (f : Frame → Frame) (fs : List Frame) → ((x : Frame) → coarse.nature (f x).mark ≡ coarse.nature x.mark)
+    → coarse.natures (edit_first f fs) ≡ coarse.natures fs
 first-natures f [] same = refl
 first-natures f (x ∷ xs) same = ap (λ n. n ∷ coarse.natures xs) (same x)
 
@@ -341,9 +370,11 @@ module _ {G : GoodWorld} {May Other : Naming} {R : StepRelation} {Q : MoveRelati
 
   -- a line tells a change behind it
   told : (part : Part) (line : Line) (w v : World) → coarse.is_apart line ≡ false → R w [] v → R w (record { part = part; line = line } ∷ []) v
-  told part line w v apart first = moves.goes_on w v v {xs = []} {ys = record { part = part; line = line } ∷ []} first (moves.says part line v (moves.behind w v first) apart)
+  told part line w v apart first =
+      moves.goes_on w v v {xs = []} {ys = record { part = part; line = line } ∷ []} first (moves.says part line v (moves.behind w v first) apart)
 
-  left_begun : (name : Who) (r : RegionNo) (leaving : Leaving) (w : World) → G w → R w (own (said.Leave name r (leaves_as leaving)) ∷ []) (edit_top name (left_so_frame leaving) (edit_top_scope name being_left_mark w))
+  left_begun : (name : Who) (r : RegionNo) (leaving : Leaving) (w : World) → G w
+      → R w (own (said.Leave name r (leaves_as leaving)) ∷ []) (edit_top name (left_so_frame leaving) (edit_top_scope name being_left_mark w))
   left_begun name r leaving w good =
       let marked = edit_top_scope name being_left_mark w in
       let left = edit_top name (left_so_frame leaving) marked in
@@ -352,13 +383,15 @@ module _ {G : GoodWorld} {May Other : Naming} {R : StepRelation} {Q : MoveRelati
       (moves.goes_on w marked left {xs = []} {ys = []} first (top_edited name (left_so_frame leaving) marked (moves.behind w marked first) (λ x. refl)))
 
   -- where its mark is opened, an action begins
-  pub begun : (name : Who) (o : ObjectNo) (mode : Mode) (call : Option CallNo) (release : Option ℕ) → ((w : World) → G w → R w [] (push name (new_frame (new_protected_mark o mode call release) None) w)) → Begins G R name o mode call release
+  pub begun : (name : Who) (o : ObjectNo) (mode : Mode) (call : Option CallNo) (release : Option ℕ)
+      → ((w : World) → G w → R w [] (push name (new_frame (new_protected_mark o mode call release) None) w)) → Begins G R name o mode call release
   begun name o mode call release pushed w v xs good lets inside =
       let opened = open_action name o mode w in
       let f = new_frame (new_protected_mark o mode call release) None in
       let lines = own (said.Enter name o mode) ∷ xs in
       let first : R w lines v = moves.goes_on w opened v {xs = own (said.Enter name o mode) ∷ []} {ys = xs} (moves.enters name o mode w good lets) inside in
-      subst (λ (ys : List Said). R w ys (push name f v)) (append-nil lines) (moves.goes_on w v (push name f v) {xs = lines} {ys = []} first (pushed v (moves.behind w v first)))
+      subst (λ (ys : List Said). R w ys (push name f v)) (append-nil lines)
+      (moves.goes_on w v (push name f v) {xs = lines} {ys = []} first (pushed v (moves.behind w v first)))
 
   pub finest : FinestMoves G May Other R Q
   finest = record {
@@ -381,7 +414,8 @@ module _ {G : GoodWorld} {May Other : Naming} {R : StepRelation} {Q : MoveRelati
     opens_abortable = λ name f w g other region release action. moves.opens_abortable name f w g other region release;
     pops = moves.pops;
     begins_leaving = λ name f m r leaving w g may top is region left. left_begun name r leaving w g;
-    has_left = λ name f m r w g may top is region left next. told Own (said.Left name r) w (pop name w) refl (moves.pops name f w g may top (ap is_protected is));
+    has_left =
+        λ name f m r w g may top is region left next. told Own (said.Left name r) w (pop name w) refl (moves.pops name f w g may top (ap is_protected is));
     readies = moves.readies;
     blocks = moves.blocks;
     places = moves.places;
@@ -403,7 +437,8 @@ module _ {G : GoodWorld} {May Other : Naming} {R : StepRelation} {Q : MoveRelati
     finds_held = moves.finds_held;
     appoints = λ due moment w g other later. moves.appoints due moment w g later;
     drops_appointment = λ test w g spares. moves.drops_appointment test w g;
-    registers = λ name l w g. told Own (said.Init name (suc w.drawn.controlled) (top_region w name) l.declared) w _ refl (moves.registers (top_region w name) l w g);
+    registers =
+        λ name l w g. told Own (said.Init name (suc w.drawn.controlled) (top_region w name) l.declared) w _ refl (moves.registers (top_region w name) l w g);
     finalizes = λ name f m r x w g may top is region left next. told Own (said.Final name x.object) w _ refl (moves.unregisters x.object w g);
     replaces = λ name l x w g found. moves.says Own (said.Replace name x.object) w g refl;
     draws_event = moves.draws_event;
@@ -432,7 +467,9 @@ module _ {G : GoodWorld} {May Other : Naming} {R : StepRelation} {Q : MoveRelati
     pub mark_openings : MarkOpenings G May Other R
     mark_openings = record {
       pushes = λ name f w g may region release action abortable. openings.pushes name f w g may region release abortable;
-      begins = λ name o mode call may w v xs g lets k. begun name o mode call None (λ u good. openings.pushes name (new_frame (new_protected_mark o mode call None) None) u good may refl refl refl) w v xs g lets k;
+      begins =
+          λ name o mode call may w v xs g lets k. begun name o mode call None
+          (λ u good. openings.pushes name (new_frame (new_protected_mark o mode call None) None) u good may refl refl refl) w v xs g lets k;
       opens_scope = openings.opens_scope;
       outside = openings.outside;
       within_part = openings.within_part;
@@ -454,7 +491,10 @@ all_of moves = record {
   regions = own_regions (openings moves);
   ends = action_ends (exits moves);
   handlers = record {
-    handles = λ o n w v xs g lets k. begun (finely moves) who.Agent o Write None (Some n) (λ u good. moves.edits_task who.Agent (λ t. with_frames (new_frame (new_protected_mark o Write None (Some n)) None ∷ t.frames) t) u (λ t. refl)) w v xs g lets k;
+    handles =
+        λ o n w v xs g lets k. begun (finely moves) who.Agent o Write None (Some n)
+        (λ u good.
+        moves.edits_task who.Agent (λ t. with_frames (new_frame (new_protected_mark o Write None (Some n)) None ∷ t.frames) t) u (λ t. refl)) w v xs g lets k;
     has_served = λ r w g is. moves.has_served r w is;
   };
   settings = setting_moves (finely moves);

@@ -12,7 +12,8 @@ use Rattle.profile_machine.specs.declared.world.lines.Said.{Said}
 use Rattle.profile_machine.specs.declared.world.tasks.Task.{Task}
 use Rattle.profile_machine.specs.Steps.{Move, Step, Done, done, changes, goes_on_with, nothing, settled, ◌▷◌, ◌▶◌}
 use Rattle.profile_machine.specs.Tasks.{task_at, edit_task_found, edit_task}
-use Rattle.profile_machine.specs.Instant.{with_script, script_item, take_item, items_due, script_items, finish_action, events_due, moments_due, timers_due, budgets_due, quantum_spent, instant}
+use Rattle.profile_machine.specs.Instant.{with_script, script_item, take_item, items_due, script_items, finish_action}
+use Rattle.profile_machine.specs.Instant.{events_due, moments_due, timers_due, budgets_due, quantum_spent, instant}
 use Rattle.machine_laws.specs.ItemLaws.{first_is_later, no_item_due}
 use Rattle.machine_laws.proofs.Kept.Handlers.{releasing}
 use Rattle.machine_laws.proofs.FineMoves.{AnyWorld}
@@ -25,17 +26,22 @@ use Rattle.machine_laws.proofs.Kept.Combinators.{Keeps, Leads, kept-world, then-
 -- ---- no step adds an item, and none takes one while the first is later than now
 
 abbrev ItemsStay : {X : Type 0} → World → List X → World → Type 0
-ItemsStay earlier lines later = (later.time ≡ earlier.time) × (length later.script ≤ length earlier.script) × (no_item_due earlier ≡ true → later.script ≡ earlier.script)
+ItemsStay earlier lines later =
+    (later.time ≡ earlier.time) × (length later.script ≤ length earlier.script) × (no_item_due earlier ≡ true → later.script ≡ earlier.script)
 
 still : (w : World) → (w.time ≡ w.time) × (length w.script ≤ length w.script) × (no_item_due w ≡ true → w.script ≡ w.script)
 still w = (refl, omega arith, λ none. refl)
 
-edit_found-still : (name : Who) (f : Task → Task) (w : World) (found : Option Task) → let v = edit_task_found name f w found in (v.time ≡ w.time) × (length v.script ≤ length w.script) × (no_item_due w ≡ true → v.script ≡ w.script)
+edit_found-still : (name : Who) (f : Task → Task) (w : World) (found : Option Task) →
+    let v = edit_task_found name f w found in
+    (v.time ≡ w.time) × (length v.script ≤ length w.script) × (no_item_due w ≡ true → v.script ≡ w.script)
 edit_found-still name f w None = still w
 edit_found-still (who.Task t) f w (Some x) = still w
 edit_found-still who.Agent f w (Some x) = still w
 
-edit_task-still : (name : Who) (f : Task → Task) (w : World) → let v = edit_task name f w in (v.time ≡ w.time) × (length v.script ≤ length w.script) × (no_item_due w ≡ true → v.script ≡ w.script)
+edit_task-still : (name : Who) (f : Task → Task) (w : World) →
+    let v = edit_task name f w in
+    (v.time ≡ w.time) × (length v.script ≤ length w.script) × (no_item_due w ≡ true → v.script ≡ w.script)
 edit_task-still name f w = edit_found-still name f w (task_at w name)
 
 -- the same script at the same time
@@ -48,7 +54,8 @@ stays_behind a b c p q = (q.0 ∙ p.0, omega (arith, p.1, q.1), λ none. q.2 (sa
 not_later : (now : ℕ) (moment : ℤ) → int_le moment (pos now) ≡ true → int_lt (pos now) moment ≡ false
 not_later now moment h = grind (arith, ints)
 
-cut-stays : (x : ℤ × Item) (rest : List (ℤ × Item)) (w : World) → w.script ≡ x ∷ rest → int_le x.0 (pos w.time) ≡ true → ItemsStay {X = Said} w [] (with_script rest w)
+cut-stays : (x : ℤ × Item) (rest : List (ℤ × Item)) (w : World) → w.script ≡ x ∷ rest → int_le x.0 (pos w.time) ≡ true
+    → ItemsStay {X = Said} w [] (with_script rest w)
 cut-stays x rest w is due =
     let long : length w.script ≡ suc (length rest) = ap length is in
     (refl, omega (arith, long), λ none. absurd (false≢true (sym (not_later w.time x.0 due) ∙ (sym (ap (first_is_later w.time) is) ∙ none))))
@@ -117,14 +124,19 @@ module _ (p : Image) where
   settled-none : (d : Done) → no_item_due (world_behind d) ≡ true → no_item_due (settled p d).0 ≡ true
   settled-none (done w said) none = none
 
-  taken_where : (fuel : ℕ) (x : ℤ × Item) (xs : List (ℤ × Item)) (w : World) (said : List Said) (test : Bool) → w.script ≡ x ∷ xs → int_le x.0 (pos w.time) ≡ test → length w.script ≤ suc fuel
+  taken_where : (fuel : ℕ) (x : ℤ × Item) (xs : List (ℤ × Item)) (w : World) (said : List Said) (test : Bool) → w.script ≡ x ∷ xs
+      → int_le x.0 (pos w.time) ≡ test → length w.script ≤ suc fuel
       → ((v : World) (said : List Said) → length v.script ≤ fuel → no_item_due (world_behind (items_due fuel p v said)) ≡ true)
-      → no_item_due (world_behind ((elim test as (λ _. Step) [ true ↦ changes (with_script xs) ▷ script_item p x.1 ▷ items_due fuel p | false ↦ nothing ]) w said)) ≡ true
+      → no_item_due
+      (world_behind ((elim test as (λ _. Step) [ true ↦ changes (with_script xs) ▷ script_item p x.1 ▷ items_due fuel p | false ↦ nothing ]) w said))
+      ≡ true
   unfolding Keeps
   taken_where fuel x xs w said true is due most others =
       let cut = with_script xs w in
       let long : length w.script ≡ suc (length xs) = ap length is in
-      let kept = (kept-world ItemsStay cut said (script_item p x.1 cut said) (script_item-keeps (all_of items_stay).fine (all_of items_stay).settings (releasing (all_of items_stay)) p x.1 cut tt said)).1.1 in
+      let kept =
+      (kept-world ItemsStay cut said (script_item p x.1 cut said)
+      (script_item-keeps (all_of items_stay).fine (all_of items_stay).settings (releasing (all_of items_stay)) p x.1 cut tt said)).1.1 in
       none_behind fuel (items_due fuel p) (script_item p x.1 cut said) (omega (arith, long, kept, most)) others
   taken_where fuel x xs w said false is due most others = ap (first_is_later w.time) is ∙ is_later w.time x.0 due
 
@@ -149,10 +161,15 @@ behind_items p = events_due p ▶ moments_due p ▶ timers_due p ▶ budgets_due
 
 behind_items-leads : (p : Image) → Leads AnyWorld ItemsStay (behind_items p)
 behind_items-leads p =
-    then-leads (move_chains (all_of items_stay).fine) (events_due p) (moments_due p ▶ timers_due p ▶ budgets_due p ▶ quantum_spent p) (events_due-leads (all_of items_stay).fine (all_of items_stay).settings (releasing (all_of items_stay)) p)
-    (then-leads (move_chains (all_of items_stay).fine) (moments_due p) (timers_due p ▶ budgets_due p ▶ quantum_spent p) (moments_due-leads (all_of items_stay).fine p)
-    (then-leads (move_chains (all_of items_stay).fine) (timers_due p) (budgets_due p ▶ quantum_spent p) (timers_due-leads (all_of items_stay).fine (all_of items_stay).settings (releasing (all_of items_stay)) p)
-    (then-leads (move_chains (all_of items_stay).fine) (budgets_due p) (quantum_spent p) (budgets_due-leads (all_of items_stay).fine (all_of items_stay).settings (releasing (all_of items_stay)) p) (quantum_spent-leads (all_of items_stay).fine p))))
+    then-leads (move_chains (all_of items_stay).fine) (events_due p) (moments_due p ▶ timers_due p ▶ budgets_due p ▶ quantum_spent p)
+    (events_due-leads (all_of items_stay).fine (all_of items_stay).settings (releasing (all_of items_stay)) p)
+    (then-leads (move_chains (all_of items_stay).fine) (moments_due p) (timers_due p ▶ budgets_due p ▶ quantum_spent p)
+    (moments_due-leads (all_of items_stay).fine p)
+    (then-leads (move_chains (all_of items_stay).fine) (timers_due p) (budgets_due p ▶ quantum_spent p)
+    (timers_due-leads (all_of items_stay).fine (all_of items_stay).settings (releasing (all_of items_stay)) p)
+    (then-leads (move_chains (all_of items_stay).fine) (budgets_due p) (quantum_spent p)
+    (budgets_due-leads (all_of items_stay).fine (all_of items_stay).settings (releasing (all_of items_stay)) p)
+    (quantum_spent-leads (all_of items_stay).fine p))))
 
 pub instants_leave_no_item_due : (p : Image) (w : World) → no_item_due (instant p w).0 ≡ true
 unfolding Leads

@@ -126,7 +126,8 @@ says_run-lines : (same : Bool) (name : Who) (w : World) → AllAre is_of_tock (c
 says_run-lines true name w = tt
 says_run-lines false name w = (refl, tt)
 
-serve_if_free-lines : (serving : Option Release) (frames : List Frame) (releases : List Release) (w : World) → AllAre is_of_tock (serve_if_free serving frames releases w).1
+serve_if_free-lines : (serving : Option Release) (frames : List Frame) (releases : List Release) (w : World)
+    → AllAre is_of_tock (serve_if_free serving frames releases w).1
 serve_if_free-lines None [] [] w = tt
 serve_if_free-lines None [] (r ∷ rest) w = (refl, tt)
 serve_if_free-lines None (f ∷ fs) releases w = tt

@@ -125,12 +125,16 @@ pub record Moves (R : StepRelation) (Q : MoveRelation) : Type 0 where
   pub adds_call : (c : Call) (w : World) → R w [] (add_call c w)
   pub forgets_call : (c : CallNo) (w : World) → R w [] (forget_call c w)
   -- protected objects: no other edit changes the actions that are open
-  pub edits_object : (o : ObjectNo) (f : Object → Object) (w : World) → ((x : Object) → (f x).number ≡ x.number) → ((x : Object) → (f x).actions ≡ x.actions) → R w [] (edit_object o f w)
-  pub adds_object : (p : Image) (l : Located) (u : ProtectedUnitNo) (w : World) → R w [] (record w { objects = new_object p l u (suc w.drawn.objects) ∷ w.objects; drawn = object_drawn w.drawn })
+  pub edits_object : (o : ObjectNo) (f : Object → Object) (w : World) → ((x : Object) → (f x).number ≡ x.number) → ((x : Object) → (f x).actions ≡ x.actions)
+      → R w [] (edit_object o f w)
+  pub adds_object : (p : Image) (l : Located) (u : ProtectedUnitNo) (w : World)
+      → R w [] (record w { objects = new_object p l u (suc w.drawn.objects) ∷ w.objects; drawn = object_drawn w.drawn })
   -- protected actions: one begins, one ends, one begins and ends at once round other lines and a change, and one may not begin
-  pub enters : (name : Who) (o : ObjectNo) (mode : Mode) (w : World) → LetsIn name o mode w → R w (own (said.Enter name o mode) ∷ []) (open_action name o mode w)
+  pub enters : (name : Who) (o : ObjectNo) (mode : Mode) (w : World) → LetsIn name o mode w
+      → R w (own (said.Enter name o mode) ∷ []) (open_action name o mode w)
   pub exits : (name : Who) (o : ObjectNo) (w : World) → R w (own (said.Exit name o) ∷ []) (close_action name o w)
-  pub visits : (name : Who) (o : ObjectNo) (mode : Mode) (xs : List Said) (w v : World) → LetsIn name o mode w → AreOthers xs → R w [] v → R w (own (said.Enter name o mode) ∷ xs ++ own (said.Exit name o) ∷ []) v
+  pub visits : (name : Who) (o : ObjectNo) (mode : Mode) (xs : List Said) (w v : World) → LetsIn name o mode w → AreOthers xs → R w [] v
+      → R w (own (said.Enter name o mode) ∷ xs ++ own (said.Exit name o) ∷ []) v
   pub finds_held : (name : Who) (o : ObjectNo) (mode : Mode) (w : World) → FindsHeld name o mode w → R w (own (said.Held name o mode) ∷ []) w
   -- appointments: one that is set is later than now
   pub appoints : (due : Due) (moment : ℤ) (w : World) → int_lt (pos w.time) moment ≡ true → R w [] (appoint due moment w)
@@ -147,7 +151,8 @@ pub record Moves (R : StepRelation) (Q : MoveRelation) : Type 0 where
   pub adds_budget : (w : World) → R w [] (with_budget w)
   pub edits_budget : (b : ℕ) (f : Budget → Budget) (w : World) → R w [] (edit_budget b f w)
   pub sets_budget_due : (budget : Option ℕ) (w : World) → R w [] (record w { budget_due = budget })
-  pub releases : (h : HandlerOf) (argument : Option ℕ) (w : World) → R w (record { part = Own; line = said.Release (suc w.drawn.releases) h } ∷ []) (add_release h argument w)
+  pub releases : (h : HandlerOf) (argument : Option ℕ) (w : World)
+      → R w (record { part = Own; line = said.Release (suc w.drawn.releases) h } ∷ []) (add_release h argument w)
   pub has_served : (r : Release) (w : World) → w.serving ≡ Some r → R w (own (said.Served r.number) ∷ []) (serves_nothing w)
   -- the outside: of the script only the first item that is ahead is taken, when its moment has come
   pub sets_port : (n : ℕ) (value : ℤ) (w : World) → R w [] (with_port n value w)
@@ -158,7 +163,8 @@ pub record Moves (R : StepRelation) (Q : MoveRelation) : Type 0 where
 -- The line of a Put_Line, of which a relation may ask that the program has such a statement, and that what it puts is the
 -- text of its pieces as somebody sees them.
 pub record Puts (G : World → Type 0) (R : StepRelation) (p : Image) : Type 0 where
-  pub puts : (name : Who) (s : StatementNo) (pieces : List Piece) (text : List ℕ) (v w : World) → G w → form_of p s ≡ form.PutLine pieces → text_of_pieces (seen_by p v name) pieces ≡ Ok text → R w (record { part = Own; line = said.Put name text } ∷ []) w
+  pub puts : (name : Who) (s : StatementNo) (pieces : List Piece) (text : List ℕ) (v w : World) → G w → form_of p s ≡ form.PutLine pieces
+      → text_of_pieces (seen_by p v name) pieces ≡ Ok text → R w (record { part = Own; line = said.Put name text } ∷ []) w
 
 -- what a tock does besides, up to its tick: it says its lines, and the agent takes up the first release that is pending
 pub record TockMoves (Q : MoveRelation) : Type 0 where

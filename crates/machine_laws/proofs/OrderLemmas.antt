@@ -59,7 +59,8 @@ is_above-asym x y e =
 pub is_above-trans : (x y z : Placed) → is_above y x ≡ false → is_above z y ≡ false → is_above z x ≡ false
 unfolding above_by
 is_above-trans x y z e f =
-    above_by-trans x.level y.level z.level (is_deadline_before y.deadline x.deadline) (is_deadline_before z.deadline y.deadline) (is_deadline_before z.deadline x.deadline) (before-trans x.deadline y.deadline z.deadline) e f
+    above_by-trans x.level y.level z.level (is_deadline_before y.deadline x.deadline) (is_deadline_before z.deadline y.deadline)
+    (is_deadline_before z.deadline x.deadline) (before-trans x.deadline y.deadline z.deadline) e f
 
 -- ---- in order: none is above the one before it
 

@@ -132,7 +132,8 @@ tocks_place_nobody p w =
 placed_rightly : World → Type 0
 placed_rightly w = Descends w.places × Differ w.places
 
-after-rightly : (lines : List Event) (before after : List Placed) → after ≡ places_after_all lines before → Descends before × Differ before → Descends after × Differ after
+after-rightly : (lines : List Event) (before after : List Placed) → after ≡ places_after_all lines before → Descends before × Differ before
+    → Descends after × Differ after
 after-rightly lines before after e h =
     subst (λ places. Descends places × Differ places) (sym e) (Descends-after_all lines before h.0, Differ-after_all lines before h.1)
 

@@ -66,19 +66,22 @@ behind-descends x [] h = tt
 behind-descends x (y ∷ ys) h = h.1
 
 -- whoever is placed at the head, and somebody who is taken out: where another stands before
-out-below : (name : Who) (x y : Placed) (ys : List Placed) → is_above y x ≡ true → take_out name (put_at_head x ys) ≡ cond (same_who name x.who) (take_out name ys) (put_at_head x (take_out name ys)) →
+out-below : (name : Who) (x y : Placed) (ys : List Placed) → is_above y x ≡ true
+    → take_out name (put_at_head x ys) ≡ cond (same_who name x.who) (take_out name ys) (put_at_head x (take_out name ys)) →
     take_out name (put_at_head x (y ∷ ys)) ≡ cond (same_who name x.who) (take_out name (y ∷ ys)) (put_at_head x (take_out name (y ∷ ys)))
 out-below name x y ys t e =
     by_test (same_who name x.who)
     (λ s. by_test (same_who name y.who) (λ r. rw (t, s, r) (e ∙ rw s refl)) (λ r. rw (t, s, r) (ap (λ l. y ∷ l) (e ∙ rw s refl))))
     (λ s. by_test (same_who name y.who) (λ r. rw (t, s, r) (e ∙ rw s refl)) (λ r. rw (t, s, r) (rw t (ap (λ l. y ∷ l) (e ∙ rw s refl)))))
 
-out-first : (name : Who) (x : Placed) (xs : List Placed) → Behind x xs → take_out name (put_at_head x xs) ≡ cond (same_who name x.who) (take_out name xs) (put_at_head x (take_out name xs))
+out-first : (name : Who) (x : Placed) (xs : List Placed) → Behind x xs
+    → take_out name (put_at_head x xs) ≡ cond (same_who name x.who) (take_out name xs) (put_at_head x (take_out name xs))
 out-first name x xs h =
     ap (take_out name) (head-first x xs h)
     ∙ by_test (same_who name x.who) (λ s. rw s refl) (λ s. rw s (sym (head-first x (take_out name xs) (Behind-out name x xs h))))
 
-out-head : (name : Who) (x : Placed) (xs : List Placed) → Descends xs → take_out name (put_at_head x xs) ≡ cond (same_who name x.who) (take_out name xs) (put_at_head x (take_out name xs))
+out-head : (name : Who) (x : Placed) (xs : List Placed) → Descends xs
+    → take_out name (put_at_head x xs) ≡ cond (same_who name x.who) (take_out name xs) (put_at_head x (take_out name xs))
 out-head name x [] h = out-first name x [] tt
 out-head name x (y ∷ ys) h =
     by_test (is_above y x)
@@ -90,7 +93,8 @@ lined-out name [] = refl
 lined-out name (e ∷ queue) =
     by_test (same_who name e.who)
     (λ s. rw (who_eq-is name e.who, s) (lined-out name queue ∙ sym (out-head name (as_placed e) (lined queue) (lined-descends queue) ∙ rw s refl)))
-    (λ s. rw (who_eq-is name e.who, s) (ap (put_at_head (as_placed e)) (lined-out name queue) ∙ sym (out-head name (as_placed e) (lined queue) (lined-descends queue) ∙ rw s refl)))
+    (λ s. rw (who_eq-is name e.who, s)
+    (ap (put_at_head (as_placed e)) (lined-out name queue) ∙ sym (out-head name (as_placed e) (lined queue) (lined-descends queue) ∙ rw s refl)))
 
 -- one at the head and one at the tail do not mind each other
 head-tail : (x e : Placed) (ys : List Placed) → put_at_head x (put_at_tail e ys) ≡ put_at_tail e (put_at_head x ys)
@@ -134,7 +138,8 @@ front_entry (Some e) = Some (as_placed e)
 some-path : (x y : Placed) → Some x ≡ Some y → x ≡ y
 some-path x y e = cc
 
-front-put : (e : Entry) (xs : List Placed) (first : Option Entry) → front xs ≡ front_entry first → front (put_at_head (as_placed e) xs) ≡ Some (as_placed (first_of e first))
+front-put : (e : Entry) (xs : List Placed) (first : Option Entry) → front xs ≡ front_entry first
+    → front (put_at_head (as_placed e) xs) ≡ Some (as_placed (first_of e first))
 unfolding front front_entry
 front-put e [] None h = refl
 front-put e [] (Some o) h = cc

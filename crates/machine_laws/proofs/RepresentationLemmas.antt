@@ -28,22 +28,29 @@ turns (suc n) w = turns n (tock program (instant program w).0).0
 abbrev idle : World
 idle = turns 5 first
 
-opening-lines : (fuel : ℕ) → (then_runs 0 (opening program []).1 (run_from fuel program 1000000000 first)).lines ≡ (0, line.New (created.Task (task 0)) (codes "main") 15) ∷ (0, line.Ready (t 0) 15 Tail None) ∷ (run_from fuel program 1000000000 first).lines
+opening-lines : (fuel : ℕ)
+    → (then_runs 0 (opening program []).1 (run_from fuel program 1000000000 first)).lines
+    ≡ (0, line.New (created.Task (task 0)) (codes "main") 15) ∷ (0, line.Ready (t 0) 15 Tail None) ∷ (run_from fuel program 1000000000 first).lines
 unfolding digits computing
 opening-lines fuel = refl
 
 -- up to the delay
-front-lines : (fuel : ℕ) → (run_from (suc (suc (suc (suc (suc fuel))))) program 1000000000 first).lines ≡ (0, line.Run (t 0)) ∷ (4, line.Block (t 0) waits.Delay) ∷ (4, line.Idle) ∷ (run_from fuel program 1000000000 (idle_at idle 5)).lines
+front-lines : (fuel : ℕ)
+    → (run_from (suc (suc (suc (suc (suc fuel))))) program 1000000000 first).lines
+    ≡ (0, line.Run (t 0)) ∷ (4, line.Block (t 0) waits.Delay) ∷ (4, line.Idle) ∷ (run_from fuel program 1000000000 (idle_at idle 5)).lines
 unfolding digits computing
 front-lines fuel = refl
 
 -- from its moment on
-back-lines : (fuel : ℕ) → (run_from (suc (suc (suc fuel))) program 1000000000 (idle_at idle 900000004)).lines ≡ (900000004, line.Ready (t 0) 15 Tail None) ∷ (900000004, line.Run (t 0)) ∷ (900000006, line.Done (task 0)) ∷ (900000006, line.End end.Completed) ∷ []
+back-lines : (fuel : ℕ)
+    → (run_from (suc (suc (suc fuel))) program 1000000000 (idle_at idle 900000004)).lines
+    ≡ (900000004, line.Ready (t 0) 15 Tail None) ∷ (900000004, line.Run (t 0)) ∷ (900000006, line.Done (task 0)) ∷ (900000006, line.End end.Completed) ∷ []
 unfolding digits computing
 back-lines fuel = refl
 
 -- over the idle stretch
-all-lines : (fuel k left : ℕ) → k ≡ 899999999 → fuel ≡ suc (suc (suc (suc (suc (k + suc (suc (suc left))))))) → (then_runs 0 (opening program []).1 (run_from fuel program 1000000000 first)).lines ≡ row_representation_trace
+all-lines : (fuel k left : ℕ) → k ≡ 899999999 → fuel ≡ suc (suc (suc (suc (suc (k + suc (suc (suc left)))))))
+    → (then_runs 0 (opening program []).1 (run_from fuel program 1000000000 first)).lines ≡ row_representation_trace
 unfolding row_representation_trace digits computing
 all-lines fuel k left e f =
     let there : 5 + k ≡ 900000004 = omega arith in
@@ -51,7 +58,9 @@ all-lines fuel k left e f =
     ap (λ n. (run_from n program 1000000000 first).lines) f
     ∙ front-lines (k + suc (suc (suc left)))
     ∙ ap (λ xs. (0, line.Run (t 0)) ∷ (4, line.Block (t 0) waits.Delay) ∷ (4, line.Idle) ∷ xs) (
-    ap (λ r. r.lines) (idle_stretches program 1000000000 idle 5 k (suc (suc (suc left))) (omega arith) refl (subst (λ n. pos n ≤ℤ pos 900000004) (sym there) (≤ℤ_refl (pos 900000004)), tt) tt)
+    ap (λ r. r.lines)
+    (idle_stretches program 1000000000 idle 5 k (suc (suc (suc left))) (omega arith) refl
+    (subst (λ n. pos n ≤ℤ pos 900000004) (sym there) (≤ℤ_refl (pos 900000004)), tt) tt)
     ∙ ap (λ n. (run_from (suc (suc (suc left))) program 1000000000 (idle_at idle n)).lines) there
     ∙ back-lines left))
 

@@ -1,5 +1,6 @@
 -- The lines of a run, by induction over its fuel: an instant takes no time, and a tock takes one tick.
-use Rattle.std.proofs.Common.{◌≡◌, ℕ, ℤ, zero, suc, ◌+◌, ◌≤◌, Bool, true, false, cond, eqb, ◌&&◌, List, [], ◌∷◌, ◌++◌, Option, Some, None, refl, sym, ap, subst, ◌∙◌, arith}
+use Rattle.std.proofs.Common.{◌≡◌, ℕ, ℤ, zero, suc, ◌+◌, ◌≤◌, Bool, true, false, cond, eqb, ◌&&◌, List}
+use Rattle.std.proofs.Common.{[], ◌∷◌, ◌++◌, Option, Some, None, refl, sym, ap, subst, ◌∙◌, arith}
 use Rattle.std.proofs.lemmas.Bool.{eqb-true}
 use Rattle.ann_base.specs.declared.exceptions.Raised.{Raised}
 use Rattle.trace_text.specs.declared.events.Event.{Event}
@@ -33,7 +34,8 @@ later-none None b e = e
 
 going_on-below : (p : Image) (bound : ℕ) (w : World) → stop p bound w ≡ None → eqb w.time bound ≡ false
 going_on-below p bound w e =
-    bound-reached (eqb w.time bound) (later-none (stop_by_stuck w) (stop_by_bound bound w) (later-none (stop_by_end p w.ended) (option_or (stop_by_stuck w) (stop_by_bound bound w)) e))
+    bound-reached (eqb w.time bound)
+    (later-none (stop_by_stuck w) (stop_by_bound bound w) (later-none (stop_by_end p w.ended) (option_or (stop_by_stuck w) (stop_by_bound bound w)) e))
 
 -- a run that goes on stands below the bound
 pub below_bound : (p : Image) (bound : ℕ) (w : World) → stop p bound w ≡ None → w.time ≤ bound → suc w.time ≤ bound
@@ -108,14 +110,22 @@ record Goes (bound now : ℕ) (r : Ran) : Type 0 where
   pub within : AllUpTo bound r.lines
   pub ends : EndsAt bound r
 
-stopped-goes : (bound now : ℕ) (events : List Event) (reason : Ended) → AllAre is_no_end events → now ≤ bound → (reason ≡ why.Bound → now ≡ bound) → Goes bound now (stopped now events reason)
+stopped-goes : (bound now : ℕ) (events : List Event) (reason : Ended) → AllAre is_no_end events → now ≤ bound → (reason ≡ why.Bound → now ≡ bound)
+    → Goes bound now (stopped now events reason)
 stopped-goes bound now events reason n a b = record {
   rises = RisesFrom-at_tick now now (events ++ line.End reason ∷ []) (omega arith);
   within = AllUpTo-at_tick bound now (events ++ line.End reason ∷ []) a;
-  ends = record { front = at_tick now events; last = now; shape = at_tick-append now events (line.End reason ∷ []); once = NoneEnds-at_tick now events n; at_bound = b };
+  ends = record {
+    front = at_tick now events;
+    last = now;
+    shape = at_tick-append now events (line.End reason ∷ []);
+    once = NoneEnds-at_tick now events n;
+    at_bound = b;
+  };
 }
 
-then_runs-goes : (bound now next : ℕ) (events : List Event) (rest : Ran) → AllAre is_no_end events → now ≤ bound → now ≤ next → Goes bound next rest → Goes bound now (then_runs now events rest)
+then_runs-goes : (bound now next : ℕ) (events : List Event) (rest : Ran) → AllAre is_no_end events → now ≤ bound → now ≤ next → Goes bound next rest
+    → Goes bound now (then_runs now events rest)
 then_runs-goes bound now next events rest n a b h = record {
   rises = RisesFrom-then now now events rest.lines (omega arith) (RisesFrom-less now next rest.lines b h.rises);
   within = AllUpTo-then bound now events rest.lines a h.within;
@@ -133,12 +143,14 @@ unfoldable pub turn : ℕ → World × List Event → World × List Event → Ra
 turn now i t rest (Some reason) = stopped now i.1 reason
 turn now i t rest None = then_runs now (i.1 ++ t.1) rest
 
-turn-goes : (bound now next : ℕ) (i t : World × List Event) (rest : Ran) (reason : Option Ended) → AllAre is_no_end i.1 → AllAre is_no_end t.1 → now ≤ bound → now ≤ next → (reason ≡ Some why.Bound → now ≡ bound) → (reason ≡ None → Goes bound next rest) → Goes bound now (turn now i t rest reason)
+turn-goes : (bound now next : ℕ) (i t : World × List Event) (rest : Ran) (reason : Option Ended) → AllAre is_no_end i.1 → AllAre is_no_end t.1 → now ≤ bound
+    → now ≤ next → (reason ≡ Some why.Bound → now ≡ bound) → (reason ≡ None → Goes bound next rest) → Goes bound now (turn now i t rest reason)
 unfolding turn
 turn-goes bound now next i t rest (Some reason) n l a b k h = stopped-goes bound now i.1 reason n a (λ e. k (ap Some e))
 turn-goes bound now next i t rest None n l a b k h = then_runs-goes bound now next (i.1 ++ t.1) rest (AllAre-append is_no_end i.1 t.1 n l) a b (h refl)
 
-turn-rises : (now next : ℕ) (i t : World × List Event) (rest : Ran) (reason : Option Ended) → now ≤ next → RisesFrom next rest.lines → RisesFrom now (turn now i t rest reason).lines
+turn-rises : (now next : ℕ) (i t : World × List Event) (rest : Ran) (reason : Option Ended) → now ≤ next → RisesFrom next rest.lines
+    → RisesFrom now (turn now i t rest reason).lines
 unfolding turn
 turn-rises now next i t rest (Some reason) a h = RisesFrom-at_tick now now (i.1 ++ line.End reason ∷ []) (omega arith)
 turn-rises now next i t rest None a h = RisesFrom-then now now (i.1 ++ t.1) rest.lines (omega arith) (RisesFrom-less now next rest.lines a h)

@@ -23,7 +23,9 @@ instants_keep_runner p w = ap (λ x. x.1) (instant-leads (all_of at_once) p (rec
 pub tocks_take_one_tick : (p : Image) (w : World) → (tock p w).0.time ≡ suc w.time
 unfolding Leads
 tocks_take_one_tick p w =
-    ap (λ a. a.0.time) (tock-parts p w) ∙ ap (λ x. suc x.0) (before_tick-leads (all_of at_once) (tocks_of (record { tells = λ event v k. refl; serves = λ r rest v k. refl })) p (choose w) w tt)
+    ap (λ a. a.0.time) (tock-parts p w)
+    ∙ ap (λ x. suc x.0)
+    (before_tick-leads (all_of at_once) (tocks_of (record { tells = λ event v k. refl; serves = λ r rest v k. refl })) p (choose w) w tt)
 
 pub opening_now : (p : Image) (script : List (ℤ × Item)) → (opening p script).0.time ≡ 0
 unfolding Leads

@@ -1,7 +1,8 @@
 -- What every world that a run reaches keeps of its lists: the parts of `is_well_formed` that speak of one list alone.
 use Rattle.std.specs.Prelude.{Bool, ltb, IsTrue, int_le}
 use Rattle.profile_machine.specs.declared.world.World.{World}
-use Rattle.profile_machine.specs.WellFormed.{all_adjacent, is_older, tasks_are_numbered, registered_are_numbered, releases_are_numbered}
+use Rattle.profile_machine.specs.WellFormed.{all_adjacent, is_older, tasks_are_numbered}
+use Rattle.profile_machine.specs.WellFormed.{registered_are_numbered, releases_are_numbered}
 use Rattle.machine_laws.specs.Reached.{AllReached}
 
 -- tasks rise in number, and each number was drawn

@@ -1,8 +1,10 @@
 //! Runs: they stay within their bound, and end.
 ghost use Rattle.machine_laws.specs.IdleLaws.{IdleStretches};
-ghost use Rattle.machine_laws.specs.RunLaws.{WorldsStayWithin, LinesStayWithin, TicksNeverFall, RunsEnd};
+ghost use Rattle.machine_laws.specs.RunLaws.{WorldsStayWithin, LinesStayWithin};
+ghost use Rattle.machine_laws.specs.RunLaws.{TicksNeverFall, RunsEnd};
 
-/// The time of a world that a run reaches is never past the bound, and no line stands at a later tick.
+/// The time of a world that a run reaches is never past the bound, and no line stands at a later
+/// tick.
 #[tactic(auto, using(crate::proofs::RunLemmas::worlds_stay_within, crate::proofs::RunLemmas::lines_stay_within))]
 pub fn runs_stay_within()
     ensures worlds { WorldsStayWithin }
@@ -15,7 +17,8 @@ pub fn ticks_never_fall()
     ensures { TicksNeverFall }
 {}
 
-/// The last line of a run says why it stopped, and no line before it does; where the bound is why, it stands at the bound.
+/// The last line of a run says why it stopped, and no line before it does; where the bound is why,
+/// it stands at the bound.
 #[tactic(auto, using(crate::proofs::RunLemmas::runs_end))]
 pub fn runs_end()
     ensures { RunsEnd }

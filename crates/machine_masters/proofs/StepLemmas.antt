@@ -11,7 +11,13 @@ use Rattle.profile_machine.specs.Steps.{done, goes_on_with, changes, for_some, �
 use Rattle.profile_machine.specs.Tasks.{task_of}
 
 -- a task that terminates, step by step
-pub terminated : (p : Image) (w : World) (said : List Said) (name actor : Who) (master : Option RegionNo) (completed undelayed forgotten : World) (told : List Said) → master ≡ (task_of w name).master → complete p actor name w said ≡ done completed told → undelayed ≡ drop_delay name completed → forgotten ≡ forget_task name undelayed → terminate p actor name w said ≡ for_some master (wake_master p actor) forgotten told
+pub terminated : (p : Image) (w : World) (said : List Said) (name actor : Who) (master : Option RegionNo) (completed undelayed forgotten : World)
+    (told : List Said)
+    → master ≡ (task_of w name).master
+    → complete p actor name w said ≡ done completed told
+    → undelayed ≡ drop_delay name completed
+    → forgotten ≡ forget_task name undelayed
+    → terminate p actor name w said ≡ for_some master (wake_master p actor) forgotten told
 unfolding terminate
 terminated p w said name actor master completed undelayed forgotten told m c u f =
     let woken = λ (o : Option RegionNo) (x : World). for_some o (wake_master p actor) x told in

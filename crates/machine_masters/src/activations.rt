@@ -1,6 +1,9 @@
 //! The end of a task's activation (ISO/IEC 8652:2012, 9.2).
 ghost use Rattle.std.specs.Prelude.{◌≡◌, ◌||◌, OnOk};
-ghost use Rattle.profile_machine.specs.Masters.{has_activating, is_activated_by, waits_for_activation, with_failure, wake_activator, end_group, not_activating, end_activation_by, end_activation};
+ghost use Rattle.profile_machine.specs.Masters.{has_activating, is_activated_by};
+ghost use Rattle.profile_machine.specs.Masters.{waits_for_activation, with_failure};
+ghost use Rattle.profile_machine.specs.Masters.{wake_activator, end_group, not_activating};
+ghost use Rattle.profile_machine.specs.Masters.{end_activation_by, end_activation};
 ghost use Rattle.profile_machine.specs.Tasks.{edit_task, task_of, waiting_of};
 ghost use Rattle.machine_frames.specs.Did.{Did};
 

@@ -1,7 +1,8 @@
 //! A task is completed (ISO/IEC 8652:2012, 9.3): no call on it is accepted any more, and those that
 //! are queued get Tasking_Error.
 ghost use Rattle.std.specs.Prelude.{◌≡◌, OnOk, IfOk, map};
-ghost use Rattle.profile_machine.specs.Masters.{gone_by_completion, without_queued, completed_task, last_left_as, has_failed, complete_with, complete};
+ghost use Rattle.profile_machine.specs.Masters.{gone_by_completion, without_queued, completed_task};
+ghost use Rattle.profile_machine.specs.Masters.{last_left_as, has_failed, complete_with, complete};
 ghost use Rattle.profile_machine.specs.Steps.{for_each};
 ghost use Rattle.profile_machine.specs.Tasks.{edit_task, task_of};
 ghost use Rattle.machine_frames.specs.Did.{Did};

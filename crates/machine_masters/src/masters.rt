@@ -2,7 +2,8 @@
 //! (ISO/IEC 8652:2012, 9.3).
 ghost use Rattle.std.specs.Prelude.{◌≡◌, suc, Some};
 ghost use Rattle.std.specs.List.{list_any};
-ghost use Rattle.profile_machine.specs.Masters.{masters_from, depends_on_region, is_task, owner_of, depends_on_task, has_dependents};
+ghost use Rattle.profile_machine.specs.Masters.{masters_from, depends_on_region, is_task};
+ghost use Rattle.profile_machine.specs.Masters.{owner_of, depends_on_task, has_dependents};
 ghost use Rattle.profile_image.specs.Words.{has, is_the, same_region};
 
 use crate::regions::owner_of;

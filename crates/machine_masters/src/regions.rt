@@ -1,6 +1,8 @@
 //! Regions, who owns them, and whether they are being left (ISO/IEC 8652:2012, 7.6.1, 9.3).
 ghost use Rattle.std.specs.Prelude.{◌≡◌, option_copied};
-ghost use Rattle.profile_machine.specs.Masters.{region_of_mark, has_region, owns, owner_of, is_scope_being_left, is_being_left_in, is_region_being_left};
+ghost use Rattle.profile_machine.specs.Masters.{region_of_mark, has_region, owns};
+ghost use Rattle.profile_machine.specs.Masters.{owner_of, is_scope_being_left};
+ghost use Rattle.profile_machine.specs.Masters.{is_being_left_in, is_region_being_left};
 
 use ann_base::RegionNo;
 use machine_frames::region_of_mark;

@@ -1,7 +1,9 @@
 //! Terminate alternatives (ISO/IEC 8652:2012, 9.7.1, 9.3).
 ghost use Rattle.std.specs.Prelude.{◌≡◌, ◌&&◌, suc, Some, OnOk};
 ghost use Rattle.std.specs.List.{list_any};
-ghost use Rattle.profile_machine.specs.Masters.{waits_at_terminate, is_at_terminate, is_region_being_left, all_at_terminate, masters_from, may_terminate, leave_by_terminate};
+ghost use Rattle.profile_machine.specs.Masters.{waits_at_terminate, is_at_terminate};
+ghost use Rattle.profile_machine.specs.Masters.{is_region_being_left, all_at_terminate};
+ghost use Rattle.profile_machine.specs.Masters.{masters_from, may_terminate, leave_by_terminate};
 ghost use Rattle.profile_machine.specs.declared.world.tasks.Task.{Task as AnyTask};
 ghost use Rattle.machine_frames.specs.Did.{Did};
 

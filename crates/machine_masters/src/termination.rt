@@ -1,6 +1,7 @@
 //! A task terminates (ISO/IEC 8652:2012, 9.3).
 ghost use Rattle.std.specs.Prelude.{◌≡◌, OnOk, find, option_copied};
-ghost use Rattle.profile_machine.specs.Masters.{waits_for_dependents, wake_master, forget_task, terminate};
+ghost use Rattle.profile_machine.specs.Masters.{waits_for_dependents, wake_master};
+ghost use Rattle.profile_machine.specs.Masters.{forget_task, terminate};
 ghost use Rattle.profile_machine.specs.Steps.{for_some};
 ghost use Rattle.profile_machine.specs.Tasks.{is_who, task_of};
 ghost use Rattle.profile_image.specs.Words.{without};

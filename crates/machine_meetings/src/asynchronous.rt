@@ -1,6 +1,7 @@
 //! The asynchronous select (ISO/IEC 8652:2012, 9.7.4): the trigger is issued first.
 ghost use Rattle.std.specs.Prelude.{◌≡◌, OnOk};
-ghost use Rattle.profile_machine.specs.EntryCalls.{appoint_trigger, trigger_delay, async_delay, asynchronous_select};
+ghost use Rattle.profile_machine.specs.EntryCalls.{appoint_trigger, trigger_delay};
+ghost use Rattle.profile_machine.specs.EntryCalls.{async_delay, asynchronous_select};
 ghost use Rattle.machine_frames.specs.Did.{Did};
 
 use crate::task_calls::{entry_call, is_forbidden};

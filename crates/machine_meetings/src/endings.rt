@@ -1,7 +1,9 @@
 //! The end of an accept, and calls that are sent on from one (ISO/IEC 8652:2012, 9.5.2, 9.5.4).
 ghost use Rattle.std.specs.Prelude.{◌≡◌, OnOk};
 ghost use Rattle.profile_machine.specs.Calls.{edit_call};
-ghost use Rattle.profile_machine.specs.Rendezvous.{is_callable, gone_sent, meet_sent, arrive_at, arrive, finish_accept, finish_rendezvous, behind_accept, finished_call, end_in_accept};
+ghost use Rattle.profile_machine.specs.Rendezvous.{is_callable, gone_sent, meet_sent, arrive_at};
+ghost use Rattle.profile_machine.specs.Rendezvous.{arrive, finish_accept, finish_rendezvous};
+ghost use Rattle.profile_machine.specs.Rendezvous.{behind_accept, finished_call, end_in_accept};
 ghost use Rattle.machine_frames.specs.Did.{Did};
 ghost use Rattle.machine_meetings.specs.Meetings.{says_gone, rendezvous_ends};
 

@@ -1,5 +1,6 @@
-//! Rendezvous: calls of a task's entries meet the accepts that wait for them, and accepts end; entry calls of every kind, and
-//! the triggers of asynchronous selects. Each function has the name of the machine's definition of which it is the counterpart.
+//! Rendezvous: calls of a task's entries meet the accepts that wait for them, and accepts end;
+//! entry calls of every kind, and the triggers of asynchronous selects. Each function has the name
+//! of the machine's definition of which it is the counterpart.
 #![tactic(auto)]
 
 mod asynchronous;

@@ -1,7 +1,8 @@
 //! The parameters of an entry call (ISO/IEC 8652:2012, 6.4.1).
 ghost use Rattle.std.specs.Prelude.{◌≡◌, IfOk};
 ghost use Rattle.ann_base.specs.Answers.{Answers};
-ghost use Rattle.profile_machine.specs.EntryCalls.{entry_parameter, entry_parameters, values_in, results_in};
+ghost use Rattle.profile_machine.specs.EntryCalls.{entry_parameter, entry_parameters};
+ghost use Rattle.profile_machine.specs.EntryCalls.{values_in, results_in};
 
 use ann_base::{NoMemory, OrMemory, Raised};
 use machine_operators::checked;

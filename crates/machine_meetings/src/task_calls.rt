@@ -1,7 +1,11 @@
 //! Entry calls, and those of the entries of tasks (ISO/IEC 8652:2012, 9.5.3, 9.7).
 ghost use Rattle.std.specs.Prelude.{◌≡◌, IfOk, OnOk};
 ghost use Rattle.ann_base.specs.Answers.{Answers};
-ghost use Rattle.profile_machine.specs.EntryCalls.{make_call, call_gone, call_meets, call_queues, call_not_met, call_accepted_by, call_callable, call_task, call_owner, timed_moment, is_forbidden, named_call_in, call_named, entry_call};
+ghost use Rattle.profile_machine.specs.EntryCalls.{make_call, call_gone, call_meets};
+ghost use Rattle.profile_machine.specs.EntryCalls.{call_queues, call_not_met};
+ghost use Rattle.profile_machine.specs.EntryCalls.{call_accepted_by, call_callable, call_task};
+ghost use Rattle.profile_machine.specs.EntryCalls.{call_owner, timed_moment, is_forbidden};
+ghost use Rattle.profile_machine.specs.EntryCalls.{named_call_in, call_named, entry_call};
 ghost use Rattle.machine_frames.specs.Did.{Did};
 ghost use Rattle.machine_meetings.specs.Called.{named, new_call_of};
 

@@ -1,6 +1,10 @@
 //! Operators of values (ISO/IEC 8652:2012, 4.5).
 ghost use Rattle.std.specs.Prelude.{◌≡◌, ◌≢◌, pos, cond, int_div, Err};
-ghost use Rattle.profile_machine.specs.Operators.{ticks, is_zero, negated, absolute, inverted, unary_value, same_value, is_less, logical, both, either, one_of, added, subtracted, multiplied, divided, modulo, modulus, remainder, binary_value, decides};
+ghost use Rattle.profile_machine.specs.Operators.{ticks, is_zero, negated, absolute};
+ghost use Rattle.profile_machine.specs.Operators.{inverted, unary_value, same_value, is_less};
+ghost use Rattle.profile_machine.specs.Operators.{logical, both, either, one_of, added};
+ghost use Rattle.profile_machine.specs.Operators.{subtracted, multiplied, divided, modulo};
+ghost use Rattle.profile_machine.specs.Operators.{modulus, remainder, binary_value, decides};
 ghost use Rattle.ann_base.specs.declared.exceptions.Raised.TheVariants as exception;
 
 use crate::ranges::ticks;

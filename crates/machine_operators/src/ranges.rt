@@ -1,7 +1,8 @@
 //! Ends of the numbers, and ranges (ISO/IEC 8652:2012, 3.5).
 ghost use Rattle.std.specs.Prelude.{◌≡◌, ◌+ℤ◌, pos, Ok, Err};
 ghost use Rattle.profile_image.specs.declared.values.Value.TheVariants.{Whole};
-ghost use Rattle.profile_machine.specs.Operators.{whole, ticks, held_moment, is_in, checked, place_in, component_place};
+ghost use Rattle.profile_machine.specs.Operators.{whole, ticks, held_moment, is_in};
+ghost use Rattle.profile_machine.specs.Operators.{checked, place_in, component_place};
 
 use ann_base::{Moment, Raised};
 use profile_image::{Constraint, TIME_FIRST, TIME_LAST, Value};

@@ -5,7 +5,8 @@ use Rattle.std.proofs.lemmas.List.{take_more, take_all, get_or-drop}
 use Rattle.std.proofs.lemmas.Option.{slice_get_within, get_or_from_slice_get}
 use Rattle.profile_image.specs.declared.values.Value.{Value}
 
-pub take_found : (xs : List Value) (place i : ℕ) (v : Value) → slice_get xs (place + i) ≡ Some v → take (i + 1) (drop place xs) ≡ take i (drop place xs) ++ v ∷ []
+pub take_found : (xs : List Value) (place i : ℕ) (v : Value) → slice_get xs (place + i) ≡ Some v
+    → take (i + 1) (drop place xs) ≡ take i (drop place xs) ++ v ∷ []
 take_found xs place i v e =
     let within : place + i < length xs = slice_get_within xs (place + i) v e in
     let is : get_or (drop place xs) i v ≡ v = get_or-drop place xs i v ∙ get_or_from_slice_get xs (place + i) v v e in

@@ -9,8 +9,10 @@ use Rattle.profile_machine.specs.Values.{Seen}
 use Rattle.profile_machine.specs.Subprograms.{handed, hand_over, nothing_handed}
 use Rattle.machine_parameters.proofs.ListLemmas.{drop-found, drop-none}
 
-pub handed_more : (q : Seen) (place : ℕ) (formals : List Formal) (actuals : List Actual) (f : Formal) (a : Actual) → place < length formals → f ≡ get_or formals place f → place < length actuals → a ≡ get_or actuals place a
-    → handed q place (drop place formals) (drop place actuals) ≡ hand_over q place f a (handed q (place + 1) (drop (place + 1) formals) (drop (place + 1) actuals))
+pub handed_more : (q : Seen) (place : ℕ) (formals : List Formal) (actuals : List Actual) (f : Formal) (a : Actual) → place < length formals
+    → f ≡ get_or formals place f → place < length actuals → a ≡ get_or actuals place a
+    → handed q place (drop place formals) (drop place actuals)
+    ≡ hand_over q place f a (handed q (place + 1) (drop (place + 1) formals) (drop (place + 1) actuals))
 handed_more q place formals actuals f a l is m are =
     let next : suc place ≡ place + 1 = omega arith in
     let fs : drop place formals ≡ f ∷ drop (place + 1) formals = drop_more formals place f l ∙ ap (λ x. x ∷ drop (place + 1) formals) (sym is) in
@@ -18,10 +20,14 @@ handed_more q place formals actuals f a l is m are =
     ap (λ xs. handed q place xs (drop place actuals)) fs ∙ ap (λ xs. handed q place (f ∷ drop (place + 1) formals) xs) as'
     ∙ ap (λ n. hand_over q place f a (handed q n (drop (place + 1) formals) (drop (place + 1) actuals))) next
 
-pub handed_past : (q : Seen) (place : ℕ) (formals : List Formal) (actuals : List Actual) → slice_get formals place ≡ None → handed q place (drop place formals) (drop place actuals) ≡ Ok nothing_handed
+pub handed_past : (q : Seen) (place : ℕ) (formals : List Formal) (actuals : List Actual) → slice_get formals place ≡ None
+    → handed q place (drop place formals) (drop place actuals) ≡ Ok nothing_handed
 handed_past q place formals actuals e = ap (λ fs. handed q place fs (drop place actuals)) (drop-none formals place e)
 
-pub handed_short : (q : Seen) (place : ℕ) (formals : List Formal) (actuals : List Actual) (f : Formal) → slice_get formals place ≡ Some f → slice_get actuals place ≡ None → handed q place (drop place formals) (drop place actuals) ≡ Ok nothing_handed
-handed_short q place formals actuals f e h = ap (λ fs. handed q place fs (drop place actuals)) (drop-found formals place f e) ∙ ap (λ as'. handed q place (f ∷ drop (suc place) formals) as') (drop-none actuals place h)
+pub handed_short : (q : Seen) (place : ℕ) (formals : List Formal) (actuals : List Actual) (f : Formal) → slice_get formals place ≡ Some f
+    → slice_get actuals place ≡ None → handed q place (drop place formals) (drop place actuals) ≡ Ok nothing_handed
+handed_short q place formals actuals f e h =
+    ap (λ fs. handed q place fs (drop place actuals)) (drop-found formals place f e)
+    ∙ ap (λ as'. handed q place (f ∷ drop (suc place) formals) as') (drop-none actuals place h)
 
 pub ruleset handed_laws = (handed_past, handed_short, slice_get_within)

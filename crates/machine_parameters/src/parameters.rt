@@ -1,7 +1,8 @@
 //! What a call hands over, and where its result goes (ISO/IEC 8652:2012, 6.4.1).
 ghost use Rattle.std.specs.Prelude.{◌≡◌, ◌+◌, drop};
 ghost use Rattle.ann_base.specs.Answers.{Answers};
-ghost use Rattle.profile_machine.specs.Subprograms.{nothing_handed, hand_value, hand_back, hand_thing, hand_over, handed, result_to};
+ghost use Rattle.profile_machine.specs.Subprograms.{nothing_handed, hand_value, hand_back};
+ghost use Rattle.profile_machine.specs.Subprograms.{hand_thing, hand_over, handed, result_to};
 
 use ann_base::{OrMemory, Raised};
 use machine_operators::checked;

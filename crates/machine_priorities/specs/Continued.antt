@@ -19,7 +19,8 @@ use Rattle.profile_machine.specs.Frames.{goes, given}
 use Rattle.profile_machine.specs.Operators.{Valued}
 use Rattle.profile_machine.specs.Values.{Seen, value, moment, optional_task, whole_in, live_task, must_be_task}
 use Rattle.profile_machine.specs.Statements.{sees}
-use Rattle.profile_machine.specs.Priorities.{set_base_of, priority_in_range, quantum_of, set_or_defer_deadline, delay_with_deadline}
+use Rattle.profile_machine.specs.Priorities.{set_base_of, priority_in_range, quantum_of}
+use Rattle.profile_machine.specs.Priorities.{set_or_defer_deadline, delay_with_deadline}
 
 -- the task of which the priority is to be set
 abbrev pub task_given : Seen → Option ExprNo → Valued TaskNo

@@ -2,7 +2,10 @@
 ghost use Rattle.std.specs.Prelude.{◌≡◌, ◌+ℤ◌, OnOk, IfOk, Some};
 ghost use Rattle.ann_base.specs.Answers.{AnswersAs};
 ghost use Rattle.profile_machine.specs.Operators.{held_moment};
-ghost use Rattle.profile_machine.specs.Priorities.{says_deadline, is_runnable_at_edf, set_deadline, take_deadline, defer_deadline, set_or_defer_deadline, set_deadline_of, delay_with_deadline, delay_and_set_deadline};
+ghost use Rattle.profile_machine.specs.Priorities.{says_deadline, is_runnable_at_edf};
+ghost use Rattle.profile_machine.specs.Priorities.{set_deadline, take_deadline, defer_deadline};
+ghost use Rattle.profile_machine.specs.Priorities.{set_or_defer_deadline, set_deadline_of};
+ghost use Rattle.profile_machine.specs.Priorities.{delay_with_deadline, delay_and_set_deadline};
 ghost use Rattle.profile_machine.specs.Tasks.{edit_task, task_of};
 ghost use Rattle.machine_frames.specs.Did.{Did};
 ghost use Rattle.machine_priorities.specs.Continued.{target_given, deadline_given, offset_given};

@@ -1,6 +1,7 @@
-//! Priorities and deadlines that are set: what Set_Priority, Set_Quantum and Set_Deadline do, and what is set when a
-//! protected action ends. Each function has the name of the machine's definition of which it is the counterpart. A
-//! number that its type cannot hold is answered as want of memory.
+//! Priorities and deadlines that are set: what Set_Priority, Set_Quantum and Set_Deadline do, and
+//! what is set when a protected action ends. Each function has the name of the machine's definition
+//! of which it is the counterpart. A number that its type cannot hold is answered as want of
+//! memory.
 #![tactic(auto)]
 
 mod deadlines;

@@ -1,7 +1,9 @@
 //! Base priorities that are set (ISO/IEC 8652:2012, D.5.1).
 ghost use Rattle.std.specs.Prelude.{◌≡◌, ◌||◌, OnOk, Some};
 ghost use Rattle.ann_base.specs.Answers.{Answers};
-ghost use Rattle.profile_machine.specs.Priorities.{replace_in, says_base, set_base, take_base, set_deferred, is_edf_base, defer_base, set_or_defer_base, set_base_of, set_priority};
+ghost use Rattle.profile_machine.specs.Priorities.{replace_in, says_base, set_base, take_base};
+ghost use Rattle.profile_machine.specs.Priorities.{set_deferred, is_edf_base, defer_base};
+ghost use Rattle.profile_machine.specs.Priorities.{set_or_defer_base, set_base_of, set_priority};
 ghost use Rattle.profile_machine.specs.Steps.{looks};
 ghost use Rattle.profile_machine.specs.Tasks.{edit_task, found_task, task_of};
 ghost use Rattle.trace_text.specs.declared.events.Who.TheVariants as who;

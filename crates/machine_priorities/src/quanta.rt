@@ -2,7 +2,8 @@
 ghost use Rattle.std.specs.Prelude.{◌≡◌, OnOk};
 ghost use Rattle.profile_machine.specs.declared.world.lines.Part.TheVariants.{Own};
 ghost use Rattle.profile_machine.specs.Frames.{given};
-ghost use Rattle.profile_machine.specs.Priorities.{priority_in_range, quantum_in_range, quantum_of, set_quantum};
+ghost use Rattle.profile_machine.specs.Priorities.{priority_in_range, quantum_in_range};
+ghost use Rattle.profile_machine.specs.Priorities.{quantum_of, set_quantum};
 ghost use Rattle.profile_machine.specs.Values.{value, whole_in};
 ghost use Rattle.machine_frames.specs.Did.{Did};
 ghost use Rattle.machine_priorities.specs.Continued.{quantum_given, ticks_given, quantum_set};

@@ -2,7 +2,8 @@
 ghost use Rattle.std.specs.Prelude.{◌≡◌, OnOk};
 ghost use Rattle.profile_machine.specs.Calls.{edit_call, with_call};
 ghost use Rattle.profile_machine.specs.Dispatching.{active_of};
-ghost use Rattle.profile_machine.specs.Priorities.{is_queued, with_priority, placed_anew, reprioritize, call_waited_for};
+ghost use Rattle.profile_machine.specs.Priorities.{is_queued, with_priority, placed_anew};
+ghost use Rattle.profile_machine.specs.Priorities.{reprioritize, call_waited_for};
 ghost use Rattle.profile_machine.specs.Steps.{for_some, looks};
 ghost use Rattle.machine_frames.specs.Did.{Did};
 

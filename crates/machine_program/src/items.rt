@@ -1,7 +1,10 @@
 //! The items of a program by their numbers.
 ghost use Rattle.std.specs.Prelude.{◌≡◌, length};
 ghost use Rattle.machine_program.specs.Items.{no_items};
-ghost use Rattle.profile_image.specs.Program.{declaration_of, expression_of, statement_of, form_of, next_of, scope_of, subprogram_of, task_unit_of, protected_unit_of, entry_of, controlled_of, literals_of};
+ghost use Rattle.profile_image.specs.Program.{declaration_of, expression_of, statement_of};
+ghost use Rattle.profile_image.specs.Program.{form_of, next_of, scope_of, subprogram_of};
+ghost use Rattle.profile_image.specs.Program.{task_unit_of, protected_unit_of, entry_of};
+ghost use Rattle.profile_image.specs.Program.{controlled_of, literals_of};
 
 use profile_image::{
     Constraint, ControlledNo, ControlledType, DeclNo, Declaration, DeclarationKind, Entry, EntryNo,

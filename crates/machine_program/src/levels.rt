@@ -1,6 +1,8 @@
 //! The policies of priorities (ISO/IEC 8652:2012, D.2.2).
 ghost use Rattle.std.specs.Prelude.{◌≡◌};
-ghost use Rattle.profile_image.specs.Program.{is_in_range, range_of, policy_of, is_edf_policy, is_robin_policy, is_edf_level, is_robin_level, edf_low, has_edf_range, has_edf, interrupt_priority};
+ghost use Rattle.profile_image.specs.Program.{is_in_range, range_of, policy_of, is_edf_policy};
+ghost use Rattle.profile_image.specs.Program.{is_robin_policy, is_edf_level, is_robin_level};
+ghost use Rattle.profile_image.specs.Program.{edf_low, has_edf_range, has_edf, interrupt_priority};
 
 use crate::items::{Program, policies};
 use ann_base::Level;

@@ -1,5 +1,6 @@
-//! A program as the machine runs it: its items by their numbers, the policies of its levels, and the cells of its scopes.
-//! Each function has the name of the machine's definition of which it is the counterpart.
+//! A program as the machine runs it: its items by their numbers, the policies of its levels, and
+//! the cells of its scopes. Each function has the name of the machine's definition of which it is
+//! the counterpart.
 #![tactic(auto)]
 
 mod cells;

@@ -12,8 +12,8 @@ pub fn opens_handled(form: &StatementForm) -> bool
     matches!(form, StatementForm::Handled { .. })
 }
 
-/// How many marks one effect opens with a body or a block that begins with this action: the scope, and its
-/// sequence with handlers where that comes first.
+/// How many marks one effect opens with a body or a block that begins with this action: the scope,
+/// and its sequence with handlers where that comes first.
 pub fn marks_with(p: &Program, first: Option<StatementNo>) -> u32
     ensures { result ≡ marks_with p.now first }
 {

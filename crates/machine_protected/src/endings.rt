@@ -2,7 +2,11 @@
 ghost use Rattle.std.specs.Prelude.{◌≡◌, OnOk, None};
 ghost use Rattle.profile_machine.specs.Frames.{edit_top};
 ghost use Rattle.profile_machine.specs.Protected.{edit_top_protected};
-ghost use Rattle.profile_machine.specs.Serving.{go_on_by_mode, with_body_left, not_left, end_operation, is_own_call, outcome_by, finish_raised, finish_well, finish_call, no_longer_serves, end_entry_body, end_in_protected_by, end_in_protected};
+ghost use Rattle.profile_machine.specs.Serving.{go_on_by_mode, with_body_left, not_left};
+ghost use Rattle.profile_machine.specs.Serving.{end_operation, is_own_call, outcome_by};
+ghost use Rattle.profile_machine.specs.Serving.{finish_raised, finish_well, finish_call};
+ghost use Rattle.profile_machine.specs.Serving.{no_longer_serves, end_entry_body};
+ghost use Rattle.profile_machine.specs.Serving.{end_in_protected_by, end_in_protected};
 ghost use Rattle.machine_frames.specs.Did.{Did};
 
 use crate::releases::release_object;

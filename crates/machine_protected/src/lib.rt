@@ -1,6 +1,6 @@
-//! Protected operations that are called, and how protected actions end: queued calls are served, and the object is
-//! released (ISO/IEC 8652:2012, 9.5.1, 9.5.3, D.3). Each function has the name of the machine's definition of which
-//! it is the counterpart.
+//! Protected operations that are called, and how protected actions end: queued calls are served,
+//! and the object is released (ISO/IEC 8652:2012, 9.5.1, 9.5.3, D.3). Each function has the name of
+//! the machine's definition of which it is the counterpart.
 #![tactic(auto)]
 
 mod endings;

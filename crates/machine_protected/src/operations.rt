@@ -3,7 +3,10 @@ ghost use Rattle.std.specs.Prelude.{◌≡◌, OnOk};
 ghost use Rattle.profile_machine.specs.Values.{own_object, seen_by};
 ghost use Rattle.profile_image.specs.Program.{marks_of, scope_of, subprogram_of};
 ghost use Rattle.profile_machine.specs.Subprograms.{handing};
-ghost use Rattle.profile_machine.specs.Protected.{mode_of, where_let_inside, begin_operation, has_object_open, call_operation_of, call_operation, begin_own_operation, unit_of_operation, call_own_operation};
+ghost use Rattle.profile_machine.specs.Protected.{mode_of, where_let_inside, begin_operation};
+ghost use Rattle.profile_machine.specs.Protected.{has_object_open, call_operation_of};
+ghost use Rattle.profile_machine.specs.Protected.{call_operation, begin_own_operation};
+ghost use Rattle.profile_machine.specs.Protected.{unit_of_operation, call_own_operation};
 ghost use Rattle.machine_frames.specs.Did.{Did};
 ghost use Rattle.machine_protected.specs.Operations.{own_operation};
 

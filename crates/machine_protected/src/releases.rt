@@ -1,7 +1,10 @@
 //! Objects are released, and who held them goes on (ISO/IEC 8652:2012, 9.5.1, 9.5.4, C.3, D.15).
 ghost use Rattle.std.specs.Prelude.{◌≡◌, OnOk};
 ghost use Rattle.profile_machine.specs.Protected.{is_action_of};
-ghost use Rattle.profile_machine.specs.Serving.{serves_nothing, is_served_now, serve_ends, end_release, close_action, may_open_abortable, wait_or_unwind, wait_for_own, resume_own, behind_action, release_object};
+ghost use Rattle.profile_machine.specs.Serving.{serves_nothing, is_served_now, serve_ends};
+ghost use Rattle.profile_machine.specs.Serving.{end_release, close_action, may_open_abortable};
+ghost use Rattle.profile_machine.specs.Serving.{wait_or_unwind, wait_for_own, resume_own};
+ghost use Rattle.profile_machine.specs.Serving.{behind_action, release_object};
 ghost use Rattle.profile_image.specs.Words.{without};
 ghost use Rattle.machine_frames.specs.Did.{Did};
 

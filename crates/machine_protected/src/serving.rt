@@ -1,6 +1,8 @@
 //! The next call is served, or the object is released (ISO/IEC 8652:2012, 9.5.3).
 ghost use Rattle.std.specs.Prelude.{◌≡◌, IfOk, OnOk};
-ghost use Rattle.profile_machine.specs.Serving.{is_the_call, part_of_start, settle_sent, begins_part, chosen_is_sent, serve_chosen, serve_next, serve_calls};
+ghost use Rattle.profile_machine.specs.Serving.{is_the_call, part_of_start, settle_sent};
+ghost use Rattle.profile_machine.specs.Serving.{begins_part, chosen_is_sent};
+ghost use Rattle.profile_machine.specs.Serving.{serve_chosen, serve_next, serve_calls};
 ghost use Rattle.machine_frames.specs.Did.{Did};
 ghost use Rattle.machine_protected.specs.Turns.{serving, turn, Leads};
 

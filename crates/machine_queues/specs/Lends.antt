@@ -21,4 +21,5 @@ lends_call s c r = LendsIf (roster_row call_row call_numbered) call_row s r (λ 
 -- the objects end with the last value behind r in the place of the first with this number, and at `None` stay as they
 -- are
 abbrev pub lends_object : MutBor (List Object) → ObjectNo → Option (MutBor Object) → Fml
-lends_object s number r = LendsIf (roster_row object_row object_numbered) object_row s r (λ x. set_where (is_object number) x s.now) s.now
+lends_object s number r =
+    LendsIf (roster_row object_row object_numbered) object_row s r (λ x. set_where (is_object number) x s.now) s.now

@@ -4,7 +4,8 @@ ghost use Rattle.std.specs.Prelude.{◌≡◌, OnOk, IfOk, length, take, find, o
 ghost use Rattle.std.specs.List.{position_from};
 ghost use Rattle.std.specs.Option.{option_copied_mut};
 ghost use Rattle.std.specs.Borrow.{sem};
-ghost use Rattle.profile_machine.specs.Calls.{is_call, call_of, forget_call, call_drawn, says_call, formals_count, parameters_of, priority_of};
+ghost use Rattle.profile_machine.specs.Calls.{is_call, call_of, forget_call, call_drawn, says_call};
+ghost use Rattle.profile_machine.specs.Calls.{formals_count, parameters_of, priority_of};
 ghost use Rattle.profile_image.specs.Program.{entry_of};
 ghost use Rattle.profile_image.specs.Words.{without};
 ghost use Rattle.machine_queues.specs.Lends.{lends_call};

@@ -1,7 +1,8 @@
 //! Interrupts release the handlers that are attached to them (ISO/IEC 8652:2012, C.3.1).
 ghost use Rattle.std.specs.Prelude.{◌≡◌, None, OnOk};
 ghost use Rattle.profile_machine.specs.declared.world.lines.Part.TheVariants.{Own};
-ghost use Rattle.profile_machine.specs.Handlers.{attached_in, handler_in, handler_attached, interrupt, release};
+ghost use Rattle.profile_machine.specs.Handlers.{attached_in, handler_in};
+ghost use Rattle.profile_machine.specs.Handlers.{handler_attached, interrupt, release};
 ghost use Rattle.profile_machine.specs.Steps.{looks, for_some};
 ghost use Rattle.machine_frames.specs.Did.{Did};
 

@@ -1,6 +1,6 @@
-//! What comes by time and by interrupts: releases of handlers, interrupts, timers and group budgets as they are kept,
-//! and the tick that is charged (ISO/IEC 8652:2012, C.3, D.14). Each function has the name of the machine's definition
-//! of which it is the counterpart.
+//! What comes by time and by interrupts: releases of handlers, interrupts, timers and group budgets
+//! as they are kept, and the tick that is charged (ISO/IEC 8652:2012, C.3, D.14). Each function has
+//! the name of the machine's definition of which it is the counterpart.
 #![tactic(auto)]
 
 mod budgets;

@@ -1,6 +1,7 @@
 //! Releases of handlers (ISO/IEC 8652:2012, C.3, D.15).
 ghost use Rattle.std.specs.Prelude.{◌≡◌, OnOk};
-ghost use Rattle.profile_machine.specs.Handlers.{add_release, says_release, wake_agent, release, has_room_for_release};
+ghost use Rattle.profile_machine.specs.Handlers.{add_release, says_release, wake_agent};
+ghost use Rattle.profile_machine.specs.Handlers.{release, has_room_for_release};
 ghost use Rattle.profile_machine.specs.Steps.{looks};
 ghost use Rattle.machine_frames.specs.Did.{Did};
 

@@ -1,6 +1,9 @@
 //! One tick is charged to who ran it (ISO/IEC 8652:2012, D.2.5, D.14).
 ghost use Rattle.std.specs.Prelude.{◌≡◌, ◌++◌, OnOk, pos};
-ghost use Rattle.profile_machine.specs.Handlers.{clock_risen, charged_budget, has_run_out, due_by_tick, charge_budget, has_value_up_to, is_reached_by, quantum_spent_by, charge_clock, charge_group, charge_task, charge};
+ghost use Rattle.profile_machine.specs.Handlers.{clock_risen, charged_budget, has_run_out};
+ghost use Rattle.profile_machine.specs.Handlers.{due_by_tick, charge_budget, has_value_up_to};
+ghost use Rattle.profile_machine.specs.Handlers.{is_reached_by, quantum_spent_by, charge_clock};
+ghost use Rattle.profile_machine.specs.Handlers.{charge_group, charge_task, charge};
 ghost use Rattle.profile_machine.specs.Tasks.{edit_task, task_of};
 ghost use Rattle.machine_releases.specs.Alone.{charged_itself};
 ghost use Rattle.profile_image.specs.Words.{edit_at};
@@ -177,7 +180,8 @@ fn spend_quantum_of(p: &Program, world: &mut World, name: Who)
     }
 }
 
-/// The clock and the quantum of a task are charged a tick, which is all if it belongs to no group and no timer is set.
+/// The clock and the quantum of a task are charged a tick, which is all if it belongs to no group
+/// and no timer is set.
 ///
 /// Errors: the clock is at the last of 64 bits.
 pub fn charge_itself(p: &Program, task: &mut Task) -> Result<(), NoMemory>

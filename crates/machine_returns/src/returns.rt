@@ -1,7 +1,10 @@
 //! Returns, and the ends of subprograms (ISO/IEC 8652:2012, 6.5, 6.4.1).
 ghost use Rattle.std.specs.Prelude.{◌≡◌, OnOk};
 ghost use Rattle.machine_scopes.specs.Stored.{Stores};
-ghost use Rattle.profile_machine.specs.Subprograms.{result_place, result_kept, return_result, return_value, without_sending, drop_sending, return, cell_in, last_cell, copy_parameters, falls_through, store_result, end_subprogram};
+ghost use Rattle.profile_machine.specs.Subprograms.{result_place, result_kept, return_result};
+ghost use Rattle.profile_machine.specs.Subprograms.{return_value, without_sending, drop_sending};
+ghost use Rattle.profile_machine.specs.Subprograms.{return, cell_in, last_cell, copy_parameters};
+ghost use Rattle.profile_machine.specs.Subprograms.{falls_through, store_result, end_subprogram};
 ghost use Rattle.profile_machine.specs.Values.{seen_by};
 ghost use Rattle.machine_frames.specs.Did.{Did};
 

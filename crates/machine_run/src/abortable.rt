@@ -1,6 +1,8 @@
-//! The end of an abortable part: the cancellation of its trigger is attempted first (ISO/IEC 8652:2012, 9.7.4).
+//! The end of an abortable part: the cancellation of its trigger is attempted first (ISO/IEC
+//! 8652:2012, 9.7.4).
 ghost use Rattle.std.specs.Prelude.{◌≡◌, ◌-◌, Some, IfOk, OnOk};
-ghost use Rattle.profile_machine.specs.Act.{end_top, wait_for_trigger, drop_trigger, below, end_abortable_by, end_in_abortable, waiting_mark};
+ghost use Rattle.profile_machine.specs.Act.{end_top, wait_for_trigger, drop_trigger, below};
+ghost use Rattle.profile_machine.specs.Act.{end_abortable_by, end_in_abortable, waiting_mark};
 ghost use Rattle.profile_machine.specs.Frames.{edit_top, with_mark};
 ghost use Rattle.profile_machine.specs.CallEnds.{edit_abortable};
 ghost use Rattle.profile_machine.specs.Calls.{attempt_with};

@@ -207,7 +207,8 @@ pub fn act_statement(
     }
 }
 
-// The agent without a rest calls the handler of the release that it serves; a task without one does nothing.
+// The agent without a rest calls the handler of the release that it serves; a task without one does
+// nothing.
 #[tactic(auto, unfolding(profile_machine::specs::Act::act_without))]
 fn act_without(alloc: Global, p: &Program, effect: &mut Effect, name: Who) -> Result<(), NoMemory>
     ensures { OnOk result

@@ -1,4 +1,5 @@
-//! Calls of the main procedure, of subprograms and of protected operations (ISO/IEC 8652:2012, 6.4, 9.5.1, 10.2).
+//! Calls of the main procedure, of subprograms and of protected operations (ISO/IEC 8652:2012, 6.4,
+//! 9.5.1, 10.2).
 ghost use Rattle.std.specs.Prelude.{OnOk};
 ghost use Rattle.profile_machine.specs.Act.{call_main, call};
 ghost use Rattle.machine_frames.specs.Did.{Did};

@@ -16,8 +16,8 @@ use std::alloc::Global;
 use trace_text::Who;
 use world_tables::List;
 
-/// The effect of what somebody has done: the action's own, the sequence that begins behind it, who takes a terminate
-/// alternative, and who is unwound.
+/// The effect of what somebody has done: the action's own, the sequence that begins behind it, who
+/// takes a terminate alternative, and who is unwound.
 #[tactic(auto, unfolding(profile_machine::specs::Instant::effect))]
 fn effect(alloc: Global, p: &Program, under_way: &mut Effect, name: Who) -> Result<(), NoMemory>
     ensures { OnOk result (Did (effect p.now name) under_way.old under_way.new) }

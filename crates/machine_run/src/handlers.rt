@@ -2,7 +2,8 @@
 //! (ISO/IEC 8652:2012, 11.4).
 ghost use Rattle.std.specs.Prelude.{◌≡◌, Some};
 ghost use Rattle.std.specs.List.{list_any};
-ghost use Rattle.profile_machine.specs.Act.{same_exception, is_handled_by, handler_for, keeping, handle_or_pass, behind_handled, end_handled};
+ghost use Rattle.profile_machine.specs.Act.{same_exception, is_handled_by, handler_for, keeping};
+ghost use Rattle.profile_machine.specs.Act.{handle_or_pass, behind_handled, end_handled};
 ghost use Rattle.profile_machine.specs.Frames.{handlers_in, edit_top, with_mark};
 ghost use Rattle.machine_frames.specs.Did.{Did};
 
@@ -72,7 +73,8 @@ fn handlers_in(form: &StatementForm) -> &[Handler]
     }
 }
 
-// The scope or accept around a handler keeps the exception that it handles, for a raise without a name.
+// The scope or accept around a handler keeps the exception that it handles, for a raise without a
+// name.
 fn keep(e: Raised, mark: &mut Mark)
     ensures { mark.new ≡ keeping e mark.old }
 {

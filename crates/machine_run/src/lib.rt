@@ -1,5 +1,5 @@
-//! The effect of each action, and instants. Each function has the name of the machine's definition of which it is the
-//! counterpart.
+//! The effect of each action, and instants. Each function has the name of the machine's definition
+//! of which it is the counterpart.
 #![tactic(auto)]
 
 mod abortable;

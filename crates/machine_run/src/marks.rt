@@ -51,7 +51,8 @@ fn copied_scope(alloc: Global, scope: &ScopeMark) -> Result<ScopeMark, NoMemory>
     })
 }
 
-/// The construct on top has ended, in whichever way it is left; a scope that is kept is left step by step.
+/// The construct on top has ended, in whichever way it is left; a scope that is kept is left step
+/// by step.
 ///
 /// Errors: memory ran out.
 #[tactic(auto, unfolding(profile_machine::specs::Act::end_mark))]

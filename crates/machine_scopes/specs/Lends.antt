@@ -11,4 +11,5 @@ use Rattle.profile_image.specs.Words.{set_where}
 
 -- the scopes end with the last value behind r in the place of the first with this id, and at `None` stay as they are
 abbrev pub lends_scope : MutBor (List ScopeInUse) → ScopeId → Option (MutBor ScopeInUse) → Fml
-lends_scope s id r = LendsIf (roster_row scope_row scope_numbered) scope_row s r (λ x. set_where (is_id id) x s.now) s.now
+lends_scope s id r =
+    LendsIf (roster_row scope_row scope_numbered) scope_row s r (λ x. set_where (is_id id) x s.now) s.now

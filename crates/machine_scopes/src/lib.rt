@@ -1,6 +1,7 @@
-//! Scopes in use: how one begins and ends, what stands round it, the cells that it holds, and the results of a call, which are
-//! copied back into them (ISO/IEC 8652:2012, 6.4.1). Each function has the name of the machine's definition of which it is the
-//! counterpart. A number that its type cannot hold is answered as want of memory.
+//! Scopes in use: how one begins and ends, what stands round it, the cells that it holds, and the
+//! results of a call, which are copied back into them (ISO/IEC 8652:2012, 6.4.1). Each function has
+//! the name of the machine's definition of which it is the counterpart. A number that its type
+//! cannot hold is answered as want of memory.
 #![tactic(auto)]
 
 mod openings;

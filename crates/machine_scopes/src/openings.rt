@@ -2,7 +2,10 @@
 ghost use Rattle.std.specs.Prelude.{◌≡◌, ◌+◌, ◌^◌, ◌≤◌, IfOk, OnOk, OnErr};
 ghost use Rattle.std.specs.List.{list_all};
 ghost use Rattle.profile_image.specs.Program.{initial_cells};
-ghost use Rattle.profile_machine.specs.Scopes.{plainly, put_cells, next_id, scope_drawn, begin_scope, region_drawn, draw_region, region_of_next, new_scope_mark, open_scope, is_id, is_library, goes_with, end_scope};
+ghost use Rattle.profile_machine.specs.Scopes.{plainly, put_cells, next_id, scope_drawn};
+ghost use Rattle.profile_machine.specs.Scopes.{begin_scope, region_drawn, draw_region};
+ghost use Rattle.profile_machine.specs.Scopes.{region_of_next, new_scope_mark, open_scope};
+ghost use Rattle.profile_machine.specs.Scopes.{is_id, is_library, goes_with, end_scope};
 ghost use Rattle.profile_image.specs.Words.{without};
 ghost use Rattle.ann_base.specs.Lists.{is_empty};
 
@@ -163,8 +166,9 @@ pub fn open_scope(
     push(world, name, new_frame(mark, text.first))
 }
 
-/// Whether a scope is the environment's. Library objects are there to the end of the run: at the instant at which the
-/// environment task ends an interrupt, as a timing event, still releases its handler.
+/// Whether a scope is the environment's. Library objects are there to the end of the run: at the
+/// instant at which the environment task ends an interrupt, as a timing event, still releases its
+/// handler.
 pub fn is_library(id: ScopeId) -> bool
     ensures { result ≡ is_library id }
 {
@@ -196,8 +200,8 @@ fn leave_objects(objects: &mut Roster<Object>, id: ScopeId)
     objects.retain(|object| !goes_with(id, object));
 }
 
-/// The scope is no longer in use, and the protected objects that its declarations made are no longer
-/// there, other than library objects and those on which calls are queued.
+/// The scope is no longer in use, and the protected objects that its declarations made are no
+/// longer there, other than library objects and those on which calls are queued.
 pub fn end_scope(id: ScopeId, world: &mut World)
     ensures { world.new ≡ end_scope id world.old }
 {

@@ -1,9 +1,12 @@
 //! Scopes in use: where a name's cells are (ISO/IEC 8652:2012, 3.1, 7.6.1, 8.2).
-ghost use Rattle.std.specs.Prelude.{◌≡◌, pos, suc, slice_set, Some, find, option_copied, option_and_then, slice_index_or};
+ghost use Rattle.std.specs.Prelude.{◌≡◌, pos, suc, slice_set, Some, find};
+ghost use Rattle.std.specs.Prelude.{option_copied, option_and_then, slice_index_or};
 ghost use Rattle.std.specs.List.{position_from};
 ghost use Rattle.std.specs.Option.{option_copied_mut};
 ghost use Rattle.std.specs.Borrow.{sem};
-ghost use Rattle.profile_machine.specs.Scopes.{is_id, scope_in_use, id_in, first_id, innermost, outwards, first_outwards, home, read_cell, write_cell, put_cells};
+ghost use Rattle.profile_machine.specs.Scopes.{is_id, scope_in_use, id_in, first_id};
+ghost use Rattle.profile_machine.specs.Scopes.{innermost, outwards, first_outwards};
+ghost use Rattle.profile_machine.specs.Scopes.{home, read_cell, write_cell, put_cells};
 ghost use Rattle.profile_machine.specs.Values.{object_of, is_of_unit, works_on_unit};
 ghost use Rattle.profile_machine.specs.ScopeNumbers.{same_id};
 ghost use Rattle.profile_image.specs.declared.values.Value.TheVariants.{Whole};
@@ -111,7 +114,8 @@ fn is_sought(world: &World, sought: Sought, scope: &ScopeInUse) -> bool
     }
 }
 
-// The first that is sought, from a scope in use outwards: this scope is looked at, and at most so many more.
+// The first that is sought, from a scope in use outwards: this scope is looked at, and at most so
+// many more.
 #[tactic(auto, using(crate::proofs::OutwardsLemmas::outwards_more))]
 fn outwards(more: usize, world: &World, sought: Sought, id: Option<ScopeId>) -> Option<&ScopeInUse>
     ensures { option_copied result

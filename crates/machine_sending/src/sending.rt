@@ -1,7 +1,10 @@
 //! Calls that are sent on (ISO/IEC 8652:2012, 9.5.4).
 ghost use Rattle.std.specs.Prelude.{◌≡◌, OnOk};
 ghost use Rattle.profile_machine.specs.Calls.{edit_call};
-ghost use Rattle.profile_machine.specs.Sending.{sent_call, send_on, is_conditional, is_to_be_cancelled, cancel_sent, may_begin_abortable, begin_abortable, timeout_again, sent_not_begun_by, sent_not_begun};
+ghost use Rattle.profile_machine.specs.Sending.{sent_call, send_on, is_conditional};
+ghost use Rattle.profile_machine.specs.Sending.{is_to_be_cancelled, cancel_sent};
+ghost use Rattle.profile_machine.specs.Sending.{may_begin_abortable, begin_abortable};
+ghost use Rattle.profile_machine.specs.Sending.{timeout_again, sent_not_begun_by, sent_not_begun};
 ghost use Rattle.machine_frames.specs.Did.{Did};
 ghost use Rattle.machine_sending.specs.Sent.{line_of_call, abortable_begins};
 

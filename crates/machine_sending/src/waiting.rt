@@ -1,7 +1,11 @@
 //! Abortable parts, and calls that are not accepted at once (ISO/IEC 8652:2012, 9.7.2, 9.7.3,
 //! 9.7.4).
 ghost use Rattle.std.specs.Prelude.{◌≡◌, OnOk};
-ghost use Rattle.profile_machine.specs.Sending.{abortable_in, new_abortable_mark, open_abortable, is_not_future, cancel_at_once, stands_in_queue, still_serves, may_time_out, appoint_timeout, wait_for_call, wait_or_cancel, is_triggering, not_accepted};
+ghost use Rattle.profile_machine.specs.Sending.{abortable_in, new_abortable_mark};
+ghost use Rattle.profile_machine.specs.Sending.{open_abortable, is_not_future, cancel_at_once};
+ghost use Rattle.profile_machine.specs.Sending.{stands_in_queue, still_serves, may_time_out};
+ghost use Rattle.profile_machine.specs.Sending.{appoint_timeout, wait_for_call};
+ghost use Rattle.profile_machine.specs.Sending.{wait_or_cancel, is_triggering, not_accepted};
 ghost use Rattle.profile_machine.specs.Calls.{call_of};
 ghost use Rattle.machine_frames.specs.Did.{Did};
 
@@ -101,8 +105,8 @@ fn still_serves(world: &World, owner: Owner) -> bool
     }
 }
 
-// Whether a call may have a time-out: it is there, stands in a queue that is still served, and is not
-// firm.
+// Whether a call may have a time-out: it is there, stands in a queue that is still served, and is
+// not firm.
 fn may_time_out(p: &Program, world: &World, c: CallNo) -> bool
     ensures { result ≡ may_time_out p.now world.now (call_of world.now c) }
 {

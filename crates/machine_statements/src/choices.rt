@@ -1,6 +1,8 @@
 //! What if and case statements do (ISO/IEC 8652:2012, 5.3, 5.4).
 ghost use Rattle.std.specs.Prelude.{◌≡◌, OnOk};
-ghost use Rattle.profile_machine.specs.Statements.{if_statement, case_statement, go_to_alternative, chosen_alternative, any_chosen, is_chosen, branch};
+ghost use Rattle.profile_machine.specs.Statements.{if_statement, case_statement};
+ghost use Rattle.profile_machine.specs.Statements.{go_to_alternative, chosen_alternative};
+ghost use Rattle.profile_machine.specs.Statements.{any_chosen, is_chosen, branch};
 ghost use Rattle.machine_frames.specs.Did.{Did};
 
 use ann_base::{NoMemory, Raised};

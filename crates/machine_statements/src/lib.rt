@@ -1,5 +1,6 @@
-//! Simple and compound statements, and calls of subprograms. Each function has the name of the machine's definition
-//! of which it is the counterpart. A number that its type cannot hold is answered as want of memory.
+//! Simple and compound statements, and calls of subprograms. Each function has the name of the
+//! machine's definition of which it is the counterpart. A number that its type cannot hold is
+//! answered as want of memory.
 #![tactic(auto)]
 
 mod assignments;

@@ -1,6 +1,7 @@
 //! Null statements, blocks, and a raise in a handler (ISO/IEC 8652:2012, 5.1, 5.6, 11.3).
 ghost use Rattle.std.specs.Prelude.{◌≡◌, OnOk};
-ghost use Rattle.profile_machine.specs.Statements.{null, block_statement, handled_by, handled_in, exception_handled, raise_again};
+ghost use Rattle.profile_machine.specs.Statements.{null, block_statement, handled_by};
+ghost use Rattle.profile_machine.specs.Statements.{handled_in, exception_handled, raise_again};
 ghost use Rattle.machine_frames.specs.Did.{Did};
 
 use ann_base::{NoMemory, Raised};

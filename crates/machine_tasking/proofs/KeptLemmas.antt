@@ -51,26 +51,34 @@ become_abnormal-kept t = refl
 
 -- ---- for each
 
-pub activate_each : (p : Image) (activator : Who) (level : ℕ) (ts : List Task) (w : World) (said : List Said) → for_each (tasks_kept (map kept_of ts)) (activate_one p activator level) w said ≡ for_each ts (activate_one p activator level) w said
+pub activate_each : (p : Image) (activator : Who) (level : ℕ) (ts : List Task) (w : World) (said : List Said)
+    → for_each (tasks_kept (map kept_of ts)) (activate_one p activator level) w said ≡ for_each ts (activate_one p activator level) w said
 activate_each p activator level ts w said = ap (λ g. g w said) (for_each-kept (activate_one p activator level) (activate_one-kept p activator level) ts)
 
-pub end_each_made : (p : Image) (actor : Who) (ts : List Task) (w : World) (said : List Said) → for_each (tasks_kept (map kept_of ts)) (end_made p actor) w said ≡ for_each ts (end_made p actor) w said
+pub end_each_made : (p : Image) (actor : Who) (ts : List Task) (w : World) (said : List Said)
+    → for_each (tasks_kept (map kept_of ts)) (end_made p actor) w said ≡ for_each ts (end_made p actor) w said
 end_each_made p actor ts w said = ap (λ g. g w said) (for_each-kept (end_made p actor) (end_made-kept p actor) ts)
 
-pub leave_each : (p : Image) (actor : Who) (ts : List Task) (w : World) (said : List Said) → for_each (tasks_kept (map kept_of ts)) (leave_by_terminate p actor) w said ≡ for_each ts (leave_by_terminate p actor) w said
+pub leave_each : (p : Image) (actor : Who) (ts : List Task) (w : World) (said : List Said)
+    → for_each (tasks_kept (map kept_of ts)) (leave_by_terminate p actor) w said ≡ for_each ts (leave_by_terminate p actor) w said
 leave_each p actor ts w said = ap (λ g. g w said) (for_each-kept (leave_by_terminate p actor) (leave_by_terminate-kept p actor) ts)
 
-pub unwind_each : (p : Image) (actor : Who) (ts : List Task) (w : World) (said : List Said) → for_each (tasks_kept (map kept_of ts)) (unwind_one p actor) w said ≡ for_each ts (unwind_one p actor) w said
+pub unwind_each : (p : Image) (actor : Who) (ts : List Task) (w : World) (said : List Said)
+    → for_each (tasks_kept (map kept_of ts)) (unwind_one p actor) w said ≡ for_each ts (unwind_one p actor) w said
 unwind_each p actor ts w said = ap (λ g. g w said) (for_each-kept (unwind_one p actor) (unwind_one-kept p actor) ts)
 
 abort_all-kept : (p : Image) (actor : Who) (ts : List Task) → abort_all p actor (tasks_kept (map kept_of ts)) ≡ abort_all p actor ts
 unfolding abort_all
 abort_all-kept p actor ts =
-    ap (λ g. g ▷ for_each (tasks_kept (map kept_of ts)) (abort_one p actor) ▷ for_each (tasks_kept (map kept_of ts)) (unwind_one p actor)) (for_each-kept _ become_abnormal-kept ts)
-    ∙ (ap (λ g. for_each ts (λ t. changes (edit_task t.who abnormal_task)) ▷ g ▷ for_each (tasks_kept (map kept_of ts)) (unwind_one p actor)) (for_each-kept (abort_one p actor) (abort_one-kept p actor) ts)
-    ∙ ap (λ g. for_each ts (λ t. changes (edit_task t.who abnormal_task)) ▷ for_each ts (abort_one p actor) ▷ g) (for_each-kept (unwind_one p actor) (unwind_one-kept p actor) ts))
+    ap (λ g. g ▷ for_each (tasks_kept (map kept_of ts)) (abort_one p actor) ▷ for_each (tasks_kept (map kept_of ts)) (unwind_one p actor))
+    (for_each-kept _ become_abnormal-kept ts)
+    ∙ (ap (λ g. for_each ts (λ t. changes (edit_task t.who abnormal_task)) ▷ g ▷ for_each (tasks_kept (map kept_of ts)) (unwind_one p actor))
+    (for_each-kept (abort_one p actor) (abort_one-kept p actor) ts)
+    ∙ ap (λ g. for_each ts (λ t. changes (edit_task t.who abnormal_task)) ▷ for_each ts (abort_one p actor) ▷ g)
+    (for_each-kept (unwind_one p actor) (unwind_one-kept p actor) ts))
 
-pub abort_each : (p : Image) (actor : Who) (ts : List Task) (w : World) (said : List Said) → abort_all p actor (tasks_kept (map kept_of ts)) w said ≡ abort_all p actor ts w said
+pub abort_each : (p : Image) (actor : Who) (ts : List Task) (w : World) (said : List Said)
+    → abort_all p actor (tasks_kept (map kept_of ts)) w said ≡ abort_all p actor ts w said
 abort_each p actor ts w said = ap (λ g. g w said) (abort_all-kept p actor ts)
 
 pub ruleset kept_laws = (activate_each, end_each_made, leave_each, unwind_each, abort_each)

@@ -1,5 +1,6 @@
 -- The tasks that names give, one name after the other.
-use Rattle.std.proofs.Common.{◌≡◌, ℕ, ◌+◌, ◌<◌, List, [], ◌∷◌, ◌++◌, Option, Some, None, Ok, Err, length, drop, get_or, append-nil, append_assoc, refl, ap, sym, ◌∙◌}
+use Rattle.std.proofs.Common.{◌≡◌, ℕ, ◌+◌, ◌<◌, List, [], ◌∷◌, ◌++◌, Option, Some, None, Ok, Err}
+use Rattle.std.proofs.Common.{length, drop, get_or, append-nil, append_assoc, refl, ap, sym, ◌∙◌}
 use Rattle.std.specs.List.{cons_option}
 use Rattle.std.proofs.lemmas.List.{drop_more}
 use Rattle.ann_base.specs.Results.{◌>>=◌}
@@ -19,7 +20,8 @@ listed : (o : Option TaskNo) (tasks rest : List TaskNo) → tasks ++ cons_option
 listed None tasks rest = ap (λ xs. xs ++ rest) (sym (append-nil tasks))
 listed (Some t) tasks rest = sym (append_assoc tasks (t ∷ []) rest)
 
-one_more : (result : Valued (List TaskNo)) (o : Option TaskNo) (tasks : List TaskNo) → behind tasks (result >>= λ rest. Ok (cons_option o rest)) ≡ behind (tasks ++ cons_option o []) result
+one_more : (result : Valued (List TaskNo)) (o : Option TaskNo) (tasks : List TaskNo)
+    → behind tasks (result >>= λ rest. Ok (cons_option o rest)) ≡ behind (tasks ++ cons_option o []) result
 one_more (Ok rest) o tasks = ap Ok (listed o tasks rest)
 one_more (Err e) o tasks = refl
 
@@ -38,7 +40,8 @@ module _ (q : Seen) (d : DeclNo) (ds : List DeclNo) (tasks : List TaskNo) where
 
 -- one name more, by its place
 module _ (q : Seen) (names : List DeclNo) (i : ℕ) (d : DeclNo) (tasks : List TaskNo) (all : Valued (List TaskNo)) where
-  pub named_step : (made : List TaskNo) (v : Value) (o : Option TaskNo) → i < length names → thing q (get_or names i d) ≡ Ok v → o ≡ task_in v → made ≡ tasks ++ cons_option o [] → behind tasks (named_tasks q (drop i names)) ≡ all → behind made (named_tasks q (drop (i + 1) names)) ≡ all
+  pub named_step : (made : List TaskNo) (v : Value) (o : Option TaskNo) → i < length names → thing q (get_or names i d) ≡ Ok v → o ≡ task_in v
+      → made ≡ tasks ++ cons_option o [] → behind tasks (named_tasks q (drop i names)) ≡ all → behind made (named_tasks q (drop (i + 1) names)) ≡ all
   named_step made v o h t k m invariant =
       let onward = λ (xs : List TaskNo). behind xs (named_tasks q (drop (i + 1) names)) in
       ap onward (m ∙ ap (λ x. tasks ++ cons_option x []) k)

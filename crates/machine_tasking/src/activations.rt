@@ -1,7 +1,9 @@
 //! The activation of the tasks that a declarative part made (ISO/IEC 8652:2012, 9.2).
 ghost use Rattle.std.specs.Prelude.{◌≡◌, OnOk};
 ghost use Rattle.profile_machine.specs.Tasks.{edit_task};
-ghost use Rattle.profile_machine.specs.Tasking.{region_of_frames, top_region_of_scope, await_group, no_failure, activate_group, activate, end_own_activation};
+ghost use Rattle.profile_machine.specs.Tasking.{region_of_frames, top_region_of_scope};
+ghost use Rattle.profile_machine.specs.Tasking.{await_group, no_failure, activate_group};
+ghost use Rattle.profile_machine.specs.Tasking.{activate, end_own_activation};
 ghost use Rattle.machine_frames.specs.Did.{Did};
 
 use crate::beginning::{activate_all, all_to_activate};
@@ -67,8 +69,8 @@ fn await_group(
     }
 }
 
-// The tasks that a declarative part made become ready, in order of number, and the activator waits for
-// the end of their activations.
+// The tasks that a declarative part made become ready, in order of number, and the activator waits
+// for the end of their activations.
 fn activate_group(
     alloc: Global,
     p: &Program,
@@ -91,8 +93,8 @@ fn activate_group(
     await_group(effect, name, activating, failed)
 }
 
-/// The tasks that a declarative part made are activated (9.2). Program_Error is raised where no task
-/// may be created either: inside a protected action, and wherever abort is deferred.
+/// The tasks that a declarative part made are activated (9.2). Program_Error is raised where no
+/// task may be created either: inside a protected action, and wherever abort is deferred.
 #[tactic(auto, unfolding(profile_machine::specs::Tasking::activate))]
 pub fn activate(
     alloc: Global,

@@ -1,7 +1,11 @@
 //! A scope has ended, and with it a block, a body or a task (ISO/IEC 8652:2012, 5.6, 6.5, 7.6.1,
 //! 9.3, 9.5.2).
 ghost use Rattle.std.specs.Prelude.{◌≡◌, OnOk};
-ghost use Rattle.profile_machine.specs.Tasking.{says_done, exception_in, is_environment, end_environment, fails_by, end_task, is_normal, behind_scope, is_dropped, raises_behind, left_by, says_left, end_of_scope, go_on_leaving, end_scope_mark_of, end_scope_mark};
+ghost use Rattle.profile_machine.specs.Tasking.{says_done, exception_in, is_environment};
+ghost use Rattle.profile_machine.specs.Tasking.{end_environment, fails_by, end_task, is_normal};
+ghost use Rattle.profile_machine.specs.Tasking.{behind_scope, is_dropped, raises_behind};
+ghost use Rattle.profile_machine.specs.Tasking.{left_by, says_left, end_of_scope, go_on_leaving};
+ghost use Rattle.profile_machine.specs.Tasking.{end_scope_mark_of, end_scope_mark};
 ghost use Rattle.profile_machine.specs.Steps.{changes, when};
 ghost use Rattle.machine_frames.specs.Did.{Did};
 

@@ -3,7 +3,9 @@
 ghost use Rattle.std.specs.Prelude.{◌≡◌, filter, map, IfOk, OnOk};
 ghost use Rattle.profile_machine.specs.Frames.{edit_top};
 ghost use Rattle.profile_machine.specs.Steps.{for_each, looks};
-ghost use Rattle.profile_machine.specs.Tasking.{leaves_as, is_made_in, end_made, left_so_frame, is_task_scope, complete_if_task, wait_for_dependents, leave_region};
+ghost use Rattle.profile_machine.specs.Tasking.{leaves_as, is_made_in, end_made, left_so_frame};
+ghost use Rattle.profile_machine.specs.Tasking.{is_task_scope, complete_if_task};
+ghost use Rattle.profile_machine.specs.Tasking.{wait_for_dependents, leave_region};
 ghost use Rattle.machine_frames.specs.Did.{Did};
 ghost use Rattle.machine_tasking.specs.KeptTasks.{kept_of, task_kept, tasks_kept};
 

@@ -1,5 +1,6 @@
 -- One tick of a task that belongs to no group, where no timer is set, is one edit.
-use Rattle.std.proofs.Common.{◌≡◌, ℕ, ◌-◌, Bool, true, false, cond, is_none, List, [], ◌∷◌, Option, Some, None, length, ◌==◌, find, filter, unwrap_or, refl, sym, ap, ◌∙◌, arith}
+use Rattle.std.proofs.Common.{◌≡◌, ℕ, ◌-◌, Bool, true, false, cond, is_none, List, [], ◌∷◌, Option, Some}
+use Rattle.std.proofs.Common.{None, length, ◌==◌, find, filter, unwrap_or, refl, sym, ap, ◌∙◌, arith}
 use Rattle.std.proofs.lemmas.Grind.{common_steps}
 use Rattle.ann_base.specs.Lists.{is_empty}
 use Rattle.ann_base.specs.declared.identities.TaskNo.{TaskNo}
@@ -10,7 +11,8 @@ use Rattle.profile_image.specs.Program.{is_robin_level}
 use Rattle.profile_machine.specs.declared.world.World.{World}
 use Rattle.profile_machine.specs.declared.world.tasks.Task.{Task}
 use Rattle.profile_machine.specs.Cost.{cost}
-use Rattle.profile_machine.specs.Handlers.{clock_risen, quantum_spent_by, is_reached_by, timers_reached, due_by_tick, charge_budget, charge_clock, charge_group, charge_task}
+use Rattle.profile_machine.specs.Handlers.{clock_risen, quantum_spent_by, is_reached_by, timers_reached}
+use Rattle.profile_machine.specs.Handlers.{due_by_tick, charge_budget, charge_clock, charge_group, charge_task}
 use Rattle.profile_machine.specs.Run.{begin_action, spend_tick, one_tick_less}
 use Rattle.profile_machine.specs.Values.{timer_of}
 use Rattle.profile_machine.specs.Tasks.{is_who, nobody, task_at, task_of, with_task, with_ticks, edit_task, edit_task_found}
@@ -34,7 +36,8 @@ module _ {X : Type 0} (test : X → Bool) where
   passes (x ∷ xs) y e = passes_from (test x) x y (find test xs) refl (passes xs y) e
 
   -- what is set there is found there
-  found_from : (b : Bool) (x y z : X) (xs : List X) → test x ≡ b → test z ≡ true → (find test xs ≡ Some y → find test (set_where test z xs) ≡ Some z) → cond b (Some x) (find test xs) ≡ Some y → find test (cond b (z ∷ xs) (x ∷ set_where test z xs)) ≡ Some z
+  found_from : (b : Bool) (x y z : X) (xs : List X) → test x ≡ b → test z ≡ true → (find test xs ≡ Some y → find test (set_where test z xs) ≡ Some z)
+      → cond b (Some x) (find test xs) ≡ Some y → find test (cond b (z ∷ xs) (x ∷ set_where test z xs)) ≡ Some z
   found_from true x y z xs t p k e = cond_true (test z) (Some z) (find test xs) p
   found_from false x y z xs t p k e = ap (λ b. cond b (Some x) (find test (set_where test z xs))) t ∙ k e
 
@@ -43,7 +46,8 @@ module _ {X : Type 0} (test : X → Bool) where
   found_set (x ∷ xs) y z p e = found_from (test x) x y z xs refl p (found_set xs y z p) e
 
   -- the last of two that are set there stays
-  set_from : (b : Bool) (x y z : X) (xs : List X) → test x ≡ b → test y ≡ true → set_where test z (set_where test y xs) ≡ set_where test z xs → set_where test z (cond b (y ∷ xs) (x ∷ set_where test y xs)) ≡ cond b (z ∷ xs) (x ∷ set_where test z xs)
+  set_from : (b : Bool) (x y z : X) (xs : List X) → test x ≡ b → test y ≡ true → set_where test z (set_where test y xs) ≡ set_where test z xs
+      → set_where test z (cond b (y ∷ xs) (x ∷ set_where test y xs)) ≡ cond b (z ∷ xs) (x ∷ set_where test z xs)
   set_from true x y z xs t p k = cond_true (test y) (z ∷ xs) (y ∷ set_where test z xs) p
   set_from false x y z xs t p k = ap (λ b. cond b (z ∷ set_where test y xs) (x ∷ set_where test z (set_where test y xs))) t ∙ ap (λ ys. x ∷ ys) k
 
@@ -54,7 +58,8 @@ module _ {X : Type 0} (test : X → Bool) where
 -- ---- the edits of a charge
 
 -- one edit more of the task that is there
-edited : (n : TaskNo) (f : Task → Task) (w : World) (t u : Task) → find (is_who (who.Task n)) w.tasks ≡ Some t → is_who (who.Task n) u ≡ true → edit_task (who.Task n) f (with_task (who.Task n) u w) ≡ with_task (who.Task n) (f u) w
+edited : (n : TaskNo) (f : Task → Task) (w : World) (t u : Task) → find (is_who (who.Task n)) w.tasks ≡ Some t → is_who (who.Task n) u ≡ true
+    → edit_task (who.Task n) f (with_task (who.Task n) u w) ≡ with_task (who.Task n) (f u) w
 edited n f w t u e p =
     ap (edit_task_found (who.Task n) f (with_task (who.Task n) u w)) (found_set (is_who (who.Task n)) w.tasks t u p e)
     ∙ ap {A = List Task} (λ ts. record w { tasks = ts }) (set_twice (is_who (who.Task n)) w.tasks u (f u) p)
@@ -64,27 +69,41 @@ none_is None e = refl
 none_is (Some x) e = cc
 
 -- without timers that are set, none is reached
-clock_alone : (n : TaskNo) (w : World) (t : Task) → find (is_who (who.Task n)) w.tasks ≡ Some t → w.timers_set ≡ [] → charge_clock n w ≡ record (with_task (who.Task n) (clock_risen t) w) { timers_due = [] }
+clock_alone : (n : TaskNo) (w : World) (t : Task) → find (is_who (who.Task n)) w.tasks ≡ Some t → w.timers_set ≡ []
+    → charge_clock n w ≡ record (with_task (who.Task n) (clock_risen t) w) { timers_due = [] }
 clock_alone n w t e s =
     ap {A = World} (λ next. record next { timers_due = timers_reached n next }) (ap (edit_task_found (who.Task n) clock_risen w) e)
-    ∙ ap {A = List ℕ} (λ set. record (with_task (who.Task n) (clock_risen t) w) { timers_due = filter (λ k. is_reached_by n (task_of (with_task (who.Task n) (clock_risen t) w) (who.Task n)).cpu_ticks (timer_of (with_task (who.Task n) (clock_risen t) w) k)) set }) s
+    ∙ ap {A = List ℕ}
+    (λ set. record (with_task (who.Task n) (clock_risen t) w) {
+      timers_due =
+          filter (λ k. is_reached_by n (task_of (with_task (who.Task n) (clock_risen t) w) (who.Task n)).cpu_ticks
+          (timer_of (with_task (who.Task n) (clock_risen t) w) k)) set;
+    }) s
 
 -- a task without a group has no budget that becomes due
-group_alone : (n : TaskNo) (w : World) (t : Task) → find (is_who (who.Task n)) w.tasks ≡ Some t → t.budget ≡ None → charge_group n w ≡ record w { budget_due = None }
-group_alone n w t e b = ap {A = Option ℕ} (λ budget. record (charge_budget budget w) { budget_due = due_by_tick w budget }) (ap {A = Option Task} (λ o. (unwrap_or o nobody).budget) e ∙ b)
+group_alone : (n : TaskNo) (w : World) (t : Task) → find (is_who (who.Task n)) w.tasks ≡ Some t → t.budget ≡ None
+    → charge_group n w ≡ record w { budget_due = None }
+group_alone n w t e b =
+    ap {A = Option ℕ} (λ budget. record (charge_budget budget w) { budget_due = due_by_tick w budget })
+    (ap {A = Option Task} (λ o. (unwrap_or o nobody).budget) e ∙ b)
 
-alone_is : (p : Image) (n : TaskNo) (w : World) (t : Task) → find (is_who (who.Task n)) w.tasks ≡ Some t → t.budget ≡ None → w.timers_set ≡ [] → charge_task p n w ≡ record (with_task (who.Task n) (charged_itself p t) w) { timers_due = []; budget_due = None }
+alone_is : (p : Image) (n : TaskNo) (w : World) (t : Task) → find (is_who (who.Task n)) w.tasks ≡ Some t → t.budget ≡ None → w.timers_set ≡ []
+    → charge_task p n w ≡ record (with_task (who.Task n) (charged_itself p t) w) { timers_due = []; budget_due = None }
 alone_is p n w t e b s =
     let there = passes (is_who (who.Task n)) w.tasks t e in
     let risen = found_set (is_who (who.Task n)) w.tasks t (clock_risen t) there e in
     ap {A = World} (λ x. edit_task (who.Task n) (quantum_spent_by p) (charge_group n x)) (clock_alone n w t e s)
-    ∙ (ap (edit_task (who.Task n) (quantum_spent_by p)) (group_alone n (record (with_task (who.Task n) (clock_risen t) w) { timers_due = [] }) (clock_risen t) risen b)
+    ∙ (ap (edit_task (who.Task n) (quantum_spent_by p))
+    (group_alone n (record (with_task (who.Task n) (clock_risen t) w) { timers_due = [] }) (clock_risen t) risen b)
     ∙ edited n (quantum_spent_by p) (record w { timers_due = []; budget_due = None }) t (clock_risen t) e there)
 
 -- ---- a tick
 
 -- what is spent of an action of so many ticks, whatever the quantum
-spent-by : (b : Bool) (ticks : ℕ) (t : Task) → with_ticks (one_tick_less (cond b (record (with_ticks (Some ticks) t) { quantum = t.quantum - 1 }) (with_ticks (Some ticks) t)).ticks_left) (cond b (record (with_ticks (Some ticks) t) { quantum = t.quantum - 1 }) (with_ticks (Some ticks) t)) ≡ with_ticks (Some (ticks - 1)) (cond b (record t { quantum = t.quantum - 1 }) t)
+spent-by : (b : Bool) (ticks : ℕ) (t : Task)
+    → with_ticks (one_tick_less (cond b (record (with_ticks (Some ticks) t) { quantum = t.quantum - 1 }) (with_ticks (Some ticks) t)).ticks_left)
+    (cond b (record (with_ticks (Some ticks) t) { quantum = t.quantum - 1 }) (with_ticks (Some ticks) t))
+    ≡ with_ticks (Some (ticks - 1)) (cond b (record t { quantum = t.quantum - 1 }) t)
 spent-by true ticks t = refl
 spent-by false ticks t = refl
 
@@ -92,7 +111,8 @@ who-kept : (n : TaskNo) (b : Bool) (t : Task) → is_who (who.Task n) t ≡ true
 who-kept n true t h = h
 who-kept n false t h = h
 
-module _ (p : Image) (n : TaskNo) (w : World) (t : Task) (e : find (is_who (who.Task n)) w.tasks ≡ Some t) (b : t.budget ≡ None) (s : w.timers_set ≡ []) (ticks : ℕ) where
+module _ (p : Image) (n : TaskNo) (w : World) (t : Task) (e : find (is_who (who.Task n)) w.tasks ≡ Some t) (b : t.budget ≡ None) (s : w.timers_set ≡ [])
+    (ticks : ℕ) where
   there : is_who (who.Task n) t ≡ true
   there = passes (is_who (who.Task n)) w.tasks t e
 
@@ -102,21 +122,27 @@ module _ (p : Image) (n : TaskNo) (w : World) (t : Task) (e : find (is_who (who.
   put-twice : (u : Task) → with_task (who.Task n) u (with_task (who.Task n) (with_ticks (Some ticks) t) w) ≡ with_task (who.Task n) u w
   put-twice u = ap {A = List Task} (λ ts. record w { tasks = ts }) (set_twice (is_who (who.Task n)) w.tasks (with_ticks (Some ticks) t) u there)
 
-  charged : charge_task p n (with_task (who.Task n) (with_ticks (Some ticks) t) w) ≡ record (with_task (who.Task n) (charged_itself p (with_ticks (Some ticks) t)) w) { timers_due = []; budget_due = None }
+  charged : charge_task p n (with_task (who.Task n) (with_ticks (Some ticks) t) w)
+      ≡ record (with_task (who.Task n) (charged_itself p (with_ticks (Some ticks) t)) w) { timers_due = []; budget_due = None }
   charged = alone_is p n (with_task (who.Task n) (with_ticks (Some ticks) t) w) (with_ticks (Some ticks) t) begun-found b s
       ∙ ap {A = World} (λ x. record x { timers_due = []; budget_due = None }) (put-twice (charged_itself p (with_ticks (Some ticks) t)))
 
   charged-there : is_who (who.Task n) (charged_itself p (with_ticks (Some ticks) t)) ≡ true
   charged-there = who-kept n (is_robin_level p t.base) (clock_risen (with_ticks (Some ticks) t)) there
 
-  spent : spend_tick (who.Task n) (charge_task p n (with_task (who.Task n) (with_ticks (Some ticks) t) w)) ≡ record (with_task (who.Task n) (ticked_itself p ticks t) w) { timers_due = []; budget_due = None }
+  spent : spend_tick (who.Task n) (charge_task p n (with_task (who.Task n) (with_ticks (Some ticks) t) w))
+      ≡ record (with_task (who.Task n) (ticked_itself p ticks t) w) { timers_due = []; budget_due = None }
   spent = ap (spend_tick (who.Task n)) charged
-      ∙ (edited n (λ x. with_ticks (one_tick_less x.ticks_left) x) (record w { timers_due = []; budget_due = None }) t (charged_itself p (with_ticks (Some ticks) t)) e charged-there
-      ∙ ap {A = Task} (λ x. record (with_task (who.Task n) x w) { timers_due = []; budget_due = None }) (spent-by (is_robin_level p t.base) ticks (clock_risen t)))
+      ∙ (edited n (λ x. with_ticks (one_tick_less x.ticks_left) x) (record w { timers_due = []; budget_due = None }) t
+      (charged_itself p (with_ticks (Some ticks) t)) e charged-there
+      ∙ ap {A = Task} (λ x. record (with_task (who.Task n) x w) { timers_due = []; budget_due = None })
+      (spent-by (is_robin_level p t.base) ticks (clock_risen t)))
 
 -- where an action begins or goes on
-begins : (p : Image) (n : TaskNo) (w : World) (t : Task) → task_at w (who.Task n) ≡ Some t → begin_action p (who.Task n) w ≡ with_task (who.Task n) (with_ticks (Some (unwrap_or t.ticks_left (cost p w (who.Task n)))) t) w
-begins p n w t e = ap {A = Option Task} (λ o. edit_task_found (who.Task n) (with_ticks (Some (unwrap_or (unwrap_or o nobody).ticks_left (cost p w (who.Task n))))) w o) e
+begins : (p : Image) (n : TaskNo) (w : World) (t : Task) → task_at w (who.Task n) ≡ Some t
+    → begin_action p (who.Task n) w ≡ with_task (who.Task n) (with_ticks (Some (unwrap_or t.ticks_left (cost p w (who.Task n)))) t) w
+begins p n w t e =
+    ap {A = Option Task} (λ o. edit_task_found (who.Task n) (with_ticks (Some (unwrap_or (unwrap_or o nobody).ticks_left (cost p w (who.Task n))))) w o) e
 
 picked : (budget : Option ℕ) (n k : ℕ) → cond (is_none budget) (Some n) None ≡ Some k → (budget ≡ None) × (n ≡ k)
 picked None n k e = (refl, cc)

@@ -32,4 +32,7 @@ ticked_itself p ticks t = with_ticks (Some (ticks - 1)) (charged_itself p t)
 
 -- one tick of an action of so many ticks, by one edit of its task
 abbrev pub ticked_alone : Image → TaskNo → ℕ → World → World
-ticked_alone p n ticks w = record (edit_task (who.Task n) (ticked_itself p ticks) w) { timers_due = []; budget_due = None }
+ticked_alone p n ticks w = record (edit_task (who.Task n) (ticked_itself p ticks) w) {
+  timers_due = [];
+  budget_due = None;
+}

@@ -1,10 +1,13 @@
 //! From the lines of a run to the lines of a trace: numbers become names.
 //!
-//! A line has room for names and texts of at most 1,000 bytes. Those of a legal program are not longer, and are names and
-//! texts as a trace has them; of any other program the line is answered as want of memory.
+//! A line has room for names and texts of at most 1,000 bytes. Those of a legal program are not
+//! longer, and are names and texts as a trace has them; of any other program the line is answered
+//! as want of memory.
 ghost use Rattle.std.specs.Prelude.{◌≡◌, IfOk};
-ghost use Rattle.trace_text.specs.Text.{IsName, IsExceptionName, IsPutText, IsEntryPrintable, IsFinishedPrintable, IsEndedPrintable, IsPrintable};
-ghost use Rattle.profile_machine.specs.Lines.{exception_name, created_name, name_of_entry, finished_how, event_of};
+ghost use Rattle.trace_text.specs.Text.{IsName, IsExceptionName, IsPutText, IsEntryPrintable};
+ghost use Rattle.trace_text.specs.Text.{IsFinishedPrintable, IsEndedPrintable, IsPrintable};
+ghost use Rattle.profile_machine.specs.Lines.{exception_name, created_name};
+ghost use Rattle.profile_machine.specs.Lines.{name_of_entry, finished_how, event_of};
 ghost use Rattle.trace_text.specs.declared.events.Event.TheVariants as written;
 ghost use Rattle.profile_machine.specs.declared.world.lines.Line.TheVariants as line;
 ghost use Rattle.machine_ticks.specs.Stops.{ended_by};

@@ -1,5 +1,6 @@
-//! The world in which a run begins, the tick for which somebody is chosen, why a run stops, and the lines of a trace that are
-//! made of those of a run. Each function has the name of the machine's definition of which it is the counterpart.
+//! The world in which a run begins, the tick for which somebody is chosen, why a run stops, and the
+//! lines of a trace that are made of those of a run. Each function has the name of the machine's
+//! definition of which it is the counterpart.
 #![tactic(auto)]
 
 mod events;

@@ -1,6 +1,7 @@
 //! The world in which a run begins (ISO/IEC 8652:2012, 10.2).
 ghost use Rattle.std.specs.Prelude.{◌≡◌, ◌++◌, ◌∷◌, [], IfOk, OnOk, replicate};
-ghost use Rattle.profile_machine.specs.Run.{environment_task, agent_at_first, nothing_drawn, blank_world, environment, opens, opening};
+ghost use Rattle.profile_machine.specs.Run.{environment_task, agent_at_first, nothing_drawn};
+ghost use Rattle.profile_machine.specs.Run.{blank_world, environment, opens, opening};
 ghost use Rattle.machine_frames.specs.Did.{Did};
 ghost use Rattle.machine_dispatching.specs.Settling.{written};
 

@@ -38,8 +38,8 @@ fn is_stuck(world: &World) -> bool
     world.places.is_empty() && world.appointments.is_empty() && world.script.is_empty()
 }
 
-/// Why the run stops in this world, if it does, under a bound in ticks: by the end of the environment task, since nothing
-/// is ahead, or by the bound.
+/// Why the run stops in this world, if it does, under a bound in ticks: by the end of the
+/// environment task, since nothing is ahead, or by the bound.
 pub fn stop(bound: u64, world: &World) -> Option<Stopped>
     ensures why { (p : Image) → why_ended p result ≡ stop p bound world.now }
     // A run that goes on is not at its bound.

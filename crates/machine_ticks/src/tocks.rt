@@ -1,6 +1,8 @@
 //! A tock: the choice of who runs, and one tick (docs/LANGUAGE.md).
 ghost use Rattle.std.specs.Prelude.{◌≡◌, Some, None, OnOk, unwrap_or};
-ghost use Rattle.profile_machine.specs.Run.{says_run, serve_first, serve, begin_action, one_tick_less, spend_tick, next_tick, tick_of, idle_tick, tock};
+ghost use Rattle.profile_machine.specs.Run.{says_run, serve_first, serve};
+ghost use Rattle.profile_machine.specs.Run.{begin_action, one_tick_less, spend_tick};
+ghost use Rattle.profile_machine.specs.Run.{next_tick, tick_of, idle_tick, tock};
 ghost use Rattle.profile_machine.specs.Cost.{cost};
 ghost use Rattle.profile_machine.specs.Tasks.{task_of};
 ghost use Rattle.profile_image.specs.Words.{same_option, same_who};
@@ -122,7 +124,8 @@ fn tick_each(p: &Program, name: Who, world: &mut World) -> Result<(), NoMemory>
     Ok(())
 }
 
-// The ticks of the action of a task that is charged alone: no timer is set, and it belongs to no group.
+// The ticks of the action of a task that is charged alone: no timer is set, and it belongs to no
+// group.
 fn ticks_alone(p: &Program, name: Who, world: &World) -> Option<u64>
     ensures { result ≡ ticks_alone p.now name world.now }
 {

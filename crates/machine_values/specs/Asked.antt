@@ -7,7 +7,8 @@ use Rattle.profile_image.specs.declared.values.Value.{Value}
 use Rattle.profile_image.specs.declared.values.Value.TheVariants.{Ticks, Truth}
 use Rattle.profile_machine.specs.declared.world.tasks.Task as world
 use Rattle.profile_machine.specs.Operators.{Valued}
-use Rattle.profile_machine.specs.Values.{Seen, named_task, live_task, number_of_thing, event_moment, timer_of, time_left, budget_of}
+use Rattle.profile_machine.specs.Values.{Seen, named_task, live_task, number_of_thing}
+use Rattle.profile_machine.specs.Values.{event_moment, timer_of, time_left, budget_of}
 
 -- the task of which an expression asks, which has to be there
 abbrev pub live_task_named : (ExprNo → Valued Value) → Seen → Option ExprNo → Valued world.Task

@@ -1,6 +1,9 @@
-//! What an expression may ask of events, timers, group budgets and ports (ISO/IEC 8652:2012, D.14, D.15).
-ghost use Rattle.std.specs.Prelude.{◌≡◌, ◌<ℤ◌, negsuc, OnErr, IfOk, find, option_copied, pos, slice_index_or};
-ghost use Rattle.profile_machine.specs.Values.{is_event, event_moment, timer_of, time_left, budget_of, port_value};
+//! What an expression may ask of events, timers, group budgets and ports (ISO/IEC 8652:2012, D.14,
+//! D.15).
+ghost use Rattle.std.specs.Prelude.{◌≡◌, ◌<ℤ◌, negsuc, OnErr, IfOk, find};
+ghost use Rattle.std.specs.Prelude.{option_copied, pos, slice_index_or};
+ghost use Rattle.profile_machine.specs.Values.{is_event, event_moment, timer_of};
+ghost use Rattle.profile_machine.specs.Values.{time_left, budget_of, port_value};
 
 use ann_base::{Moment, NoMemory, Raised, TaskNo};
 use profile_image::{LAST_OUTSIDE_LINE, Value};

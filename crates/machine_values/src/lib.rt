@@ -1,5 +1,6 @@
-//! The values of names and expressions: what a task sees of a world. Each function has the name of the machine's
-//! definition of which it is the counterpart. A number that its type cannot hold is answered as want of memory.
+//! The values of names and expressions: what a task sees of a world. Each function has the name of
+//! the machine's definition of which it is the counterpart. A number that its type cannot hold is
+//! answered as want of memory.
 #![tactic(auto)]
 
 mod answers;

@@ -1,9 +1,15 @@
 //! Names: the objects, tasks and cells that they denote (ISO/IEC 8652:2012, 4.1).
 ghost use Rattle.std.specs.Prelude.{◌≡◌, ◌+◌, ◌^◌, ◌≤◌, IfOk, OnErr, option_and_then};
 ghost use Rattle.ann_base.specs.Answers.{Answers};
-ghost use Rattle.profile_image.specs.declared.expressions.ObjectName.TheVariants.{Declared, Component};
+ghost use Rattle.profile_image.specs.declared.expressions.ObjectName.TheVariants.{Declared};
+ghost use Rattle.profile_image.specs.declared.expressions.ObjectName.TheVariants.{Component};
 ghost use Rattle.profile_machine.specs.Scopes.{scope_in_use};
-ghost use Rattle.profile_machine.specs.Values.{own_object, home_of, first_cell, declared_already, thing, thing_number, number_of_thing, task_in, object_number, located_in, subject_of, is_parameter_kind, is_parameter, located, component_at, object_of, component_of_own, object_cell, shifted, component_cell, read};
+ghost use Rattle.profile_machine.specs.Values.{own_object, home_of, first_cell, declared_already};
+ghost use Rattle.profile_machine.specs.Values.{thing, thing_number, number_of_thing, task_in};
+ghost use Rattle.profile_machine.specs.Values.{object_number, located_in, subject_of};
+ghost use Rattle.profile_machine.specs.Values.{is_parameter_kind, is_parameter, located};
+ghost use Rattle.profile_machine.specs.Values.{component_at, object_of, component_of_own};
+ghost use Rattle.profile_machine.specs.Values.{object_cell, shifted, component_cell, read};
 
 use crate::answers::or_raised;
 use crate::seen::Seen;
@@ -17,7 +23,8 @@ use profile_image::{
 };
 use profile_machine::world::{Located, ScopeId, Variable, World};
 
-/// The object of the unit in whose body a name stands: the barrier's, or that of the nearest such body round it.
+/// The object of the unit in whose body a name stands: the barrier's, or that of the nearest such
+/// body round it.
 pub fn own_object(q: &Seen<'_>, unit: ProtectedUnitNo) -> Option<ObjectNo>
     ensures { result ≡ own_object q.now unit }
 {
@@ -105,8 +112,8 @@ pub fn object_number(q: &Seen<'_>, d: DeclNo) -> Result<ObjectNo, Raised>
     Ok(ObjectNo(number_of_thing(q, d)?))
 }
 
-/// Where a controlled object stands whose declaration has its first cell in this scope: a parameter leads to the object
-/// on which its operation works.
+/// Where a controlled object stands whose declaration has its first cell in this scope: a parameter
+/// leads to the object on which its operation works.
 pub fn located_in(d: DeclNo, id: ScopeId, subject: Option<Located>) -> Located
     ensures { result ≡ located_in d id subject }
 {

@@ -9,8 +9,8 @@ use profile_machine::world::{ScopeId, World};
 use std::marker::Model;
 use trace_text::Who;
 
-/// What an expression sees: the program, the world, who evaluates it, the scope in use round it, and for a barrier the
-/// object of which it is one.
+/// What an expression sees: the program, the world, who evaluates it, the scope in use round it,
+/// and for a barrier the object of which it is one.
 #[derive(Drop)]
 pub struct Seen<'a> {
     pub program: &'a Program,

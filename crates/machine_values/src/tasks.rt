@@ -1,8 +1,10 @@
-//! What an expression may ask of tasks and of the queues of entries (ISO/IEC 8652:2012, 9.9, C.7.1, D.2.6, D.5.1, D.14).
+//! What an expression may ask of tasks and of the queues of entries (ISO/IEC 8652:2012, 9.9, C.7.1,
+//! D.2.6, D.5.1, D.14).
 ghost use Rattle.std.specs.Prelude.{◌≡◌, ◌^◌, ◌≤◌, OnErr, IfOk, length, pos, option_and_then};
 ghost use Rattle.std.specs.Result.{result_map_both};
 ghost use Rattle.profile_machine.specs.Tasks.{number_of};
-ghost use Rattle.profile_machine.specs.Values.{live_task, object_of, queue_at, queues_of, own_queues, count_of_entry};
+ghost use Rattle.profile_machine.specs.Values.{live_task, object_of, queue_at};
+ghost use Rattle.profile_machine.specs.Values.{queues_of, own_queues, count_of_entry};
 
 use crate::names::own_object;
 use crate::seen::Seen;
@@ -58,8 +60,8 @@ fn queue_length(queues: &List<List<CallNo>>, place: u32) -> usize
     }
 }
 
-// How many calls are queued on the entry at this place of its unit: of the object in whose body the name stands, or of
-// the task that runs.
+// How many calls are queued on the entry at this place of its unit: of the object in whose body the
+// name stands, or of the task that runs.
 fn own_queue_length(q: &Seen<'_>, unit: EntryUnit, place: u32) -> usize
     ensures { result ≡ length (queue_at (own_queues q.now unit) place) }
 {

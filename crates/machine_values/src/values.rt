@@ -1,9 +1,14 @@
-//! The value of an expression, or its exception (ISO/IEC 8652:2012, clause 4). Operands are evaluated from left to
-//! right. An operand has a number of its own, so as many levels are evaluated as there are expressions.
+//! The value of an expression, or its exception (ISO/IEC 8652:2012, clause 4). Operands are
+//! evaluated from left to right. An operand has a number of its own, so as many levels are
+//! evaluated as there are expressions.
 ghost use Rattle.std.specs.Prelude.{◌≡◌};
 ghost use Rattle.ann_base.specs.Answers.{Answers, AnswersAs};
-ghost use Rattle.machine_values.specs.Asked.{live_task_named, time_of_event, time_remaining, budget_has_expired, budget_remaining};
-ghost use Rattle.profile_machine.specs.Values.{span, both_values, indexed, variable_by, named_task, form_value, value_by, value, variable, optional_task, truth_in, ticks_in, whole_in, condition, moment};
+ghost use Rattle.machine_values.specs.Asked.{live_task_named, time_of_event, time_remaining};
+ghost use Rattle.machine_values.specs.Asked.{budget_has_expired, budget_remaining};
+ghost use Rattle.profile_machine.specs.Values.{span, both_values, indexed, variable_by};
+ghost use Rattle.profile_machine.specs.Values.{named_task, form_value, value_by, value};
+ghost use Rattle.profile_machine.specs.Values.{variable, optional_task, truth_in};
+ghost use Rattle.profile_machine.specs.Values.{ticks_in, whole_in, condition, moment};
 
 use crate::answers::or_raised;
 use crate::events::{budget_of, event_moment, port_value, time_left, timer_of};
@@ -216,7 +221,8 @@ pub fn variable(q: &Seen<'_>, name: VariableName) -> Result<Variable, OrMemory<R
     }
 }
 
-/// The task that an expression names; an omitted one is the calling one, and in a handler there is none.
+/// The task that an expression names; an omitted one is the calling one, and in a handler there is
+/// none.
 ///
 /// Errors: `Fault` with the exception that the evaluation raises.
 pub fn optional_task(q: &Seen<'_>, task: Option<ExprNo>) -> Result<Option<TaskNo>, OrMemory<Raised>>

@@ -12,13 +12,15 @@ use Rattle.ada_image.specs.declared.making.Within.{Within}
 use Rattle.ada_image.specs.declared.making.SequencePlace.TheVariants as sequence_place
 use Rattle.ada_image.specs.Making.{first_put, in_body_of, in_unit}
 use Rattle.ada_image.specs.ImageOfStatements.{SequenceMaking, scope_at}
-use Rattle.ada_image.specs.ImageOfDeclarations.{same_making, sequence_put, subprogram_declared_as, body_put, operation_body_put, operation_bodies_put, inner_body_put, inner_bodies_put}
+use Rattle.ada_image.specs.ImageOfDeclarations.{same_making, sequence_put, subprogram_declared_as, body_put}
+use Rattle.ada_image.specs.ImageOfDeclarations.{operation_body_put, operation_bodies_put, inner_body_put, inner_bodies_put}
 use Rattle.image_laws.proofs.Images.Layers.{mapped_operation, mapped_declaration}
 use Rattle.operand_laws.proofs.Rising.{Keeps, keeps-then, first-keeps}
 use Rattle.operand_laws.proofs.Constructs.{KeepsAll}
 
 module _ {Q : Type 0} (make : Q → SequenceMaking) (law : (q : Q) → KeepsAll (make q)) where
-  pub body-keeps : (place : Place) (function : Option SubprogramNo) (is_task_body : Bool) (q : Q) (within : Within) → Keeps (body_put make within place function is_task_body q)
+  pub body-keeps : (place : Place) (function : Option SubprogramNo) (is_task_body : Bool) (q : Q) (within : Within)
+      → Keeps (body_put make within place function is_task_body q)
   unfolding body_put
   body-keeps place function is_task_body q within =
       let scope = scope_at within.names place in
@@ -72,10 +74,12 @@ module _ {E : Type 0} (g : E → Sequence) (law : (e : E) → KeepsAll (sequence
   unfolding operation_bodies_put operation_body_put
   layer-operations [] within = λ l h. h
   layer-operations (body_of.Subprogram s body ∷ os) within =
-      keeps-then (body_put same_making within s.place (subprogram_declared_as within s.name) false (sequence_put (g body.sequence))) (λ u. operation_bodies_put same_making within (operations_made os))
+      keeps-then (body_put same_making within s.place (subprogram_declared_as within s.name) false (sequence_put (g body.sequence)))
+      (λ u. operation_bodies_put same_making within (operations_made os))
       (layer-body s.place (subprogram_declared_as within s.name) false body.sequence within) (λ u. layer-operations os within)
   layer-operations (body_of.Entry head body ∷ os) within =
-      keeps-then (body_put same_making within head.place None false (sequence_put (g body.sequence))) (λ u. operation_bodies_put same_making within (operations_made os))
+      keeps-then (body_put same_making within head.place None false (sequence_put (g body.sequence)))
+      (λ u. operation_bodies_put same_making within (operations_made os))
       (layer-body head.place None false body.sequence within) (λ u. layer-operations os within)
 
   layer-inner : (d : Declaration E) (within : Within)
@@ -98,5 +102,6 @@ module _ {E : Type 0} (g : E → Sequence) (law : (e : E) → KeepsAll (sequence
   unfolding inner_bodies_put
   layer-inners [] within = λ l h. h
   layer-inners (d ∷ ds) within =
-      keeps-then (inner_body_put same_making within (mapped_declaration sequence_put (mapped_declaration g d))) (λ u. inner_bodies_put same_making within (map (mapped_declaration sequence_put) (map (mapped_declaration g) ds)))
+      keeps-then (inner_body_put same_making within (mapped_declaration sequence_put (mapped_declaration g d)))
+      (λ u. inner_bodies_put same_making within (map (mapped_declaration sequence_put) (map (mapped_declaration g) ds)))
       (layer-inner d within) (λ u. layer-inners ds within)

@@ -63,7 +63,8 @@ made-then l a b g h = record { rising = h.rising; grows = let x = g.grows in let
 pub makes-then : (m : Making ExprNo) (f : ExprNo → Making ExprNo) → Makes m → ((x : ExprNo) → MakesBehind x (f x)) → Makes (m >>= f)
 makes-then m f g h l r = let a = g l r in made-then l (m l) (f (m l).1 (m l).0) a (h (m l).1 (m l).0 a.made a.rising)
 
-pub behind-then : (n : ExprNo) (m : Making ExprNo) (f : ExprNo → Making ExprNo) → MakesBehind n m → ((x : ExprNo) → MakesBehind x (f x)) → MakesBehind n (m >>= f)
+pub behind-then : (n : ExprNo) (m : Making ExprNo) (f : ExprNo → Making ExprNo) → MakesBehind n m → ((x : ExprNo) → MakesBehind x (f x))
+    → MakesBehind n (m >>= f)
 behind-then n m f g h l there r = let a = g l there r in made-then l (m l) (f (m l).1 (m l).0) a (h (m l).1 (m l).0 a.made a.rising)
 
 pub behind-pure : (n : ExprNo) → MakesBehind n (pure n)
@@ -71,7 +72,8 @@ behind-pure n l there r = record { rising = r; grows = omega arith; made = there
 
 -- ---- an expression is put at the end
 
-rise-behind : (es : List Valuation) (n : ℕ) (v : Valuation) → operands_rise_from n es ≡ true → operands_before (n + length es) v ≡ true → operands_rise_from n (es ++ v ∷ []) ≡ true
+rise-behind : (es : List Valuation) (n : ℕ) (v : Valuation) → operands_rise_from n es ≡ true → operands_before (n + length es) v ≡ true
+    → operands_rise_from n (es ++ v ∷ []) ≡ true
 rise-behind [] n v r before = and_from _ true (subst (λ m. operands_before m v ≡ true) (omega arith) before) refl
 rise-behind (e ∷ es) n v r before =
     let both = and_parts (operands_before n e) (operands_rise_from (suc n) es) r in
@@ -100,9 +102,11 @@ pub operand-makes : (x : ExprNo) (v : Valuation) → operands v ≡ x ∷ [] →
 operand-makes x v is l there r = value-made v l (before-as _ v (x ∷ []) is (and_from _ true (lt-ltb _ _ there) refl)) r
 
 -- one with an operand that is there, and one that is made
-pub two-operands-make : (left : ExprNo) (m : Making ExprNo) (f : ExprNo → Valuation) → ((x : ExprNo) → operands (f x) ≡ left ∷ x ∷ []) → Makes m → MakesBehind left (m >>= (λ x. value_put (f x)))
+pub two-operands-make : (left : ExprNo) (m : Making ExprNo) (f : ExprNo → Valuation) → ((x : ExprNo) → operands (f x) ≡ left ∷ x ∷ []) → Makes m
+    → MakesBehind left (m >>= (λ x. value_put (f x)))
 two-operands-make left m f is g l there r =
     let a = g l r in
     let has : left.0 < length (m l).0.expressions = let x = a.grows in omega (arith, there) in
     made-then l (m l) (value_put (f (m l).1) (m l).0) a
-    (value-made (f (m l).1) (m l).0 (before-as _ _ (left ∷ (m l).1 ∷ []) (is (m l).1) (and_from _ _ (lt-ltb _ _ has) (and_from _ true (lt-ltb _ _ a.made) refl))) a.rising)
+    (value-made (f (m l).1) (m l).0
+    (before-as _ _ (left ∷ (m l).1 ∷ []) (is (m l).1) (and_from _ _ (lt-ltb _ _ has) (and_from _ true (lt-ltb _ _ a.made) refl))) a.rising)

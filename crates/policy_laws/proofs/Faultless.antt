@@ -34,7 +34,8 @@ of-profile : (last : ℕ) (pragmas before : List Pragma) (p : Pragma) → is_wro
 unfolding is_wrong_pragma
 of-profile last pragmas before p e = is-kept (is_pragma_of_profile last p) _ e
 
-all-of-profile : (last : ℕ) (pragmas : List Pragma) (at : ℕ) (ps : List Pragma) → faults_in (wrong_pragmas last pragmas at ps) ≡ [] → list_all (is_pragma_of_profile last) ps ≡ true
+all-of-profile : (last : ℕ) (pragmas : List Pragma) (at : ℕ) (ps : List Pragma) → faults_in (wrong_pragmas last pragmas at ps) ≡ []
+    → list_all (is_pragma_of_profile last) ps ≡ true
 unfolding wrong_pragmas
 all-of-profile last pragmas at [] e = refl
 all-of-profile last pragmas at (p ∷ ps) e =

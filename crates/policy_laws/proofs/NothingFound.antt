@@ -6,7 +6,8 @@ use Rattle.world_tables.specs.Lists.{first_of}
 use Rattle.ada_regions.specs.NamesInUnits.{names_in_unit}
 use Rattle.ada_regions.specs.Numbered.{names_of}
 use Rattle.ada_legality.specs.declared.faults.Fault.{Fault}
-use Rattle.ada_legality.specs.Faults.{comes_before, same_fault, fault_put, in_order_of_text, fault_in, faults_in, found_of, faults_where, faults_of, first_fault_of}
+use Rattle.ada_legality.specs.Faults.{comes_before, same_fault, fault_put, in_order_of_text, fault_in}
+use Rattle.ada_legality.specs.Faults.{faults_in, found_of, faults_where, faults_of, first_fault_of}
 use Rattle.ada_legality.specs.Findings.{Found}
 
 -- where a fault is put, there is one

@@ -15,12 +15,16 @@ policies-of : (unit : Tree) → (program_of unit).policies ≡ policies_of (name
 unfolding program_of program_from program_with
 policies-of unit = refl
 
-are-below : (unit : Tree) → Faultless unit → let policies = policies_of (names_of unit).last_priority unit.pragmas in list_all (is_below_interrupts policies.last_priority) policies.dispatching ≡ true
+are-below : (unit : Tree) → Faultless unit →
+    let policies = policies_of (names_of unit).last_priority unit.pragmas in
+    list_all (is_below_interrupts policies.last_priority) policies.dispatching ≡ true
 unfolding policies_of deadline_ranges_of
 are-below unit f =
     let last = (names_of unit).last_priority in
-    sorted (is_below_interrupts last) (flat_map (ranges_of_pragma last) unit.pragmas) (of-pragmas last (last_priority_of unit.pragmas) unit.pragmas f.profile f.ranges)
+    sorted (is_below_interrupts last) (flat_map (ranges_of_pragma last) unit.pragmas)
+    (of-pragmas last (last_priority_of unit.pragmas) unit.pragmas f.profile f.ranges)
 
 pub deadlines_are_below_interrupts : DeadlinesAreBelowInterrupts
 deadlines_are_below_interrupts unit none =
-    subst (λ policies. list_all (is_below_interrupts policies.last_priority) policies.dispatching ≡ true) (sym (policies-of unit)) (are-below unit (faultless unit none))
+    subst (λ policies. list_all (is_below_interrupts policies.last_priority) policies.dispatching ≡ true) (sym (policies-of unit))
+    (are-below unit (faultless unit none))

@@ -19,7 +19,8 @@ use Rattle.policy_laws.proofs.Faultless.{ends_by}
 
 -- ---- in their order
 
-inserted : (test : DispatchingRange → Bool) (r : DispatchingRange) (rs : List DispatchingRange) → test r ≡ true → list_all test rs ≡ true → list_all test (range_inserted r rs) ≡ true
+inserted : (test : DispatchingRange → Bool) (r : DispatchingRange) (rs : List DispatchingRange) → test r ≡ true → list_all test rs ≡ true
+    → list_all test (range_inserted r rs) ≡ true
 unfolding range_inserted
 inserted test r [] one all = rw one refl
 inserted test r (s ∷ rs) one all = let h = and_parts (test s) (list_all test rs) all in go (leb r.first s.first) h.0 (inserted test r rs one h.1)
@@ -51,7 +52,8 @@ module _ (last : ℕ) where
   whole RoundRobinWithinPriorities = refl
   whole EdfAcrossPriorities = ap (λ t. t && true) (le-leb last last (omega arith))
 
-  judged : (place : Place) (rs : List DispatchingRange) → list_all (ends_by last) (map (placed place) (filter has_deadlines rs)) ≡ true → list_all (is_below_interrupts last) rs ≡ true
+  judged : (place : Place) (rs : List DispatchingRange) → list_all (ends_by last) (map (placed place) (filter has_deadlines rs)) ≡ true
+      → list_all (is_below_interrupts last) rs ≡ true
   judged place [] all = refl
   judged place (r ∷ rs) all = go r.policy all (judged place rs)
     where
@@ -68,7 +70,8 @@ module _ (last : ℕ) where
           ap (λ t. t && list_all (is_below_interrupts last) rs) k.0 ∙ rest k.1
 
   -- the ranges that are judged may be those of another last Priority
-  of-pragma : (other : ℕ) (p : Pragma) → list_all (ends_by last) (deadline_ranges_of_pragma other p) ≡ true → list_all (is_below_interrupts last) (ranges_of_pragma last p) ≡ true
+  of-pragma : (other : ℕ) (p : Pragma) → list_all (ends_by last) (deadline_ranges_of_pragma other p) ≡ true
+      → list_all (is_below_interrupts last) (ranges_of_pragma last p) ≡ true
   unfolding deadline_ranges_of_pragma ranges_of_pragma
   of-pragma other p all = go (bytes_eq p.name.text (codes "task_dispatching_policy")) all
     where
@@ -84,7 +87,8 @@ module _ (last : ℕ) where
       go false h = judged p.place specific h
 
   pub of-pragmas : (other : ℕ) (ps : List Pragma) → list_all (is_pragma_of_profile other) ps ≡ true
-      → list_all (ends_by last) (flat_map (deadline_ranges_of_pragma other) (filter (is_pragma_of_profile other) ps)) ≡ true → list_all (is_below_interrupts last) (flat_map (ranges_of_pragma last) ps) ≡ true
+      → list_all (ends_by last) (flat_map (deadline_ranges_of_pragma other) (filter (is_pragma_of_profile other) ps)) ≡ true
+      → list_all (is_below_interrupts last) (flat_map (ranges_of_pragma last) ps) ≡ true
   of-pragmas other [] profile all = refl
   of-pragmas other (p ∷ ps) profile all =
       let h = and_parts (is_pragma_of_profile other p) (list_all (is_pragma_of_profile other) ps) profile in

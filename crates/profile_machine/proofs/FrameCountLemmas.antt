@@ -36,15 +36,18 @@ protected_by_count (f ∷ fs) = any_step (is_protected f.mark) _ _ (protected_by
 
 -- ---- the counts of the rest answer for all, if the top does not
 
-pub any_struck_below : (fs : List Frame) (top : Frame) (c : FrameCounts) → Some top ≡ first_of fs → c ≡ counts_of (rest_of fs) → top.struck ≡ false → ltb 0 c.struck ≡ any_struck fs
+pub any_struck_below : (fs : List Frame) (top : Frame) (c : FrameCounts) → Some top ≡ first_of fs → c ≡ counts_of (rest_of fs) → top.struck ≡ false
+    → ltb 0 c.struck ≡ any_struck fs
 any_struck_below [] top c first e not_top = cc
 any_struck_below (f ∷ fs) top c first e not_top = let same : top ≡ f = cc in rw (e, ← same, not_top) (struck_by_count fs)
 
-pub any_defers_below : (fs : List Frame) (top : Frame) (c : FrameCounts) → Some top ≡ first_of fs → c ≡ counts_of (rest_of fs) → defers top.mark ≡ false → ltb 0 c.deferring ≡ any_defers fs
+pub any_defers_below : (fs : List Frame) (top : Frame) (c : FrameCounts) → Some top ≡ first_of fs → c ≡ counts_of (rest_of fs) → defers top.mark ≡ false
+    → ltb 0 c.deferring ≡ any_defers fs
 any_defers_below [] top c first e not_top = cc
 any_defers_below (f ∷ fs) top c first e not_top = let same : top ≡ f = cc in rw (e, ← same, not_top) (defers_by_count fs)
 
-pub any_protected_below : (fs : List Frame) (top : Frame) (c : FrameCounts) → Some top ≡ first_of fs → c ≡ counts_of (rest_of fs) → is_protected top.mark ≡ false → ltb 0 c.in_protected ≡ any_protected fs
+pub any_protected_below : (fs : List Frame) (top : Frame) (c : FrameCounts) → Some top ≡ first_of fs → c ≡ counts_of (rest_of fs)
+    → is_protected top.mark ≡ false → ltb 0 c.in_protected ≡ any_protected fs
 any_protected_below [] top c first e not_top = cc
 any_protected_below (f ∷ fs) top c first e not_top = let same : top ≡ f = cc in rw (e, ← same, not_top) (protected_by_count fs)
 
@@ -70,7 +73,8 @@ counts-le (f ∷ fs) =
     let d = one_if-le (defers f.mark) in
     let p = one_if-le (is_protected f.mark) in (omega arith, omega arith, omega arith)
 
-pub room_below : (fs : List Frame) (second : Frame) (c : FrameCounts) → Some second ≡ slice_get fs 1 → c ≡ counts_of (rest_of (rest_of fs)) → length fs < 2 ^ 64 → HasRoom c
+pub room_below : (fs : List Frame) (second : Frame) (c : FrameCounts) → Some second ≡ slice_get fs 1 → c ≡ counts_of (rest_of (rest_of fs)) → length fs < 2 ^ 64
+    → HasRoom c
 room_below [] second c at e small = cc
 room_below (f ∷ []) second c at e small = cc
 room_below (f ∷ g ∷ fs) second c at e small =

@@ -28,28 +28,34 @@ use Rattle.profile_machine.specs.declared.world.calls.CallKind.TheVariants as ca
 use Rattle.profile_machine.specs.declared.world.marks.Purpose.TheVariants as opened_for
 use Rattle.profile_machine.specs.declared.world.marks.ResultTo.TheVariants as bound_for
 use Rattle.profile_machine.specs.declared.world.tasks.Waiting.TheVariants as waits_for
-use Rattle.profile_machine.specs.declared.world.marks.Mark.TheVariants.{Scope, Handled, InProtected, InAccept, Abortable, InInitialize, InFinalize, InAssign}
+use Rattle.profile_machine.specs.declared.world.marks.Mark.TheVariants.{Scope, Handled, InProtected, InAccept}
+use Rattle.profile_machine.specs.declared.world.marks.Mark.TheVariants.{Abortable, InInitialize, InFinalize, InAssign}
 use Rattle.profile_image.specs.Program.{form_of, next_of, scope_of, marks_of}
 use Rattle.profile_machine.specs.declared.world.lines.Part.TheVariants.{Own, TheBlock}
 use Rattle.profile_machine.specs.Steps.{Step, changes, looks, nothing, ◌▷◌}
 use Rattle.profile_machine.specs.Dispatching.{block}
-use Rattle.profile_machine.specs.Frames.{frames_of, top_of, edit_top, goes, raises, leaving_of, with_room, with_mark, pop, pass_on, handlers_in}
+use Rattle.profile_machine.specs.Frames.{frames_of, top_of, edit_top, goes, raises, leaving_of}
+use Rattle.profile_machine.specs.Frames.{with_room, with_mark, pop, pass_on, handlers_in}
 use Rattle.profile_machine.specs.Scopes.{open_scope, plainly, innermost}
 use Rattle.profile_machine.specs.Values.{moment}
 use Rattle.profile_machine.specs.Appointments.{drop_appointment, is_trigger_of}
 use Rattle.profile_machine.specs.Calls.{with_call, attempt_with}
 use Rattle.profile_machine.specs.CallEnds.{edit_abortable, end_top_abortable}
-use Rattle.profile_machine.specs.Statements.{null, assign, assign_array, if_statement, case_statement, while_turn, for_bounds, first_turn, later_turn, exit_statement, block_statement, raise_again, delay_until, relative_moment, put_line, sees}
+use Rattle.profile_machine.specs.Statements.{null, assign, assign_array, if_statement, case_statement, while_turn}
+use Rattle.profile_machine.specs.Statements.{for_bounds, first_turn, later_turn, exit_statement, block_statement}
+use Rattle.profile_machine.specs.Statements.{raise_again, delay_until, relative_moment, put_line, sees}
 use Rattle.profile_machine.specs.Subprograms.{call_subprogram, return, return_value}
 use Rattle.profile_machine.specs.Protected.{call_operation, call_own_operation}
 use Rattle.profile_machine.specs.Priorities.{set_priority, set_quantum, set_deadline_of, delay_and_set_deadline}
 use Rattle.profile_machine.specs.Serving.{end_in_protected}
 use Rattle.profile_machine.specs.Rendezvous.{accept, selective_accept, end_in_accept}
 use Rattle.profile_machine.specs.EntryCalls.{entry_call, asynchronous_select, requeue}
-use Rattle.profile_machine.specs.Controlled.{initialize, assign_controlled, end_in_initialize, end_in_finalize, end_in_assign}
+use Rattle.profile_machine.specs.Controlled.{initialize, assign_controlled, end_in_initialize}
+use Rattle.profile_machine.specs.Controlled.{end_in_finalize, end_in_assign}
 use Rattle.profile_machine.specs.Declarations.{declare}
 use Rattle.profile_machine.specs.Tasking.{create, activate, end_own_activation, abort_statement, end_scope_mark}
-use Rattle.profile_machine.specs.Handlers.{call_handler, set_event, cancel_event, set_timer, cancel_timer, add_member, remove_member, replenish, add_to_budget, set_budget, cancel_budget}
+use Rattle.profile_machine.specs.Handlers.{call_handler, set_event, cancel_event, set_timer, cancel_timer, add_member}
+use Rattle.profile_machine.specs.Handlers.{remove_member, replenish, add_to_budget, set_budget, cancel_budget}
 
 -- ---- the environment task calls the main procedure (10.2)
 

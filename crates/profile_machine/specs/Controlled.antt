@@ -1,5 +1,6 @@
 -- Controlled objects: Initialize, Finalize, assignment (7.6, 7.6.1).
-use Rattle.std.specs.Prelude.{ℕ, suc, ◌+◌, ◌-◌, Bool, true, false, cond, not, ◌&&◌, ◌||◌, [], ◌∷◌, Option, Some, None, eqb, find, option_and_then}
+use Rattle.std.specs.Prelude.{ℕ, suc, ◌+◌, ◌-◌, Bool, true, false, cond, not, ◌&&◌, ◌||◌}
+use Rattle.std.specs.Prelude.{[], ◌∷◌, Option, Some, None, eqb, find, option_and_then}
 use Rattle.std.specs.List.{list_any}
 use Rattle.ann_base.specs.declared.identities.RegionNo.{RegionNo}
 use Rattle.ann_base.specs.declared.exceptions.Raised.TheVariants as exception
@@ -30,13 +31,16 @@ use Rattle.profile_machine.specs.declared.world.marks.AssignStep.{AssignStep}
 use Rattle.profile_machine.specs.declared.world.marks.AssignStep.TheVariants as assigning
 use Rattle.profile_machine.specs.declared.world.marks.Purpose.TheVariants as opened_for
 use Rattle.profile_machine.specs.declared.world.marks.ResultTo.TheVariants as bound_for
-use Rattle.profile_machine.specs.declared.world.marks.Mark.TheVariants.{Scope, Handled, InProtected, InAccept, Abortable, InInitialize, InFinalize, InAssign}
+use Rattle.profile_machine.specs.declared.world.marks.Mark.TheVariants.{Scope, Handled, InProtected, InAccept}
+use Rattle.profile_machine.specs.declared.world.marks.Mark.TheVariants.{Abortable, InInitialize, InFinalize, InAssign}
 use Rattle.profile_image.specs.Words.{without}
 use Rattle.profile_machine.specs.ScopeNumbers.{same_id}
-use Rattle.profile_image.specs.Program.{declaration_of, next_of, scope_of, marks_of, subprogram_of, controlled_of, no_controlled, size_of_body}
+use Rattle.profile_image.specs.Program.{declaration_of, next_of, scope_of, marks_of}
+use Rattle.profile_image.specs.Program.{subprogram_of, controlled_of, no_controlled, size_of_body}
 use Rattle.profile_machine.specs.declared.world.lines.Part.TheVariants.{Own}
 use Rattle.profile_machine.specs.Steps.{Step, says, changes, looks, when, nothing, ◌▷◌}
-use Rattle.profile_machine.specs.Frames.{top_of, edit_top, push, pop, new_frame, goes, leaves, raises, given, with_room, has_room, with_mark, pass_on}
+use Rattle.profile_machine.specs.Frames.{top_of, edit_top, push, pop, new_frame, goes, leaves}
+use Rattle.profile_machine.specs.Frames.{raises, given, with_room, has_room, with_mark, pass_on}
 use Rattle.profile_machine.specs.declared.world.scopes.Beginning.{Beginning}
 use Rattle.profile_machine.specs.Scopes.{home, read_cell, write_cell, open_scope, edit_cells, innermost, put_cells}
 use Rattle.profile_machine.specs.Values.{located}

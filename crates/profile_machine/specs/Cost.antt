@@ -14,7 +14,8 @@ use Rattle.profile_machine.specs.declared.world.marks.Mark.{Mark}
 use Rattle.profile_machine.specs.declared.world.marks.AssignStep.{AssignStep}
 use Rattle.profile_machine.specs.declared.world.appointments.Registered.{Registered}
 use Rattle.profile_machine.specs.declared.world.marks.AssignStep.TheVariants as assigning
-use Rattle.profile_machine.specs.declared.world.marks.Mark.TheVariants.{Scope, Handled, InProtected, InAccept, Abortable, InInitialize, InFinalize, InAssign}
+use Rattle.profile_machine.specs.declared.world.marks.Mark.TheVariants.{Scope, Handled, InProtected, InAccept}
+use Rattle.profile_machine.specs.declared.world.marks.Mark.TheVariants.{Abortable, InInitialize, InFinalize, InAssign}
 use Rattle.profile_image.specs.Words.{same_region}
 use Rattle.profile_image.specs.Program.{statement_of}
 use Rattle.profile_machine.specs.Frames.{top_of}

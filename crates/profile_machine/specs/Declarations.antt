@@ -25,13 +25,15 @@ use Rattle.profile_machine.specs.declared.world.scopes.Located.{Located}
 use Rattle.profile_machine.specs.declared.world.scopes.Variable.{Variable}
 use Rattle.profile_machine.specs.declared.world.objects.Object.{Object}
 use Rattle.profile_machine.specs.declared.world.Drawn.{Drawn}
-use Rattle.profile_image.specs.Program.{declaration_of, next_of, scope_of, protected_unit_of, controlled_of, initial_cells}
+use Rattle.profile_image.specs.Program.{declaration_of, next_of, scope_of}
+use Rattle.profile_image.specs.Program.{protected_unit_of, controlled_of, initial_cells}
 use Rattle.profile_machine.specs.declared.world.lines.Part.TheVariants.{Own}
 use Rattle.profile_machine.specs.Steps.{Step, says, changes, looks, ◌▷◌}
 use Rattle.profile_machine.specs.Frames.{goes, given}
 use Rattle.profile_machine.specs.Scopes.{write_cell, edit_cells, scope_in_use, put_cells}
 use Rattle.profile_machine.specs.Operators.{Valued, unless}
-use Rattle.profile_machine.specs.Values.{Seen, value, object_cell, home_of, component_at, no_budget, first_cell, task_in, must_be_task}
+use Rattle.profile_machine.specs.Values.{Seen, value, object_cell, home_of, component_at}
+use Rattle.profile_machine.specs.Values.{no_budget, first_cell, task_in, must_be_task}
 use Rattle.profile_machine.specs.Statements.{sees, copy_cells}
 use Rattle.profile_machine.specs.CallEnds.{store}
 

@@ -1,5 +1,6 @@
 -- Active priorities, places, and the choice of who runs (D.1, D.2).
-use Rattle.std.specs.Prelude.{ℕ, ℤ, Bool, true, cond, not, ◌&&◌, List, [], ◌∷◌, ◌++◌, Option, Some, None, eqb, ltb, leb, int_lt, filter, map, max, slice_index_or, flat_map}
+use Rattle.std.specs.Prelude.{ℕ, ℤ, Bool, true, cond, not, ◌&&◌, List, [], ◌∷◌, ◌++◌, Option, Some}
+use Rattle.std.specs.Prelude.{None, eqb, ltb, leb, int_lt, filter, map, max, slice_index_or, flat_map}
 use Rattle.std.specs.List.{list_all}
 use Rattle.std.specs.Bool.{then_some}
 use Rattle.profile_machine.specs.declared.world.tasks.Rival.{Rival}

@@ -1,5 +1,6 @@
 -- Entry calls, plain, conditional, timed and triggering (9.5.3, 9.7.2 to 9.7.4).
-use Rattle.std.specs.Prelude.{ℕ, suc, ◌+◌, ℤ, pos, int_lt, Bool, true, false, ◌&&◌, ◌||◌, List, [], ◌∷◌, Option, Some, None, Ok, Err, length, option_and_then, map}
+use Rattle.std.specs.Prelude.{ℕ, suc, ◌+◌, ℤ, pos, int_lt, Bool, true, false, ◌&&◌, ◌||◌, List}
+use Rattle.std.specs.Prelude.{[], ◌∷◌, Option, Some, None, Ok, Err, length, option_and_then, map}
 use Rattle.ann_base.specs.Results.{◌>>=◌}
 use Rattle.ann_base.specs.declared.identities.CallNo.{CallNo}
 use Rattle.ann_base.specs.declared.identities.ObjectNo.{ObjectNo}
@@ -41,14 +42,17 @@ use Rattle.profile_machine.specs.declared.world.lines.Part.TheVariants.{TheCall,
 use Rattle.profile_machine.specs.Steps.{Step, says, changes, looks, nothing, ◌▷◌}
 use Rattle.profile_machine.specs.Tasks.{waiting_of, number_of}
 use Rattle.profile_machine.specs.Dispatching.{active_of, block}
-use Rattle.profile_machine.specs.Frames.{frames_of, goes, leaves, raises, given, raise_if, with_room, has_room, in_protected, is_deferred}
+use Rattle.profile_machine.specs.Frames.{frames_of, goes, leaves, raises, given, raise_if}
+use Rattle.profile_machine.specs.Frames.{with_room, has_room, in_protected, is_deferred}
 use Rattle.profile_machine.specs.Scopes.{home, scope_in_use}
 use Rattle.profile_machine.specs.Operators.{Valued, checked}
-use Rattle.profile_machine.specs.Values.{Seen, value, variable, read, thing, thing_number, task_in, or_misfit, moment, own_object}
+use Rattle.profile_machine.specs.Values.{Seen, value, variable, read, thing, thing_number}
+use Rattle.profile_machine.specs.Values.{task_in, or_misfit, moment, own_object}
 use Rattle.profile_machine.specs.Appointments.{appoint}
 use Rattle.profile_machine.specs.Calls.{call_drawn, forget_call, says_call, enqueue, is_full, edit_call}
 use Rattle.profile_machine.specs.CallEnds.{call_in, gone}
-use Rattle.profile_machine.specs.Protected.{where_let_inside, begin_action_on, is_barrier_open, serve_call, body_scope_of}
+use Rattle.profile_machine.specs.Protected.{where_let_inside, begin_action_on}
+use Rattle.profile_machine.specs.Protected.{is_barrier_open, serve_call, body_scope_of}
 use Rattle.profile_machine.specs.Sending.{not_accepted, open_abortable, is_triggering}
 use Rattle.profile_machine.specs.Statements.{sees}
 use Rattle.profile_machine.specs.Rendezvous.{accept_for, is_callable, meet, delay_moment}

@@ -1,5 +1,7 @@
 -- Handlers: releases and the agent that runs them, timing events, timers and group budgets (C.3, D.14, D.15).
-use Rattle.std.specs.Prelude.{ℕ, suc, ◌+◌, ◌-◌, ℤ, pos, negsuc, ◌+ℤ◌, int_le, int_lt, Bool, true, false, cond, not, ◌&&◌, List, [], ◌∷◌, ◌++◌, Option, Some, None, Ok, eqb, leb, length, filter, is_none, option_map, is_some}
+use Rattle.std.specs.Prelude.{ℕ, suc, ◌+◌, ◌-◌, ℤ, pos, negsuc, ◌+ℤ◌, int_le, int_lt, Bool}
+use Rattle.std.specs.Prelude.{true, false, cond, not, ◌&&◌, List, [], ◌∷◌, ◌++◌, Option, Some}
+use Rattle.std.specs.Prelude.{None, Ok, eqb, leb, length, filter, is_none, option_map, is_some}
 use Rattle.ann_base.specs.Results.{◌>>=◌}
 use Rattle.ann_base.specs.declared.identities.TaskNo.{TaskNo}
 use Rattle.ann_base.specs.declared.exceptions.Raised.TheVariants as exception
@@ -38,7 +40,8 @@ use Rattle.profile_machine.specs.declared.world.marks.ResultTo.TheVariants as bo
 use Rattle.profile_machine.specs.declared.world.tasks.State.TheVariants.{Made, Runnable, Blocked}
 use Rattle.profile_machine.specs.declared.world.tasks.Task as world
 use Rattle.profile_image.specs.Words.{same_task, edit_at, without}
-use Rattle.profile_image.specs.Program.{is_robin_level, next_of, marks_of, subprogram_of, protected_unit_of, interrupt_priority, size_of_body}
+use Rattle.profile_image.specs.Program.{is_robin_level, next_of, marks_of, subprogram_of}
+use Rattle.profile_image.specs.Program.{protected_unit_of, interrupt_priority, size_of_body}
 use Rattle.profile_machine.specs.declared.world.lines.Part.{Part}
 use Rattle.profile_machine.specs.declared.world.lines.Part.TheVariants.{Own}
 use Rattle.profile_machine.specs.Steps.{Step, says, changes, looks, nothing, for_some, ◌▷◌}
@@ -47,7 +50,8 @@ use Rattle.profile_machine.specs.Dispatching.{ready}
 use Rattle.profile_machine.specs.Frames.{goes, given, raise_if, has_room}
 use Rattle.profile_machine.specs.Scopes.{open_scope}
 use Rattle.profile_machine.specs.Operators.{Valued, held_moment}
-use Rattle.profile_machine.specs.Values.{Seen, value, variable, moment, number_of_thing, object_number, object_of, live_task, timer_of, budget_of, is_event, task_in}
+use Rattle.profile_machine.specs.Values.{Seen, value, variable, moment, number_of_thing, object_number}
+use Rattle.profile_machine.specs.Values.{object_of, live_task, timer_of, budget_of, is_event, task_in}
 use Rattle.profile_machine.specs.Appointments.{appoint, drop_appointment, is_appointed}
 use Rattle.profile_machine.specs.CallEnds.{store}
 use Rattle.profile_machine.specs.Protected.{entering, find_held, begin_action_on, body_of_object, ceiling_of}

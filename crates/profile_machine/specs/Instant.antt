@@ -1,5 +1,6 @@
 -- The seven steps of an instant, in their order (this profile's choice).
-use Rattle.std.specs.Prelude.{ℕ, zero, suc, ℤ, pos, int_le, Bool, true, false, not, ◌&&◌, List, [], ◌∷◌, Option, Some, None, eqb, length}
+use Rattle.std.specs.Prelude.{ℕ, zero, suc, ℤ, pos, int_le, Bool, true, false, not}
+use Rattle.std.specs.Prelude.{◌&&◌, List, [], ◌∷◌, Option, Some, None, eqb, length}
 use Rattle.ann_base.specs.declared.identities.CallNo.{CallNo}
 use Rattle.profile_machine.specs.declared.world.lines.Line.TheVariants as line
 use Rattle.trace_text.specs.declared.events.Who.{Who}
@@ -20,7 +21,8 @@ use Rattle.profile_image.specs.Words.{edit_at, is_flag}
 use Rattle.ann_base.specs.Lists.{is_empty}
 use Rattle.profile_image.specs.Program.{next_of, is_robin_level}
 use Rattle.profile_machine.specs.declared.world.lines.Part.TheVariants.{Own}
-use Rattle.profile_machine.specs.Steps.{Step, Move, says, changes, looks, when, nothing, for_some, for_each, settles, rests, watches, ◌▷◌, ◌▶◌}
+use Rattle.profile_machine.specs.Steps.{Step, Move, says, changes, looks, when, nothing}
+use Rattle.profile_machine.specs.Steps.{for_some, for_each, settles, rests, watches, ◌▷◌, ◌▶◌}
 use Rattle.profile_machine.specs.Tasks.{task_of, edit_task, with_ticks, is_runnable, waiting_of}
 use Rattle.profile_machine.specs.Dispatching.{active, ready, to_tail}
 use Rattle.profile_machine.specs.Frames.{open_if_ready, open_sequence, goes, any_protected}

@@ -1,5 +1,6 @@
 -- Protected actions, entry bodies and ceilings (9.5.1, 9.5.2, 9.5.3, D.3).
-use Rattle.std.specs.Prelude.{ℕ, ◌+◌, Bool, true, false, cond, not, ◌&&◌, ◌||◌, List, ◌∷◌, Option, Some, None, ltb, filter, map, option_and_then, unwrap_or}
+use Rattle.std.specs.Prelude.{ℕ, ◌+◌, Bool, true, false, cond, not, ◌&&◌, ◌||◌, List, ◌∷◌}
+use Rattle.std.specs.Prelude.{Option, Some, None, ltb, filter, map, option_and_then, unwrap_or}
 use Rattle.std.specs.List.{list_all}
 use Rattle.ann_base.specs.declared.exceptions.Raised.TheVariants as exception
 use Rattle.ann_base.specs.declared.identities.ObjectNo.{ObjectNo}
@@ -36,16 +37,19 @@ use Rattle.profile_machine.specs.declared.world.marks.ProtectedMark.{ProtectedMa
 use Rattle.profile_machine.specs.declared.world.calls.Call.{Call}
 use Rattle.profile_machine.specs.declared.world.tasks.Cause.TheVariants as inherited_by
 use Rattle.profile_machine.specs.declared.world.marks.Purpose.TheVariants as opened_for
-use Rattle.profile_machine.specs.declared.world.marks.Mark.TheVariants.{Scope, Handled, InProtected, InAccept, Abortable, InInitialize, InFinalize, InAssign}
+use Rattle.profile_machine.specs.declared.world.marks.Mark.TheVariants.{Scope, Handled, InProtected, InAccept}
+use Rattle.profile_machine.specs.declared.world.marks.Mark.TheVariants.{Abortable, InInitialize, InFinalize, InAssign}
 use Rattle.profile_image.specs.Words.{same_who, without}
 use Rattle.ann_base.specs.Lists.{is_empty}
-use Rattle.profile_image.specs.Program.{next_of, scope_of, marks_of, subprogram_of, protected_unit_of, entry_of, has_edf}
+use Rattle.profile_image.specs.Program.{next_of, scope_of, marks_of, subprogram_of}
+use Rattle.profile_image.specs.Program.{protected_unit_of, entry_of, has_edf}
 use Rattle.profile_machine.specs.declared.world.lines.Part.{Part}
 use Rattle.profile_machine.specs.declared.world.lines.Part.TheVariants.{Own, ThePlacing}
 use Rattle.profile_machine.specs.Steps.{Step, says, changes, looks, ◌▷◌}
 use Rattle.profile_machine.specs.Tasks.{task_of}
 use Rattle.profile_machine.specs.Dispatching.{active_of, to_tail}
-use Rattle.profile_machine.specs.Frames.{edit_top, push, new_frame, goes, raises, given, raise_if, with_room, has_room, with_mark}
+use Rattle.profile_machine.specs.Frames.{edit_top, push, new_frame, goes, raises, given}
+use Rattle.profile_machine.specs.Frames.{raise_if, with_room, has_room, with_mark}
 use Rattle.profile_machine.specs.declared.world.scopes.Beginning.{Beginning}
 use Rattle.profile_machine.specs.Scopes.{home, open_scope}
 use Rattle.profile_machine.specs.Operators.{holds}

@@ -1,6 +1,7 @@
 -- Each handler is released at its tick (C.3, D.14, D.15): a law on the worlds of a run, since a setting prints no line.
 -- It looks at each instant behind its first step, when the effect of an action can set and cancel no more.
-use Rattle.std.specs.Prelude.{ℕ, zero, suc, ℤ, pos, int_le, Bool, true, false, cond, not, ◌&&◌, ◌||◌, List, [], ◌∷◌, ◌++◌, Option, Some, None, eqb, leb, length, flat_map}
+use Rattle.std.specs.Prelude.{ℕ, zero, suc, ℤ, pos, int_le, Bool, true, false, cond, not, ◌&&◌, ◌||◌}
+use Rattle.std.specs.Prelude.{List, [], ◌∷◌, ◌++◌, Option, Some, None, eqb, leb, length, flat_map}
 use Rattle.std.specs.List.{list_any, list_all}
 use Rattle.ann_base.specs.declared.identities.ObjectNo.{ObjectNo}
 use Rattle.trace_text.specs.declared.events.Event.{Event}
@@ -24,7 +25,8 @@ use Rattle.profile_machine.specs.Steps.{Move, ◌▶◌}
 use Rattle.profile_machine.specs.Frames.{onward_of}
 use Rattle.profile_machine.specs.Values.{timer_of, budget_of}
 use Rattle.profile_machine.specs.Handlers.{handler_attached}
-use Rattle.profile_machine.specs.Instant.{finish_action, script_items, events_due, moments_due, timers_due, budgets_due, quantum_spent}
+use Rattle.profile_machine.specs.Instant.{finish_action, script_items, events_due}
+use Rattle.profile_machine.specs.Instant.{moments_due, timers_due, budgets_due, quantum_spent}
 use Rattle.profile_machine.specs.Run.{opening, stop, tock}
 
 -- ---- what a release line names: an object, and its procedure by name

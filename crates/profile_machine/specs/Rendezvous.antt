@@ -1,5 +1,6 @@
 -- Accepting calls (9.5.2, 9.7.1).
-use Rattle.std.specs.Prelude.{ℕ, ℤ, pos, int_lt, int_le, Bool, true, false, cond, not, ◌&&◌, List, [], ◌∷◌, Option, Some, None, Ok, find, map}
+use Rattle.std.specs.Prelude.{ℕ, ℤ, pos, int_lt, int_le, Bool, true, false, cond, not}
+use Rattle.std.specs.Prelude.{◌&&◌, List, [], ◌∷◌, Option, Some, None, Ok, find, map}
 use Rattle.ann_base.specs.Results.{◌>>=◌}
 use Rattle.ann_base.specs.declared.identities.CallNo.{CallNo}
 use Rattle.ann_base.specs.declared.identities.TaskNo.{TaskNo}
@@ -44,13 +45,15 @@ use Rattle.profile_machine.specs.declared.world.lines.Part.TheVariants.{Own, The
 use Rattle.profile_machine.specs.Steps.{Step, says, changes, looks, nothing, for_some, ◌▷◌}
 use Rattle.profile_machine.specs.Tasks.{edit_task, with_state, found_task, waiting_of}
 use Rattle.profile_machine.specs.Dispatching.{ready, block}
-use Rattle.profile_machine.specs.Frames.{push, pop, new_frame, goes, raises, given, raise_if, has_room, pass_on, in_protected, open_sequence}
+use Rattle.profile_machine.specs.Frames.{push, pop, new_frame, goes, raises, given, raise_if}
+use Rattle.profile_machine.specs.Frames.{has_room, pass_on, in_protected, open_sequence}
 use Rattle.profile_machine.specs.Scopes.{begin_scope, end_scope, cells_of, scope_in_use, next_id, plainly, innermost}
 use Rattle.profile_machine.specs.Operators.{Valued}
 use Rattle.profile_machine.specs.Values.{Seen, condition, moment}
 use Rattle.profile_machine.specs.Inheritance.{inherit, lose_running, inherit_running}
 use Rattle.profile_machine.specs.Appointments.{appoint, drop_delay}
-use Rattle.profile_machine.specs.Calls.{edit_call, with_call, queue_of, place_of_entry, next_call, enqueue, formals_count, parameters_of}
+use Rattle.profile_machine.specs.Calls.{edit_call, with_call, queue_of, place_of_entry}
+use Rattle.profile_machine.specs.Calls.{next_call, enqueue, formals_count, parameters_of}
 use Rattle.profile_machine.specs.CallEnds.{deliver, gone}
 use Rattle.profile_machine.specs.Protected.{begin_call}
 use Rattle.profile_machine.specs.Sending.{send_on, sent_not_begun, begin_abortable}

@@ -1,5 +1,6 @@
 -- The timed run: instants and tocks in turn from the opening world, up to the first instant at which it stops.
-use Rattle.std.specs.Prelude.{ℕ, zero, suc, ◌+◌, ◌-◌, ℤ, pos, false, cond, ◌&&◌, List, [], ◌∷◌, ◌++◌, Option, Some, None, eqb, replicate, unwrap_or, map}
+use Rattle.std.specs.Prelude.{ℕ, zero, suc, ◌+◌, ◌-◌, ℤ, pos, false, cond, ◌&&◌, List, []}
+use Rattle.std.specs.Prelude.{◌∷◌, ◌++◌, Option, Some, None, eqb, replicate, unwrap_or, map}
 use Rattle.std.specs.Option.{option_or}
 use Rattle.ann_base.specs.declared.exceptions.Raised.{Raised}
 use Rattle.trace_text.specs.declared.events.Event.{Event}

@@ -1,5 +1,6 @@
 -- Scopes in use: where a name's cells are, how a scope begins and ends (3.1, 7.6.1, 8.2).
-use Rattle.std.specs.Prelude.{ℕ, suc, zero, pos, Bool, true, false, not, ◌&&◌, List, [], ◌∷◌, Option, Some, None, eqb, length, find, option_map, slice_index_or, slice_set}
+use Rattle.std.specs.Prelude.{ℕ, suc, zero, pos, Bool, true, false, not, ◌&&◌, List, [], ◌∷◌, Option}
+use Rattle.std.specs.Prelude.{Some, None, eqb, length, find, option_map, slice_index_or, slice_set}
 use Rattle.std.specs.Bool.{then_some}
 use Rattle.std.specs.List.{list_all}
 use Rattle.ann_base.specs.declared.identities.RegionNo.{RegionNo}
@@ -18,7 +19,8 @@ use Rattle.profile_machine.specs.declared.world.scopes.ScopeInUse.{ScopeInUse}
 use Rattle.profile_machine.specs.declared.world.scopes.Beginning.{Beginning}
 use Rattle.profile_machine.specs.declared.world.objects.Object.{Object}
 use Rattle.profile_machine.specs.declared.world.Drawn.{Drawn}
-use Rattle.profile_machine.specs.declared.world.marks.Mark.TheVariants.{Scope, Handled, InProtected, InAccept, Abortable, InInitialize, InFinalize, InAssign}
+use Rattle.profile_machine.specs.declared.world.marks.Mark.TheVariants.{Scope, Handled, InProtected, InAccept}
+use Rattle.profile_machine.specs.declared.world.marks.Mark.TheVariants.{Abortable, InInitialize, InFinalize, InAssign}
 use Rattle.profile_image.specs.Words.{same_scope, without, edit_where}
 use Rattle.profile_machine.specs.ScopeNumbers.{same_id}
 use Rattle.ann_base.specs.Lists.{is_empty}

@@ -30,7 +30,8 @@ use Rattle.profile_machine.specs.Tasks.{task_of, waiting_of}
 use Rattle.profile_machine.specs.Dispatching.{ready, block}
 use Rattle.profile_machine.specs.Frames.{push, new_frame, has_room}
 use Rattle.profile_machine.specs.Appointments.{appoint}
-use Rattle.profile_machine.specs.Calls.{call_of, queue_of, place_of_entry, edit_call, with_call, unqueued, says_call, attempt_with}
+use Rattle.profile_machine.specs.Calls.{call_of, queue_of, place_of_entry, edit_call}
+use Rattle.profile_machine.specs.Calls.{with_call, unqueued, says_call, attempt_with}
 use Rattle.profile_machine.specs.CallEnds.{deliver, resume, waits_for_call, abortable_depth}
 
 -- ---- abortable parts (9.7.4)

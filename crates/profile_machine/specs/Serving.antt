@@ -1,5 +1,6 @@
 -- A protected action goes on: calls that are queued are served, and then the object is released (9.5.1, 9.5.3, 9.5.4).
-use Rattle.std.specs.Prelude.{ℕ, zero, suc, Bool, true, false, eqb, not, ◌&&◌, List, ◌++◌, Option, Some, None, length, take, drop}
+use Rattle.std.specs.Prelude.{ℕ, zero, suc, Bool, true, false, eqb, not, ◌&&◌}
+use Rattle.std.specs.Prelude.{List, ◌++◌, Option, Some, None, length, take, drop}
 use Rattle.ann_base.specs.declared.identities.CallNo.{CallNo}
 use Rattle.ann_base.specs.declared.identities.ObjectNo.{ObjectNo}
 use Rattle.ann_base.specs.declared.exceptions.Raised.{Raised}
@@ -32,13 +33,15 @@ use Rattle.profile_machine.specs.Steps.{Step, says, changes, looks, when, nothin
 use Rattle.profile_machine.specs.Dispatching.{block}
 use Rattle.profile_machine.specs.Frames.{frames_of, edit_top, pop, leaves, pass_on, has_room}
 use Rattle.profile_machine.specs.Inheritance.{lose_running}
-use Rattle.profile_machine.specs.Calls.{edit_call, with_call, edit_object, enqueue, attempt_with, forget_call, formals_count}
+use Rattle.profile_machine.specs.Calls.{edit_call, with_call, edit_object, enqueue}
+use Rattle.profile_machine.specs.Calls.{attempt_with, forget_call, formals_count}
 use Rattle.profile_machine.specs.Unwinding.{may_unwind}
 use Rattle.profile_machine.specs.CallEnds.{deliver, resume}
 use Rattle.profile_machine.specs.Protected.{edit_top_protected, serve_call, served_next, is_action_of}
 use Rattle.profile_machine.specs.Values.{object_of}
 use Rattle.profile_machine.specs.Priorities.{set_deferred}
-use Rattle.profile_machine.specs.Sending.{open_abortable, is_triggering, send_on, sent_not_begun, begin_abortable, wait_for_call}
+use Rattle.profile_machine.specs.Sending.{open_abortable, is_triggering, send_on}
+use Rattle.profile_machine.specs.Sending.{sent_not_begun, begin_abortable, wait_for_call}
 use Rattle.profile_machine.specs.Subprograms.{without_sending}
 
 -- ---- the agent has served a release (C.3, D.15)

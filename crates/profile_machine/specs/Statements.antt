@@ -1,5 +1,6 @@
 -- Simple and compound statements (clauses 5, 6.5, 9.6, 11.3, A.10.7).
-use Rattle.std.specs.Prelude.{ℕ, ◌+◌, ◌-◌, ℤ, pos, negsuc, ◌+ℤ◌, int_lt, Bool, true, false, cond, not, ◌&&◌, List, [], ◌∷◌, ◌++◌, Option, Some, None, Ok, take, drop}
+use Rattle.std.specs.Prelude.{ℕ, ◌+◌, ◌-◌, ℤ, pos, negsuc, ◌+ℤ◌, int_lt, Bool, true, false, cond}
+use Rattle.std.specs.Prelude.{not, ◌&&◌, List, [], ◌∷◌, ◌++◌, Option, Some, None, Ok, take, drop}
 use Rattle.std.specs.List.{list_any}
 use Rattle.ann_base.specs.Results.{◌>>=◌}
 use Rattle.ann_base.specs.declared.exceptions.Raised.{Raised}
@@ -29,7 +30,8 @@ use Rattle.profile_machine.specs.declared.world.scopes.ScopeId.{ScopeId}
 use Rattle.profile_machine.specs.declared.world.appointments.Due.TheVariants as due_for
 use Rattle.profile_machine.specs.declared.world.marks.Purpose.TheVariants as opened_for
 use Rattle.profile_machine.specs.declared.world.tasks.Waiting.TheVariants as waits_for
-use Rattle.profile_machine.specs.declared.world.marks.Mark.TheVariants.{Scope, Handled, InProtected, InAccept, Abortable, InInitialize, InFinalize, InAssign}
+use Rattle.profile_machine.specs.declared.world.marks.Mark.TheVariants.{Scope, Handled, InProtected, InAccept}
+use Rattle.profile_machine.specs.declared.world.marks.Mark.TheVariants.{Abortable, InInitialize, InFinalize, InAssign}
 use Rattle.profile_machine.specs.ScopeNumbers.{same_id}
 use Rattle.profile_image.specs.Program.{declaration_of, next_of, scope_of, marks_of, literals_of}
 use Rattle.profile_machine.specs.declared.world.lines.Part.{Part}
@@ -37,9 +39,12 @@ use Rattle.profile_machine.specs.declared.world.lines.Part.TheVariants.{Own, The
 use Rattle.profile_machine.specs.Steps.{Step, says, changes, looks, nothing, ◌▷◌}
 use Rattle.profile_machine.specs.Dispatching.{block, to_tail}
 use Rattle.profile_machine.specs.Frames.{frames_of, goes, raises, given, raise_if, with_room, exit_loop, in_protected}
-use Rattle.profile_machine.specs.Scopes.{home, write_cell, edit_cells, put_cells, cells_of, scope_in_use, open_scope, plainly, innermost}
-use Rattle.profile_machine.specs.Operators.{Valued, same_value, is_less, held_moment, text_of_whole, text_of_truth, text_of_literal, holds}
-use Rattle.profile_machine.specs.Values.{Seen, seen_by, value, variable, condition, moment, object_cell, home_of, or_misfit, read}
+use Rattle.profile_machine.specs.Scopes.{home, write_cell, edit_cells, put_cells, cells_of}
+use Rattle.profile_machine.specs.Scopes.{scope_in_use, open_scope, plainly, innermost}
+use Rattle.profile_machine.specs.Operators.{Valued, same_value, is_less, held_moment}
+use Rattle.profile_machine.specs.Operators.{text_of_whole, text_of_truth, text_of_literal, holds}
+use Rattle.profile_machine.specs.Values.{Seen, seen_by, value, variable, condition}
+use Rattle.profile_machine.specs.Values.{moment, object_cell, home_of, or_misfit, read}
 use Rattle.profile_machine.specs.Appointments.{appoint}
 use Rattle.profile_machine.specs.CallEnds.{store}
 

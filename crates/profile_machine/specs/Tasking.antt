@@ -1,5 +1,6 @@
 -- The creation, activation, completion and abort of tasks (9.1 to 9.3, 9.8, 7.6.1).
-use Rattle.std.specs.Prelude.{ℕ, suc, ◌-◌, ℤ, pos, ◌+ℤ◌, Bool, true, false, cond, not, ◌&&◌, ◌||◌, List, [], ◌∷◌, ◌++◌, Option, Some, None, Ok, eqb, leb, length, filter, is_some, option_and_then, unwrap_or}
+use Rattle.std.specs.Prelude.{ℕ, suc, ◌-◌, ℤ, pos, ◌+ℤ◌, Bool, true, false, cond, not, ◌&&◌, ◌||◌, List, [], ◌∷◌, ◌++◌}
+use Rattle.std.specs.Prelude.{Option, Some, None, Ok, eqb, leb, length, filter, is_some, option_and_then, unwrap_or}
 use Rattle.std.specs.List.{list_any, cons_option}
 use Rattle.ann_base.specs.Results.{◌>>=◌}
 use Rattle.ann_base.specs.declared.identities.TaskNo.{TaskNo}
@@ -44,13 +45,16 @@ use Rattle.profile_machine.specs.declared.world.lines.Part.TheVariants.{Own, OfO
 use Rattle.profile_machine.specs.Steps.{Step, says, changes, looks, when, nothing, for_some, for_each, ◌▷◌}
 use Rattle.profile_machine.specs.Tasks.{task_of, edit_task, new_task, is_made, is_runnable, waiting_of}
 use Rattle.profile_machine.specs.Dispatching.{active_of, ready, block, to_head, says_block}
-use Rattle.profile_machine.specs.Frames.{frames_of, edit_top, pop, goes, raises, given, raise_if, has_room, pass_on, in_protected, is_deferred}
+use Rattle.profile_machine.specs.Frames.{frames_of, edit_top, pop, goes, raises, given}
+use Rattle.profile_machine.specs.Frames.{raise_if, has_room, pass_on, in_protected, is_deferred}
 use Rattle.profile_machine.specs.Scopes.{home, open_scope, plainly, end_scope, cells_of, scope_in_use}
 use Rattle.profile_machine.specs.Operators.{Valued, held_moment}
 use Rattle.profile_machine.specs.Values.{Seen, moment, thing, task_in}
 use Rattle.profile_machine.specs.Inheritance.{inherit, falls}
 use Rattle.profile_machine.specs.Unwinding.{strike_outermost, unwind, any_struck}
-use Rattle.profile_machine.specs.Masters.{region_of_mark, depends_on_task, has_dependents, complete, terminate, end_activation, may_terminate, leave_by_terminate, waits_at_terminate, has_activating}
+use Rattle.profile_machine.specs.Masters.{region_of_mark, depends_on_task, has_dependents}
+use Rattle.profile_machine.specs.Masters.{complete, terminate, end_activation, may_terminate}
+use Rattle.profile_machine.specs.Masters.{leave_by_terminate, waits_at_terminate, has_activating}
 use Rattle.profile_machine.specs.Controlled.{top_region, region_or_none, next_to_finalize, finalize, edit_top_scope}
 use Rattle.profile_machine.specs.Declarations.{set_thing, no_calls}
 use Rattle.profile_machine.specs.Subprograms.{end_subprogram}

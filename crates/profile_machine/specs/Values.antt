@@ -1,5 +1,6 @@
 -- The value of an expression, or its exception (clause 4).
-use Rattle.std.specs.Prelude.{ℕ, zero, suc, ◌+◌, ℤ, pos, ◌-ℤ◌, ◌*ℤ◌, int_le, nat_abs, Bool, true, false, cond, ◌&&◌, List, [], Option, Some, None, Ok, Err, eqb, find, length, option_and_then, slice_index_or}
+use Rattle.std.specs.Prelude.{ℕ, zero, suc, ◌+◌, ℤ, pos, ◌-ℤ◌, ◌*ℤ◌, int_le, nat_abs, Bool, true, false, cond, ◌&&◌}
+use Rattle.std.specs.Prelude.{List, [], Option, Some, None, Ok, Err, eqb, find, length, option_and_then, slice_index_or}
 use Rattle.profile_image.specs.declared.limits.TheConstants.{LAST_OUTSIDE_LINE}
 use Rattle.ann_base.specs.Results.{◌>>=◌}
 use Rattle.ann_base.specs.declared.identities.TaskNo.{TaskNo}
@@ -43,7 +44,8 @@ use Rattle.profile_image.specs.Words.{same_object}
 use Rattle.profile_image.specs.Program.{declaration_of, expression_of, entry_of}
 use Rattle.profile_machine.specs.Tasks.{task_of, found_task, number_of}
 use Rattle.profile_machine.specs.Scopes.{home, read_cell, scope_in_use, first_outwards, innermost}
-use Rattle.profile_machine.specs.Operators.{Valued, unless, misfit, ticks, component_place, unary_value, binary_value, decides}
+use Rattle.profile_machine.specs.Operators.{Valued, unless, misfit, ticks, component_place}
+use Rattle.profile_machine.specs.Operators.{unary_value, binary_value, decides}
 
 -- what an expression sees: the program, the world, who evaluates it, the scope in use round it, and for a barrier
 -- the object of which it is one

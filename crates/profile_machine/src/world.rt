@@ -1,5 +1,5 @@
-//! The world of a run: everything that decides how the run goes on. It is plain data: structs, enums, lists and
-//! numbers, and the definitions of the machine speak of just these types.
+//! The world of a run: everything that decides how the run goes on. It is plain data: structs,
+//! enums, lists and numbers, and the definitions of the machine speak of just these types.
 mod agenda;
 mod appointments;
 mod calls;

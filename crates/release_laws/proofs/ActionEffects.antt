@@ -28,7 +28,8 @@ use Rattle.release_laws.proofs.EventLists.{events_of, Rises}
 use Rattle.release_laws.proofs.TimerLists.{timers_in}
 use Rattle.release_laws.proofs.Tellings.{Tells, tells_both, released-lines}
 use Rattle.release_laws.proofs.Untouched.{Sight, sight_of, budget_in, outside-then, clocks-then, untouched, Calmly}
-use Rattle.release_laws.proofs.Effects.{Effect, EffectSaid, Does, Alike, edited-alike, alike-clocks, alike-outside, at_once, due_asked, handler_asked, effect-none, effect-then, kept-weaker, kept-then}
+use Rattle.release_laws.proofs.Effects.{Effect, EffectSaid, Does, Alike, edited-alike, alike-clocks, alike-outside, at_once}
+use Rattle.release_laws.proofs.Effects.{due_asked, handler_asked, effect-none, effect-then, kept-weaker, kept-then}
 use Rattle.release_laws.proofs.Settings.{set_event-does, cancel_event-does}
 use Rattle.release_laws.proofs.TimerSettings.{set_timer-does, cancel_timer-does}
 use Rattle.release_laws.proofs.BudgetSettings.{set_budget-does, cancel_budget-does}
@@ -55,12 +56,14 @@ top-of : (R : StepRelation) (p : Image) (name : Who) (v : World) (f : Frame) →
 unfolding act_top
 top-of R p name v f k = k
 
-frame-of : (R : StepRelation) (p : Image) (name : Who) (v : World) (f : Frame) (s : StatementNo) → From R v (act_statement p name s (form_of p s)) → From R v (act_frame p name f (Some s))
+frame-of : (R : StepRelation) (p : Image) (name : Who) (v : World) (f : Frame) (s : StatementNo) → From R v (act_statement p name s (form_of p s))
+    → From R v (act_frame p name f (Some s))
 unfolding act_frame
 frame-of R p name v f s k = k
 
 -- an action that comes to a statement
-act-at : (r : Request) (p : Image) (name : Who) (v : World) (f : Frame) (s : StatementNo) (x : StatementForm) → top_of v name ≡ Some f → f.onward ≡ Some s → form_of p s ≡ x → Does r v (act_statement p name s x) → Does r v (act p name)
+act-at : (r : Request) (p : Image) (name : Who) (v : World) (f : Frame) (s : StatementNo) (x : StatementForm) → top_of v name ≡ Some f → f.onward ≡ Some s
+    → form_of p s ≡ x → Does r v (act_statement p name s x) → Does r v (act p name)
 act-at r p name v f s x top onward is k =
     act-of (EffectSaid r) p name v
     (subst (λ found. From (EffectSaid r) v (act_top p name found)) (sym top)
@@ -69,26 +72,35 @@ act-at r p name v f s x top onward is k =
     (frame-of (EffectSaid r) p name v f s
     (subst (λ y. From (EffectSaid r) v (act_statement p name s y)) (sym is) k)))))
 
-calm-at : (p : Image) (name : Who) (v : World) (f : Frame) (s : StatementNo) (x : StatementForm) → top_of v name ≡ Some f → f.onward ≡ Some s → form_of p s ≡ x → comes_to_nothing p (Some s) ≡ true → Does OfNothing v (act p name)
+calm-at : (p : Image) (name : Who) (v : World) (f : Frame) (s : StatementNo) (x : StatementForm) → top_of v name ≡ Some f → f.onward ≡ Some s → form_of p s ≡ x
+    → comes_to_nothing p (Some s) ≡ true → Does OfNothing v (act p name)
 calm-at p name v f s x top onward is e =
     calm-act p name v (ap (comes_to_nothing p) (ap (λ found. option_and_then (λ (g : Frame). g.onward) found) top ∙ onward) ∙ e)
 
 -- one case for each form: it asks for something, or for nothing
-statement-does : (p : Image) (name : Who) (v : World) (f : Frame) (s : StatementNo) (x : StatementForm) → top_of v name ≡ Some f → f.onward ≡ Some s → form_of p s ≡ x → Does (or_nothing (request_of p (seen_by p v name) x)) v (act p name)
+statement-does : (p : Image) (name : Who) (v : World) (f : Frame) (s : StatementNo) (x : StatementForm) → top_of v name ≡ Some f → f.onward ≡ Some s
+    → form_of p s ≡ x → Does (or_nothing (request_of p (seen_by p v name) x)) v (act p name)
 unfolding act_statement
-statement-does p name v f s (form.SetEvent event set handler) top onward is = act-at _ p name v f s _ top onward is (set_event-does p name s event set handler v)
-statement-does p name v f s (form.CancelEvent event cancelled) top onward is = act-at _ p name v f s _ top onward is (cancel_event-does p name s event cancelled v)
-statement-does p name v f s (form.SetTimer timer set handler) top onward is = act-at _ p name v f s _ top onward is (set_timer-does p name s timer set handler v)
-statement-does p name v f s (form.CancelTimer timer cancelled) top onward is = act-at _ p name v f s _ top onward is (cancel_timer-does p name s timer cancelled v)
+statement-does p name v f s (form.SetEvent event set handler) top onward is =
+    act-at _ p name v f s _ top onward is (set_event-does p name s event set handler v)
+statement-does p name v f s (form.CancelEvent event cancelled) top onward is =
+    act-at _ p name v f s _ top onward is (cancel_event-does p name s event cancelled v)
+statement-does p name v f s (form.SetTimer timer set handler) top onward is =
+    act-at _ p name v f s _ top onward is (set_timer-does p name s timer set handler v)
+statement-does p name v f s (form.CancelTimer timer cancelled) top onward is =
+    act-at _ p name v f s _ top onward is (cancel_timer-does p name s timer cancelled v)
 statement-does p name v f s (form.SetBudget budget handler) top onward is = act-at _ p name v f s _ top onward is (set_budget-does p name s budget handler v)
-statement-does p name v f s (form.CancelBudget budget cancelled) top onward is = act-at _ p name v f s _ top onward is (cancel_budget-does p name s budget cancelled v)
+statement-does p name v f s (form.CancelBudget budget cancelled) top onward is =
+    act-at _ p name v f s _ top onward is (cancel_budget-does p name s budget cancelled v)
 statement-does p name v f s x top onward is = calm-at p name v f s x top onward is (ap asks_nothing is)
 
-onward-does : (p : Image) (name : Who) (v : World) (f : Frame) (onward : Option StatementNo) → top_of v name ≡ Some f → f.onward ≡ onward → Does (asked_at p v name onward) v (act p name)
+onward-does : (p : Image) (name : Who) (v : World) (f : Frame) (onward : Option StatementNo) → top_of v name ≡ Some f → f.onward ≡ onward
+    → Does (asked_at p v name onward) v (act p name)
 onward-does p name v f None top e = calm-act p name v (ap (comes_to_nothing p) (ap (λ found. option_and_then (λ (g : Frame). g.onward) found) top ∙ e))
 onward-does p name v f (Some s) top e = statement-does p name v f s (form_of p s) top e refl
 
-top-does : (p : Image) (name : Who) (v : World) (found : Option Frame) → top_of v name ≡ found → Does (asked_at p v name (option_and_then (λ (f : Frame). f.onward) found)) v (act p name)
+top-does : (p : Image) (name : Who) (v : World) (found : Option Frame) → top_of v name ≡ found
+    → Does (asked_at p v name (option_and_then (λ (f : Frame). f.onward) found)) v (act p name)
 top-does p name v None e = calm-act p name v (ap (λ found. comes_to_nothing p (option_and_then (λ (g : Frame). g.onward) found)) e)
 top-does p name v (Some f) e = onward-does p name v f f.onward e refl
 
@@ -107,7 +119,8 @@ alike-timers (OfEvent n h moment) w v ts k = refl
 alike-timers (OfBudget n h) w v ts k = refl
 alike-timers OfNothing w v ts k = refl
 
-alike-handler : (r : Request) (w v : World) (i : ℕ) → Alike w v → handler_asked v r i (budget_in v.budgets i).handler ≡ handler_asked w r i (budget_in w.budgets i).handler
+alike-handler : (r : Request) (w v : World) (i : ℕ) → Alike w v
+    → handler_asked v r i (budget_in v.budgets i).handler ≡ handler_asked w r i (budget_in w.budgets i).handler
 alike-handler (OfBudget n h) w v i k = ap (λ (s : Sight). cond (eqb n i && is_number_of s.budgets n) h (budget_in s.budgets i).handler) k.sights
 alike-handler (OfTimer n t h value) w v i k = ap (λ (s : Sight). (budget_in s.budgets i).handler) k.sights
 alike-handler (OfEvent n h moment) w v i k = ap (λ (s : Sight). (budget_in s.budgets i).handler) k.sights
@@ -127,7 +140,8 @@ effect-from r w v u k e =
     record {
       events = λ h. e.events (subst Rises (sym appointments) h) ∙ ap (λ (s : Sight). events_asked s.time r (events_of s.appointments)) k.sights;
       rises = λ h. e.rises (subst Rises (sym appointments) h);
-      timers = e.timers ∙ alike-timers r w v (timers_in v.timers v.timers_set) k ∙ ap (λ (s : Sight). timers_asked w r (timers_in s.timers s.timers_set)) k.sights;
+      timers =
+          e.timers ∙ alike-timers r w v (timers_in v.timers v.timers_set) k ∙ ap (λ (s : Sight). timers_asked w r (timers_in s.timers s.timers_set)) k.sights;
       timers_due = e.timers_due ∙ ap (λ (s : Sight). due_asked r s.timers_due) k.sights;
       handlers = λ i. e.handlers i ∙ alike-handler r w v i k;
       budget_due = e.budget_due ∙ ap (λ (s : Sight). s.budget_due) k.sights;
@@ -140,7 +154,10 @@ unfolding Kept
 from-acting r w v said (done u ys) k x = (x.0, x.1, (effect-from r w v u k x.2.0, subst (λ hs. Tells hs x.0) (alike-at_once r w v k) x.2.1))
 
 joined : (r : Request) (w v u : World) (xs ys : List Said) → EffectSaid r w xs v → Calmly v ys u → EffectSaid r w (xs ++ ys) u
-joined r w v u xs ys a b = (effect-then r w v u a.0 b.0, subst (λ hs. Tells hs (xs ++ ys)) (append-nil (at_once w r)) (tells_both (at_once w r) [] xs ys a.1 b.1))
+joined r w v u xs ys a b = (
+  effect-then r w v u a.0 b.0,
+  subst (λ hs. Tells hs (xs ++ ys)) (append-nil (at_once w r)) (tells_both (at_once w r) [] xs ys a.1 b.1),
+)
 
 calm-from : (p : Image) (name : Who) (v : World) → From Calmly v (open_if_ready p name ▷ take_terminates p name ▷ unwind_all p name)
 unfolding From Keeps
@@ -151,8 +168,10 @@ unfolding From effect
 effect-does p name w said =
     let v = acting name w in
     let r = asked_at p v name (onward_of v name) in
-    from-acting r w v said ((act p name ▷ open_if_ready p name ▷ take_terminates p name ▷ unwind_all p name) v said) (edited-alike name (with_ticks None) w (λ t. refl) (λ t. refl))
-    (kept-then (EffectSaid r) Calmly (EffectSaid r) (open_if_ready p name ▷ take_terminates p name ▷ unwind_all p name) v said (act p name v said) (joined r v) (act-does p name v said) (λ u xs k. calm-from p name u))
+    from-acting r w v said ((act p name ▷ open_if_ready p name ▷ take_terminates p name ▷ unwind_all p name) v said)
+    (edited-alike name (with_ticks None) w (λ t. refl) (λ t. refl))
+    (kept-then (EffectSaid r) Calmly (EffectSaid r) (open_if_ready p name ▷ take_terminates p name ▷ unwind_all p name) v said (act p name v said) (joined r v)
+    (act-does p name v said) (λ u xs k. calm-from p name u))
 
 -- ---- when it is over, its lines tell what is released at once
 
@@ -160,11 +179,13 @@ pub record Acted (p : Image) (w : World) (lines : List Event) (after : World) : 
   pub does : Effect (asked p w) w after
   pub tells : released lines ≡ map (named_handler p) (at_once w (asked p w))
 
-pub settled-by : (R : StepRelation) (Q : MoveRelation) (p : Image) (w : World) (d : Done) → ((v : World) (xs : List Said) → R w xs v → Q w (lines_of p xs) (placed_by (lines_of p xs) v)) → Kept R w [] d → Q w (settled p d).1 (settled p d).0
+pub settled-by : (R : StepRelation) (Q : MoveRelation) (p : Image) (w : World) (d : Done)
+    → ((v : World) (xs : List Said) → R w xs v → Q w (lines_of p xs) (placed_by (lines_of p xs) v)) → Kept R w [] d → Q w (settled p d).1 (settled p d).0
 unfolding Kept
 settled-by R Q p w (done v ys) over k = subst (λ xs. Q w (lines_of p xs) (placed_by (lines_of p xs) v)) (sym k.1) (over v k.0 k.2)
 
-over_effect : (r : Request) (p : Image) (w v : World) (xs : List Said) → EffectSaid r w xs v → Effect r w (placed_by (lines_of p xs) v) × (released (lines_of p xs) ≡ map (named_handler p) (at_once w r))
+over_effect : (r : Request) (p : Image) (w v : World) (xs : List Said) → EffectSaid r w xs v
+    → Effect r w (placed_by (lines_of p xs) v) × (released (lines_of p xs) ≡ map (named_handler p) (at_once w r))
 over_effect r p w v xs k = (effect-then r w v (placed_by (lines_of p xs) v) k.0 (untouched (sight_of v)), released-lines p (at_once w r) xs k.1)
 
 abbrev ActedBy : Image → Request → World → List Event → World → Type 0
@@ -173,7 +194,9 @@ ActedBy p r before lines after = Effect r before after × (released lines ≡ ma
 rested : (p : Image) (w : World) → ActedBy p OfNothing w [] w
 rested p w = (effect-none w w (untouched (sight_of w)), refl)
 
-runner-where : (p : Image) (w : World) (name : Who) (b : Bool) → let r = cond b (asked_at p (acting name w) name (onward_of (acting name w) name)) OfNothing in let d = (elim b as (λ _. Move) [ true ↦ settles p (effect p name) | false ↦ rests ]) w in ActedBy p r w d.1 d.0
+runner-where : (p : Image) (w : World) (name : Who) (b : Bool) →
+    let r = cond b (asked_at p (acting name w) name (onward_of (acting name w) name)) OfNothing in
+    let d = (elim b as (λ _. Move) [ true ↦ settles p (effect p name) | false ↦ rests ]) w in ActedBy p r w d.1 d.0
 unfolding From
 runner-where p w name true =
     let r = asked_at p (acting name w) name (onward_of (acting name w) name) in

@@ -1,5 +1,6 @@
 -- The account of what was asked for agrees with what the machine keeps, and goes on as an effect does.
-use Rattle.std.proofs.Common.{◌≡◌, ℕ, ℤ, ◌≤◌, Bool, true, false, cond, not, ◌&&◌, eqb, filter, List, [], ◌∷◌, ◌++◌, map, Option, Some, None, refl, sym, ap, subst, ◌∙◌, append-nil, eq-eqb, arith}
+use Rattle.std.proofs.Common.{◌≡◌, ℕ, ℤ, ◌≤◌, Bool, true, false, cond, not, ◌&&◌, eqb, filter, List, [], ◌∷◌}
+use Rattle.std.proofs.Common.{◌++◌, map, Option, Some, None, refl, sym, ap, subst, ◌∙◌, append-nil, eq-eqb, arith}
 use Rattle.std.specs.Prelude.{int_lt, int_le, pos}
 use Rattle.std.proofs.lemmas.Int.{ints}
 use Rattle.std.proofs.lemmas.Bool.{and_parts, eqb-true}
@@ -11,7 +12,8 @@ use Rattle.profile_image.specs.Words.{without}
 use Rattle.profile_machine.specs.Values.{no_budget}
 use Rattle.profile_machine.specs.Handlers.{without_number}
 use Rattle.release_laws.specs.Asked.{Request, OfEvent, OfTimer, OfBudget, OfNothing}
-use Rattle.release_laws.specs.ReleaseLaws.{EventSet, TimerSet, BudgetSet, Account, but_event, put_event, events_asked, but_timer, timers_asked, is_reached, is_number_of, clock_of, but_budget, budgets_asked, budgets_run_out}
+use Rattle.release_laws.specs.ReleaseLaws.{EventSet, TimerSet, BudgetSet, Account, but_event, put_event, events_asked, but_timer}
+use Rattle.release_laws.specs.ReleaseLaws.{timers_asked, is_reached, is_number_of, clock_of, but_budget, budgets_asked, budgets_run_out}
 use Rattle.release_laws.proofs.ClockLemmas.{clock_in}
 use Rattle.release_laws.proofs.EventLists.{events_of, Rises, either}
 use Rattle.release_laws.proofs.TimerLists.{read-past}
@@ -69,14 +71,18 @@ timers-differ w (OfBudget n h) ts d = d
 timers-differ w OfNothing ts d = d
 
 module _ (test : TimerSet → Bool) where
-  dropped-where : (n : ℕ) (s : TimerSet) (ks : List ℕ) (ss : List TimerSet) (passes same : Bool) → eqb n s.timer ≡ same → test s ≡ passes → without_number n ks ≡ map number_of_timer (filter test ss)
+  dropped-where : (n : ℕ) (s : TimerSet) (ks : List ℕ) (ss : List TimerSet) (passes same : Bool) → eqb n s.timer ≡ same → test s ≡ passes
+      → without_number n ks ≡ map number_of_timer (filter test ss)
       → without_number n (cond passes (s.timer ∷ ks) ks) ≡ map number_of_timer (filter test (cond (not same) (s ∷ ss) ss))
   dropped-where n s ks ss true true e is k = ap (λ b. cond (not b) (s.timer ∷ without_number n ks) (without_number n ks)) e ∙ k
-  dropped-where n s ks ss true false e is k = ap (λ b. cond (not b) (s.timer ∷ without_number n ks) (without_number n ks)) e ∙ ap (λ ns. s.timer ∷ ns) k ∙ sym (ap (λ b. map number_of_timer (cond b (s ∷ filter test ss) (filter test ss))) is)
+  dropped-where n s ks ss true false e is k =
+      ap (λ b. cond (not b) (s.timer ∷ without_number n ks) (without_number n ks)) e ∙ ap (λ ns. s.timer ∷ ns) k
+      ∙ sym (ap (λ b. map number_of_timer (cond b (s ∷ filter test ss) (filter test ss))) is)
   dropped-where n s ks ss false true e is k = k
   dropped-where n s ks ss false false e is k = k ∙ sym (ap (λ b. map number_of_timer (cond b (s ∷ filter test ss) (filter test ss))) is)
 
-  map-where : (b : Bool) (s : TimerSet) (ss : List TimerSet) → map number_of_timer (cond b (s ∷ ss) ss) ≡ cond b (s.timer ∷ map number_of_timer ss) (map number_of_timer ss)
+  map-where : (b : Bool) (s : TimerSet) (ss : List TimerSet)
+      → map number_of_timer (cond b (s ∷ ss) ss) ≡ cond b (s.timer ∷ map number_of_timer ss) (map number_of_timer ss)
   map-where true s ss = refl
   map-where false s ss = refl
 
@@ -93,15 +99,20 @@ module _ (test : TimerSet → Bool) where
 not_reached : (clock : ℕ) (value : ℤ) → int_lt (pos clock) value ≡ true → int_le value (pos clock) ≡ false
 not_reached clock value h = grind (arith, ints)
 
-set-due : (w : World) (s : TimerSet) (ts : List TimerSet) (b : Bool) → (is_number_of w.timers s.timer && int_lt (pos (clock_of w s.task)) s.value) ≡ b → filter (is_reached w) ts ≡ filter (is_reached w) (cond b (ts ++ s ∷ []) ts)
-set-due w s ts true e = sym (last-out (is_reached w) s ts (not_reached (clock_of w s.task) s.value ((and_parts (is_number_of w.timers s.timer) (int_lt (pos (clock_of w s.task)) s.value) e).1)))
+set-due : (w : World) (s : TimerSet) (ts : List TimerSet) (b : Bool) → (is_number_of w.timers s.timer && int_lt (pos (clock_of w s.task)) s.value) ≡ b
+    → filter (is_reached w) ts ≡ filter (is_reached w) (cond b (ts ++ s ∷ []) ts)
+set-due w s ts true e =
+    sym (last-out (is_reached w) s ts
+    (not_reached (clock_of w s.task) s.value ((and_parts (is_number_of w.timers s.timer) (int_lt (pos (clock_of w s.task)) s.value) e).1)))
 set-due w s ts false e = refl
 
-pub due-asked : (w : World) (r : Request) (ts : List TimerSet) → due_asked r (map number_of_timer (filter (is_reached w) ts)) ≡ map number_of_timer (filter (is_reached w) (timers_asked w r ts))
+pub due-asked : (w : World) (r : Request) (ts : List TimerSet)
+    → due_asked r (map number_of_timer (filter (is_reached w) ts)) ≡ map number_of_timer (filter (is_reached w) (timers_asked w r ts))
 due-asked w (OfTimer n t None value) ts = dropped-due (is_reached w) n ts
 due-asked w (OfTimer n t (Some h) value) ts =
     let s : TimerSet = record { timer = n; task = t; handler = h; value = value } in
-    dropped-due (is_reached w) n ts ∙ ap (map number_of_timer) (set-due w s (but_timer n ts) (is_number_of w.timers n && int_lt (pos (clock_of w t)) value) refl)
+    dropped-due (is_reached w) n ts
+    ∙ ap (map number_of_timer) (set-due w s (but_timer n ts) (is_number_of w.timers n && int_lt (pos (clock_of w t)) value) refl)
 due-asked w (OfEvent n h moment) ts = refl
 due-asked w (OfBudget n h) ts = refl
 due-asked w OfNothing ts = refl
@@ -110,7 +121,8 @@ due-asked w OfNothing ts = refl
 left-low : (low high : ℕ) (value : ℤ) → low ≤ high → int_le value (pos high) ≡ false → int_le value (pos low) ≡ false
 left-low low high value l h = grind (arith, ints)
 
-left-where : (w v : World) (s : TimerSet) (rest : List TimerSet) (b : Bool) → is_reached w s ≡ b → clock_in v.tasks s.task ≤ clock_in w.tasks s.task → NoneReached v rest → NoneReached v (cond (not b) (s ∷ rest) rest)
+left-where : (w v : World) (s : TimerSet) (rest : List TimerSet) (b : Bool) → is_reached w s ≡ b → clock_in v.tasks s.task ≤ clock_in w.tasks s.task
+    → NoneReached v rest → NoneReached v (cond (not b) (s ∷ rest) rest)
 left-where w v s rest true e low k = k
 left-where w v s rest false e low k = (left-low (clock_in v.tasks s.task) (clock_in w.tasks s.task) s.value low e, k)
 
@@ -130,11 +142,16 @@ both_are : (n k m : ℕ) → eqb n m ≡ true → eqb n k ≡ false → eqb k m 
 both_are n k m h e = grind arith
 
 -- those of another number stay, those of this number go
-other-where : (n k : ℕ) (s : BudgetSet) (bs : List BudgetSet) (same : Bool) → eqb n s.budget ≡ same → eqb n k ≡ false → handlers_for k bs ≡ handlers_for k bs → (xs : List BudgetSet) → handlers_for k xs ≡ handlers_for k bs → handlers_for k (cond (not same) (s ∷ xs) xs) ≡ handlers_for k (s ∷ bs)
-other-where n k s bs true e different r xs h = h ∙ sym (ap (λ b. map handler_of_budget (cond b (s ∷ filter (λ x. eqb k x.budget) bs) (filter (λ x. eqb k x.budget) bs))) (both_are n k s.budget e different))
+other-where : (n k : ℕ) (s : BudgetSet) (bs : List BudgetSet) (same : Bool) → eqb n s.budget ≡ same → eqb n k ≡ false → handlers_for k bs ≡ handlers_for k bs
+    → (xs : List BudgetSet) → handlers_for k xs ≡ handlers_for k bs → handlers_for k (cond (not same) (s ∷ xs) xs) ≡ handlers_for k (s ∷ bs)
+other-where n k s bs true e different r xs h =
+    h
+    ∙ sym (ap (λ b. map handler_of_budget (cond b (s ∷ filter (λ x. eqb k x.budget) bs) (filter (λ x. eqb k x.budget) bs))) (both_are n k s.budget e different))
 other-where n k s bs false e different r xs h = head-same (eqb k s.budget)
   where
-    head-same : (b : Bool) → map handler_of_budget (cond b (s ∷ filter (λ x. eqb k x.budget) xs) (filter (λ x. eqb k x.budget) xs)) ≡ map handler_of_budget (cond b (s ∷ filter (λ x. eqb k x.budget) bs) (filter (λ x. eqb k x.budget) bs))
+    head-same : (b : Bool)
+        → map handler_of_budget (cond b (s ∷ filter (λ x. eqb k x.budget) xs) (filter (λ x. eqb k x.budget) xs))
+        ≡ map handler_of_budget (cond b (s ∷ filter (λ x. eqb k x.budget) bs) (filter (λ x. eqb k x.budget) bs))
     head-same true = ap (λ hs. s.handler ∷ hs) h
     head-same false = h
 
@@ -142,7 +159,8 @@ but-other : (n k : ℕ) (bs : List BudgetSet) → eqb n k ≡ false → handlers
 but-other n k [] e = refl
 but-other n k (s ∷ bs) e = other-where n k s bs (eqb n s.budget) refl e refl (but_budget n bs) (but-other n k bs e)
 
-own-where : (n : ℕ) (s : BudgetSet) (xs : List BudgetSet) (same : Bool) → eqb n s.budget ≡ same → handlers_for n xs ≡ [] → handlers_for n (cond (not same) (s ∷ xs) xs) ≡ []
+own-where : (n : ℕ) (s : BudgetSet) (xs : List BudgetSet) (same : Bool) → eqb n s.budget ≡ same → handlers_for n xs ≡ []
+    → handlers_for n (cond (not same) (s ∷ xs) xs) ≡ []
 own-where n s xs true e h = h
 own-where n s xs false e h = ap (λ b. map handler_of_budget (cond b (s ∷ filter (λ x. eqb n x.budget) xs) (filter (λ x. eqb n x.budget) xs))) e ∙ h
 
@@ -154,7 +172,9 @@ last-for : (k : ℕ) (s : BudgetSet) (bs : List BudgetSet) → handlers_for k (b
 last-for k s [] = refl
 last-for k s (x ∷ xs) = head-for (eqb k x.budget) (last-for k s xs)
   where
-    head-for : (b : Bool) → handlers_for k (xs ++ s ∷ []) ≡ handlers_for k xs ++ handlers_for k (s ∷ []) → map handler_of_budget (cond b (x ∷ filter (λ y. eqb k y.budget) (xs ++ s ∷ [])) (filter (λ y. eqb k y.budget) (xs ++ s ∷ []))) ≡ map handler_of_budget (cond b (x ∷ filter (λ y. eqb k y.budget) xs) (filter (λ y. eqb k y.budget) xs)) ++ handlers_for k (s ∷ [])
+    head-for : (b : Bool) → handlers_for k (xs ++ s ∷ []) ≡ handlers_for k xs ++ handlers_for k (s ∷ [])
+        → map handler_of_budget (cond b (x ∷ filter (λ y. eqb k y.budget) (xs ++ s ∷ [])) (filter (λ y. eqb k y.budget) (xs ++ s ∷ [])))
+        ≡ map handler_of_budget (cond b (x ∷ filter (λ y. eqb k y.budget) xs) (filter (λ y. eqb k y.budget) xs)) ++ handlers_for k (s ∷ [])
     head-for true h = ap (λ hs. x.handler ∷ hs) h
     head-for false h = h
 
@@ -176,23 +196,36 @@ module _ (w : World) (bs : List BudgetSet) where
   cleared-own k true e = but-own k bs
   cleared-own k false e = but-own k bs ∙ sym (none-past k e)
 
-  set-own : (k : ℕ) (h : HandlerOf) (b : Bool) → is_number_of w.budgets k ≡ b → handlers_for k (cond b (but_budget k bs ++ record { budget = k; handler = h } ∷ []) (but_budget k bs)) ≡ one_or_none (cond b (Some h) (before k))
-  set-own k h true e = last-for k (record { budget = k; handler = h }) (but_budget k bs) ∙ ap (λ hs. hs ++ handlers_for k (record { budget = k; handler = h } ∷ [])) (but-own k bs) ∙ own-one k h (eqb k k) refl (eq-eqb k k refl)
+  set-own : (k : ℕ) (h : HandlerOf) (b : Bool) → is_number_of w.budgets k ≡ b
+      → handlers_for k (cond b (but_budget k bs ++ record { budget = k; handler = h } ∷ []) (but_budget k bs)) ≡ one_or_none (cond b (Some h) (before k))
+  set-own k h true e =
+      last-for k (record { budget = k; handler = h }) (but_budget k bs)
+      ∙ ap (λ hs. hs ++ handlers_for k (record { budget = k; handler = h } ∷ [])) (but-own k bs) ∙ own-one k h (eqb k k) refl (eq-eqb k k refl)
   set-own k h false e = but-own k bs ∙ sym (none-past k e)
 
-  set-other : (n k : ℕ) (h : HandlerOf) (b : Bool) → eqb n k ≡ false → handlers_for k (cond b (but_budget n bs ++ record { budget = n; handler = h } ∷ []) (but_budget n bs)) ≡ handlers_for k bs
-  set-other n k h true e = last-for k (record { budget = n; handler = h }) (but_budget n bs) ∙ ap (λ hs. handlers_for k (but_budget n bs) ++ hs) (other-one k n h e) ∙ append-nil (handlers_for k (but_budget n bs)) ∙ but-other n k bs e
+  set-other : (n k : ℕ) (h : HandlerOf) (b : Bool) → eqb n k ≡ false
+      → handlers_for k (cond b (but_budget n bs ++ record { budget = n; handler = h } ∷ []) (but_budget n bs)) ≡ handlers_for k bs
+  set-other n k h true e =
+      last-for k (record { budget = n; handler = h }) (but_budget n bs) ∙ ap (λ hs. handlers_for k (but_budget n bs) ++ hs) (other-one k n h e)
+      ∙ append-nil (handlers_for k (but_budget n bs)) ∙ but-other n k bs e
   set-other n k h false e = but-other n k bs e
 
-  cleared-where : (n k : ℕ) (same : Bool) → eqb n k ≡ same → handlers_for k bs ≡ one_or_none (before k) → handlers_for k (but_budget n bs) ≡ one_or_none (cond (same && is_number_of w.budgets n) None (before k))
-  cleared-where n k true e h = subst (λ m. handlers_for m (but_budget n bs) ≡ one_or_none (cond (is_number_of w.budgets n) None (before m))) (eqb-true n k e) (cleared-own n (is_number_of w.budgets n) refl)
+  cleared-where : (n k : ℕ) (same : Bool) → eqb n k ≡ same → handlers_for k bs ≡ one_or_none (before k)
+      → handlers_for k (but_budget n bs) ≡ one_or_none (cond (same && is_number_of w.budgets n) None (before k))
+  cleared-where n k true e h =
+      subst (λ m. handlers_for m (but_budget n bs) ≡ one_or_none (cond (is_number_of w.budgets n) None (before m))) (eqb-true n k e)
+      (cleared-own n (is_number_of w.budgets n) refl)
   cleared-where n k false e h = but-other n k bs e ∙ h
 
-  set-where : (n k : ℕ) (x : HandlerOf) (same : Bool) → eqb n k ≡ same → handlers_for k bs ≡ one_or_none (before k) → handlers_for k (budgets_asked w (OfBudget n (Some x)) bs) ≡ one_or_none (cond (same && is_number_of w.budgets n) (Some x) (before k))
-  set-where n k x true e h = subst (λ m. handlers_for m (budgets_asked w (OfBudget n (Some x)) bs) ≡ one_or_none (cond (is_number_of w.budgets n) (Some x) (before m))) (eqb-true n k e) (set-own n x (is_number_of w.budgets n) refl)
+  set-where : (n k : ℕ) (x : HandlerOf) (same : Bool) → eqb n k ≡ same → handlers_for k bs ≡ one_or_none (before k)
+      → handlers_for k (budgets_asked w (OfBudget n (Some x)) bs) ≡ one_or_none (cond (same && is_number_of w.budgets n) (Some x) (before k))
+  set-where n k x true e h =
+      subst (λ m. handlers_for m (budgets_asked w (OfBudget n (Some x)) bs) ≡ one_or_none (cond (is_number_of w.budgets n) (Some x) (before m)))
+      (eqb-true n k e) (set-own n x (is_number_of w.budgets n) refl)
   set-where n k x false e h = set-other n k x (is_number_of w.budgets n) e ∙ h
 
-  pub handlers-asked : (r : Request) (k : ℕ) → handlers_for k bs ≡ one_or_none (before k) → handlers_for k (budgets_asked w r bs) ≡ one_or_none (handler_asked w r k (before k))
+  pub handlers-asked : (r : Request) (k : ℕ) → handlers_for k bs ≡ one_or_none (before k)
+      → handlers_for k (budgets_asked w r bs) ≡ one_or_none (handler_asked w r k (before k))
   handlers-asked (OfBudget n None) k h = cleared-where n k (eqb n k) refl h
   handlers-asked (OfBudget n (Some x)) k h = set-where n k x (eqb n k) refl h
   handlers-asked (OfEvent n x moment) k h = h

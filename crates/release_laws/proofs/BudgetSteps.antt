@@ -13,7 +13,8 @@ use Rattle.profile_machine.specs.Releases.{named_handler, released}
 use Rattle.machine_laws.proofs.Moves.{lines_of}
 use Rattle.machine_laws.proofs.Kept.Combinators.{Kept, From}
 use Rattle.release_laws.proofs.Tellings.{Tells, tells_none, released-lines}
-use Rattle.release_laws.proofs.Untouched.{sight_of, budget_in, EventsStay, TimersStay, OutsideStays, ClocksStay, events-stay, timers-stay, outside-stays, clocks-stay}
+use Rattle.release_laws.proofs.Untouched.{sight_of, budget_in, EventsStay, TimersStay, OutsideStays}
+use Rattle.release_laws.proofs.Untouched.{ClocksStay, events-stay, timers-stay, outside-stays, clocks-stay}
 use Rattle.release_laws.proofs.Release.{Released, release-from}
 use Rattle.release_laws.proofs.Effects.{kept-weaker}
 use Rattle.release_laws.proofs.ActionEffects.{settled-by}
@@ -47,21 +48,34 @@ pub record BudgetMoved (p : Image) (a : World) (lines : List Event) (b : World) 
 
 -- with these handlers
 abbrev DoneWith : List HandlerOf → World → List Said → World → Type 0
-DoneWith hs before said after = EventsStay (sight_of before) (sight_of after) × TimersStay (sight_of before) (sight_of after) × ((k : ℕ) → (budget_in after.budgets k).handler ≡ (budget_in before.budgets k).handler) × OutsideStays (sight_of before) (sight_of after) × ClocksStay (sight_of before) (sight_of after) × Tells hs said
+DoneWith hs before said after =
+    EventsStay (sight_of before) (sight_of after) × TimersStay (sight_of before) (sight_of after)
+    × ((k : ℕ) → (budget_in after.budgets k).handler ≡ (budget_in before.budgets k).handler) × OutsideStays (sight_of before) (sight_of after)
+    × ClocksStay (sight_of before) (sight_of after) × Tells hs said
 
-handler-done : (p : Image) (b : ℕ) (w : World) (handler : Option HandlerOf) → From (DoneWith (one_or_none handler)) w (for_some handler (λ h. release p Own h (Some b)))
+handler-done : (p : Image) (b : ℕ) (w : World) (handler : Option HandlerOf)
+    → From (DoneWith (one_or_none handler)) w (for_some handler (λ h. release p Own h (Some b)))
 unfolding From Kept
-handler-done p b w None said = ([], sym (append-nil said), (events-stay (sight_of w), timers-stay (sight_of w), (λ k. refl), outside-stays (sight_of w), clocks-stay (sight_of w), tells_none))
+handler-done p b w None said = (
+  [],
+  sym (append-nil said),
+  (events-stay (sight_of w), timers-stay (sight_of w), (λ k. refl), outside-stays (sight_of w), clocks-stay (sight_of w), tells_none),
+)
 handler-done p b w (Some h) said =
     kept-weaker (Released h) (DoneWith (h ∷ [])) w said (release p Own h (Some b) w said)
     (λ v xs r. (r.others.events, r.others.timers, r.others.budgets.same, r.others.outside, r.others.clocks, r.tells)) (release-from p h (Some b) w said)
 
 due-done : (p : Image) (w : World) (due : Option ℕ) → From (DoneWith (of_budget w due)) w (for_some due (run_out p))
 unfolding From Kept run_out
-due-done p w None said = ([], sym (append-nil said), (events-stay (sight_of w), timers-stay (sight_of w), (λ k. refl), outside-stays (sight_of w), clocks-stay (sight_of w), tells_none))
+due-done p w None said = (
+  [],
+  sym (append-nil said),
+  (events-stay (sight_of w), timers-stay (sight_of w), (λ k. refl), outside-stays (sight_of w), clocks-stay (sight_of w), tells_none),
+)
 due-done p w (Some b) said = handler-done p b w (budget_in w.budgets b).handler said
 
-behind-due : (w : World) (said : List Said) (d : Done) → Kept (DoneWith (of_budget w w.budget_due)) w said d → Kept BudgetDone w said (goes_on_with (changes no_budget_due) d)
+behind-due : (w : World) (said : List Said) (d : Done) → Kept (DoneWith (of_budget w w.budget_due)) w said d
+    → Kept BudgetDone w said (goes_on_with (changes no_budget_due) d)
 unfolding Kept
 behind-due w said (done v ys) k =
     let events = k.2.0 in
@@ -99,4 +113,5 @@ budget-over p w v xs k = record {
 pub budget-moved : (p : Image) (w : World) → BudgetMoved p w (budgets_due p w).1 (budgets_due p w).0
 unfolding From
 budget-moved p w =
-    settled-by BudgetDone (BudgetMoved p) p w ((looks (λ v. for_some v.budget_due (run_out p)) ▷ changes no_budget_due) w []) (λ v xs k. budget-over p w v xs k) (step-from p w [])
+    settled-by BudgetDone (BudgetMoved p) p w ((looks (λ v. for_some v.budget_due (run_out p)) ▷ changes no_budget_due) w []) (λ v xs k. budget-over p w v xs k)
+    (step-from p w [])

@@ -1,5 +1,6 @@
 -- A tock charges the task that runs, and nobody else.
-use Rattle.std.proofs.Common.{◌≡◌, ℕ, suc, Bool, true, false, cond, ◌&&◌, eqb, List, [], ◌∷◌, Option, Some, None, is_some, option_map, refl, sym, ap, subst, ◌∙◌, arith, unwrap_or}
+use Rattle.std.proofs.Common.{◌≡◌, ℕ, suc, Bool, true, false, cond, ◌&&◌, eqb, List, [], ◌∷◌, Option, Some}
+use Rattle.std.proofs.Common.{None, is_some, option_map, refl, sym, ap, subst, ◌∙◌, arith, unwrap_or}
 use Rattle.std.proofs.lemmas.Bool.{eqb-true}
 use Rattle.ann_base.specs.declared.identities.TaskNo.{TaskNo}
 use Rattle.trace_text.specs.declared.events.Event.{Event}
@@ -26,29 +27,36 @@ use Rattle.release_laws.proofs.TimerSteps.{or_that}
 
 -- ---- what is seen of each task, where one is edited and this is not
 
-seen-alike : {Y : Type 0} (see : Task → Y) (b : Bool) (x z : Task) (rest : Option Task) → see x ≡ see z → option_map see (cond b (Some x) rest) ≡ option_map see (cond b (Some z) rest)
+seen-alike : {Y : Type 0} (see : Task → Y) (b : Bool) (x z : Task) (rest : Option Task) → see x ≡ see z
+    → option_map see (cond b (Some x) rest) ≡ option_map see (cond b (Some z) rest)
 seen-alike see true x z rest e = ap Some e
 seen-alike see false x z rest e = refl
 
-seen-rest : {Y : Type 0} (see : Task → Y) (b : Bool) (z : Task) (r s : Option Task) → option_map see r ≡ option_map see s → option_map see (cond b (Some z) r) ≡ option_map see (cond b (Some z) s)
+seen-rest : {Y : Type 0} (see : Task → Y) (b : Bool) (z : Task) (r s : Option Task) → option_map see r ≡ option_map see s
+    → option_map see (cond b (Some z) r) ≡ option_map see (cond b (Some z) s)
 seen-rest see true z r s e = refl
 seen-rest see false z r s e = e
 
 module _ {Y : Type 0} (see : Task → Y) (name : Who) (x y : Task) (same_name : x.who ≡ y.who) (same : see x ≡ see y) where
-  seen-where : (z : Task) (zs : List Task) (u : TaskNo) (b : Bool) → cond b (Some z) (found_task name zs) ≡ Some y → (found_task name zs ≡ Some y → option_map see (found_task (who.Task u) (set_where (is_who name) x zs)) ≡ option_map see (found_task (who.Task u) zs))
+  seen-where : (z : Task) (zs : List Task) (u : TaskNo) (b : Bool) → cond b (Some z) (found_task name zs) ≡ Some y
+      → (found_task name zs ≡ Some y → option_map see (found_task (who.Task u) (set_where (is_who name) x zs)) ≡ option_map see (found_task (who.Task u) zs))
       → option_map see (found_task (who.Task u) (cond b (x ∷ zs) (z ∷ set_where (is_who name) x zs))) ≡ option_map see (found_task (who.Task u) (z ∷ zs))
   unfolding or_that
   seen-where z zs u true e onward =
       let is : z ≡ y = ap (or_that z) e in
       ap (λ n. option_map see (cond (same_who (who.Task u) n) (Some x) (found_task (who.Task u) zs))) (same_name ∙ ap (λ (q : Task). q.who) (sym is))
       ∙ seen-alike see (is_who (who.Task u) z) x z (found_task (who.Task u) zs) (same ∙ ap see (sym is))
-  seen-where z zs u false e onward = seen-rest see (is_who (who.Task u) z) z (found_task (who.Task u) (set_where (is_who name) x zs)) (found_task (who.Task u) zs) (onward e)
+  seen-where z zs u false e onward =
+      seen-rest see (is_who (who.Task u) z) z (found_task (who.Task u) (set_where (is_who name) x zs)) (found_task (who.Task u) zs) (onward e)
 
-  set-seen : (tasks : List Task) (u : TaskNo) → found_task name tasks ≡ Some y → option_map see (found_task (who.Task u) (set_where (is_who name) x tasks)) ≡ option_map see (found_task (who.Task u) tasks)
+  set-seen : (tasks : List Task) (u : TaskNo) → found_task name tasks ≡ Some y
+      → option_map see (found_task (who.Task u) (set_where (is_who name) x tasks)) ≡ option_map see (found_task (who.Task u) tasks)
   set-seen [] u e = refl
   set-seen (z ∷ zs) u e = seen-where z zs u (is_who name z) e (set-seen zs u)
 
-edited-seen : {Y : Type 0} (see : Task → Y) (name : Who) (f : Task → Task) (w : World) (found : Option Task) → task_at w name ≡ found → ((t : Task) → (f t).who ≡ t.who) → ((t : Task) → see (f t) ≡ see t) → (u : TaskNo) → option_map see (found_task (who.Task u) (edit_task_found name f w found).tasks) ≡ option_map see (found_task (who.Task u) w.tasks)
+edited-seen : {Y : Type 0} (see : Task → Y) (name : Who) (f : Task → Task) (w : World) (found : Option Task) → task_at w name ≡ found
+    → ((t : Task) → (f t).who ≡ t.who) → ((t : Task) → see (f t) ≡ see t) → (u : TaskNo)
+    → option_map see (found_task (who.Task u) (edit_task_found name f w found).tasks) ≡ option_map see (found_task (who.Task u) w.tasks)
 edited-seen see name f w None e same_name same u = refl
 edited-seen see (who.Task n) f w (Some y) e same_name same u = set-seen see (who.Task n) (f y) y (same_name y) (same y) w.tasks u e
 edited-seen see who.Agent f w (Some y) e same_name same u = refl
@@ -66,7 +74,8 @@ group-of-seen (Some t) = refl
 
 same-there : (a b : World) (u : TaskNo) → group_seen b u ≡ group_seen a u → is_there b u ≡ is_there a u
 same-there a b u e =
-    sym (some-seen (λ (t : Task). t.budget) (found_task (who.Task u) b.tasks)) ∙ ap is_some e ∙ some-seen (λ (t : Task). t.budget) (found_task (who.Task u) a.tasks)
+    sym (some-seen (λ (t : Task). t.budget) (found_task (who.Task u) b.tasks)) ∙ ap is_some e
+    ∙ some-seen (λ (t : Task). t.budget) (found_task (who.Task u) a.tasks)
 
 same-group : (a b : World) (u : TaskNo) → group_seen b u ≡ group_seen a u → (task_of b (who.Task u)).budget ≡ (task_of a (who.Task u)).budget
 same-group a b u e =
@@ -75,7 +84,8 @@ same-group a b u e =
 -- ---- the clock that rises
 
 module _ (t : TaskNo) (x y : Task) (same_name : x.who ≡ y.who) where
-  itself-where : (z : Task) (zs : List Task) (b : Bool) → is_who (who.Task t) z ≡ b → cond b (Some z) (found_task (who.Task t) zs) ≡ Some y → (found_task (who.Task t) zs ≡ Some y → found_task (who.Task t) (set_where (is_who (who.Task t)) x zs) ≡ Some x)
+  itself-where : (z : Task) (zs : List Task) (b : Bool) → is_who (who.Task t) z ≡ b → cond b (Some z) (found_task (who.Task t) zs) ≡ Some y
+      → (found_task (who.Task t) zs ≡ Some y → found_task (who.Task t) (set_where (is_who (who.Task t)) x zs) ≡ Some x)
       → found_task (who.Task t) (cond b (x ∷ zs) (z ∷ set_where (is_who (who.Task t)) x zs)) ≡ Some x
   unfolding or_that
   itself-where z zs true is e onward =
@@ -89,13 +99,16 @@ module _ (t : TaskNo) (x y : Task) (same_name : x.who ≡ y.who) where
       none-there e = cc
   set-itself (z ∷ zs) e = itself-where z zs (is_who (who.Task t) z) refl e (set-itself zs)
 
-risen-own : (t : TaskNo) (w : World) (found : Option Task) → found_task (who.Task t) w.tasks ≡ found → clock_in (edit_task_found (who.Task t) clock_risen w found).tasks t ≡ cond (is_some found) (suc (shown found)) (shown found)
+risen-own : (t : TaskNo) (w : World) (found : Option Task) → found_task (who.Task t) w.tasks ≡ found
+    → clock_in (edit_task_found (who.Task t) clock_risen w found).tasks t ≡ cond (is_some found) (suc (shown found)) (shown found)
 risen-own t w None e = ap shown e
 risen-own t w (Some y) e = ap shown (set-itself t (clock_risen y) y refl w.tasks e)
 
-risen-where : (t u : TaskNo) (w : World) (same : Bool) → same_task t u ≡ same → clock_in (risen t w).tasks u ≡ cond (same && is_there w u) (suc (clock_in w.tasks u)) (clock_in w.tasks u)
+risen-where : (t u : TaskNo) (w : World) (same : Bool) → same_task t u ≡ same
+    → clock_in (risen t w).tasks u ≡ cond (same && is_there w u) (suc (clock_in w.tasks u)) (clock_in w.tasks u)
 risen-where t u w true e =
-    subst (λ (v : TaskNo). clock_in (risen t w).tasks v ≡ cond (is_there w v) (suc (clock_in w.tasks v)) (clock_in w.tasks v)) (ap (λ n. record { 0 = n }) (eqb-true t.0 u.0 e)) (risen-own t w (found_task (who.Task t) w.tasks) refl)
+    subst (λ (v : TaskNo). clock_in (risen t w).tasks v ≡ cond (is_there w v) (suc (clock_in w.tasks v)) (clock_in w.tasks v))
+    (ap (λ n. record { 0 = n }) (eqb-true t.0 u.0 e)) (risen-own t w (found_task (who.Task t) w.tasks) refl)
 risen-where t u w false e = other-clock u t clock_risen w (found_task (who.Task t) w.tasks) (flipped t.0 u.0 e) refl (λ y. refl)
   where
     flipped : (a b : ℕ) → eqb a b ≡ false → eqb b a ≡ false
@@ -115,11 +128,16 @@ task-charges : (p : Image) (t : TaskNo) (a : World) → ChargedBy (Some (who.Tas
 task-charges p t a =
     let group = (task_of (clocked t a) (who.Task t)).budget in
     let before = paid t a group in
-    let behind = edited-alike (who.Task t) (quantum_spent_by p) before (λ x. spent-who p (is_robin_level p x.base) x) (λ x. spent-clock p (is_robin_level p x.base) x) in
-    let same : group ≡ (task_of a (who.Task t)).budget = same-group a (risen t a) t (edited-seen (λ (q : Task). q.budget) (who.Task t) clock_risen a (found_task (who.Task t) a.tasks) refl (λ y. refl) (λ y. refl) t) in
+    let behind =
+    edited-alike (who.Task t) (quantum_spent_by p) before (λ x. spent-who p (is_robin_level p x.base) x) (λ x. spent-clock p (is_robin_level p x.base) x) in
+    let same : group ≡ (task_of a (who.Task t)).budget =
+    same-group a (risen t a) t
+    (edited-seen (λ (q : Task). q.budget) (who.Task t) clock_risen a (found_task (who.Task t) a.tasks) refl (λ y. refl) (λ y. refl) t) in
     record {
       clocks = λ u. behind.clocks u ∙ ap (λ (s : Sight). clock_in s.tasks u) (paid-sight t a group) ∙ risen-where t u a (same_task t u) refl;
-      budgets = ap (λ (s : Sight). s.budgets) behind.sights ∙ charged-budgets group (clocked t a) ∙ ap (charged_of group) (same_budgets t a group) ∙ ap (λ g. charged_of g a.budgets) same;
+      budgets =
+          ap (λ (s : Sight). s.budgets) behind.sights ∙ charged-budgets group (clocked t a) ∙ ap (charged_of group) (same_budgets t a group)
+          ∙ ap (λ g. charged_of g a.budgets) same;
     }
 
 who-charges : (p : Image) (name : Who) (a : World) → ChargedBy (Some name) a (charge p name a)
@@ -136,7 +154,8 @@ same-groups a b None e = refl
 same-groups a b (Some (who.Task t)) e = same-group a b t (e t)
 same-groups a b (Some who.Agent) e = refl
 
-begun-charges : (p : Image) (name : Who) (w served : World) → sight_of served ≡ sight_of w → ChargedBy (Some name) w (spend_tick name (charge p name (begin_action p name served)))
+begun-charges : (p : Image) (name : Who) (w served : World) → sight_of served ≡ sight_of w
+    → ChargedBy (Some name) w (spend_tick name (charge p name (begin_action p name served)))
 begun-charges p name w served e =
     let begun = begin_action p name served in
     let charged = charge p name begun in
@@ -144,7 +163,9 @@ begun-charges p name w served e =
     let before = edited-alike name f served (λ t. refl) (λ t. refl) in
     let behind = edited-alike name (λ t. with_ticks (one_tick_less t.ticks_left) t) charged (λ t. refl) (λ t. refl) in
     let k = who-charges p name begun in
-    let seen : (u : TaskNo) → group_seen begun u ≡ group_seen w u = λ u. edited-seen (λ (q : Task). q.budget) name f served (task_at served name) refl (λ t. refl) (λ t. refl) u ∙ ap (λ (s : Sight). option_map (λ (q : Task). q.budget) (found_task (who.Task u) s.tasks)) e in
+    let seen : (u : TaskNo) → group_seen begun u ≡ group_seen w u =
+    λ u. edited-seen (λ (q : Task). q.budget) name f served (task_at served name) refl (λ t. refl) (λ t. refl) u
+    ∙ ap (λ (s : Sight). option_map (λ (q : Task). q.budget) (found_task (who.Task u) s.tasks)) e in
     record {
       clocks = λ u.
           behind.clocks u ∙ k.clocks u

@@ -1,5 +1,6 @@
 -- The clocks of tasks in a list of tasks, where one is edited, comes or goes.
-use Rattle.std.proofs.Common.{◌≡◌, ℕ, ◌≤◌, Bool, true, false, cond, not, eqb, List, [], ◌∷◌, ◌++◌, Option, Some, None, refl, sym, ap, subst, ◌∙◌, le_refl, arith, unwrap_or}
+use Rattle.std.proofs.Common.{◌≡◌, ℕ, ◌≤◌, Bool, true, false, cond, not, eqb, List, [], ◌∷◌, ◌++◌}
+use Rattle.std.proofs.Common.{Option, Some, None, refl, sym, ap, subst, ◌∙◌, le_refl, arith, unwrap_or}
 use Rattle.std.proofs.lemmas.Bool.{eqb-true, false≢true}
 use Rattle.ann_base.specs.declared.identities.TaskNo.{TaskNo}
 use Rattle.trace_text.specs.declared.events.Who.{Who}
@@ -32,10 +33,12 @@ module _ (name : Who) (x y : Task) (same_name : x.who ≡ y.who) (same_clock : x
       ap (λ n. shown (cond (same_who (who.Task t) n) (Some x) (found_task (who.Task t) zs))) (same_name ∙ ap (λ (u : Task). u.who) (sym e))
       ∙ shown-alike (is_who (who.Task t) z) x z (found_task (who.Task t) zs) (same_clock ∙ ap (λ (u : Task). u.cpu_ticks) (sym e))
 
-  set-where : (z : Task) (zs : List Task) (t : TaskNo) (b : Bool) → cond b (Some z) (found_task name zs) ≡ Some y → (found_task name zs ≡ Some y → clock_in (set_where (is_who name) x zs) t ≡ clock_in zs t)
+  set-where : (z : Task) (zs : List Task) (t : TaskNo) (b : Bool) → cond b (Some z) (found_task name zs) ≡ Some y
+      → (found_task name zs ≡ Some y → clock_in (set_where (is_who name) x zs) t ≡ clock_in zs t)
       → clock_in (cond b (x ∷ zs) (z ∷ set_where (is_who name) x zs)) t ≡ clock_in (z ∷ zs) t
   set-where z zs t true e onward = set-here z zs t (ap (or_that z) e)
-  set-where z zs t false e onward = shown-rest (is_who (who.Task t) z) z (found_task (who.Task t) (set_where (is_who name) x zs)) (found_task (who.Task t) zs) (onward e)
+  set-where z zs t false e onward =
+      shown-rest (is_who (who.Task t) z) z (found_task (who.Task t) (set_where (is_who name) x zs)) (found_task (who.Task t) zs) (onward e)
 
   pub set-clock : (tasks : List Task) (t : TaskNo) → found_task name tasks ≡ Some y → clock_in (set_where (is_who name) x tasks) t ≡ clock_in tasks t
   set-clock [] t e = refl
@@ -71,7 +74,9 @@ not_both t (who.Task n) who.Agent h k = refl
 not_both t who.Agent (who.Task m) h k = absurd (false≢true k)
 not_both t who.Agent who.Agent h k = refl
 
-gone-step : (name : Who) (t : TaskNo) (z : Task) (zs : List Task) (b : Bool) → is_who (who.Task t) z ≡ b → is_who name z ≡ b → found_task (who.Task t) (without (is_who name) zs) ≡ None → found_task (who.Task t) (cond (not b) (z ∷ without (is_who name) zs) (without (is_who name) zs)) ≡ None
+gone-step : (name : Who) (t : TaskNo) (z : Task) (zs : List Task) (b : Bool) → is_who (who.Task t) z ≡ b → is_who name z ≡ b
+    → found_task (who.Task t) (without (is_who name) zs) ≡ None
+    → found_task (who.Task t) (cond (not b) (z ∷ without (is_who name) zs) (without (is_who name) zs)) ≡ None
 gone-step name t z zs true e f k = k
 gone-step name t z zs false e f k = ap (λ c. cond c (Some z) (found_task (who.Task t) (without (is_who name) zs))) e ∙ k
 
@@ -79,17 +84,22 @@ gone-none : (name : Who) (t : TaskNo) → same_who (who.Task t) name ≡ true �
 gone-none name t h [] = refl
 gone-none name t h (z ∷ zs) = gone-step name t z zs (is_who name z) (same_who-on t name z.who h) refl (gone-none name t h zs)
 
-left-step : (name : Who) (t : TaskNo) (z : Task) (zs : List Task) (b : Bool) → (b ≡ true → is_who (who.Task t) z ≡ false) → found_task (who.Task t) (without (is_who name) zs) ≡ found_task (who.Task t) zs → found_task (who.Task t) (cond (not b) (z ∷ without (is_who name) zs) (without (is_who name) zs)) ≡ found_task (who.Task t) (z ∷ zs)
+left-step : (name : Who) (t : TaskNo) (z : Task) (zs : List Task) (b : Bool) → (b ≡ true → is_who (who.Task t) z ≡ false)
+    → found_task (who.Task t) (without (is_who name) zs) ≡ found_task (who.Task t) zs
+    → found_task (who.Task t) (cond (not b) (z ∷ without (is_who name) zs) (without (is_who name) zs)) ≡ found_task (who.Task t) (z ∷ zs)
 left-step name t z zs true other k = k ∙ sym (ap (λ c. cond c (Some z) (found_task (who.Task t) zs)) (other refl))
 left-step name t z zs false other k = ap (λ r. cond (is_who (who.Task t) z) (Some z) r) k
 
-left-there : (name : Who) (t : TaskNo) → same_who (who.Task t) name ≡ false → (tasks : List Task) → found_task (who.Task t) (without (is_who name) tasks) ≡ found_task (who.Task t) tasks
+left-there : (name : Who) (t : TaskNo) → same_who (who.Task t) name ≡ false → (tasks : List Task)
+    → found_task (who.Task t) (without (is_who name) tasks) ≡ found_task (who.Task t) tasks
 left-there name t h [] = refl
 left-there name t h (z ∷ zs) = left-step name t z zs (is_who name z) (λ k. not_both t name z.who h k) (left-there name t h zs)
 
-gone-where : (name : Who) (tasks : List Task) (t : TaskNo) (b : Bool) → same_who (who.Task t) name ≡ b → clock_in (without (is_who name) tasks) t ≤ clock_in tasks t
+gone-where : (name : Who) (tasks : List Task) (t : TaskNo) (b : Bool) → same_who (who.Task t) name ≡ b
+    → clock_in (without (is_who name) tasks) t ≤ clock_in tasks t
 gone-where name tasks t true is = let none : clock_in (without (is_who name) tasks) t ≡ 0 = ap shown (gone-none name t is tasks) in omega (arith, none)
-gone-where name tasks t false is = let same : clock_in (without (is_who name) tasks) t ≡ clock_in tasks t = ap shown (left-there name t is tasks) in omega (arith, same)
+gone-where name tasks t false is =
+    let same : clock_in (without (is_who name) tasks) t ≡ clock_in tasks t = ap shown (left-there name t is tasks) in omega (arith, same)
 
 pub gone-clock : (name : Who) (tasks : List Task) (t : TaskNo) → clock_in (without (is_who name) tasks) t ≤ clock_in tasks t
 gone-clock name tasks t = gone-where name tasks t (same_who (who.Task t) name) refl

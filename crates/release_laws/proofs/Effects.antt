@@ -1,5 +1,6 @@
 -- What the effect of an action does to all that is released later: what it asks for, and nothing else.
-use Rattle.std.proofs.Common.{◌≡◌, ℕ, ℤ, Bool, true, false, cond, not, ◌&&◌, eqb, List, [], ◌∷◌, ◌++◌, map, Option, Some, None, refl, ap, ◌∙◌, append_assoc, arith}
+use Rattle.std.proofs.Common.{◌≡◌, ℕ, ℤ, Bool, true, false, cond, not, ◌&&◌, eqb, List, [], ◌∷◌}
+use Rattle.std.proofs.Common.{◌++◌, map, Option, Some, None, refl, ap, ◌∙◌, append_assoc, arith}
 use Rattle.std.specs.Prelude.{int_lt, pos, Ok, Err, is_some}
 use Rattle.ann_base.specs.Results.{◌>>=◌}
 use Rattle.ann_base.specs.declared.identities.TaskNo.{TaskNo}
@@ -21,7 +22,8 @@ use Rattle.profile_machine.specs.Tasks.{task_at, edit_task_found, edit_task, wit
 use Rattle.profile_machine.specs.Frames.{goes, edit_first, goes_on, given, raise_if, raises}
 use Rattle.profile_machine.specs.Operators.{Valued}
 use Rattle.profile_machine.specs.Values.{seen_by}
-use Rattle.profile_machine.specs.Handlers.{without_number, handler_named, has_room_for_release, with_room_for_release, is_interrupt_handler, set_value, setting_of}
+use Rattle.profile_machine.specs.Handlers.{without_number, handler_named, has_room_for_release}
+use Rattle.profile_machine.specs.Handlers.{with_room_for_release, is_interrupt_handler, set_value, setting_of}
 use Rattle.profile_machine.specs.Releases.{named_handler}
 use Rattle.machine_laws.proofs.Moves.{StepRelation}
 use Rattle.machine_laws.proofs.Kept.Combinators.{Keeps, Kept, From}
@@ -77,7 +79,16 @@ abbrev pub EffectSaid : Request → World → List Said → World → Type 0
 EffectSaid r before said after = Effect r before after × Tells (at_once before r) said
 
 pub effect-none : (a b : World) → Untouched (sight_of a) (sight_of b) → Effect OfNothing a b
-effect-none a b u = record { events = λ r. u.events.same; rises = u.events.rises; timers = u.timers.same; timers_due = u.timers.same_due; handlers = u.budgets.same; budget_due = u.budgets.same_due; outside = u.outside; clocks = u.clocks }
+effect-none a b u = record {
+  events = λ r. u.events.same;
+  rises = u.events.rises;
+  timers = u.timers.same;
+  timers_due = u.timers.same_due;
+  handlers = u.budgets.same;
+  budget_due = u.budgets.same_due;
+  outside = u.outside;
+  clocks = u.clocks;
+}
 
 pub effect-then : (r : Request) (a b c : World) → Effect r a b → Untouched (sight_of b) (sight_of c) → Effect r a c
 effect-then r a b c e u = record {
@@ -94,16 +105,20 @@ effect-then r a b c e u = record {
 -- ---- steps that do what is asked for
 
 -- what is kept by one relation is kept by a weaker one
-pub kept-weaker : (R S : StepRelation) (w : World) (said : List Said) (d : Done) → ((v : World) (xs : List Said) → R w xs v → S w xs v) → Kept R w said d → Kept S w said d
+pub kept-weaker : (R S : StepRelation) (w : World) (said : List Said) (d : Done) → ((v : World) (xs : List Said) → R w xs v → S w xs v) → Kept R w said d
+    → Kept S w said d
 unfolding Kept
 kept-weaker R S w said (done v ys) f k = (k.0, k.1, f v k.0 k.2)
 
-kept-behind : (R S T : StepRelation) (w v : World) (said ys : List Said) (d : Done) → ((v u : World) (xs ys : List Said) → R w xs v → S v ys u → T w (xs ++ ys) u) → Kept R w said (done v ys) → Kept S v ys d → Kept T w said d
+kept-behind : (R S T : StepRelation) (w v : World) (said ys : List Said) (d : Done)
+    → ((v u : World) (xs ys : List Said) → R w xs v → S v ys u → T w (xs ++ ys) u) → Kept R w said (done v ys) → Kept S v ys d → Kept T w said d
 unfolding Kept
 kept-behind R S T w v said ys (done u zs) join a b = (a.0 ++ b.0, b.1 ∙ ap (λ xs. xs ++ b.0) a.1 ∙ append_assoc said a.0 b.0, join v u a.0 b.0 a.2 b.2)
 
 -- one step behind another, by a relation of both
-pub kept-then : (R S T : StepRelation) (g : Step) (w : World) (said : List Said) (d : Done) → ((v u : World) (xs ys : List Said) → R w xs v → S v ys u → T w (xs ++ ys) u) → Kept R w said d → ((v : World) (xs : List Said) → R w xs v → From S v g) → Kept T w said (goes_on_with g d)
+pub kept-then : (R S T : StepRelation) (g : Step) (w : World) (said : List Said) (d : Done)
+    → ((v u : World) (xs ys : List Said) → R w xs v → S v ys u → T w (xs ++ ys) u) → Kept R w said d → ((v : World) (xs : List Said) → R w xs v → From S v g)
+    → Kept T w said (goes_on_with g d)
 unfolding Kept From
 kept-then R S T g w said (done v ys) join k more = kept-behind R S T w v said ys (g v ys) join k (more v k.0 k.2 ys)
 
@@ -117,11 +132,13 @@ calm-does w step k said = kept-weaker Calmly (EffectSaid OfNothing) w said (step
 raises-does : (name : Who) (e : Raised) (w : World) → Does OfNothing w (raises Own name e)
 raises-does name e w = calm-does w (raises Own name e) (raises-keeps (plain_steps calm) Own name e)
 
-pub given-does : {X : Type 0} (name : Who) (w : World) (x : Valued X) (f : X → Valued Request) (g : X → Step) → ((y : X) → x ≡ Ok y → Does (or_nothing (f y)) w (g y)) → Does (or_nothing (x >>= f)) w (given Own name x g)
+pub given-does : {X : Type 0} (name : Who) (w : World) (x : Valued X) (f : X → Valued Request) (g : X → Step)
+    → ((y : X) → x ≡ Ok y → Does (or_nothing (f y)) w (g y)) → Does (or_nothing (x >>= f)) w (given Own name x g)
 given-does name w (Ok y) f g k = k y refl
 given-does name w (Err e) f g k = raises-does name e w
 
-pub raise_if-does : (name : Who) (w : World) (b : Bool) (e : Raised) (x : Valued Request) (step : Step) → Does (or_nothing x) w step → Does (or_nothing (raised_if b e x)) w (raise_if name b e step)
+pub raise_if-does : (name : Who) (w : World) (b : Bool) (e : Raised) (x : Valued Request) (step : Step) → Does (or_nothing x) w step
+    → Does (or_nothing (raised_if b e x)) w (raise_if name b e step)
 raise_if-does name w true e x step k = raises-does name e w
 raise_if-does name w false e x step k = k
 
@@ -129,26 +146,32 @@ pub looks-does : (r : Request) (w : World) (f : World → Step) → Does r w (f 
 unfolding From
 looks-does r w f k said = k said
 
-pub with_room-does : (p : Image) (name : Who) (w : World) (h : Option HandlerOf) (x : Valued Request) (step : Step) → Does (or_nothing x) w step → Does (or_nothing (with_room (seen_by p w name) h x)) w (with_room_for_release name (is_some h) step)
+pub with_room-does : (p : Image) (name : Who) (w : World) (h : Option HandlerOf) (x : Valued Request) (step : Step) → Does (or_nothing x) w step
+    → Does (or_nothing (with_room (seen_by p w name) h x)) w (with_room_for_release name (is_some h) step)
 with_room-does p name w h x step k =
     looks-does (or_nothing (with_room (seen_by p w name) h x)) w (λ v. raise_if name (is_some h && not (has_room_for_release v)) exception.Storage step)
     (raise_if-does name w (is_some h && not (has_room_for_release w)) exception.Storage x step k)
 
-pub setting_of-does : (p : Image) (name : Who) (w : World) (base : ℤ) (set : Setting) (handler : Option HandlerName) (request : Option HandlerOf → ℤ → Request) (step : Option HandlerOf → ℤ → Step)
-    → ((h : Option HandlerOf) (v : ℤ) → Does (request h v) w (step h v)) → Does (or_nothing (setting_asked p (seen_by p w name) base set handler request)) w (setting_of p name (seen_by p w name) base set handler step)
+pub setting_of-does : (p : Image) (name : Who) (w : World) (base : ℤ) (set : Setting) (handler : Option HandlerName) (request : Option HandlerOf → ℤ → Request)
+    (step : Option HandlerOf → ℤ → Step)
+    → ((h : Option HandlerOf) (v : ℤ) → Does (request h v) w (step h v))
+    → Does (or_nothing (setting_asked p (seen_by p w name) base set handler request)) w (setting_of p name (seen_by p w name) base set handler step)
 setting_of-does p name w base set handler request step k =
     let q = seen_by p w name in
     given-does name w (handler_named q handler) _ _ (λ h e. with_room-does p name w h _ _
-    (given-does name w (set_value q base set) _ _ (λ v e. raise_if-does name w (not (is_interrupt_handler p w h)) exception.Program (Ok (request h v)) (step h v) (k h v))))
+    (given-does name w (set_value q base set) _ _
+    (λ v e. raise_if-does name w (not (is_interrupt_handler p w h)) exception.Program (Ok (request h v)) (step h v) (k h v))))
 
 -- ---- somebody goes on: of what is looked at here only its marks change
 
-pub edited-sight : (name : Who) (f : Task → Task) (w : World) (found : Option Task) → sight_of (edit_task_found name f w found) ≡ record (sight_of w) { tasks = (edit_task_found name f w found).tasks }
+pub edited-sight : (name : Who) (f : Task → Task) (w : World) (found : Option Task)
+    → sight_of (edit_task_found name f w found) ≡ record (sight_of w) { tasks = (edit_task_found name f w found).tasks }
 edited-sight name f w None = refl
 edited-sight (who.Task n) f w (Some t) = refl
 edited-sight who.Agent f w (Some t) = refl
 
-edited-clock : (name : Who) (f : Task → Task) (w : World) (found : Option Task) → task_at w name ≡ found → ((t : Task) → (f t).who ≡ t.who) → ((t : Task) → (f t).cpu_ticks ≡ t.cpu_ticks) → (t : TaskNo) → clock_in (edit_task_found name f w found).tasks t ≡ clock_in w.tasks t
+edited-clock : (name : Who) (f : Task → Task) (w : World) (found : Option Task) → task_at w name ≡ found → ((t : Task) → (f t).who ≡ t.who)
+    → ((t : Task) → (f t).cpu_ticks ≡ t.cpu_ticks) → (t : TaskNo) → clock_in (edit_task_found name f w found).tasks t ≡ clock_in w.tasks t
 edited-clock name f w None e same_who same_clock t = refl
 edited-clock (who.Task n) f w (Some x) e same_who same_clock t = set-clock (who.Task n) (f x) x (same_who x) (same_clock x) w.tasks t e
 edited-clock who.Agent f w (Some x) e same_who same_clock t = refl
@@ -158,21 +181,31 @@ pub record Alike (a b : World) : Type 0 where
   pub sights : sight_of b ≡ record (sight_of a) { tasks = b.tasks }
   pub clocks : (t : TaskNo) → clock_in b.tasks t ≡ clock_in a.tasks t
 
-pub edited-alike : (name : Who) (f : Task → Task) (w : World) → ((t : Task) → (f t).who ≡ t.who) → ((t : Task) → (f t).cpu_ticks ≡ t.cpu_ticks) → Alike w (edit_task name f w)
-edited-alike name f w same_who same_clock = record { sights = edited-sight name f w (task_at w name); clocks = edited-clock name f w (task_at w name) refl same_who same_clock }
+pub edited-alike : (name : Who) (f : Task → Task) (w : World) → ((t : Task) → (f t).who ≡ t.who) → ((t : Task) → (f t).cpu_ticks ≡ t.cpu_ticks)
+    → Alike w (edit_task name f w)
+edited-alike name f w same_who same_clock = record {
+  sights = edited-sight name f w (task_at w name);
+  clocks = edited-clock name f w (task_at w name) refl same_who same_clock;
+}
 
 pub alike-clocks : (a b : World) → Alike a b → ClocksStay (sight_of a) (sight_of b)
 alike-clocks a b k = record { same_time = ap (λ (s : Sight). s.time) k.sights; low = λ t. let same = k.clocks t in omega (arith, same) }
 
 pub alike-outside : (a b : World) → Alike a b → OutsideStays (sight_of a) (sight_of b)
-alike-outside a b k = record { same_script = ap (λ (s : Sight). s.script) k.sights; same_masked = ap (λ (s : Sight). s.masked) k.sights; same_kept = ap (λ (s : Sight). s.kept_interrupts) k.sights }
+alike-outside a b k = record {
+  same_script = ap (λ (s : Sight). s.script) k.sights;
+  same_masked = ap (λ (s : Sight). s.masked) k.sights;
+  same_kept = ap (λ (s : Sight). s.kept_interrupts) k.sights;
+}
 
-kept-from : (r : Request) (w v : World) (said : List Said) (d : Done) → Kept (λ before said after. Effect r w after × Tells (at_once w r) said) v said d → Kept (EffectSaid r) w said d
+kept-from : (r : Request) (w v : World) (said : List Said) (d : Done) → Kept (λ before said after. Effect r w after × Tells (at_once w r) said) v said d
+    → Kept (EffectSaid r) w said d
 unfolding Kept
 kept-from r w v said (done u ys) k = k
 
 -- a step from who has gone on
-pub gone-does : (r : Request) (name : Who) (onward : Option StatementNo) (w : World) (step : Step) → ((v : World) → Alike w v → From (λ before said after. Effect r w after × Tells (at_once w r) said) v step) → Does r w (goes name onward ▷ step)
+pub gone-does : (r : Request) (name : Who) (onward : Option StatementNo) (w : World) (step : Step)
+    → ((v : World) → Alike w v → From (λ before said after. Effect r w after × Tells (at_once w r) said) v step) → Does r w (goes name onward ▷ step)
 unfolding From goes
 gone-does r name onward w step k said =
     let v = edit_task name (λ t. with_frames (edit_first (goes_on onward) t.frames) t) w in

@@ -62,7 +62,8 @@ put-not_before m new [] h n = (h, tt)
 put-not_before m new (x ∷ xs) h n =
     either (NotBefore m) (int_lt new.moment x.moment) (new ∷ x ∷ xs) (x ∷ put_appointment new xs) (h, n) (n.0, put-not_before m new xs h n.1)
 
-put_where-rises : (new x : Appointment) (xs : List Appointment) (b : Bool) → int_lt new.moment x.moment ≡ b → Rises (x ∷ xs) → Rises (put_appointment new xs) → Rises (cond b (new ∷ x ∷ xs) (x ∷ put_appointment new xs))
+put_where-rises : (new x : Appointment) (xs : List Appointment) (b : Bool) → int_lt new.moment x.moment ≡ b → Rises (x ∷ xs) → Rises (put_appointment new xs)
+    → Rises (cond b (new ∷ x ∷ xs) (x ∷ put_appointment new xs))
 put_where-rises new x xs true is r k = ((lt_le new.moment x.moment is, lower new.moment x.moment (lt_le new.moment x.moment is) xs r.0), r)
 put_where-rises new x xs false is r k = (put-not_before x.moment new xs (not_lt new.moment x.moment is) r.0, k)
 
@@ -78,7 +79,8 @@ without-not_before m test (x ∷ xs) n =
 pub without-rises : (test : Appointment → Bool) (xs : List Appointment) → Rises xs → Rises (without test xs)
 without-rises test [] r = tt
 without-rises test (x ∷ xs) r =
-    either Rises (not (test x)) (x ∷ without test xs) (without test xs) (without-not_before x.moment test xs r.0, without-rises test xs r.1) (without-rises test xs r.1)
+    either Rises (not (test x)) (x ∷ without test xs) (without test xs) (without-not_before x.moment test xs r.0, without-rises test xs r.1)
+    (without-rises test xs r.1)
 
 -- ---- one that is no event is set
 
@@ -104,7 +106,8 @@ abbrev FirstIsLater : ℤ → List EventSet → Type 0
 FirstIsLater m [] = Unit {0}
 FirstIsLater m (s ∷ rest) = int_lt m s.moment ≡ true
 
-first_later : (m k : ℤ) → int_lt m k ≡ true → (due : Due) (moment : ℤ) (es : List EventSet) → int_le k moment ≡ true → FirstIsLater m es → FirstIsLater m (with_event due moment es)
+first_later : (m k : ℤ) → int_lt m k ≡ true → (due : Due) (moment : ℤ) (es : List EventSet) → int_le k moment ≡ true → FirstIsLater m es
+    → FirstIsLater m (with_event due moment es)
 first_later m k h (due_for.Event n handler) moment es g f = lt_on m k moment h g
 first_later m k h (due_for.Delay t) moment es g f = f
 first_later m k h (due_for.Timeout c) moment es g f = f
@@ -118,8 +121,10 @@ put_in_front : (s : EventSet) (es : List EventSet) → FirstIsLater s.moment es 
 put_in_front s [] f = refl
 put_in_front s (e ∷ es) f = ap (λ b. cond b (s ∷ e ∷ es) (e ∷ put_event s es)) f
 
-put_behind : (s : EventSet) (due : Due) (moment : ℤ) (es : List EventSet) → int_lt s.moment moment ≡ false → put_event s (with_event due moment es) ≡ with_event due moment (put_event s es)
-put_behind s (due_for.Event n h) moment es f = ap (λ b. cond b (s ∷ record { event = n; handler = h; moment = moment } ∷ es) (record { event = n; handler = h; moment = moment } ∷ put_event s es)) f
+put_behind : (s : EventSet) (due : Due) (moment : ℤ) (es : List EventSet) → int_lt s.moment moment ≡ false
+    → put_event s (with_event due moment es) ≡ with_event due moment (put_event s es)
+put_behind s (due_for.Event n h) moment es f =
+    ap (λ b. cond b (s ∷ record { event = n; handler = h; moment = moment } ∷ es) (record { event = n; handler = h; moment = moment } ∷ put_event s es)) f
 put_behind s (due_for.Delay t) moment es f = refl
 put_behind s (due_for.Timeout c) moment es f = refl
 put_behind s (due_for.Trigger t depth) moment es f = refl
@@ -128,7 +133,8 @@ module _ (s : EventSet) where
   abbrev setting : Appointment
   setting = record { due = due_for.Event s.event s.handler; moment = s.moment }
 
-  put_where-events : (x : Appointment) (xs : List Appointment) (b : Bool) → int_lt s.moment x.moment ≡ b → Rises (x ∷ xs) → events_of (put_appointment setting xs) ≡ put_event s (events_of xs)
+  put_where-events : (x : Appointment) (xs : List Appointment) (b : Bool) → int_lt s.moment x.moment ≡ b → Rises (x ∷ xs)
+      → events_of (put_appointment setting xs) ≡ put_event s (events_of xs)
       → events_of (cond b (setting ∷ x ∷ xs) (x ∷ put_appointment setting xs)) ≡ put_event s (events_of (x ∷ xs))
   put_where-events x xs true is r k = sym (put_in_front s (events_of (x ∷ xs)) (all_later s.moment x.moment is (x ∷ xs) (le_self x.moment, r.0)))
   put_where-events x xs false is r k = ap (with_event x.due x.moment) k ∙ sym (put_behind s x.due x.moment (events_of xs) is)
@@ -139,7 +145,8 @@ module _ (s : EventSet) where
 
 -- ---- appointments are dropped: no event, or those of one number
 
-kept_or_other : (b : Bool) (x : Appointment) (r : List Appointment) → (b ≡ true → is_an_event x.due ≡ false) → events_of (cond (not b) (x ∷ r) r) ≡ with_event x.due x.moment (events_of r)
+kept_or_other : (b : Bool) (x : Appointment) (r : List Appointment) → (b ≡ true → is_an_event x.due ≡ false)
+    → events_of (cond (not b) (x ∷ r) r) ≡ with_event x.due x.moment (events_of r)
 kept_or_other true x r other = sym (with_event-other x.due x.moment (events_of r) (other refl))
 kept_or_other false x r other = refl
 
@@ -155,11 +162,13 @@ spared-events test (x ∷ xs) spares =
     kept_or_other (test x.due) x (without (λ a. test a.due) xs) (dropped_other test spares x.due)
     ∙ ap (with_event x.due x.moment) (spared-events test xs spares)
 
-dropped-where : (b : Bool) (s : EventSet) (x : Appointment) (r : List Appointment) → with_event x.due x.moment (events_of r) ≡ s ∷ events_of r → events_of (cond (not b) (x ∷ r) r) ≡ cond (not b) (s ∷ events_of r) (events_of r)
+dropped-where : (b : Bool) (s : EventSet) (x : Appointment) (r : List Appointment) → with_event x.due x.moment (events_of r) ≡ s ∷ events_of r
+    → events_of (cond (not b) (x ∷ r) r) ≡ cond (not b) (s ∷ events_of r) (events_of r)
 dropped-where true s x r h = refl
 dropped-where false s x r h = h
 
-dropped-one : (n : ℕ) (due : Due) (moment : ℤ) (r : List Appointment) (es : List EventSet) → events_of r ≡ but_event n es → events_of (cond (not (is_event n due)) (record { due = due; moment = moment } ∷ r) r) ≡ but_event n (with_event due moment es)
+dropped-one : (n : ℕ) (due : Due) (moment : ℤ) (r : List Appointment) (es : List EventSet) → events_of r ≡ but_event n es
+    → events_of (cond (not (is_event n due)) (record { due = due; moment = moment } ∷ r) r) ≡ but_event n (with_event due moment es)
 dropped-one n (due_for.Event k h) moment r es e =
     let s : EventSet = record { event = k; handler = h; moment = moment } in
     dropped-where (eqb n k) s (record { due = due_for.Event k h; moment = moment }) r refl ∙ ap (λ ys. cond (not (eqb n k)) (s ∷ ys) ys) e

@@ -2,7 +2,8 @@
 use Rattle.std.proofs.Common.{◌≡◌, true, false, refl}
 use Rattle.std.specs.Fmt.{digits}
 use Rattle.profile_machine.specs.Computing.{computing}
-use Rattle.release_laws.specs.Examples.{rightly, without_timers, without_budgets, events_at_once, events_late, without_script, forgets_at_ticks, forgets_at_null, another_handler}
+use Rattle.release_laws.specs.Examples.{rightly, without_timers, without_budgets, events_at_once, events_late}
+use Rattle.release_laws.specs.Examples.{without_script, forgets_at_ticks, forgets_at_null, another_handler}
 
 pub kept_rightly : rightly ≡ true
 unfolding rightly digits computing

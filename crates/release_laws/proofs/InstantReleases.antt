@@ -10,7 +10,9 @@ use Rattle.profile_machine.specs.Run.{tock}
 use Rattle.profile_machine.specs.Releases.{NamedHandler, named_handler, released, later_steps}
 use Rattle.machine_laws.proofs.Kept.Combinators.{Leads}
 use Rattle.release_laws.specs.Asked.{Request, asked}
-use Rattle.release_laws.specs.ReleaseLaws.{EventSet, TimerSet, BudgetSet, Passage, machine_of, passage, Account, events_asked, has_come, timers_asked, is_reached, budgets_asked, items_come, items_ahead, flags_behind, due_by_items, owed_at_once, owed_of_interrupts, owed_of_events, owed_of_timers, owed_of_budgets, account_behind, ReleasesAll}
+use Rattle.release_laws.specs.ReleaseLaws.{EventSet, TimerSet, BudgetSet, Passage, machine_of, passage, Account, events_asked, has_come, timers_asked}
+use Rattle.release_laws.specs.ReleaseLaws.{is_reached, budgets_asked, items_come, items_ahead, flags_behind, due_by_items, owed_at_once}
+use Rattle.release_laws.specs.ReleaseLaws.{owed_of_interrupts, owed_of_events, owed_of_timers, owed_of_budgets, account_behind, ReleasesAll}
 use Rattle.release_laws.proofs.EventLists.{events_of, Rises}
 use Rattle.release_laws.proofs.TimerLists.{timers_in}
 use Rattle.release_laws.proofs.KeyedLists.{Differ, without-differ}
@@ -42,7 +44,8 @@ map-twice : {X Y Z : Type 0} (f : X → Y) (g : Y → Z) (xs : List X) → map g
 map-twice f g [] = refl
 map-twice f g (x ∷ xs) = ap (λ ys. g (f x) ∷ ys) (map-twice f g xs)
 
-budget-handlers : (p : Image) (w : World) (due : Option ℕ) (bs : List BudgetSet) → ((k : ℕ) → handlers_for k bs ≡ one_or_none (budget_in w.budgets k).handler) → map (named_handler p) (of_budget w due) ≡ map (λ s. named_handler p s.handler) (run_out_of due bs)
+budget-handlers : (p : Image) (w : World) (due : Option ℕ) (bs : List BudgetSet) → ((k : ℕ) → handlers_for k bs ≡ one_or_none (budget_in w.budgets k).handler)
+    → map (named_handler p) (of_budget w due) ≡ map (λ s. named_handler p s.handler) (run_out_of due bs)
 budget-handlers p w None bs h = refl
 budget-handlers p w (Some b) bs h = ap (map (named_handler p)) (sym (h b)) ∙ map-twice handler_of_budget (named_handler p) (filter (λ s. eqb b s.budget) bs)
 
@@ -115,7 +118,9 @@ module _ (p : Image) (a : Account) (w : World) (agrees : Agrees a w) where
   script1 = acted.does.outside.same_script ∙ agrees.script
 
   flags1 : flags_of w1 ≡ a.flags
-  flags1 = ap (λ m. record { masked = m; kept_interrupts = w1.kept_interrupts }) acted.does.outside.same_masked ∙ ap (λ k. record { masked = w.masked; kept_interrupts = k }) acted.does.outside.same_kept ∙ agrees.flags
+  flags1 =
+      ap (λ m. record { masked = m; kept_interrupts = w1.kept_interrupts }) acted.does.outside.same_masked
+      ∙ ap (λ k. record { masked = w.masked; kept_interrupts = k }) acted.does.outside.same_kept ∙ agrees.flags
 
   -- behind the items of the script
   items : ItemsMoved p w1 (script_items p w1).1 w2
@@ -233,7 +238,9 @@ module _ (p : Image) (a : Account) (w : World) (agrees : Agrees a w) where
   told3 = one_behind (events_due p) (moments_due p ▶ timers_due p ▶ budgets_due p ▶ quantum_spent p) w2 (owed_of_events p a x) owed4 told_events told4
 
   told2 : released ((script_items p ▶ events_due p ▶ moments_due p ▶ timers_due p ▶ budgets_due p ▶ quantum_spent p) w1).1 ≡ owed2
-  told2 = one_behind (script_items p) (events_due p ▶ moments_due p ▶ timers_due p ▶ budgets_due p ▶ quantum_spent p) w1 (owed_of_interrupts p a x) owed3 told_interrupts told3
+  told2 =
+      one_behind (script_items p) (events_due p ▶ moments_due p ▶ timers_due p ▶ budgets_due p ▶ quantum_spent p) w1
+      (owed_of_interrupts p a x) owed3 told_interrupts told3
 
   told1 : released ((finish_action p ▶ later_steps p) w).1 ≡ owed_at_once p w request ++ owed2
   told1 = one_behind (finish_action p) (later_steps p) w (owed_at_once p w request) owed2 told_once told2
@@ -274,7 +281,9 @@ module _ (p : Image) (a : Account) (w : World) (agrees : Agrees a w) where
   budget_due7 = quantum.0.budgets.same_due ∙ ran_out.none_due
 
   script7 : w7.script ≡ items_ahead w.time a.ahead
-  script7 = quantum.0.outside.same_script ∙ ran_out.outside.same_script ∙ reached.outside.same_script ∙ moments.0.outside.same_script ∙ came.outside.same_script ∙ script2
+  script7 =
+      quantum.0.outside.same_script ∙ ran_out.outside.same_script ∙ reached.outside.same_script ∙ moments.0.outside.same_script ∙ came.outside.same_script
+      ∙ script2
 
   masked7 : w7.masked ≡ w2.masked
   masked7 = quantum.0.outside.same_masked ∙ ran_out.outside.same_masked ∙ reached.outside.same_masked ∙ moments.0.outside.same_masked ∙ came.outside.same_masked
@@ -299,5 +308,7 @@ module _ (p : Image) (a : Account) (w : World) (agrees : Agrees a w) where
     handlers = λ k. handlers5 k ∙ ap one_or_none (sym (ticked.handlers k ∙ quantum.0.budgets.same k ∙ ran_out.handlers k));
     run_out = ticked.run_out budget_due7;
     script = ticked.script ∙ script7;
-    flags = ap (λ m. record { masked = m; kept_interrupts = next.kept_interrupts }) (ticked.masked ∙ masked7) ∙ ap (λ k. record { masked = w2.masked; kept_interrupts = k }) (ticked.kept ∙ kept7) ∙ flags2;
+    flags =
+        ap (λ m. record { masked = m; kept_interrupts = next.kept_interrupts }) (ticked.masked ∙ masked7)
+        ∙ ap (λ k. record { masked = w2.masked; kept_interrupts = k }) (ticked.kept ∙ kept7) ∙ flags2;
   }

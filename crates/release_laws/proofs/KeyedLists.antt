@@ -1,5 +1,6 @@
 -- Lists in which each item has a number of its own: taking the first that passes a test, again and again, takes all that pass it.
-use Rattle.std.proofs.Common.{◌≡◌, ℕ, Bool, true, false, cond, not, eqb, find, filter, List, [], ◌∷◌, ◌++◌, Some, None, refl, sym, ap, subst, ◌∙◌, eq-eqb, arith}
+use Rattle.std.proofs.Common.{◌≡◌, ℕ, Bool, true, false, cond, not, eqb, find, filter, List, []}
+use Rattle.std.proofs.Common.{◌∷◌, ◌++◌, Some, None, refl, sym, ap, subst, ◌∙◌, eq-eqb, arith}
 use Rattle.std.proofs.lemmas.Bool.{false≢true}
 use Rattle.profile_image.specs.Words.{without}
 use Rattle.machine_laws.proofs.Kept.Instant.{is_there, or_that}
@@ -60,7 +61,8 @@ module _ {X : Type 0} (key : X → ℕ) where
   -- ---- those that pass a test
 
   module _ (test : X → Bool) where
-    found-where : (n : ℕ) (x : X) (xs : List X) (s : X) (b : Bool) → eqb n (key x) ≡ false → cond b (Some x) (find test xs) ≡ Some s → (find test xs ≡ Some s → eqb n (key s) ≡ false) → eqb n (key s) ≡ false
+    found-where : (n : ℕ) (x : X) (xs : List X) (s : X) (b : Bool) → eqb n (key x) ≡ false → cond b (Some x) (find test xs) ≡ Some s
+        → (find test xs ≡ Some s → eqb n (key s) ≡ false) → eqb n (key s) ≡ false
     found-where n x xs s true f e k = subst (λ y. eqb n (key y) ≡ false) (ap (or_that x) e) f
     found-where n x xs s false f e k = k e
 
@@ -75,17 +77,24 @@ module _ {X : Type 0} (key : X → ℕ) where
     takes-first : (x s : X) (xs : List X) → Lacks (key x) xs → x ≡ s → test x ≡ true → Takes (x ∷ xs) s
     takes-first x s xs l e is =
         subst (λ y. Takes (x ∷ xs) y) e
-        (let gone : but (key x) (x ∷ xs) ≡ xs = ap (λ b. cond (not b) (x ∷ but (key x) xs) (but (key x) xs)) (eq-eqb (key x) (key x) refl) ∙ lacks-but (key x) xs l in
-        (ap (λ b. cond b (x ∷ filter test xs) (filter test xs)) is ∙ ap (λ ys. x ∷ filter test ys) (sym gone), ap (λ b. cond (not b) (x ∷ without test xs) (without test xs)) is ∙ ap (without test) (sym gone)))
+        (let gone : but (key x) (x ∷ xs) ≡ xs =
+        ap (λ b. cond (not b) (x ∷ but (key x) xs) (but (key x) xs)) (eq-eqb (key x) (key x) refl) ∙ lacks-but (key x) xs l in (
+          ap (λ b. cond b (x ∷ filter test xs) (filter test xs)) is ∙ ap (λ ys. x ∷ filter test ys) (sym gone),
+          ap (λ b. cond (not b) (x ∷ without test xs) (without test xs)) is ∙ ap (without test) (sym gone),
+        ))
 
     takes-later : (x s : X) (xs : List X) → eqb (key s) (key x) ≡ false → test x ≡ false → Takes xs s → Takes (x ∷ xs) s
     takes-later x s xs e is k =
         let kept : but (key s) (x ∷ xs) ≡ x ∷ but (key s) xs = ap (λ b. cond (not b) (x ∷ but (key s) xs) (but (key s) xs)) e in (
-          ap (λ b. cond b (x ∷ filter test xs) (filter test xs)) is ∙ k.0 ∙ ap (λ ys. s ∷ ys) (sym (ap (λ b. cond b (x ∷ filter test (but (key s) xs)) (filter test (but (key s) xs))) is)) ∙ ap (λ ys. s ∷ filter test ys) (sym kept),
-          ap (λ b. cond (not b) (x ∷ without test xs) (without test xs)) is ∙ ap (λ ys. x ∷ ys) k.1 ∙ sym (ap (λ b. cond (not b) (x ∷ without test (but (key s) xs)) (without test (but (key s) xs))) is) ∙ ap (without test) (sym kept),
+          ap (λ b. cond b (x ∷ filter test xs) (filter test xs)) is ∙ k.0
+              ∙ ap (λ ys. s ∷ ys) (sym (ap (λ b. cond b (x ∷ filter test (but (key s) xs)) (filter test (but (key s) xs))) is))
+              ∙ ap (λ ys. s ∷ filter test ys) (sym kept),
+          ap (λ b. cond (not b) (x ∷ without test xs) (without test xs)) is ∙ ap (λ ys. x ∷ ys) k.1
+              ∙ sym (ap (λ b. cond (not b) (x ∷ without test (but (key s) xs)) (without test (but (key s) xs))) is) ∙ ap (without test) (sym kept),
         )
 
-    takes-where : (x s : X) (xs : List X) (b : Bool) → test x ≡ b → Lacks (key x) xs → cond b (Some x) (find test xs) ≡ Some s → (find test xs ≡ Some s → Takes xs s) → Takes (x ∷ xs) s
+    takes-where : (x s : X) (xs : List X) (b : Bool) → test x ≡ b → Lacks (key x) xs → cond b (Some x) (find test xs) ≡ Some s
+        → (find test xs ≡ Some s → Takes xs s) → Takes (x ∷ xs) s
     takes-where x s xs true is l e k = takes-first x s xs l (ap (or_that x) e) is
     takes-where x s xs false is l e k = takes-later x s xs (other_way (key x) (key s) (lacks-found (key x) xs s l e)) is (k e)
 
@@ -93,9 +102,14 @@ module _ {X : Type 0} (key : X → ℕ) where
     takes-found [] s d e = absurd (false≢true (ap is_there e))
     takes-found (x ∷ xs) s d e = takes-where x s xs (test x) refl d.0 e (takes-found xs s d.1)
 
-    none-where : (x : X) (xs : List X) (b : Bool) → test x ≡ b → cond b (Some x) (find test xs) ≡ None → (find test xs ≡ None → (filter test xs ≡ []) × (without test xs ≡ xs)) → (filter test (x ∷ xs) ≡ []) × (without test (x ∷ xs) ≡ x ∷ xs)
+    none-where : (x : X) (xs : List X) (b : Bool) → test x ≡ b → cond b (Some x) (find test xs) ≡ None
+        → (find test xs ≡ None → (filter test xs ≡ []) × (without test xs ≡ xs)) → (filter test (x ∷ xs) ≡ []) × (without test (x ∷ xs) ≡ x ∷ xs)
     none-where x xs true is e k = absurd (false≢true (sym (ap is_there e)))
-    none-where x xs false is e k = let rest = k e in (ap (λ b. cond b (x ∷ filter test xs) (filter test xs)) is ∙ rest.0, ap (λ b. cond (not b) (x ∷ without test xs) (without test xs)) is ∙ ap (λ ys. x ∷ ys) rest.1)
+    none-where x xs false is e k =
+        let rest = k e in (
+          ap (λ b. cond b (x ∷ filter test xs) (filter test xs)) is ∙ rest.0,
+          ap (λ b. cond (not b) (x ∷ without test xs) (without test xs)) is ∙ ap (λ ys. x ∷ ys) rest.1,
+        )
 
     pub none-found : (xs : List X) → find test xs ≡ None → (filter test xs ≡ []) × (without test xs ≡ xs)
     none-found [] e = (refl, refl)

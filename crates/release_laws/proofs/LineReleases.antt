@@ -11,7 +11,8 @@ use Rattle.profile_machine.specs.Run.{Ran, opening, stop, tock, at_tick, stopped
 use Rattle.profile_machine.specs.Releases.{NamedHandler, released}
 use Rattle.machine_laws.specs.LineKinds.{is_of_tock, AllAre}
 use Rattle.machine_laws.proofs.LineLemmas.{tocks_say_ticks}
-use Rattle.release_laws.specs.ReleaseLaws.{Passage, machine_of, passage, history_from, history, Account, first_account, account_behind, HistoryOk, owed_in_all, with_release, releases_in, all_at, owed_by, RunsTellReleases}
+use Rattle.release_laws.specs.ReleaseLaws.{Passage, machine_of, passage, history_from, history, Account, first_account, account_behind}
+use Rattle.release_laws.specs.ReleaseLaws.{HistoryOk, owed_in_all, with_release, releases_in, all_at, owed_by, RunsTellReleases}
 use Rattle.release_laws.proofs.Untouched.{released-append}
 use Rattle.release_laws.proofs.RunReleases.{opening-calm, runs_release}
 
@@ -25,7 +26,8 @@ in-append : (xs ys : List (ℕ × Event)) → releases_in (xs ++ ys) ≡ release
 in-append [] ys = refl
 in-append (x ∷ xs) ys = ap (with_release x.0 x.1) (in-append xs ys) ∙ with-append x.0 x.1 (releases_in xs) (releases_in ys)
 
-at-one : (tick : ℕ) (event : Event) (events : List Event) (rest : List (ℕ × NamedHandler)) → rest ≡ all_at tick (released events) → with_release tick event rest ≡ all_at tick (released (event ∷ events))
+at-one : (tick : ℕ) (event : Event) (events : List Event) (rest : List (ℕ × NamedHandler)) → rest ≡ all_at tick (released events)
+    → with_release tick event rest ≡ all_at tick (released (event ∷ events))
 at-one tick (line.Release n object handler) events rest e = ap (λ rs. (tick, record { object = object; procedure = handler }) ∷ rs) e
 at-one tick _ events rest e = e
 
@@ -53,27 +55,34 @@ last-instant : (time : ℕ) (events : List Event) (reason : Ended) → releases_
 last-instant time events reason =
     at-tick time (events ++ line.End reason ∷ []) ∙ ap (all_at time) (released-append events (line.End reason ∷ []) ∙ append-nil (released events))
 
-one-instant : (p : Image) (w : World) (rest : Ran) → let i = instant p w in releases_in (then_runs w.time (i.1 ++ (tock p i.0).1) rest).lines ≡ all_at w.time (released i.1) ++ releases_in rest.lines
+one-instant : (p : Image) (w : World) (rest : Ran) →
+    let i = instant p w in
+    releases_in (then_runs w.time (i.1 ++ (tock p i.0).1) rest).lines ≡ all_at w.time (released i.1) ++ releases_in rest.lines
 one-instant p w rest =
     let i = instant p w in
     let told = (tock p i.0).1 in
     in-append (at_tick w.time (i.1 ++ told)) rest.lines
     ∙ ap (λ rs. rs ++ releases_in rest.lines)
-    (at-tick w.time (i.1 ++ told) ∙ ap (all_at w.time) (released-append i.1 told ∙ ap (λ rs. released i.1 ++ rs) (none-released told (tocks_say_ticks p i.0)) ∙ append-nil (released i.1)))
+    (at-tick w.time (i.1 ++ told)
+    ∙ ap (all_at w.time)
+    (released-append i.1 told ∙ ap (λ rs. released i.1 ++ rs) (none-released told (tocks_say_ticks p i.0)) ∙ append-nil (released i.1)))
 
 where-stopped : (p : Image) (w : World) (reason : Option Ended) (rest : Ran) (xs : List Passage) → releases_in rest.lines ≡ in_history xs
     → let i = instant p w in let x = passage (machine_of p) w in
-    releases_in (elim reason as (λ _. Ran) [ Some r ↦ stopped w.time i.1 r | None ↦ then_runs w.time (i.1 ++ (tock p i.0).1) rest ]).lines ≡ in_history (elim reason as (λ _. List Passage) [ Some r ↦ x ∷ [] | None ↦ x ∷ xs ])
+    releases_in (elim reason as (λ _. Ran) [ Some r ↦ stopped w.time i.1 r | None ↦ then_runs w.time (i.1 ++ (tock p i.0).1) rest ]).lines
+    ≡ in_history (elim reason as (λ _. List Passage) [ Some r ↦ x ∷ [] | None ↦ x ∷ xs ])
 unfolding in_history
 where-stopped p w (Some r) rest xs e = last-instant w.time (instant p w).1 r ∙ sym (append-nil (all_at w.time (released (instant p w).1)))
 where-stopped p w None rest xs e = one-instant p w rest ∙ ap (λ rs. all_at w.time (released (instant p w).1) ++ rs) e
 
-from-history : (fuel : ℕ) (p : Image) (bound : ℕ) (w : World) → releases_in (run_from fuel p bound w).lines ≡ in_history (history_from fuel (machine_of p) p bound w)
+from-history : (fuel : ℕ) (p : Image) (bound : ℕ) (w : World)
+    → releases_in (run_from fuel p bound w).lines ≡ in_history (history_from fuel (machine_of p) p bound w)
 unfolding in_history
 from-history zero p bound w = refl
 from-history (suc fuel) p bound w =
     let next = (tock p (instant p w).0).0 in
-    where-stopped p w (stop p bound (instant p w).0) (run_from fuel p bound next) (history_from fuel (machine_of p) p bound next) (from-history fuel p bound next)
+    where-stopped p w (stop p bound (instant p w).0) (run_from fuel p bound next) (history_from fuel (machine_of p) p bound next)
+    (from-history fuel p bound next)
 
 -- ---- what the history owes
 

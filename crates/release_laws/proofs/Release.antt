@@ -20,11 +20,24 @@ pub record Released (h : HandlerOf) (before : World) (said : List Said) (after :
   pub objects : after.objects ≡ before.objects
   pub tells : Tells (h ∷ []) said
 
-woken : (p : Image) (h : HandlerOf) (argument : Option ℕ) (w : World) (said : List Said) (state : State) → Kept (Released h) w said (wake_agent p Own state (add_release h argument w) (said ++ own (line.Release (add_release h argument w).drawn.releases h) ∷ []))
+woken : (p : Image) (h : HandlerOf) (argument : Option ℕ) (w : World) (said : List Said) (state : State)
+    → Kept (Released h) w said (wake_agent p Own state (add_release h argument w) (said ++ own (line.Release (add_release h argument w).drawn.releases h) ∷ []))
 unfolding Kept wake_agent ready to_tail says_ready
-woken p h argument w said (Blocked waiting) = (_, append_assoc said (own (line.Release (add_release h argument w).drawn.releases h) ∷ []) _, record { others = untouched (sight_of w); objects = refl; tells = λ more. (refl, refl, refl) })
-woken p h argument w said Runnable = (own (line.Release (add_release h argument w).drawn.releases h) ∷ [], refl, record { others = untouched (sight_of w); objects = refl; tells = λ more. (refl, refl, refl) })
-woken p h argument w said Made = (own (line.Release (add_release h argument w).drawn.releases h) ∷ [], refl, record { others = untouched (sight_of w); objects = refl; tells = λ more. (refl, refl, refl) })
+woken p h argument w said (Blocked waiting) = (
+  _,
+  append_assoc said (own (line.Release (add_release h argument w).drawn.releases h) ∷ []) _,
+  record { others = untouched (sight_of w); objects = refl; tells = λ more. (refl, refl, refl) },
+)
+woken p h argument w said Runnable = (
+  own (line.Release (add_release h argument w).drawn.releases h) ∷ [],
+  refl,
+  record { others = untouched (sight_of w); objects = refl; tells = λ more. (refl, refl, refl) },
+)
+woken p h argument w said Made = (
+  own (line.Release (add_release h argument w).drawn.releases h) ∷ [],
+  refl,
+  record { others = untouched (sight_of w); objects = refl; tells = λ more. (refl, refl, refl) },
+)
 
 pub release-from : (p : Image) (h : HandlerOf) (argument : Option ℕ) (w : World) → From (Released h) w (release p Own h argument)
 unfolding From release says_release

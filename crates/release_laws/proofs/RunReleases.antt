@@ -11,7 +11,8 @@ use Rattle.profile_machine.specs.declared.world.marks.Purpose.TheVariants as ope
 use Rattle.profile_machine.specs.Scopes.{plainly}
 use Rattle.profile_machine.specs.Run.{environment, opens, opening, blank_world, stop, tock}
 use Rattle.machine_laws.proofs.FineMoves.{AnyWorld}
-use Rattle.release_laws.specs.ReleaseLaws.{Passage, machine_of, passage, history_from, Account, first_account, account_behind, HistoryOk, ReleasesAll, OfEveryRun}
+use Rattle.release_laws.specs.ReleaseLaws.{Passage, machine_of, passage, history_from, Account}
+use Rattle.release_laws.specs.ReleaseLaws.{first_account, account_behind, HistoryOk, ReleasesAll, OfEveryRun}
 use Rattle.release_laws.proofs.Untouched.{budget_in, sight_of, Untouched, Calmly, CalmMove, calm, calm_openings}
 use Rattle.release_laws.proofs.BudgetSteps.{one_or_none}
 use Rattle.release_laws.proofs.TickSteps.{run_out_of}
@@ -59,12 +60,17 @@ opening-agrees p script =
       handlers = λ i. sym (ap one_or_none (k.budgets.same i) ∙ blank-handlers p script i);
       run_out = λ bs. sym (ap (λ due. run_out_of due bs) k.budgets.same_due);
       script = k.outside.same_script;
-      flags = ap (λ m. record { masked = m; kept_interrupts = o.kept_interrupts }) k.outside.same_masked ∙ ap (λ f. record { masked = (blank_world p script).masked; kept_interrupts = f }) k.outside.same_kept;
+      flags =
+          ap (λ m. record { masked = m; kept_interrupts = o.kept_interrupts }) k.outside.same_masked
+          ∙ ap (λ f. record { masked = (blank_world p script).masked; kept_interrupts = f }) k.outside.same_kept;
     }
 
 -- ---- from instant to instant
 
-stopped-or-not : (fuel : ℕ) (p : Image) (bound : ℕ) (a : Account) (w : World) → Agrees a w → (reason : Option Ended) → let x = passage (machine_of p) w in let rest = history_from fuel (machine_of p) p bound (tock p x.after).0 in HistoryOk p (account_behind p a x) rest → HistoryOk p a (elim reason as (λ _. List Passage) [ Some r ↦ x ∷ [] | None ↦ x ∷ rest ])
+stopped-or-not : (fuel : ℕ) (p : Image) (bound : ℕ) (a : Account) (w : World) → Agrees a w → (reason : Option Ended) →
+    let x = passage (machine_of p) w in
+    let rest = history_from fuel (machine_of p) p bound (tock p x.after).0 in
+    HistoryOk p (account_behind p a x) rest → HistoryOk p a (elim reason as (λ _. List Passage) [ Some r ↦ x ∷ [] | None ↦ x ∷ rest ])
 stopped-or-not fuel p bound a w k (Some r) rest = (releases-all p a w k, tt)
 stopped-or-not fuel p bound a w k None rest = (releases-all p a w k, rest)
 

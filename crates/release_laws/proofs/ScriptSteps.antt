@@ -1,6 +1,7 @@
 -- Step 2 of an instant takes the items of the script whose moment has come, and releases the handlers of interrupts that come
 -- unmasked or are unmasked.
-use Rattle.std.proofs.Common.{◌≡◌, ℕ, zero, suc, ℤ, ◌≤◌, Bool, true, false, cond, not, length, slice_index_or, List, [], ◌∷◌, ◌++◌, map, Option, Some, None, refl, sym, ap, subst, ◌∙◌, append-nil, append_assoc, le_refl, arith}
+use Rattle.std.proofs.Common.{◌≡◌, ℕ, zero, suc, ℤ, ◌≤◌, Bool, true, false, cond, not, length, slice_index_or, List, [], ◌∷◌}
+use Rattle.std.proofs.Common.{◌++◌, map, Option, Some, None, refl, sym, ap, subst, ◌∙◌, append-nil, append_assoc, le_refl, arith}
 use Rattle.std.specs.Prelude.{int_le, pos}
 use Rattle.trace_text.specs.declared.events.Event.{Event}
 use Rattle.profile_image.specs.declared.image.Image.{Image}
@@ -23,7 +24,8 @@ use Rattle.machine_laws.proofs.Kept.Combinators.{Kept, From}
 use Rattle.release_laws.specs.ReleaseLaws.{items_come, items_ahead, flags_behind, due_by_items}
 use Rattle.release_laws.proofs.ClockLemmas.{clock_in}
 use Rattle.release_laws.proofs.Tellings.{Tells, tells_none, tells_both, released-lines}
-use Rattle.release_laws.proofs.Untouched.{sight_of, EventsStay, TimersStay, BudgetsStay, ClocksStay, events-stay, timers-stay, budgets-stay, clocks-stay, events-then, timers-then, budgets-then, clocks-then}
+use Rattle.release_laws.proofs.Untouched.{sight_of, EventsStay, TimersStay, BudgetsStay, ClocksStay, events-stay, timers-stay}
+use Rattle.release_laws.proofs.Untouched.{budgets-stay, clocks-stay, events-then, timers-then, budgets-then, clocks-then}
 use Rattle.release_laws.proofs.Release.{Released, release-from}
 use Rattle.release_laws.proofs.Effects.{kept-weaker, kept-then}
 use Rattle.release_laws.proofs.ActionEffects.{settled-by}
@@ -94,7 +96,9 @@ released-only h w v xs r = record {
   clocks = r.others.clocks;
   objects = r.objects;
   script = r.others.outside.same_script;
-  flags_then = ap (λ m. record { masked = m; kept_interrupts = v.kept_interrupts }) r.others.outside.same_masked ∙ ap (λ k. record { masked = w.masked; kept_interrupts = k }) r.others.outside.same_kept;
+  flags_then =
+      ap (λ m. record { masked = m; kept_interrupts = v.kept_interrupts }) r.others.outside.same_masked
+      ∙ ap (λ k. record { masked = w.masked; kept_interrupts = k }) r.others.outside.same_kept;
   tells = r.tells;
 }
 
@@ -102,7 +106,8 @@ released-only h w v xs r = record {
 abbrev flagged : World → List Bool → List Bool → World
 flagged w masked kept = record w { masked = masked; kept_interrupts = kept }
 
-only-flagged : (w : World) (masked kept : List Bool) (hs : List HandlerOf) (xs : List Said) → Tells hs xs → OnlyFlags hs (record { masked = masked; kept_interrupts = kept }) w xs (flagged w masked kept)
+only-flagged : (w : World) (masked kept : List Bool) (hs : List HandlerOf) (xs : List Said) → Tells hs xs
+    → OnlyFlags hs (record { masked = masked; kept_interrupts = kept }) w xs (flagged w masked kept)
 only-flagged w masked kept hs xs t = record {
   events = record { same = refl; rises = λ r. r };
   timers = record { same = refl; same_due = refl };
@@ -114,10 +119,13 @@ only-flagged w masked kept hs xs t = record {
   tells = t;
 }
 
-handler-from : (p : Image) (w : World) (handler : Option HandlerOf) → From (OnlyFlags (one_or_none handler) (flags_of w)) w (for_some handler (λ h. release p Own h None))
+handler-from : (p : Image) (w : World) (handler : Option HandlerOf)
+    → From (OnlyFlags (one_or_none handler) (flags_of w)) w (for_some handler (λ h. release p Own h None))
 unfolding From Kept
 handler-from p w None said = ([], sym (append-nil said), only-flagged w w.masked w.kept_interrupts [] [] tells_none)
-handler-from p w (Some h) said = kept-weaker (Released h) (OnlyFlags (h ∷ []) (flags_of w)) w said (release p Own h None w said) (λ v xs r. released-only h w v xs r) (release-from p h None w said)
+handler-from p w (Some h) said =
+    kept-weaker (Released h) (OnlyFlags (h ∷ []) (flags_of w)) w said (release p Own h None w said) (λ v xs r. released-only h w v xs r)
+    (release-from p h None w said)
 
 -- a line that tells nothing of releases stands before a step
 said-before : (R : World → List Said → World → Type 0) (S : World → List Said → World → Type 0) (x : Line) (w v : World) (said : List Said) (d : Done)
@@ -126,12 +134,25 @@ unfolding Kept
 said-before R S x w v said (done u ys) f k = (own x ∷ k.0, k.1 ∙ append_assoc said (own x ∷ []) k.0, f u k.0 k.2)
 
 -- an interrupt, in a world of which flags have changed
-interrupt-from : (p : Image) (n : ℕ) (w : World) (masked kept : List Bool) (said : List Said) → Kept (OnlyFlags (one_or_none (handler_attached p n w.objects)) (record { masked = masked; kept_interrupts = kept })) w said (interrupt p n (flagged w masked kept) said)
+interrupt-from : (p : Image) (n : ℕ) (w : World) (masked kept : List Bool) (said : List Said)
+    → Kept (OnlyFlags (one_or_none (handler_attached p n w.objects)) (record { masked = masked; kept_interrupts = kept })) w said
+    (interrupt p n (flagged w masked kept) said)
 unfolding interrupt From
 interrupt-from p n w masked kept said =
-    said-before (OnlyFlags (one_or_none (handler_attached p n w.objects)) (record { masked = masked; kept_interrupts = kept })) (OnlyFlags (one_or_none (handler_attached p n w.objects)) (record { masked = masked; kept_interrupts = kept })) (line.Interrupt n) w (flagged w masked kept) said
+    said-before (OnlyFlags (one_or_none (handler_attached p n w.objects)) (record { masked = masked; kept_interrupts = kept }))
+    (OnlyFlags (one_or_none (handler_attached p n w.objects)) (record { masked = masked; kept_interrupts = kept })) (line.Interrupt n) w
+    (flagged w masked kept) said
     (for_some (handler_attached p n w.objects) (λ h. release p Own h None) (flagged w masked kept) (said ++ own (line.Interrupt n) ∷ []))
-    (λ u xs k. record { events = record { same = k.events.same; rises = k.events.rises }; timers = record { same = k.timers.same; same_due = k.timers.same_due }; budgets = record { same = k.budgets.same; same_due = k.budgets.same_due }; clocks = record { same_time = k.clocks.same_time; low = k.clocks.low }; objects = k.objects; script = k.script; flags_then = k.flags_then; tells = λ more. k.tells more })
+    (λ u xs k. record {
+      events = record { same = k.events.same; rises = k.events.rises };
+      timers = record { same = k.timers.same; same_due = k.timers.same_due };
+      budgets = record { same = k.budgets.same; same_due = k.budgets.same_due };
+      clocks = record { same_time = k.clocks.same_time; low = k.clocks.low };
+      objects = k.objects;
+      script = k.script;
+      flags_then = k.flags_then;
+      tells = λ more. k.tells more;
+    })
     (handler-from p (flagged w masked kept) (handler_attached p n w.objects) (said ++ own (line.Interrupt n) ∷ []))
 
 abbrev ItemDone : Image → Item → World → List Said → World → Type 0
@@ -143,25 +164,34 @@ unset n [] e = refl
 unset zero (x ∷ xs) e = ap (λ b. b ∷ xs) (sym e)
 unset (suc n) (x ∷ xs) e = ap (λ ys. x ∷ ys) (unset n xs e)
 
-come-where : (p : Image) (n : ℕ) (w : World) (said : List Said) (b : Bool) → is_flag w.masked n ≡ b → Kept (ItemDone p (item.Interrupt n)) w said (interrupt_comes p n b w said)
+come-where : (p : Image) (n : ℕ) (w : World) (said : List Said) (b : Bool) → is_flag w.masked n ≡ b
+    → Kept (ItemDone p (item.Interrupt n)) w said (interrupt_comes p n b w said)
 unfolding interrupt_comes Kept
 come-where p n w said true e = (
   own (line.Masked n) ∷ [],
   refl,
-  subst (λ b. OnlyFlags (attached p w.objects n (not b)) (record { masked = w.masked; kept_interrupts = kept_where b n w.kept_interrupts }) w (own (line.Masked n) ∷ []) (flagged w w.masked (edit_at n (λ _. true) w.kept_interrupts))) (sym e)
+  subst (λ b. OnlyFlags (attached p w.objects n (not b)) (record { masked = w.masked; kept_interrupts = kept_where b n w.kept_interrupts }) w
+      (own (line.Masked n) ∷ []) (flagged w w.masked (edit_at n (λ _. true) w.kept_interrupts)))
+      (sym e)
       (only-flagged w w.masked (edit_at n (λ _. true) w.kept_interrupts) [] (own (line.Masked n) ∷ []) (λ more. refl)),
 )
 come-where p n w said false e =
     kept-weaker (OnlyFlags (one_or_none (handler_attached p n w.objects)) (flags_of w)) (ItemDone p (item.Interrupt n)) w said (interrupt p n w said)
-    (λ v xs k. subst (λ b. OnlyFlags (attached p w.objects n (not b)) (record { masked = w.masked; kept_interrupts = kept_where b n w.kept_interrupts }) w xs v) (sym e) k)
+    (λ v xs k. subst (λ b. OnlyFlags (attached p w.objects n (not b)) (record { masked = w.masked; kept_interrupts = kept_where b n w.kept_interrupts }) w xs v)
+    (sym e) k)
     (interrupt-from p n w w.masked w.kept_interrupts said)
 
 deliver-where : (p : Image) (n : ℕ) (w : World) (masked : List Bool) (said : List Said) (b : Bool) → is_flag w.kept_interrupts n ≡ b
-    → Kept (OnlyFlags (attached p w.objects n b) (record { masked = masked; kept_interrupts = edit_at n (λ _. false) w.kept_interrupts })) w said (deliver_kept_interrupt p n b (flagged w masked w.kept_interrupts) said)
+    → Kept (OnlyFlags (attached p w.objects n b) (record { masked = masked; kept_interrupts = edit_at n (λ _. false) w.kept_interrupts })) w said
+    (deliver_kept_interrupt p n b (flagged w masked w.kept_interrupts) said)
 unfolding deliver_kept_interrupt Kept
 deliver-where p n w masked said true e = interrupt-from p n w masked (edit_at n (λ _. false) w.kept_interrupts) said
-deliver-where p n w masked said false e =
-    ([], sym (append-nil said), subst (λ kept. OnlyFlags [] (record { masked = masked; kept_interrupts = kept }) w [] (flagged w masked w.kept_interrupts)) (sym (unset n w.kept_interrupts e)) (only-flagged w masked w.kept_interrupts [] [] tells_none))
+deliver-where p n w masked said false e = (
+  [],
+  sym (append-nil said),
+  subst (λ kept. OnlyFlags [] (record { masked = masked; kept_interrupts = kept }) w [] (flagged w masked w.kept_interrupts))
+      (sym (unset n w.kept_interrupts e)) (only-flagged w masked w.kept_interrupts [] [] tells_none),
+)
 
 unmask-done : (p : Image) (n : ℕ) (w : World) (said : List Said) → Kept (ItemDone p (item.Unmask n)) w said (script_item p (item.Unmask n) w said)
 unfolding script_item
@@ -170,14 +200,28 @@ unmask-done p n w said =
     let flags : Flags = record { masked = masked; kept_interrupts = edit_at n (λ _. false) w.kept_interrupts } in
     said-before (ItemDone p (item.Unmask n)) (OnlyFlags (attached p w.objects n (is_flag w.kept_interrupts n)) flags) (line.Unmask n) w w said
     (deliver_kept_interrupt p n (is_flag w.kept_interrupts n) (flagged w masked w.kept_interrupts) (said ++ own (line.Unmask n) ∷ []))
-    (λ u xs k. record { events = k.events; timers = k.timers; budgets = k.budgets; clocks = k.clocks; objects = k.objects; script = k.script; flags_then = k.flags_then; tells = λ more. k.tells more })
+    (λ u xs k. record {
+      events = k.events;
+      timers = k.timers;
+      budgets = k.budgets;
+      clocks = k.clocks;
+      objects = k.objects;
+      script = k.script;
+      flags_then = k.flags_then;
+      tells = λ more. k.tells more;
+    })
     (deliver-where p n w masked (said ++ own (line.Unmask n) ∷ []) (is_flag w.kept_interrupts n) refl)
 
 mask-done : (p : Image) (n : ℕ) (w : World) (said : List Said) → Kept (ItemDone p (item.Mask n)) w said (script_item p (item.Mask n) w said)
 unfolding script_item Kept
-mask-done p n w said = (own (line.Mask n) ∷ [], refl, only-flagged w (edit_at n (λ _. true) w.masked) w.kept_interrupts [] (own (line.Mask n) ∷ []) (λ more. refl))
+mask-done p n w said = (
+  own (line.Mask n) ∷ [],
+  refl,
+  only-flagged w (edit_at n (λ _. true) w.masked) w.kept_interrupts [] (own (line.Mask n) ∷ []) (λ more. refl),
+)
 
-port-done : (p : Image) (n : ℕ) (value : ℤ) (w : World) (said : List Said) → Kept (ItemDone p (item.Port n value)) w said (script_item p (item.Port n value) w said)
+port-done : (p : Image) (n : ℕ) (value : ℤ) (w : World) (said : List Said)
+    → Kept (ItemDone p (item.Port n value)) w said (script_item p (item.Port n value) w said)
 unfolding script_item Kept
 port-done p n value w said = (
   own (line.Port n value) ∷ [],
@@ -228,7 +272,8 @@ none-come p w none all = record {
   tells = subst (λ xs. Tells (by_items p w.objects xs (flags_of w)) []) (sym none) tells_none;
 }
 
-one-come : (p : Image) (x : ℤ × Item) (rest : List (ℤ × Item)) (w v u : World) (xs ys : List Said) → items_come w.time w.script ≡ x.1 ∷ items_come w.time rest → items_ahead w.time w.script ≡ items_ahead w.time rest
+one-come : (p : Image) (x : ℤ × Item) (rest : List (ℤ × Item)) (w v u : World) (xs ys : List Said) → items_come w.time w.script ≡ x.1 ∷ items_come w.time rest
+    → items_ahead w.time w.script ≡ items_ahead w.time rest
     → ItemDone p x.1 (with_script rest w) xs v → ItemsDone p v ys u → ItemsDone p w (xs ++ ys) u
 one-come p x rest w v u xs ys come ahead i k =
     let time : v.time ≡ w.time = i.clocks.same_time in
@@ -242,11 +287,14 @@ one-come p x rest w v u xs ys come ahead i k =
       clocks = clocks-then (sight_of w) (sight_of v) (sight_of u) (record { same_time = i.clocks.same_time; low = i.clocks.low }) k.clocks;
       objects = k.objects ∙ i.objects;
       script = k.script ∙ same_ahead ∙ sym ahead;
-      flags_then = k.flags_then ∙ ap (λ zs. flags_behind zs (flags_of v)) same_come ∙ ap (flags_behind (items_come w.time rest)) same_flags ∙ sym (ap (λ zs. flags_behind zs (flags_of w)) come);
+      flags_then =
+          k.flags_then ∙ ap (λ zs. flags_behind zs (flags_of v)) same_come ∙ ap (flags_behind (items_come w.time rest)) same_flags
+          ∙ sym (ap (λ zs. flags_behind zs (flags_of w)) come);
       tells = subst (λ zs. Tells (by_items p w.objects zs (flags_of w)) (xs ++ ys)) (sym come)
           (tells_both (by_item p w.objects x.1 (flags_of w)) (by_items p w.objects (items_come w.time rest) (flags_after x.1 (flags_of w))) xs ys i.tells
           (subst (λ hs. Tells hs ys)
-          (ap (λ os. by_items p os (items_come v.time v.script) (flags_of v)) i.objects ∙ ap (λ zs. by_items p w.objects zs (flags_of v)) same_come ∙ ap (by_items p w.objects (items_come w.time rest)) same_flags) k.tells));
+          (ap (λ os. by_items p os (items_come v.time v.script) (flags_of v)) i.objects ∙ ap (λ zs. by_items p w.objects zs (flags_of v)) same_come
+          ∙ ap (by_items p w.objects (items_come w.time rest)) same_flags) k.tells));
     }
 
 module _ (p : Image) where
@@ -254,18 +302,23 @@ module _ (p : Image) where
   unfolding From Kept
   nothing-comes w none all said = ([], sym (append-nil said), none-come p w none all)
 
-  moved-from : (x : Item) (w v : World) (said : List Said) (d : Done) → Kept (ItemDone p x) v said d → Kept (λ before xs after. ItemDone p x v xs after) w said d
+  moved-from : (x : Item) (w v : World) (said : List Said) (d : Done) → Kept (ItemDone p x) v said d
+      → Kept (λ before xs after. ItemDone p x v xs after) w said d
   unfolding Kept
   moved-from x w v said (done u ys) k = k
 
-  take-where : (fuel : ℕ) (x : ℤ × Item) (rest : List (ℤ × Item)) (w : World) (b : Bool) → w.script ≡ x ∷ rest → int_le x.0 (pos w.time) ≡ b → length rest ≤ fuel
+  take-where : (fuel : ℕ) (x : ℤ × Item) (rest : List (ℤ × Item)) (w : World) (b : Bool) → w.script ≡ x ∷ rest → int_le x.0 (pos w.time) ≡ b
+      → length rest ≤ fuel
       → ((v : World) → length v.script ≤ fuel → From (ItemsDone p) v (items_due fuel p))
       → From (ItemsDone p) w (elim b as (λ _. Step) [ true ↦ changes (with_script rest) ▷ script_item p x.1 ▷ items_due fuel p | false ↦ nothing ])
   unfolding From
   take-where fuel x rest w true is due most others said =
-      let come : items_come w.time w.script ≡ x.1 ∷ items_come w.time rest = ap (items_come w.time) is ∙ ap (λ b. cond b (x.1 ∷ items_come w.time rest) []) due in
-      let ahead : items_ahead w.time w.script ≡ items_ahead w.time rest = ap (items_ahead w.time) is ∙ ap (λ b. cond b (items_ahead w.time rest) (x ∷ rest)) due in
-      kept-then (λ before xs after. ItemDone p x.1 (with_script rest w) xs after) (ItemsDone p) (ItemsDone p) (items_due fuel p) w said (script_item p x.1 (with_script rest w) said)
+      let come : items_come w.time w.script ≡ x.1 ∷ items_come w.time rest =
+      ap (items_come w.time) is ∙ ap (λ b. cond b (x.1 ∷ items_come w.time rest) []) due in
+      let ahead : items_ahead w.time w.script ≡ items_ahead w.time rest =
+      ap (items_ahead w.time) is ∙ ap (λ b. cond b (items_ahead w.time rest) (x ∷ rest)) due in
+      kept-then (λ before xs after. ItemDone p x.1 (with_script rest w) xs after) (ItemsDone p) (ItemsDone p) (items_due fuel p) w said
+      (script_item p x.1 (with_script rest w) said)
       (λ v u xs ys i k. one-come p x rest w v u xs ys come ahead i k)
       (moved-from x.1 w (with_script rest w) said (script_item p x.1 (with_script rest w) said) (item-done p x.1 (with_script rest w) said))
       (λ v xs i. let same : length v.script ≡ length rest = ap length i.script in others v (omega (arith, same, most)))
@@ -314,10 +367,12 @@ items-over p w v xs k = record {
   clocks = record { same_time = k.clocks.same_time; low = k.clocks.low };
   script = k.script;
   flags_then = k.flags_then;
-  tells = released-lines p (by_items p w.objects (items_come w.time w.script) (flags_of w)) xs k.tells ∙ items-named p w (items_come w.time w.script) (flags_of w);
+  tells =
+      released-lines p (by_items p w.objects (items_come w.time w.script) (flags_of w)) xs k.tells ∙ items-named p w (items_come w.time w.script) (flags_of w);
 }
 
 pub items-moved : (p : Image) (w : World) → ItemsMoved p w (script_items p w).1 (script_items p w).0
 unfolding From
 items-moved p w =
-    settled-by (ItemsDone p) (ItemsMoved p) p w (items_due (length w.script) p w []) (λ v xs k. items-over p w v xs k) (taken p (length w.script) w (le_refl (length w.script)) [])
+    settled-by (ItemsDone p) (ItemsMoved p) p w (items_due (length w.script) p w []) (λ v xs k. items-over p w v xs k)
+    (taken p (length w.script) w (le_refl (length w.script)) [])

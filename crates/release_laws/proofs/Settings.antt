@@ -31,7 +31,8 @@ use Rattle.release_laws.proofs.TimerLists.{timers_in}
 use Rattle.release_laws.proofs.Tellings.{Tells, tells_none}
 use Rattle.release_laws.proofs.Untouched.{Sight, sight_of, budget_in, Calmly, calm}
 use Rattle.release_laws.proofs.Release.{Released, release-from}
-use Rattle.release_laws.proofs.Effects.{Effect, Does, Alike, alike-clocks, alike-outside, at_once, effect-then, kept-weaker, given-does, setting_of-does, gone-does}
+use Rattle.release_laws.proofs.Effects.{Effect, Does, Alike, alike-clocks, alike-outside, at_once}
+use Rattle.release_laws.proofs.Effects.{effect-then, kept-weaker, given-does, setting_of-does, gone-does}
 use Rattle.machine_laws.proofs.Kept.Handlers.{answer-keeps}
 
 -- from a world that is alike, whatever is said of that before it
@@ -48,7 +49,8 @@ unfolding From
 sees-does r p name f w k said = k said
 
 -- a change, and an answer
-pub answered-from : (p : Image) (name : Who) (x : Variable) (b : Bool) (r : Request) (w v : World) (f : World → World) → Effect r w (f v) → at_once w r ≡ [] → From (Onward r w) v (changes f ▷ answer p name x b)
+pub answered-from : (p : Image) (name : Who) (x : Variable) (b : Bool) (r : Request) (w v : World) (f : World → World) → Effect r w (f v) → at_once w r ≡ []
+    → From (Onward r w) v (changes f ▷ answer p name x b)
 unfolding From Keeps
 answered-from p name x b r w v f k none said =
     started r w v (f v) said (answer p name x b (f v) said)
@@ -62,7 +64,9 @@ module _ (n : ℕ) (h : Option HandlerOf) (m : ℤ) (w v : World) (k : Alike w v
   same_appointments = ap (λ (s : Sight). s.appointments) k.sights
 
   -- only appointments have changed since
-  events-effect : (u : World) → sight_of u ≡ record (sight_of v) { appointments = u.appointments } → (Rises w.appointments → events_of u.appointments ≡ events_asked w.time (OfEvent n h m) (events_of w.appointments)) → (Rises w.appointments → Rises u.appointments) → Effect (OfEvent n h m) w u
+  events-effect : (u : World) → sight_of u ≡ record (sight_of v) { appointments = u.appointments }
+      → (Rises w.appointments → events_of u.appointments ≡ events_asked w.time (OfEvent n h m) (events_of w.appointments))
+      → (Rises w.appointments → Rises u.appointments) → Effect (OfEvent n h m) w u
   events-effect u e events rises =
       let outside = alike-outside w v k in
       let clocks = alike-clocks w v k in
@@ -73,8 +77,15 @@ module _ (n : ℕ) (h : Option HandlerOf) (m : ℤ) (w v : World) (k : Alike w v
         timers_due = ap (λ (s : Sight). s.timers_due) e ∙ ap (λ (s : Sight). s.timers_due) k.sights;
         handlers = λ i. ap (λ (s : Sight). (budget_in s.budgets i).handler) e ∙ ap (λ (s : Sight). (budget_in s.budgets i).handler) k.sights;
         budget_due = ap (λ (s : Sight). s.budget_due) e ∙ ap (λ (s : Sight). s.budget_due) k.sights;
-        outside = record { same_script = ap (λ (s : Sight). s.script) e ∙ outside.same_script; same_masked = ap (λ (s : Sight). s.masked) e ∙ outside.same_masked; same_kept = ap (λ (s : Sight). s.kept_interrupts) e ∙ outside.same_kept };
-        clocks = record { same_time = ap (λ (s : Sight). s.time) e ∙ clocks.same_time; low = λ t. subst (λ (s : Sight). clock_in s.tasks t ≤ clock_in w.tasks t) (sym e) (clocks.low t) };
+        outside = record {
+          same_script = ap (λ (s : Sight). s.script) e ∙ outside.same_script;
+          same_masked = ap (λ (s : Sight). s.masked) e ∙ outside.same_masked;
+          same_kept = ap (λ (s : Sight). s.kept_interrupts) e ∙ outside.same_kept;
+        };
+        clocks = record {
+          same_time = ap (λ (s : Sight). s.time) e ∙ clocks.same_time;
+          low = λ t. subst (λ (s : Sight). clock_in s.tasks t ≤ clock_in w.tasks t) (sym e) (clocks.low t);
+        };
       }
 
   cancelled-events : events_of (cancel_event_setting n v).appointments ≡ but_event n (events_of w.appointments)
@@ -95,14 +106,16 @@ module _ (p : Image) (n : ℕ) (h : HandlerOf) (m : ℤ) (w v : World) (k : Alik
       events-effect n (Some h) m w v k set_later refl
       (λ r. put-events (record { event = n; handler = h; moment = m }) (cancel_event_setting n v).appointments (cancelled-rises n (Some h) m w v k r)
       ∙ ap (put_event (record { event = n; handler = h; moment = m })) (cancelled-events n (Some h) m w v k)
-      ∙ sym (ap (λ b. cond b (put_event (record { event = n; handler = h; moment = m }) (but_event n (events_of w.appointments))) (but_event n (events_of w.appointments))) is))
+      ∙ sym (ap (λ b. cond b (put_event (record { event = n; handler = h; moment = m }) (but_event n (events_of w.appointments)))
+      (but_event n (events_of w.appointments))) is))
       (λ r. put-rises (record { due = due_for.Event n h; moment = m }) (cancel_event_setting n v).appointments (cancelled-rises n (Some h) m w v k r))
 
   now-effect : int_lt (pos w.time) m ≡ false → Effect (OfEvent n (Some h) m) w (cancel_event_setting n v)
   now-effect is =
       events-effect n (Some h) m w v k (cancel_event_setting n v) refl
       (λ r. cancelled-events n (Some h) m w v k
-      ∙ sym (ap (λ b. cond b (put_event (record { event = n; handler = h; moment = m }) (but_event n (events_of w.appointments))) (but_event n (events_of w.appointments))) is))
+      ∙ sym (ap (λ b. cond b (put_event (record { event = n; handler = h; moment = m }) (but_event n (events_of w.appointments)))
+      (but_event n (events_of w.appointments))) is))
       (cancelled-rises n (Some h) m w v k)
 
   set_where-from : (b : Bool) → int_lt (pos w.time) m ≡ b → From (Onward (OfEvent n (Some h) m) w) (cancel_event_setting n v) (appoint_event p n h m b)
@@ -110,7 +123,10 @@ module _ (p : Image) (n : ℕ) (h : HandlerOf) (m : ℤ) (w v : World) (k : Alik
   set_where-from true is said = ([], sym (append-nil said), (later-effect is, subst (λ b. Tells (cond b [] (h ∷ [])) []) (sym is) tells_none))
   set_where-from false is said =
       kept-weaker (Released h) (Onward (OfEvent n (Some h) m) w) (cancel_event_setting n v) said (release p Own h (Some n) (cancel_event_setting n v) said)
-      (λ u xs x. (effect-then (OfEvent n (Some h) m) w (cancel_event_setting n v) u (now-effect is) x.others, subst (λ b. Tells (cond b [] (h ∷ [])) xs) (sym is) x.tells))
+      (λ u xs x. (
+        effect-then (OfEvent n (Some h) m) w (cancel_event_setting n v) u (now-effect is) x.others,
+        subst (λ b. Tells (cond b [] (h ∷ [])) xs) (sym is) x.tells,
+      ))
       (release-from p h (Some n) (cancel_event_setting n v) said)
 
   same_time : v.time ≡ w.time
@@ -122,7 +138,8 @@ module _ (p : Image) (n : ℕ) (h : HandlerOf) (m : ℤ) (w v : World) (k : Alik
       started (OfEvent n (Some h) m) w v (cancel_event_setting n v) said (appoint_event p n h m (int_lt (pos v.time) m) (cancel_event_setting n v) said)
       (set_where-from (int_lt (pos v.time) m) (ap (λ t. int_lt (pos t) m) (sym same_time)) said)
 
-event_set-from : (p : Image) (n : ℕ) (h : Option HandlerOf) (m : ℤ) (w v : World) → Alike w v → From (Onward (OfEvent n h m) w) v (changes (cancel_event_setting n) ▷ event_set_to p n h m)
+event_set-from : (p : Image) (n : ℕ) (h : Option HandlerOf) (m : ℤ) (w v : World) → Alike w v
+    → From (Onward (OfEvent n h m) w) v (changes (cancel_event_setting n) ▷ event_set_to p n h m)
 unfolding From Kept event_set_to
 event_set-from p n None m w v k said = ([], sym (append-nil said), (event_cleared n m w v k, tells_none))
 event_set-from p n (Some h) m w v k said = set_event-from p n h m w v k said
@@ -131,7 +148,9 @@ pub set_event-does : (p : Image) (name : Who) (s : StatementNo) (d : DeclNo) (se
     → Does (or_nothing (request_of p (seen_by p w name) (form.SetEvent d set handler))) w (set_event p name s d set handler)
 unfolding set_event
 set_event-does p name s d set handler w =
-    sees-does _ p name (λ q. given Own name (number_of_thing q d) (λ n. setting_of p name q (pos q.world.time) set handler (λ h m. goes name (next_of p s) ▷ changes (cancel_event_setting n) ▷ event_set_to p n h m))) w
+    sees-does _ p name
+    (λ q. given Own name (number_of_thing q d)
+    (λ n. setting_of p name q (pos q.world.time) set handler (λ h m. goes name (next_of p s) ▷ changes (cancel_event_setting n) ▷ event_set_to p n h m))) w
     (given-does name w (number_of_thing (seen_by p w name) d) _ _ (λ n e.
     setting_of-does p name w (pos w.time) set handler (OfEvent n) _ (λ h m.
     gone-does (OfEvent n h m) name (next_of p s) w (changes (cancel_event_setting n) ▷ event_set_to p n h m) (λ v k. event_set-from p n h m w v k))))
@@ -140,7 +159,10 @@ pub cancel_event-does : (p : Image) (name : Who) (s : StatementNo) (d : DeclNo) 
     → Does (or_nothing (request_of p (seen_by p w name) (form.CancelEvent d target))) w (cancel_event p name s d target)
 unfolding cancel_event
 cancel_event-does p name s d target w =
-    sees-does _ p name (λ q. given Own name (number_of_thing q d) (λ n. given Own name (variable q target) (λ x. goes name (next_of p s) ▷ changes (cancel_event_setting n) ▷ answer p name x (is_appointed (is_event n) q.world)))) w
+    sees-does _ p name
+    (λ q. given Own name (number_of_thing q d)
+    (λ n. given Own name (variable q target)
+    (λ x. goes name (next_of p s) ▷ changes (cancel_event_setting n) ▷ answer p name x (is_appointed (is_event n) q.world)))) w
     (given-does name w (number_of_thing (seen_by p w name) d) _ _ (λ n e.
     given-does name w (variable (seen_by p w name) target) _ _ (λ x f.
     gone-does (OfEvent n None (pos 0)) name (next_of p s) w (changes (cancel_event_setting n) ▷ answer p name x (is_appointed (is_event n) w))

@@ -50,7 +50,8 @@ others-on : (xs : List Said) (s : List HandlerOf) → AreOthers xs → Told tell
 others-on [] s a = refl
 others-on (x ∷ xs) s a = other_on x.part x.line s (λ q. Told telling IsNext behind xs q s) a.0 (others-on xs s a.1)
   where
-    other_on : (part : Part) (x : Line) (s : List HandlerOf) (f : List HandlerOf → Type 0) → is_told_apart x ≡ false → f s → told telling IsNext behind part (telling x) s f
+    other_on : (part : Part) (x : Line) (s : List HandlerOf) (f : List HandlerOf → Type 0) → is_told_apart x ≡ false → f s
+        → told telling IsNext behind part (telling x) s f
     other_on part (line.Release number handler) s f e h = absurd (false≢true (sym e))
     other_on part _ s f e h = h
 
@@ -59,17 +60,22 @@ tells_others xs a more = others-on xs more a
 
 -- ---- when an effect is over, its lines name these handlers
 
-named_first : (p : Image) (hs : List HandlerOf) (h : HandlerOf) (rest : List NamedHandler) → IsNext hs h → rest ≡ map (named_handler p) (behind hs h) → (named_handler p h ∷ rest) ≡ map (named_handler p) hs
+named_first : (p : Image) (hs : List HandlerOf) (h : HandlerOf) (rest : List NamedHandler) → IsNext hs h → rest ≡ map (named_handler p) (behind hs h)
+    → (named_handler p h ∷ rest) ≡ map (named_handler p) hs
 named_first p [] h rest e r = absurd e
 named_first p (x ∷ xs) h rest e r = ap (λ y. named_handler p y ∷ rest) (sym e) ∙ ap (λ ys. named_handler p x ∷ ys) r
 
-line-released : (p : Image) (part : Part) (x : Line) (rest : List Event) (hs : List HandlerOf) (f : List HandlerOf → Type 0) → told telling IsNext behind part (telling x) hs f → ((ks : List HandlerOf) → f ks → released rest ≡ map (named_handler p) ks) → released (event_of p x ∷ rest) ≡ map (named_handler p) hs
+line-released : (p : Image) (part : Part) (x : Line) (rest : List Event) (hs : List HandlerOf) (f : List HandlerOf → Type 0)
+    → told telling IsNext behind part (telling x) hs f → ((ks : List HandlerOf) → f ks → released rest ≡ map (named_handler p) ks)
+    → released (event_of p x ∷ rest) ≡ map (named_handler p) hs
 line-released p part (line.Release number handler) rest hs f h k = named_first p hs handler (released rest) h.1 (k (behind hs handler) h.2)
 line-released p part _ rest hs f h k = k hs h
 
-told-released : (p : Image) (xs : List Said) (hs : List HandlerOf) → Told telling IsNext behind xs hs [] → released (map (λ x. event_of p x.line) xs) ≡ map (named_handler p) hs
+told-released : (p : Image) (xs : List Said) (hs : List HandlerOf) → Told telling IsNext behind xs hs []
+    → released (map (λ x. event_of p x.line) xs) ≡ map (named_handler p) hs
 told-released p [] hs h = sym (ap (map (named_handler p)) h)
-told-released p (x ∷ xs) hs h = line-released p x.part x.line (map (λ y. event_of p y.line) xs) hs (λ q. Told telling IsNext behind xs q []) h (λ ks k. told-released p xs ks k)
+told-released p (x ∷ xs) hs h =
+    line-released p x.part x.line (map (λ y. event_of p y.line) xs) hs (λ q. Told telling IsNext behind xs q []) h (λ ks k. told-released p xs ks k)
 
 pub released-lines : (p : Image) (hs : List HandlerOf) (xs : List Said) → Tells hs xs → released (lines_of p xs) ≡ map (named_handler p) hs
 released-lines p hs xs t =

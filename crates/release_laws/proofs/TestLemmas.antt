@@ -44,7 +44,8 @@ same-handlers (x ∷ xs) = and_from (same_handler x x) (same_handlers xs xs) (sa
 told : (p : Image) (a : Account) (passages : List Passage) → follows_releases p a passages ≡ true → HistoryOk p a passages
 told p a [] h = tt
 told p a (x ∷ xs) h = (
-  handlers-same (released x.lines) (owed_in_all p a x) ((and_parts (same_handlers (released x.lines) (owed_in_all p a x)) (follows_releases p (account_behind p a x) xs) h).0),
+  handlers-same (released x.lines) (owed_in_all p a x)
+      ((and_parts (same_handlers (released x.lines) (owed_in_all p a x)) (follows_releases p (account_behind p a x) xs) h).0),
   told p (account_behind p a x) xs ((and_parts (same_handlers (released x.lines) (owed_in_all p a x)) (follows_releases p (account_behind p a x) xs) h).1),
 )
 

@@ -1,6 +1,7 @@
 -- A tick makes due the timers whose values the clock of who ran has reached, and the budget that it has brought to zero; it leaves
 -- all else of what is released later as it is.
-use Rattle.std.proofs.Common.{◌≡◌, ℕ, zero, suc, ◌+◌, Bool, true, false, cond, not, ◌&&◌, eqb, filter, List, [], ◌∷◌, ◌++◌, map, Option, Some, None, refl, sym, ap, subst, ◌∙◌, append-nil, arith}
+use Rattle.std.proofs.Common.{◌≡◌, ℕ, zero, suc, ◌+◌, Bool, true, false, cond, not, ◌&&◌, eqb, filter, List, []}
+use Rattle.std.proofs.Common.{◌∷◌, ◌++◌, map, Option, Some, None, refl, sym, ap, subst, ◌∙◌, append-nil, arith}
 use Rattle.std.specs.Prelude.{int_le, pos}
 use Rattle.std.proofs.lemmas.Bool.{eqb-true}
 use Rattle.ann_base.specs.declared.identities.TaskNo.{TaskNo}
@@ -34,17 +35,20 @@ module _ (u t : TaskNo) (x y : Task) (different : same_task u t ≡ false) (same
       let not_x : is_who (who.Task u) x ≡ false = ap (same_who (who.Task u)) (same_name ∙ ap (λ (q : Task). q.who) (sym e)) ∙ not_z in
       ap (λ b. cond b (Some x) (found_task (who.Task u) zs)) not_x ∙ sym (ap (λ b. cond b (Some z) (found_task (who.Task u) zs)) not_z)
 
-  other-where : (z : Task) (zs : List Task) (b : Bool) → is_who (who.Task t) z ≡ b → cond b (Some z) (found_task (who.Task t) zs) ≡ Some y → (found_task (who.Task t) zs ≡ Some y → found_task (who.Task u) (set_where (is_who (who.Task t)) x zs) ≡ found_task (who.Task u) zs)
+  other-where : (z : Task) (zs : List Task) (b : Bool) → is_who (who.Task t) z ≡ b → cond b (Some z) (found_task (who.Task t) zs) ≡ Some y
+      → (found_task (who.Task t) zs ≡ Some y → found_task (who.Task u) (set_where (is_who (who.Task t)) x zs) ≡ found_task (who.Task u) zs)
       → found_task (who.Task u) (cond b (x ∷ zs) (z ∷ set_where (is_who (who.Task t)) x zs)) ≡ found_task (who.Task u) (z ∷ zs)
   unfolding or_that
   other-where z zs true is e onward = other-here z zs (ap (or_that z) e) is
   other-where z zs false is e onward = ap (λ r. cond (is_who (who.Task u) z) (Some z) r) (onward e)
 
-  other-found : (tasks : List Task) → found_task (who.Task t) tasks ≡ Some y → found_task (who.Task u) (set_where (is_who (who.Task t)) x tasks) ≡ found_task (who.Task u) tasks
+  other-found : (tasks : List Task) → found_task (who.Task t) tasks ≡ Some y
+      → found_task (who.Task u) (set_where (is_who (who.Task t)) x tasks) ≡ found_task (who.Task u) tasks
   other-found [] e = refl
   other-found (z ∷ zs) e = other-where z zs (is_who (who.Task t) z) refl e (other-found zs)
 
-pub other-clock : (u t : TaskNo) (f : Task → Task) (w : World) (found : Option Task) → same_task u t ≡ false → found_task (who.Task t) w.tasks ≡ found → ((y : Task) → (f y).who ≡ y.who) → clock_in (edit_task_found (who.Task t) f w found).tasks u ≡ clock_in w.tasks u
+pub other-clock : (u t : TaskNo) (f : Task → Task) (w : World) (found : Option Task) → same_task u t ≡ false → found_task (who.Task t) w.tasks ≡ found
+    → ((y : Task) → (f y).who ≡ y.who) → clock_in (edit_task_found (who.Task t) f w found).tasks u ≡ clock_in w.tasks u
 other-clock u t f w None different e same = refl
 other-clock u t f w (Some y) different e same = ap shown (other-found u t (f y) y different (same y) w.tasks e)
 
@@ -69,7 +73,8 @@ one_task : (t u : TaskNo) → same_task t u ≡ true → u ≡ t
 one_task t u h = ap (λ n. record { 0 = n }) (sym (eqb-true t.0 u.0 h))
 
 module _ (t : TaskNo) (clock : ℕ) (a b : World) (ran : OneRan t clock a b) (timers : List Timer) where
-  reached-test : (task : TaskNo) (s : TimerSetting) (k : ℕ) (same : Bool) → same_task t task ≡ same → is_reached a (record { timer = k; task = task; handler = s.handler; value = s.value }) ≡ false
+  reached-test : (task : TaskNo) (s : TimerSetting) (k : ℕ) (same : Bool) → same_task t task ≡ same
+      → is_reached a (record { timer = k; task = task; handler = s.handler; value = s.value }) ≡ false
       → (same && int_le s.value (pos clock)) ≡ is_reached b (record { timer = k; task = task; handler = s.handler; value = s.value })
   reached-test task s k true e none = ap (λ n. int_le s.value (pos n)) (sym (ap (clock_in b.tasks) (one_task t task e) ∙ ran.own))
   reached-test task s k false e none = sym (ap (λ n. int_le s.value (pos n)) (ran.others task (same_task-sym t task e)) ∙ none)
@@ -77,13 +82,16 @@ module _ (t : TaskNo) (clock : ℕ) (a b : World) (ran : OneRan t clock a b) (ti
   abbrev test : ℕ → Bool
   test k = is_reached_by t clock (timer_in timers k)
 
-  picked : (c : Bool) (k : ℕ) (s : TimerSet) (ks : List ℕ) (ss : List TimerSet) → s.timer ≡ k → ks ≡ map number_of_timer ss → cond c (k ∷ ks) ks ≡ map number_of_timer (cond c (s ∷ ss) ss)
+  picked : (c : Bool) (k : ℕ) (s : TimerSet) (ks : List ℕ) (ss : List TimerSet) → s.timer ≡ k → ks ≡ map number_of_timer ss
+      → cond c (k ∷ ks) ks ≡ map number_of_timer (cond c (s ∷ ss) ss)
   picked true k s ks ss e f = ap (λ n. n ∷ ks) (sym e) ∙ ap (λ ns. s.timer ∷ ns) f
   picked false k s ks ss e f = f
 
-  due-one : (k : ℕ) (ks : List ℕ) (task : TaskNo) (setting : Option TimerSetting) (rest : List TimerSet) → timer_in timers k ≡ record { task = task; setting = setting } → NoneReached a (with_timer_in k task setting rest)
+  due-one : (k : ℕ) (ks : List ℕ) (task : TaskNo) (setting : Option TimerSetting) (rest : List TimerSet)
+      → timer_in timers k ≡ record { task = task; setting = setting } → NoneReached a (with_timer_in k task setting rest)
       → (NoneReached a rest → filter test ks ≡ map number_of_timer (filter (is_reached b) rest))
-      → cond (is_reached_by t clock (record { task = task; setting = setting })) (k ∷ filter test ks) (filter test ks) ≡ map number_of_timer (filter (is_reached b) (with_timer_in k task setting rest))
+      → cond (is_reached_by t clock (record { task = task; setting = setting })) (k ∷ filter test ks) (filter test ks)
+      ≡ map number_of_timer (filter (is_reached b) (with_timer_in k task setting rest))
   due-one k ks task None rest e none onward = ap (λ c. cond c (k ∷ filter test ks) (filter test ks)) (never (same_task t task)) ∙ onward none
     where
       never : (c : Bool) → (c && false) ≡ false
@@ -100,7 +108,8 @@ module _ (t : TaskNo) (clock : ℕ) (a b : World) (ran : OneRan t clock a b) (ti
       due-one k ks (timer_in timers k).task (timer_in timers k).setting (timers_in timers ks) refl none (due-timers ks)
 
 -- where nobody's clock goes on, none is reached
-pub none-due : (a b : World) (ss : List TimerSet) → ((u : TaskNo) → clock_in b.tasks u ≡ clock_in a.tasks u) → NoneReached a ss → map number_of_timer (filter (is_reached b) ss) ≡ []
+pub none-due : (a b : World) (ss : List TimerSet) → ((u : TaskNo) → clock_in b.tasks u ≡ clock_in a.tasks u) → NoneReached a ss
+    → map number_of_timer (filter (is_reached b) ss) ≡ []
 none-due a b [] same none = refl
 none-due a b (s ∷ ss) same none =
     ap (λ c. map number_of_timer (cond c (s ∷ filter (is_reached b) ss) (filter (is_reached b) ss))) (ap (λ n. int_le s.value (pos n)) (same s.task) ∙ none.0)
@@ -119,9 +128,12 @@ not_itself false = refl
 pub none-run_out : (n : ℕ) (xs : List Budget) (bs : List BudgetSet) → budgets_run_out n xs xs bs ≡ []
 none-run_out n [] bs = refl
 none-run_out n (x ∷ xs) bs =
-    ap (λ c. cond c (filter (λ s. eqb n s.budget) bs) [] ++ budgets_run_out (suc n) xs xs bs) (not_itself (is_positive x.remaining)) ∙ none-run_out (suc n) xs bs
+    ap (λ c. cond c (filter (λ s. eqb n s.budget) bs) [] ++ budgets_run_out (suc n) xs xs bs) (not_itself (is_positive x.remaining))
+    ∙ none-run_out (suc n) xs bs
 
-one-run_out : (n b : ℕ) (xs : List Budget) (bs : List BudgetSet) → budgets_run_out n xs (edit_at b charged_budget xs) bs ≡ cond (has_run_out (budget_in xs b) (charged_budget (budget_in xs b))) (filter (λ s. eqb (n + b) s.budget) bs) []
+one-run_out : (n b : ℕ) (xs : List Budget) (bs : List BudgetSet)
+    → budgets_run_out n xs (edit_at b charged_budget xs) bs
+    ≡ cond (has_run_out (budget_in xs b) (charged_budget (budget_in xs b))) (filter (λ s. eqb (n + b) s.budget) bs) []
 one-run_out n b [] bs = refl
 one-run_out n zero (x ∷ xs) bs =
     ap (λ ys. cond (has_run_out x (charged_budget x)) (filter (λ s. eqb n s.budget) bs) [] ++ ys) (none-run_out (suc n) xs bs)
@@ -142,7 +154,8 @@ due-run_out : (c : Bool) (b : ℕ) (bs : List BudgetSet) → cond c (filter (λ 
 due-run_out true b bs = refl
 due-run_out false b bs = refl
 
-pub charged-run_out : (w : World) (group : Option ℕ) (bs : List BudgetSet) → budgets_run_out 0 w.budgets (charge_budget group w).budgets bs ≡ run_out_of (due_by_tick w group) bs
+pub charged-run_out : (w : World) (group : Option ℕ) (bs : List BudgetSet)
+    → budgets_run_out 0 w.budgets (charge_budget group w).budgets bs ≡ run_out_of (due_by_tick w group) bs
 charged-run_out w None bs = none-run_out 0 w.budgets bs
 charged-run_out w (Some b) bs =
     one-run_out 0 b w.budgets bs

@@ -48,7 +48,8 @@ none-alike : (a b : World) (ss : List TimerSet) → ((u : TaskNo) → clock_in b
 none-alike a b [] same none = tt
 none-alike a b (s ∷ ss) same none = (ap (λ n. int_le s.value (pos n)) (same s.task) ∙ none.0, none-alike a b ss same none.1)
 
-reached-alike : (a b : World) (ss : List TimerSet) → ((u : TaskNo) → clock_in b.tasks u ≡ clock_in a.tasks u) → filter (is_reached a) ss ≡ filter (is_reached b) ss
+reached-alike : (a b : World) (ss : List TimerSet) → ((u : TaskNo) → clock_in b.tasks u ≡ clock_in a.tasks u)
+    → filter (is_reached a) ss ≡ filter (is_reached b) ss
 reached-alike a b [] same = refl
 reached-alike a b (s ∷ ss) same =
     ap (λ c. cond c (s ∷ filter (is_reached a) ss) (filter (is_reached a) ss)) (sym (ap (λ n. int_le s.value (pos n)) (same s.task)))
@@ -65,10 +66,13 @@ charged-alike a b c d before k behind =
       masked = ap (λ (s : Sight). s.masked) behind.sights ∙ k.masked ∙ ap (λ (s : Sight). s.masked) before.sights;
       kept = ap (λ (s : Sight). s.kept_interrupts) behind.sights ∙ k.kept ∙ ap (λ (s : Sight). s.kept_interrupts) before.sights;
       time = ap (λ (s : Sight). s.time) behind.sights ∙ k.time ∙ ap (λ (s : Sight). s.time) before.sights;
-      handlers = λ i. ap (λ (s : Sight). (budget_in s.budgets i).handler) behind.sights ∙ k.handlers i ∙ ap (λ (s : Sight). (budget_in s.budgets i).handler) before.sights;
+      handlers =
+          λ i.
+          ap (λ (s : Sight). (budget_in s.budgets i).handler) behind.sights ∙ k.handlers i ∙ ap (λ (s : Sight). (budget_in s.budgets i).handler) before.sights;
       due = λ none unreached.
           ap (λ (s : Sight). s.timers_due) behind.sights
-          ∙ k.due (ap (λ (s : Sight). s.timers_due) before.sights ∙ none) (subst (NoneReached b) (sym same_timers) (none-alike a b (timers_of a) before.clocks unreached))
+          ∙ k.due (ap (λ (s : Sight). s.timers_due) before.sights ∙ none)
+          (subst (NoneReached b) (sym same_timers) (none-alike a b (timers_of a) before.clocks unreached))
           ∙ ap (λ ss. map number_of_timer (filter (is_reached c) ss)) same_timers
           ∙ ap (map number_of_timer) (reached-alike c d (timers_of a) behind.clocks);
       run_out = λ none bs.
@@ -123,10 +127,20 @@ module _ (t : TaskNo) (a : World) where
     abbrev pub paid : World
     paid = record (charge_budget group clocked) { budget_due = due_by_tick clocked group }
 
-    pub paid-sight : sight_of paid ≡ record (sight_of a) { tasks = risen.tasks; timers_due = clocked.timers_due; budgets = (charge_budget group clocked).budgets; budget_due = due_by_tick clocked group }
+    pub paid-sight : sight_of paid
+        ≡ record (sight_of a) {
+          tasks = risen.tasks;
+          timers_due = clocked.timers_due;
+          budgets = (charge_budget group clocked).budgets;
+          budget_due = due_by_tick clocked group;
+        }
     paid-sight =
         ap (λ (s : Sight). record s { budget_due = due_by_tick clocked group }) (group-sight group clocked)
-        ∙ ap (λ (s : Sight). record s { timers_due = clocked.timers_due; budgets = (charge_budget group clocked).budgets; budget_due = due_by_tick clocked group }) risen-sight
+        ∙ ap (λ (s : Sight). record s {
+          timers_due = clocked.timers_due;
+          budgets = (charge_budget group clocked).budgets;
+          budget_due = due_by_tick clocked group;
+        }) risen-sight
 
     pub same_budgets : clocked.budgets ≡ a.budgets
     same_budgets = ap (λ (s : Sight). s.budgets) risen-sight
@@ -134,7 +148,9 @@ module _ (t : TaskNo) (a : World) where
     ran-one : OneRan t (clock_in risen.tasks t) a paid
     ran-one = record {
       own = ap (λ (s : Sight). clock_in s.tasks t) paid-sight;
-      others = λ u different. ap (λ (s : Sight). clock_in s.tasks u) paid-sight ∙ other-clock u t clock_risen a (found_task (who.Task t) a.tasks) different refl (λ y. refl);
+      others =
+          λ u different.
+          ap (λ (s : Sight). clock_in s.tasks u) paid-sight ∙ other-clock u t clock_risen a (found_task (who.Task t) a.tasks) different refl (λ y. refl);
     }
 
     paid-charged : Charged a paid
@@ -147,7 +163,9 @@ module _ (t : TaskNo) (a : World) where
       kept = ap (λ (s : Sight). s.kept_interrupts) paid-sight;
       time = ap (λ (s : Sight). s.time) paid-sight;
       handlers = λ k. charged-handlers clocked group k ∙ ap (λ bs. (budget_in bs k).handler) same_budgets;
-      due = λ none unreached. ap (λ (s : Sight). s.timers_due) paid-sight ∙ clocked-due ∙ due-timers t (clock_in risen.tasks t) a paid ran-one a.timers a.timers_set unreached;
+      due =
+          λ none unreached.
+          ap (λ (s : Sight). s.timers_due) paid-sight ∙ clocked-due ∙ due-timers t (clock_in risen.tasks t) a paid ran-one a.timers a.timers_set unreached;
       run_out = λ none bs. ap (λ xs. budgets_run_out 0 xs paid.budgets bs) (sym same_budgets) ∙ charged-run_out clocked group bs;
     }
 
@@ -168,7 +186,8 @@ pub run-alike : (same : Bool) (name : Who) (w : World) → (cond same rests (say
 run-alike true name w = refl
 run-alike false name w = refl
 
-free-alike : (serving : Option Release) (frames : List Frame) (releases : List Release) (w : World) → sight_of (serve_if_free serving frames releases w).0 ≡ sight_of w
+free-alike : (serving : Option Release) (frames : List Frame) (releases : List Release) (w : World)
+    → sight_of (serve_if_free serving frames releases w).0 ≡ sight_of w
 free-alike None [] [] w = refl
 free-alike None [] (r ∷ rest) w = refl
 free-alike None (f ∷ fs) releases w = refl
@@ -179,7 +198,10 @@ serve-alike (who.Task t) w = refl
 serve-alike who.Agent w = free-alike w.serving w.agent.frames w.releases w
 
 alike-sights : (a b : World) → sight_of b ≡ sight_of a → Alike a b
-alike-sights a b e = record { sights = e ∙ ap (λ ts. record (sight_of a) { tasks = ts }) (sym (ap (λ (s : Sight). s.tasks) e)); clocks = λ u. ap (λ (s : Sight). clock_in s.tasks u) e }
+alike-sights a b e = record {
+  sights = e ∙ ap (λ ts. record (sight_of a) { tasks = ts }) (sym (ap (λ (s : Sight). s.tasks) e));
+  clocks = λ u. ap (λ (s : Sight). clock_in s.tasks u) e;
+}
 
 alike-then : (a b c : World) → Alike a b → Alike b c → Alike a c
 alike-then a b c p q = record {
@@ -200,7 +222,8 @@ before-charged p (Some name) w =
     let paid = charge p name begun in
     charged-alike w begun paid (spend_tick name paid)
     (alike-then w served begun
-    (alike-then w told served (alike-sights w told (ap sight_of (run-alike (same_option same_who w.ran (Some name)) name w))) (alike-sights told served (serve-alike name told)))
+    (alike-then w told served (alike-sights w told (ap sight_of (run-alike (same_option same_who w.ran (Some name)) name w)))
+    (alike-sights told served (serve-alike name told)))
     (edited-alike name (with_ticks (Some (unwrap_or (task_of served name).ticks_left (cost p served name)))) served (λ t. refl) (λ t. refl)))
     (who-charged p name begun)
     (edited-alike name (λ t. with_ticks (one_tick_less t.ticks_left) t) paid (λ t. refl) (λ t. refl))

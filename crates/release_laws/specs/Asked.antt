@@ -20,7 +20,8 @@ use Rattle.profile_machine.specs.Tasks.{task_of, edit_task, with_ticks}
 use Rattle.profile_machine.specs.Frames.{onward_of}
 use Rattle.profile_machine.specs.Operators.{Valued}
 use Rattle.profile_machine.specs.Values.{Seen, seen_by, number_of_thing, variable, timer_of}
-use Rattle.profile_machine.specs.Handlers.{has_room_for_release, is_interrupt_handler, handler_named, set_value, clock_of_timer}
+use Rattle.profile_machine.specs.Handlers.{has_room_for_release, is_interrupt_handler}
+use Rattle.profile_machine.specs.Handlers.{handler_named, set_value, clock_of_timer}
 use Rattle.profile_machine.specs.Instant.{is_over}
 
 -- Of an event, a timer or a budget, by number: its handler, or that it is to have none; and the moment, or the task of

@@ -1,5 +1,6 @@
 -- A program with a handler of each cause, and machines that break the law on it, one each.
-use Rattle.std.specs.Prelude.{ℕ, ◌+◌, ◌-◌, ℤ, pos, Bool, true, false, cond, ◌&&◌, List, [], ◌∷◌, map, Option, Some, None, codes}
+use Rattle.std.specs.Prelude.{ℕ, ◌+◌, ◌-◌, ℤ, pos, Bool, true, false, cond, ◌&&◌}
+use Rattle.std.specs.Prelude.{List, [], ◌∷◌, map, Option, Some, None, codes}
 use Rattle.trace_text.specs.declared.events.Event.{Event}
 use Rattle.trace_text.specs.declared.events.Event.TheVariants as line
 use Rattle.trace_text.specs.declared.events.Who.{Who}
@@ -18,13 +19,16 @@ use Rattle.profile_image.specs.declared.statements.StatementForm.{StatementForm}
 use Rattle.profile_image.specs.declared.statements.StatementForm.TheVariants as form
 use Rattle.profile_image.specs.declared.statements.Setting.TheVariants as setting
 use Rattle.profile_machine.specs.declared.world.World.{World}
-use Rattle.profile_machine.specs.Notation.{decl, expr, stmt, scope, subprogram, protected_unit, declaration, statement, handler_name, cell_run, scope_text, formal, subprogram_text, attachment, protected_unit_text, policies, main_procedure}
+use Rattle.profile_machine.specs.Notation.{decl, expr, stmt, scope, subprogram, protected_unit, declaration}
+use Rattle.profile_machine.specs.Notation.{statement, handler_name, cell_run, scope_text, formal, subprogram_text}
+use Rattle.profile_machine.specs.Notation.{attachment, protected_unit_text, policies, main_procedure}
 use Rattle.profile_image.specs.Program.{form_of}
 use Rattle.profile_machine.specs.Steps.{Move, watches, rests, ◌▶◌}
 use Rattle.profile_machine.specs.Tasks.{task_of}
 use Rattle.profile_machine.specs.Frames.{onward_of}
 use Rattle.profile_machine.specs.Appointments.{is_an_event, drop_appointment}
-use Rattle.profile_machine.specs.Instant.{is_over, finish_action, with_script, script_items, events_due, moments_due, timers_due, no_budget_due, budgets_due, quantum_spent}
+use Rattle.profile_machine.specs.Instant.{is_over, finish_action, with_script, script_items, events_due}
+use Rattle.profile_machine.specs.Instant.{moments_due, timers_due, no_budget_due, budgets_due, quantum_spent}
 use Rattle.profile_machine.specs.Run.{silently, tock}
 use Rattle.release_laws.specs.ReleaseLaws.{Machine, machine_of, history_by, first_account, follows_releases}
 

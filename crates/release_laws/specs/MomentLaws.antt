@@ -1,7 +1,8 @@
 -- The law of releases said of two instants of a history, without an account: at the first an event or a timer is set,
 -- or a budget gets a handler, and up to the second this is neither set again nor cancelled. And of an interrupt at its
 -- moment.
-use Rattle.std.specs.Prelude.{◌≡◌, ℕ, ℤ, pos, int_le, int_lt, Bool, true, not, ◌⊎◌, List, [], ◌∷◌, ◌++◌, Some, eqb, false, map}
+use Rattle.std.specs.Prelude.{◌≡◌, ℕ, ℤ, pos, int_le, int_lt, Bool, true, not}
+use Rattle.std.specs.Prelude.{◌⊎◌, List, [], ◌∷◌, ◌++◌, Some, eqb, false, map}
 use Rattle.ann_base.specs.declared.identities.TaskNo.{TaskNo}
 use Rattle.profile_image.specs.declared.image.Image.{Image}
 use Rattle.profile_image.specs.declared.script_items.Item.{Item}

@@ -2,7 +2,8 @@
 -- its instants lead from and to, and say. It keeps an account of what was asked for and has not come yet. What the
 -- machine itself keeps of settings, in its appointments, timers, budgets' handlers, script and flags, is not looked at:
 -- a machine that forgets one breaks the law.
-use Rattle.std.specs.Prelude.{◌≡◌, ℕ, zero, suc, ℤ, pos, int_le, int_lt, Bool, true, false, cond, ◌&&◌, List, [], ◌∷◌, ◌+◌, ◌++◌, Some, None, eqb, ltb, length, filter, map, replicate, IsTrue}
+use Rattle.std.specs.Prelude.{◌≡◌, ℕ, zero, suc, ℤ, pos, int_le, int_lt, Bool, true, false, cond, ◌&&◌, List}
+use Rattle.std.specs.Prelude.{[], ◌∷◌, ◌+◌, ◌++◌, Some, None, eqb, ltb, length, filter, map, replicate, IsTrue}
 use Rattle.ann_base.specs.declared.identities.TaskNo.{TaskNo}
 use Rattle.trace_text.specs.declared.events.Event.{Event}
 use Rattle.trace_text.specs.declared.events.Event.TheVariants as line
@@ -19,7 +20,8 @@ use Rattle.profile_machine.specs.Tasks.{task_of}
 use Rattle.profile_machine.specs.Handlers.{has_run_out}
 use Rattle.profile_machine.specs.Instant.{finish_action}
 use Rattle.profile_machine.specs.Run.{opening, stop, tock, run_of}
-use Rattle.profile_machine.specs.Releases.{NamedHandler, named_handler, same_handlers, released, Flags, flags_after, due_by_item, later_steps}
+use Rattle.profile_machine.specs.Releases.{NamedHandler, named_handler, same_handlers, released}
+use Rattle.profile_machine.specs.Releases.{Flags, flags_after, due_by_item, later_steps}
 use Rattle.release_laws.specs.Asked.{Request, OfEvent, OfTimer, OfBudget, asked}
 
 -- ---- histories
@@ -306,4 +308,5 @@ ReleasesOk p script bound lines = releases_in lines ≡ owed_by p (first_account
 
 -- and so do those of every run
 abbrev pub RunsTellReleases : Type 0
-RunsTellReleases = (p : Image) (script : List (ℤ × Item)) (bound : ℕ) → ReleasesOk p script bound (run_of p script bound)
+RunsTellReleases =
+    (p : Image) (script : List (ℤ × Item)) (bound : ℕ) → ReleasesOk p script bound (run_of p script bound)

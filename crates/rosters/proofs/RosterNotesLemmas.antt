@@ -1,5 +1,6 @@
 -- What a roster remembers: sums over all items but one, before and after that one is taken back or changed.
-use Rattle.std.proofs.Common.{◌≡◌, ℕ, ◌+◌, ◌<◌, length, eqb, Bool, true, false, not, cond, ◌||◌, suc, zero, List, [], ◌∷◌, ◌++◌, Option, Some, None, remove, map, take, sum_by, refl, sym, ap, ◌∙◌, subst, arith}
+use Rattle.std.proofs.Common.{◌≡◌, ℕ, ◌+◌, ◌<◌, length, eqb, Bool, true, false, not, cond, ◌||◌, suc, zero, List, []}
+use Rattle.std.proofs.Common.{◌∷◌, ◌++◌, Option, Some, None, remove, map, take, sum_by, refl, sym, ap, ◌∙◌, subst, arith}
 use Rattle.std.specs.List.{slice_get, list_any, IsItemAtMut}
 use Rattle.std.specs.Option.{option_copied_mut, is_some, IsSome}
 use Rattle.std.proofs.lemmas.Option.{gets, slice_get_within, get_or_from_slice_get}
@@ -35,25 +36,30 @@ module _ {X : Type 0} where
     sum-others xs None = omega arith
     sum-others xs (Some p) = sum-remove xs p
 
-    pub taken-back : (xs : List X) (lent known whole : Option ℕ) → IsSum known (sum_by f (others xs lent)) → ((n : ℕ) → IsSum known n → IsSum whole (n + part_at f xs lent)) → IsSum whole (sum_by f xs)
+    pub taken-back : (xs : List X) (lent known whole : Option ℕ) → IsSum known (sum_by f (others xs lent))
+        → ((n : ℕ) → IsSum known n → IsSum whole (n + part_at f xs lent)) → IsSum whole (sum_by f xs)
     taken-back xs lent known whole is more = subst (IsSum whole) (sum-others xs lent) (more _ is)
 
-    pub left-out : (xs : List X) (place : ℕ) (known rest : Option ℕ) → IsSum known (sum_by f xs) → ((n : ℕ) → IsSum known (n + part_at f xs (Some place)) → IsSum rest n) → IsSum rest (sum_by f (others xs (Some place)))
+    pub left-out : (xs : List X) (place : ℕ) (known rest : Option ℕ) → IsSum known (sum_by f xs)
+        → ((n : ℕ) → IsSum known (n + part_at f xs (Some place)) → IsSum rest n) → IsSum rest (sum_by f (others xs (Some place)))
     left-out xs place known rest is less = less _ (subst (IsSum known) (sym (sum-others xs (Some place))) is)
 
     -- the sum of the others is known if that of all is
-    pub left-known : (xs : List X) (place : ℕ) (known rest : Option ℕ) → IsSum known (sum_by f xs) → ((n : ℕ) → known ≡ Some (n + part_at f xs (Some place)) → rest ≡ Some n) → IsSome known → IsSome rest
+    pub left-known : (xs : List X) (place : ℕ) (known rest : Option ℕ) → IsSum known (sum_by f xs)
+        → ((n : ℕ) → known ≡ Some (n + part_at f xs (Some place)) → rest ≡ Some n) → IsSome known → IsSome rest
     left-known xs place None rest is less e = absurd (true≢false (sym e))
     left-known xs place (Some m) rest is less e = ap is_some (less _ (ap Some (is ∙ sym (sum-others xs (Some place)))))
 
     -- one more item behind the others
-    pub one-behind : (xs : List X) (x : X) (known grown : Option ℕ) → IsSum known (sum_by f xs) → ((n : ℕ) → IsSum known n → IsSum grown (n + f x)) → IsSum grown (sum_by f (xs ++ x ∷ []))
+    pub one-behind : (xs : List X) (x : X) (known grown : Option ℕ) → IsSum known (sum_by f xs) → ((n : ℕ) → IsSum known n → IsSum grown (n + f x))
+        → IsSum grown (sum_by f (xs ++ x ∷ []))
     one-behind xs x known grown is more = subst (IsSum grown) (sym (sum_by_push f xs x)) (more _ is)
 
   module _ (stirs : X → Bool) where
     none-counted : (xs : List X) → eqb (sum_by (one_if stirs) xs) 0 ≡ not (list_any stirs xs)
     none-counted [] = refl
-    none-counted (x ∷ xs) = ap (λ n. eqb n 0) (sum_by-cons (one_if stirs) x xs) ∙ none-step (stirs x) (sum_by (one_if stirs) xs) (list_any stirs xs) (none-counted xs)
+    none-counted (x ∷ xs) =
+        ap (λ n. eqb n 0) (sum_by-cons (one_if stirs) x xs) ∙ none-step (stirs x) (sum_by (one_if stirs) xs) (list_any stirs xs) (none-counted xs)
 
     pub is-calm : (xs : List X) (n : ℕ) → n ≡ sum_by (one_if stirs) xs → eqb n 0 ≡ not (list_any stirs xs)
     is-calm xs n e = ap (λ m. eqb m 0) e ∙ none-counted xs
@@ -62,12 +68,15 @@ module _ {X : Type 0} where
   module _ (numbered : Ghosts X) (xs : List X) where
     -- what the notes say of these items
     abbrev AreKnown : Option Order → Option ℕ → Option ℕ → Option ℕ → Type 0
-    AreKnown order sizes stirring lent = IsOrdered order (map numbered.number (others xs lent)) × (IsSum sizes (sum_by numbered.size (others xs lent)) × IsSum stirring (sum_by (one_if numbered.stirs) (others xs lent)))
+    AreKnown order sizes stirring lent =
+        IsOrdered order (map numbered.number (others xs lent))
+        × (IsSum sizes (sum_by numbered.size (others xs lent)) × IsSum stirring (sum_by (one_if numbered.stirs) (others xs lent)))
 
     known-whole : (notes : Notes) → notes.lent ≡ None → AreRight numbered xs notes → AreKnown notes.order notes.size notes.stirring None
     known-whole notes none right = subst (AreKnown notes.order notes.size notes.stirring) none (right.order, (right.sizes, right.stirring))
 
-    pub right-whole : (notes : Notes) → notes.lent ≡ None → IsOrdered notes.order (map numbered.number xs) → IsSum notes.size (sum_by numbered.size xs) → IsSum notes.stirring (sum_by (one_if numbered.stirs) xs) → AreRight numbered xs notes
+    pub right-whole : (notes : Notes) → notes.lent ≡ None → IsOrdered notes.order (map numbered.number xs) → IsSum notes.size (sum_by numbered.size xs)
+        → IsSum notes.stirring (sum_by (one_if numbered.stirs) xs) → AreRight numbered xs notes
     right-whole notes none order sizes stirring =
         let known = subst (AreKnown notes.order notes.size notes.stirring) (sym none) (order, (sizes, stirring)) in
         record { order = known.0; sizes = known.1.0; stirring = known.1.1 }

@@ -1,5 +1,6 @@
 -- Numbers in order: what stays in order where one is left out, taken back or put at an end, and where a number stands.
-use Rattle.std.proofs.Common.{◌≡◌, ltb, ℕ, ◌+◌, ◌-◌, ◌<◌, ◌≤◌, suc, zero, true, false, cond, List, [], ◌∷◌, ◌++◌, map, Option, Some, None, length, remove, take, refl, sym, ap, ◌∙◌, inl, inr, subst, arith}
+use Rattle.std.proofs.Common.{◌≡◌, ltb, ℕ, ◌+◌, ◌-◌, ◌<◌, ◌≤◌, suc, zero, true, false, cond, List, [], ◌∷◌, ◌++◌, map}
+use Rattle.std.proofs.Common.{Option, Some, None, length, remove, take, refl, sym, ap, ◌∙◌, inl, inr, subst, arith}
 use Rattle.std.specs.List.{position_from, position_or_len, slice_get}
 use Rattle.std.proofs.lemmas.Bool.{cases_lt, cases_order, cases_Bool, true≢false}
 use Rattle.std.proofs.lemmas.Bool.Decides.{nat_tests}
@@ -78,10 +79,15 @@ module _ (o : Order) (ns : List (Option ℕ)) (p : ℕ) where
     at = λ i j less within.
         let len = length-remove ns p lt in
         elim (cases_lt j p) [
-          | inl below ↦ as-before o _ _ _ _ (get_or-remove_below ns p None i (omega arith) lt) (get_or-remove_below ns p None j below lt) (h.at i j less (omega arith))
+          | inl below ↦
+              as-before o _ _ _ _ (get_or-remove_below ns p None i (omega arith) lt) (get_or-remove_below ns p None j below lt) (h.at i j less (omega arith))
           | inr above ↦ elim (cases_lt i p) [
-            | inl below ↦ as-before o _ _ _ _ (get_or-remove_below ns p None i below lt) (get_or-remove_above ns p None j above lt) (h.at i (j + 1) (omega arith) (omega arith))
-            | inr behind ↦ as-before o _ _ _ _ (get_or-remove_above ns p None i behind lt) (get_or-remove_above ns p None j above lt) (h.at (i + 1) (j + 1) (omega arith) (omega arith))
+            | inl below ↦
+                as-before o _ _ _ _ (get_or-remove_below ns p None i below lt) (get_or-remove_above ns p None j above lt)
+                (h.at i (j + 1) (omega arith) (omega arith))
+            | inr behind ↦
+                as-before o _ _ _ _ (get_or-remove_above ns p None i behind lt) (get_or-remove_above ns p None j above lt)
+                (h.at (i + 1) (j + 1) (omega arith) (omega arith))
           ]
         ];
   }
@@ -98,17 +104,20 @@ module _ (o : Order) (ns : List (Option ℕ)) (p : ℕ) where
     both-below : (i j : ℕ) → i < j → j < p → comes_before o (number_at ns i) (number_at ns j) ≡ true
     both-below i j less below =
         let len = length-remove ns p lt in
-        as-before o _ _ _ _ (sym (get_or-remove_below ns p None i (omega arith) lt)) (sym (get_or-remove_below ns p None j below lt)) (h.at i j less (omega arith))
+        as-before o _ _ _ _ (sym (get_or-remove_below ns p None i (omega arith) lt)) (sym (get_or-remove_below ns p None j below lt))
+        (h.at i j less (omega arith))
 
     either-side : (i j : ℕ) → i < p → p ≤ j → j + 1 < length ns → comes_before o (number_at ns i) (number_at ns (j + 1)) ≡ true
     either-side i j below above within =
         let len = length-remove ns p lt in
-        as-before o _ _ _ _ (sym (get_or-remove_below ns p None i below lt)) (sym (get_or-remove_above ns p None j above lt)) (h.at i j (omega arith) (omega arith))
+        as-before o _ _ _ _ (sym (get_or-remove_below ns p None i below lt)) (sym (get_or-remove_above ns p None j above lt))
+        (h.at i j (omega arith) (omega arith))
 
     both-above : (i j : ℕ) → p ≤ i → i < j → j + 1 < length ns → comes_before o (number_at ns (i + 1)) (number_at ns (j + 1)) ≡ true
     both-above i j above less within =
         let len = length-remove ns p lt in
-        as-before o _ _ _ _ (sym (get_or-remove_above ns p None i above lt)) (sym (get_or-remove_above ns p None j (omega arith) lt)) (h.at i j less (omega arith))
+        as-before o _ _ _ _ (sym (get_or-remove_above ns p None i above lt)) (sym (get_or-remove_above ns p None j (omega arith) lt))
+        (h.at i j less (omega arith))
 
     -- one comes behind the one in front of it
     module _ (front : (i : ℕ) → i + 1 ≡ p → comes_before o (number_at ns i) (number_at ns p) ≡ true) where
@@ -161,20 +170,24 @@ module _ (o : Order) (ns : List (Option ℕ)) (p : ℕ) where
 
 -- ---- at an end
 
-first-before : (o : Order) (n : Option ℕ) (ns : List (Option ℕ)) (j : ℕ) → InOrder o ns → comes_before o n (number_at ns 0) ≡ true → j < length ns → comes_before o n (number_at ns j) ≡ true
+first-before : (o : Order) (n : Option ℕ) (ns : List (Option ℕ)) (j : ℕ) → InOrder o ns → comes_before o n (number_at ns 0) ≡ true → j < length ns
+    → comes_before o n (number_at ns j) ≡ true
 first-before o n ns zero h e lt = e
 first-before o n ns (suc j) h e lt = before-trans o n (number_at ns 0) (number_at ns (suc j)) e (h.at 0 (suc j) (omega arith) lt)
 
-front-two : (o : Order) (n : Option ℕ) (ns : List (Option ℕ)) → InOrder o ns → comes_before o n (number_at ns 0) ≡ true → (i j : ℕ) → i < j → j < length (n ∷ ns) → comes_before o (number_at (n ∷ ns) i) (number_at (n ∷ ns) j) ≡ true
+front-two : (o : Order) (n : Option ℕ) (ns : List (Option ℕ)) → InOrder o ns → comes_before o n (number_at ns 0) ≡ true → (i j : ℕ) → i < j
+    → j < length (n ∷ ns) → comes_before o (number_at (n ∷ ns) i) (number_at (n ∷ ns) j) ≡ true
 front-two o n ns h e i zero less within = absurd (omega arith)
 front-two o n ns h e zero (suc j) less within = first-before o n ns j h e (omega arith)
 front-two o n ns h e (suc i) (suc j) less within = h.at i j (omega arith) (omega arith)
 
-pub ordered-front : (found : Option Order) (n : Option ℕ) (ns : List (Option ℕ)) → IsOrdered found ns → IsOrderOf found n (number_at ns 0) → IsOrdered found (n ∷ ns)
+pub ordered-front : (found : Option Order) (n : Option ℕ) (ns : List (Option ℕ)) → IsOrdered found ns → IsOrderOf found n (number_at ns 0)
+    → IsOrdered found (n ∷ ns)
 ordered-front None n ns h e = tt
 ordered-front (Some o) n ns h e = record { at = front-two o n ns h e }
 
-module _ (o : Order) (n : Option ℕ) (ns : List (Option ℕ)) (h : InOrder o ns) (last : (k : ℕ) → k + 1 ≡ length ns → comes_before o (number_at ns k) n ≡ true) where
+module _ (o : Order) (n : Option ℕ) (ns : List (Option ℕ)) (h : InOrder o ns)
+    (last : (k : ℕ) → k + 1 ≡ length ns → comes_before o (number_at ns k) n ≡ true) where
   before-last : (i k : ℕ) → i ≤ k → k + 1 ≡ length ns → comes_before o (number_at ns i) n ≡ true
   before-last i k le e = elim (cases_order i k) [
     | inl same ↦ last i (omega arith)
@@ -189,13 +202,16 @@ module _ (o : Order) (n : Option ℕ) (ns : List (Option ℕ)) (h : InOrder o ns
       let len = length_push ns n in
       elim (cases_lt j (length ns)) [
         | inl lt ↦ as-before o _ _ _ _ (get_or_append_left ns (n ∷ []) None i (omega arith)) (get_or_append_left ns (n ∷ []) None j lt) (h.at i j less lt)
-        | inr le ↦ as-before o _ _ _ _ (get_or_append_left ns (n ∷ []) None i (omega arith)) (get_or_push ns n None j (omega arith)) (before-last i (length ns - 1) (omega arith) (omega arith))
+        | inr le ↦
+            as-before o _ _ _ _ (get_or_append_left ns (n ∷ []) None i (omega arith)) (get_or_push ns n None j (omega arith))
+            (before-last i (length ns - 1) (omega arith) (omega arith))
       ]
 
   in-order-behind : InOrder o (ns ++ n ∷ [])
   in-order-behind = record { at = behind-two }
 
-pub ordered-behind : (found : Option Order) (n : Option ℕ) (ns : List (Option ℕ)) (place : ℕ) → place ≤ length ns → IsOrdered found (take place ns) → IsOrderOf found (number_at ns (place - 1)) n → IsOrdered found (take place ns ++ n ∷ [])
+pub ordered-behind : (found : Option Order) (n : Option ℕ) (ns : List (Option ℕ)) (place : ℕ) → place ≤ length ns → IsOrdered found (take place ns)
+    → IsOrderOf found (number_at ns (place - 1)) n → IsOrdered found (take place ns ++ n ∷ [])
 ordered-behind None n ns place le h e = tt
 ordered-behind (Some o) n ns place le h e = in-order-behind o n (take place ns) h (λ k last.
     let len = length-take-le place ns le in
@@ -203,7 +219,8 @@ ordered-behind (Some o) n ns place le h e = in-order-behind o n (take place ns) 
     as-before o _ _ _ _ (get_or-take place ns k None (omega arith) ∙ ap (number_at ns) (sym at)) refl e)
 
 -- the last number of a list in order comes behind the one before it
-pub last-behind : (o : Order) (n : Option ℕ) (ns : List (Option ℕ)) (place : ℕ) → place ≤ length ns → 0 < place → InOrder o (take place ns ++ n ∷ []) → comes_before o (number_at ns (place - 1)) n ≡ true
+pub last-behind : (o : Order) (n : Option ℕ) (ns : List (Option ℕ)) (place : ℕ) → place ≤ length ns → 0 < place → InOrder o (take place ns ++ n ∷ [])
+    → comes_before o (number_at ns (place - 1)) n ≡ true
 last-behind o n ns place le more h =
     let len = length-take-le place ns le in
     let whole = length_push (take place ns) n in
@@ -220,7 +237,9 @@ in-order-take o ns place le h = record {
       as-before o _ _ _ _ (get_or-take place ns i None (omega arith)) (get_or-take place ns j None (omega arith)) (h.at i j less (omega arith));
 }
 
-pub in-order-with : {X : Type 0} (f : X → Option ℕ) (o : Order) (xs : List X) (p : ℕ) → p < length xs → InOrder o (map f (remove xs p)) → ((i : ℕ) → i + 1 ≡ p → comes_before o (number_at (map f xs) i) (number_at (map f xs) p) ≡ true) → (p + 1 < length xs → comes_before o (number_at (map f xs) p) (number_at (map f xs) (p + 1)) ≡ true) → InOrder o (map f xs)
+pub in-order-with : {X : Type 0} (f : X → Option ℕ) (o : Order) (xs : List X) (p : ℕ) → p < length xs → InOrder o (map f (remove xs p))
+    → ((i : ℕ) → i + 1 ≡ p → comes_before o (number_at (map f xs) i) (number_at (map f xs) p) ≡ true)
+    → (p + 1 < length xs → comes_before o (number_at (map f xs) p) (number_at (map f xs) (p + 1)) ≡ true) → InOrder o (map f xs)
 in-order-with f o xs p lt h front back =
     let len = length-map xs f in
     in-order-insert o (map f xs) p (omega arith) (subst (InOrder o) (map-remove f xs p) h) front (λ within. back (omega arith))
@@ -237,7 +256,8 @@ number-none f [] p e = refl
 number-none f (y ∷ xs) zero e = cc
 number-none f (y ∷ xs) (suc p) e = number-none f xs p e
 
-pub ordered-remove : {X : Type 0} (f : X → Option ℕ) (found : Option Order) (xs : List X) (p : ℕ) → IsOrdered found (map f xs) → IsOrdered found (map f (remove xs p))
+pub ordered-remove : {X : Type 0} (f : X → Option ℕ) (found : Option Order) (xs : List X) (p : ℕ) → IsOrdered found (map f xs)
+    → IsOrdered found (map f (remove xs p))
 ordered-remove f None xs p h = tt
 ordered-remove f (Some o) xs p h = subst (InOrder o) (sym (map-remove f xs p)) (in-order-remove o (map f xs) p h)
 
@@ -304,7 +324,9 @@ module _ (o : Order) (n : ℕ) (ns : List (Option ℕ)) (h : InOrder o ns) where
       let first = position_or_len_is (has_number n) ns p None (omega arith) (λ k lt. has_number-before o n _ _ (h.at k p lt within) e) (λ _. e) in
       sym (position_from-zero (has_number n) ns) ∙ grind (arith, nat_tests)
 
-  none-has : (p : ℕ) → ((k : ℕ) → k < p → comes_before o (number_at ns k) (Some n) ≡ true) → ((k : ℕ) → p ≤ k → comes_before o (number_at ns k) (Some n) ≡ false) → has_number n (number_at ns p) ≡ false → (k : ℕ) → k < length ns → has_number n (number_at ns k) ≡ false
+  none-has : (p : ℕ) → ((k : ℕ) → k < p → comes_before o (number_at ns k) (Some n) ≡ true)
+      → ((k : ℕ) → p ≤ k → comes_before o (number_at ns k) (Some n) ≡ false) → has_number n (number_at ns p) ≡ false → (k : ℕ) → k < length ns
+      → has_number n (number_at ns k) ≡ false
   none-has p front back e k within = elim (cases_order k p) [
     | inl same ↦ rw same e
     | inr apart ↦ elim apart [
@@ -313,7 +335,8 @@ module _ (o : Order) (n : ℕ) (ns : List (Option ℕ)) (h : InOrder o ns) where
     ]
   ]
 
-  pub position-none : (p : ℕ) → ((k : ℕ) → k < p → comes_before o (number_at ns k) (Some n) ≡ true) → ((k : ℕ) → p ≤ k → comes_before o (number_at ns k) (Some n) ≡ false) → has_number n (number_at ns p) ≡ false → position_from (has_number n) 0 ns ≡ None
+  pub position-none : (p : ℕ) → ((k : ℕ) → k < p → comes_before o (number_at ns k) (Some n) ≡ true)
+      → ((k : ℕ) → p ≤ k → comes_before o (number_at ns k) (Some n) ≡ false) → has_number n (number_at ns p) ≡ false → position_from (has_number n) 0 ns ≡ None
   position-none p front back e = position-absent n ns (none-has p front back e)
 
   -- where a number stands, no other item has it
@@ -323,7 +346,9 @@ module _ (o : Order) (n : ℕ) (ns : List (Option ℕ)) (h : InOrder o ns) where
       let len = length-remove ns p lt in
       elim (cases_lt k p) [
         | inl below ↦ ap (has_number n) (get_or-remove_below ns p None k below lt) ∙ has_number-before o n _ _ (h.at k p below lt) e
-        | inr above ↦ ap (has_number n) (get_or-remove_above ns p None k above lt) ∙ has_number-after o n (number_at ns p) _ (h.at p (k + 1) (omega arith) (omega arith)) e
+        | inr above ↦
+            ap (has_number n) (get_or-remove_above ns p None k above lt)
+            ∙ has_number-after o n (number_at ns p) _ (h.at p (k + 1) (omega arith) (omega arith)) e
       ]
 
   pub position-removed : (p : ℕ) → position_from (has_number n) 0 ns ≡ Some p → position_from (has_number n) 0 (remove ns p) ≡ None
@@ -343,22 +368,28 @@ position-lent f o n p xs h e front =
     let first = position_or_len_is (has_number n) ns p None (omega arith) (λ k lt. has_number-before o n _ _ (before k lt) e) (λ _. e) in
     sym (position_from-zero (has_number n) ns) ∙ grind (arith, nat_tests)
 
-pub position-map : {X : Type 0} (f : X → Option ℕ) (n i : ℕ) (xs : List X) → position_from (has_number n) i (map f xs) ≡ position_from (λ x. has_number n (f x)) i xs
+pub position-map : {X : Type 0} (f : X → Option ℕ) (n i : ℕ) (xs : List X)
+    → position_from (has_number n) i (map f xs) ≡ position_from (λ x. has_number n (f x)) i xs
 position-map f n i [] = refl
 position-map f n i (x ∷ xs) = ap (cond (has_number n (f x)) (Some i)) (position-map f n (i + 1) xs)
 
-pub forget-found : {X : Type 0} (f : X → Option ℕ) (o : Order) (n p : ℕ) (xs : List X) → InOrder o (map f xs) → position_from (has_number n) 0 (map f xs) ≡ Some p → remove xs p ≡ without (λ x. has_number n (f x)) xs
+pub forget-found : {X : Type 0} (f : X → Option ℕ) (o : Order) (n p : ℕ) (xs : List X) → InOrder o (map f xs)
+    → position_from (has_number n) 0 (map f xs) ≡ Some p → remove xs p ≡ without (λ x. has_number n (f x)) xs
 forget-found f o n p xs h e =
     let gone = ap (position_from (has_number n) 0) (map-remove f xs p) ∙ position-removed o n (map f xs) h p e in
-    sym (without-none (λ x. has_number n (f x)) (remove xs p) (sym (position-map f n 0 (remove xs p)) ∙ gone)) ∙ without-found (λ x. has_number n (f x)) xs p (sym (position-map f n 0 xs) ∙ e)
+    sym (without-none (λ x. has_number n (f x)) (remove xs p) (sym (position-map f n 0 (remove xs p)) ∙ gone))
+    ∙ without-found (λ x. has_number n (f x)) xs p (sym (position-map f n 0 xs) ∙ e)
 
-pub forget-none : {X : Type 0} (f : X → Option ℕ) (n : ℕ) (xs : List X) → position_from (has_number n) 0 (map f xs) ≡ None → xs ≡ without (λ x. has_number n (f x)) xs
+pub forget-none : {X : Type 0} (f : X → Option ℕ) (n : ℕ) (xs : List X) → position_from (has_number n) 0 (map f xs) ≡ None
+    → xs ≡ without (λ x. has_number n (f x)) xs
 forget-none f n xs e = sym (without-none (λ x. has_number n (f x)) xs (sym (position-map f n 0 xs) ∙ e))
 
 -- the numbers up to the item at a place, that item's among them
-pub in-order-found : {X : Type 0} (f : X → Option ℕ) (o : Order) (xs : List X) (p : ℕ) (x : X) → Some x ≡ slice_get xs p → InOrder o (map f xs) → InOrder o (take p (map f xs) ++ f x ∷ [])
+pub in-order-found : {X : Type 0} (f : X → Option ℕ) (o : Order) (xs : List X) (p : ℕ) (x : X) → Some x ≡ slice_get xs p → InOrder o (map f xs)
+    → InOrder o (take p (map f xs) ++ f x ∷ [])
 in-order-found f o xs p x e h =
     let within = slice_get_within xs p x (sym e) in
     let len = length-map xs f in
-    let same : take (p + 1) (map f xs) ≡ take p (map f xs) ++ f x ∷ [] = take_more (map f xs) p None (omega arith) ∙ ap (λ n. take p (map f xs) ++ n ∷ []) (sym (number-shown f xs p x e)) in
+    let same : take (p + 1) (map f xs) ≡ take p (map f xs) ++ f x ∷ [] =
+    take_more (map f xs) p None (omega arith) ∙ ap (λ n. take p (map f xs) ++ n ∷ []) (sym (number-shown f xs p x e)) in
     subst (InOrder o) same (in-order-take o (map f xs) (p + 1) (omega arith) h)

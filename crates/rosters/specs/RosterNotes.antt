@@ -1,5 +1,6 @@
 -- What a roster remembers of its items: sums over all of them but the one that it lent last, and their order.
-use Rattle.std.specs.Prelude.{ℕ, ◌-◌, ◌<◌, ltb, Bool, true, false, cond, List, Option, Some, None, ◌≡◌, length, map, get_or, remove, sum_by, slice_get}
+use Rattle.std.specs.Prelude.{ℕ, ◌-◌, ◌<◌, ltb, Bool, true, false, cond, List, Option, Some}
+use Rattle.std.specs.Prelude.{None, ◌≡◌, length, map, get_or, remove, sum_by, slice_get}
 use Rattle.rosters.specs.declared.roster.Numbered.{Ghosts}
 use Rattle.rosters.specs.declared.roster_notes.Notes.{Notes}
 use Rattle.rosters.specs.declared.roster_notes.Order.{Order}

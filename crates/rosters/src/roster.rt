@@ -1,5 +1,7 @@
-//! Items that are found by a number of their own: tasks, scopes in use, protected objects and entry calls.
-ghost use Rattle.std.specs.Prelude.{◌≡◌, ◌++◌, ◌∷◌, [], length, leb, sum_by, not, IfErr, OnOk, OnErr, slice_get, find, option_copied};
+//! Items that are found by a number of their own: tasks, scopes in use, protected objects and entry
+//! calls.
+ghost use Rattle.std.specs.Prelude.{◌≡◌, ◌++◌, ◌∷◌, [], length, leb, sum_by, not};
+ghost use Rattle.std.specs.Prelude.{IfErr, OnOk, OnErr, slice_get, find, option_copied};
 ghost use Rattle.std.specs.List.{list_any, position_from};
 ghost use Rattle.std.specs.Option.{option_copied_mut};
 ghost use Rattle.std.specs.Borrow.{sem};
@@ -26,7 +28,8 @@ pub trait Numbered {
     /// The number; an item without one is found by none.
     ghost number: { Self → Option ℕ };
 
-    /// What it takes of the room that all items of its kind share: the marks of a task, the cells of a scope.
+    /// What it takes of the room that all items of its kind share: the marks of a task, the cells
+    /// of a scope.
     ghost size: { Self → ℕ };
 
     /// Whether something may have to be done for it when an effect is over.
@@ -149,7 +152,8 @@ impl<T: Numbered> Roster<T> {
         self.notes = counted(&self.items);
     }
 
-    /// No item with this number is left. If the numbers are in order, it is found and taken out without a walk.
+    /// No item with this number is left. If the numbers are in order, it is found and taken out
+    /// without a walk.
     pub fn forget(&mut self, number: u32)
     where
         T: Drop,

@@ -1,18 +1,23 @@
-//! What a roster remembers of its items, so that it finds an item by its number, and knows the sums over all items,
-//! without a walk.
+//! What a roster remembers of its items, so that it finds an item by its number, and knows the sums
+//! over all items, without a walk.
 //!
-//! A roster lends an item to be changed, and the borrower may change its number, its size and whether it stirs.
-//! Nobody sees that before the borrow is over. So nothing that is remembered speaks of the item that was lent last,
-//! and that item is taken back, as it is by then, when another is lent or one is put in.
+//! A roster lends an item to be changed, and the borrower may change its number, its size and
+//! whether it stirs. Nobody sees that before the borrow is over. So nothing that is remembered
+//! speaks of the item that was lent last, and that item is taken back, as it is by then, when
+//! another is lent or one is put in.
 //!
-//! What is remembered may be unknown: then the items are walked over, and the answer is the same. A clause `known`
-//! says when a step does not lose it.
-ghost use Rattle.std.specs.Prelude.{◌≡◌, ℕ, ◌+◌, ◌^◌, IsSome, ◌<◌, ◌≤◌, true, false, List, Option, Some, None, map, take, ◌++◌, ◌∷◌, [], length, leb, sum_by, not, slice_get, option_copied, remove};
+//! What is remembered may be unknown: then the items are walked over, and the answer is the same. A
+//! clause `known` says when a step does not lose it.
+ghost use Rattle.std.specs.Prelude.{◌≡◌, ℕ, ◌+◌, ◌^◌, IsSome, ◌<◌, ◌≤◌, true, false, List};
+ghost use Rattle.std.specs.Prelude.{Option, Some, None, map, take, ◌++◌, ◌∷◌, [], length};
+ghost use Rattle.std.specs.Prelude.{leb, sum_by, not, slice_get, option_copied, remove};
 ghost use Rattle.std.specs.List.{list_any, position_from};
 ghost use Rattle.profile_image.specs.Words.{without};
 ghost use Rattle.rosters.specs.Numbered.{has_number};
 ghost use Rattle.rosters.specs.declared.roster_notes.Order.{Order};
-ghost use Rattle.rosters.specs.RosterNotes.{AreRight, IsSum, at_place, part_at, one_if, number_at, is_number_before, comes_before, IsOrderOf, IsOrdered, InOrder, distance};
+ghost use Rattle.rosters.specs.RosterNotes.{AreRight, IsSum, at_place, part_at, one_if};
+ghost use Rattle.rosters.specs.RosterNotes.{number_at, is_number_before, comes_before};
+ghost use Rattle.rosters.specs.RosterNotes.{IsOrderOf, IsOrdered, InOrder, distance};
 
 use crate::roster::Numbered;
 use std::collections::VecDeque;
@@ -201,11 +206,14 @@ fn order_behind<T: Numbered>(
 // Whether the item at a place comes behind the one before it, if both are there.
 fn comes_behind<T: Numbered>(items: &VecDeque<T>, order: Order, place: usize) -> bool
     ensures right { (i : ℕ) → result ≡ true → i + 1 ≡ place → place < length items.now.items
-        → comes_before order (number_at (map T.number items.now.items) i) (number_at (map T.number items.now.items) place)
+        → comes_before order (number_at (map T.number items.now.items) i)
+        (number_at (map T.number items.now.items) place)
         ≡ true }
     ensures known { result ≡ false → (i : ℕ) × (i + 1 ≡ place)
         × (place < length items.now.items)
-        × (comes_before order (number_at (map T.number items.now.items) i) (number_at (map T.number items.now.items) place) ≡ false) }
+        × (comes_before order (number_at (map T.number items.now.items) i)
+        (number_at (map T.number items.now.items) place)
+        ≡ false) }
 {
     if place == 0 {
         return true;
@@ -521,8 +529,9 @@ fn place_behind<T: Numbered>(items: &VecDeque<T>, order: Order, number: u32) -> 
     low
 }
 
-// The place that was lent last, if the first item with this number stands there: who is looked for is often who was
-// changed last. The items are in order but for that one, so it is the first if the one in front of it comes before it.
+// The place that was lent last, if the first item with this number stands there: who is looked for
+// is often who was changed last. The items are in order but for that one, so it is the first if the
+// one in front of it comes before it.
 fn lent_place<T: Numbered>(items: &VecDeque<T>, notes: &Notes, number: u32) -> Option<usize>
     requires { AreRight T.Numbered items.now.items notes.now }
     ensures { (p : ℕ) → result ≡ Some p

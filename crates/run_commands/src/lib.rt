@@ -1,4 +1,5 @@
-//! What the program does for its words, up to the outcome: what they ask for is done with the files that they name.
+//! What the program does for its words, up to the outcome: what they ask for is done with the files
+//! that they name.
 #![tactic(auto)]
 
 mod performing;

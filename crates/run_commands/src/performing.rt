@@ -21,14 +21,16 @@ use profile_image::Image;
 use run_writing::{run, summarize};
 use std::alloc::Global;
 
-/// How many bytes of a source are read: one more than it may have, so that one that is too long is seen to be.
+/// How many bytes of a source are read: one more than it may have, so that one that is too long is
+/// seen to be.
 pub const SOURCE_READ: usize = MAX_SOURCE + 1;
 
-/// Does what the words ask for with the files that they name, and tells how it ended. What was asked for goes to `out`
-/// (README.md has the commands).
+/// Does what the words ask for with the files that they name, and tells how it ended. What was
+/// asked for goes to `out` (README.md has the commands).
 ///
-/// Where words, a source, a script, a table or a trace are refused, or a file cannot be read, nothing is written. Where
-/// `out` fails or memory runs out, at most a prefix was written. The outcome says which of these came.
+/// Where words, a source, a script, a table or a trace are refused, or a file cannot be read,
+/// nothing is written. Where `out` fails or memory runs out, at most a prefix was written. The
+/// outcome says which of these came.
 pub fn perform<S: Shelf, K: Sink>(
     alloc: Global,
     words: &[Vec<u8>],

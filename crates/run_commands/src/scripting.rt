@@ -3,7 +3,8 @@ ghost use Rattle.std.specs.Prelude.{◌≤◌, Some};
 ghost use Rattle.commands.specs.declared.requests.Work.TheVariants as work;
 ghost use Rattle.commands.specs.Requests.{ScriptAsked, IsTicks};
 ghost use Rattle.commands.specs.Outside.{shelf_of, sink_of};
-ghost use Rattle.commands.specs.Performed.{Performs, ReadsFile, ReadsScript, ServesImage, ServesScript, ServesUnder};
+ghost use Rattle.commands.specs.Performed.{Performs, ReadsFile, ReadsScript};
+ghost use Rattle.commands.specs.Performed.{ServesImage, ServesScript, ServesUnder};
 
 use crate::performing::{SOURCE_READ, without_image};
 use ada_front::accept;
@@ -17,7 +18,8 @@ use run_writing::run_under;
 use std::alloc::Global;
 use world_tables::List;
 
-/// How many bytes of a script are read: one more than it may have, so that one that is too long is seen to be.
+/// How many bytes of a script are read: one more than it may have, so that one that is too long is
+/// seen to be.
 const SCRIPT_READ: usize = SCRIPT_BYTES + 1;
 
 /// Reads the named source, and then the named script, and runs the one under the other.

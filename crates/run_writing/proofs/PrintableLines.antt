@@ -11,7 +11,8 @@ printable-append [] more h k = k
 printable-append (line ∷ lines) more h k = (h.0, printable-append lines more h.1 k)
 
 -- the line that is told is printable too
-pub one_more_printable : (lines to_come later whole : List TraceLine) → PrintableUpTo whole to_come → lines ++ later ≡ to_come → ArePrintable lines → PrintableUpTo whole later
+pub one_more_printable : (lines to_come later whole : List TraceLine) → PrintableUpTo whole to_come → lines ++ later ≡ to_come → ArePrintable lines
+    → PrintableUpTo whole later
 one_more_printable lines to_come later whole so_far told printable = (
   so_far.0 ++ lines,
   printable-append so_far.0 lines so_far.1 printable,

@@ -1,5 +1,6 @@
 -- The lines of a run that were told are tallied, and what is to come is the rest.
-use Rattle.std.proofs.Common.{◌≡◌, ◌≤◌, ℕ, List, [], ◌∷◌, ◌++◌, Option, Result, Ok, Err, OnErr, length, refl, sym, ap, ◌∙◌, subst, append_assoc, append-nil, arith}
+use Rattle.std.proofs.Common.{◌≡◌, ◌≤◌, ℕ, List, [], ◌∷◌, ◌++◌, Option, Result, Ok, Err, OnErr}
+use Rattle.std.proofs.Common.{length, refl, sym, ap, ◌∙◌, subst, append_assoc, append-nil, arith}
 use Rattle.outside_bytes.specs.Pieces.{HoldsPrefix}
 use Rattle.trace_text.specs.Queue.{TraceLine}
 use Rattle.trace_text.specs.Text.{ArePrintable, line_text, text_of}
@@ -23,8 +24,10 @@ first_line-text [] = refl
 first_line-text (line ∷ owed) = sym (append-nil (line_text line.0 line.1))
 
 -- the line that is told is tallied
-pub one_more_tallied : (owed : List TraceLine) (before after : Tally) (piece : List ℕ) (to_come later whole : List TraceLine) → TalliedUpTo before whole to_come → first_line owed ++ later ≡ to_come → ArePrintable (first_line owed) → piece ≡ written_of owed →
-    ((told lines : List TraceLine) → Tallies before told → length lines ≤ 1 → ArePrintable lines → piece ≡ text_of lines → Tallies after (told ++ lines)) → TalliedUpTo after whole later
+pub one_more_tallied : (owed : List TraceLine) (before after : Tally) (piece : List ℕ) (to_come later whole : List TraceLine) → TalliedUpTo before whole to_come
+    → first_line owed ++ later ≡ to_come → ArePrintable (first_line owed) → piece ≡ written_of owed →
+    ((told lines : List TraceLine) → Tallies before told → length lines ≤ 1 → ArePrintable lines → piece ≡ text_of lines → Tallies after (told ++ lines))
+    → TalliedUpTo after whole later
 one_more_tallied owed before after piece to_come later whole so_far told printable text counts = (
   so_far.0 ++ first_line owed,
   counts so_far.0 (first_line owed) so_far.1 (first_line-short owed) printable (text ∙ first_line-text owed),
@@ -40,6 +43,7 @@ pub none_to_come : (next : Next) (P : Type 0) (to_come : List TraceLine) → nex
 none_to_come next P to_come is ended = (subst (IfEnded ((to_come ≡ []) × P)) is ended).0
 
 -- a prefix of an equal text
-pub cut_text : {X E : Type 0} (r : Result X E) (old new : Option (List ℕ)) (line text : List ℕ) → line ≡ text → HoldsPrefix old new line → OnErr r (HoldsPrefix old new text)
+pub cut_text : {X E : Type 0} (r : Result X E) (old new : Option (List ℕ)) (line text : List ℕ) → line ≡ text → HoldsPrefix old new line
+    → OnErr r (HoldsPrefix old new text)
 cut_text (Ok x) old new line text same part = tt
 cut_text (Err e) old new line text same part = subst (λ xs. HoldsPrefix old new xs) same part

@@ -16,7 +16,8 @@ use profile_image::{Image, Item};
 use std::alloc::Global;
 use world_tables::List;
 
-/// Writes the run of an image without a script up to so many ticks, as `run_under` does with no items.
+/// Writes the run of an image without a script up to so many ticks, as `run_under` does with no
+/// items.
 pub fn run<K: Sink>(
     alloc: Global,
     image: Image,
@@ -37,11 +38,12 @@ pub fn run<K: Sink>(
     run_under(alloc, image, List::new(alloc), ticks, out)
 }
 
-/// Writes the run of an image under the items of a script up to so many ticks, line by line (docs/TRACES.md), and answers
-/// why it stopped. Where it ends all of its text was written, and each of its lines is printable.
+/// Writes the run of an image under the items of a script up to so many ticks, line by line
+/// (docs/TRACES.md), and answers why it stopped. Where it ends all of its text was written, and
+/// each of its lines is printable.
 ///
-/// Errors: `Fault` where the sink failed, `Memory` where memory ran out, or where a line has a name or a text that no
-/// trace can have. A prefix of the text was written.
+/// Errors: `Fault` where the sink failed, `Memory` where memory ran out, or where a line has a name
+/// or a text that no trace can have. A prefix of the text was written.
 pub fn run_under<K: Sink>(
     alloc: Global,
     image: Image,

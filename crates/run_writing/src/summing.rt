@@ -17,11 +17,12 @@ use profile_image::{Image, Item};
 use std::alloc::Global;
 use world_tables::List;
 
-/// Writes the summary of the run of an image without a script up to so many ticks, and answers why the run stopped. The
-/// summary has how many lines of each word the trace has, and its last line (docs/LANGUAGE.md).
+/// Writes the summary of the run of an image without a script up to so many ticks, and answers why
+/// the run stopped. The summary has how many lines of each word the trace has, and its last line
+/// (docs/LANGUAGE.md).
 ///
-/// Errors: `Fault` where the sink failed, `Memory` where memory ran out, or where a line has a name or a text that no
-/// trace can have. A prefix of the summary was written.
+/// Errors: `Fault` where the sink failed, `Memory` where memory ran out, or where a line has a name
+/// or a text that no trace can have. A prefix of the summary was written.
 pub fn summarize<K: Sink>(
     alloc: Global,
     image: Image,
@@ -41,8 +42,8 @@ pub fn summarize<K: Sink>(
     summarize_under(alloc, image, List::new(alloc), ticks, out)
 }
 
-/// Writes the summary of the run of an image under the items of a script up to so many ticks. It is written once the run
-/// has ended, and no line of the run but the last is kept.
+/// Writes the summary of the run of an image under the items of a script up to so many ticks. It is
+/// written once the run has ended, and no line of the run but the last is kept.
 fn summarize_under<K: Sink>(
     alloc: Global,
     image: Image,

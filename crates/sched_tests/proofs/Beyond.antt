@@ -37,13 +37,15 @@ demand_behind busy left (duty ∷ duties) h =
     omega arith
 
 -- windows up to a length, by windows that are shorter by the busy period
-never_over : (duties : List Duty) (busy : ℕ) → All IsDuty duties → 1 ≤ busy → IsServed duties busy → IsNever (IsOver duties) busy → (longest window : ℕ) → window ≤ longest → 1 ≤ window → ¬ (IsOver duties window)
+never_over : (duties : List Duty) (busy : ℕ) → All IsDuty duties → 1 ≤ busy → IsServed duties busy → IsNever (IsOver duties) busy → (longest window : ℕ)
+    → window ≤ longest → 1 ≤ window → ¬ (IsOver duties window)
 never_over duties busy each positive served never zero window small some over = omega arith
 never_over duties busy each positive served never (suc longest) window small some over = elim (cases_lt busy window) [
   | inr within ↦ never.nowhere window some within over
   | inl beyond ↦
       let short : ¬ (IsOver duties (window - busy)) = never_over duties busy each positive served never longest (window - busy) (omega arith) (omega arith) in
-      let more : demand duties (busy + (window - busy)) ≤ busy_demand duties busy + demand duties (window - busy) = demand_behind busy (window - busy) duties each in
+      let more : demand duties (busy + (window - busy)) ≤ busy_demand duties busy + demand duties (window - busy) =
+      demand_behind busy (window - busy) duties each in
       let same : busy + (window - busy) ≡ window = omega arith in
       let part : demand duties window ≤ busy_demand duties busy + demand duties (window - busy) = rw same at more in
       elim (cases_lt (window - busy) (demand duties (window - busy))) [

@@ -44,7 +44,8 @@ next_is_near window duty h = elim (cases_lt window duty.deadline) [
 ]
 
 -- a window has q deadlines where it ends before the one behind them, and at most a period before it
-pub deadlines_are : (window q : ℕ) (duty : Duty) → 1 ≤ duty.period → window < duty.deadline + q * duty.period → duty.deadline + q * duty.period ≤ window + duty.period → deadlines_in window duty ≡ q
+pub deadlines_are : (window q : ℕ) (duty : Duty) → 1 ≤ duty.period → window < duty.deadline + q * duty.period
+    → duty.deadline + q * duty.period ≤ window + duty.period → deadlines_in window duty ≡ q
 deadlines_are window q duty p before behind =
     let later = next_is_later window duty p in
     let close : q * duty.period < (deadlines_in window duty + 1) * duty.period = grind arith in
@@ -52,11 +53,14 @@ deadlines_are window q duty p before behind =
     omega (arith, deadlines_below window q duty p before)
 
 -- up to the next deadline there are no more
-pub deadlines_stay : (window later : ℕ) (duty : Duty) → IsDuty duty → window ≤ later → later < duty.deadline + deadlines_in window duty * duty.period → deadlines_in later duty ≡ deadlines_in window duty
-deadlines_stay window later duty h order before = deadlines_are later (deadlines_in window duty) duty h.recurs before (omega (arith, next_is_near window duty h))
+pub deadlines_stay : (window later : ℕ) (duty : Duty) → IsDuty duty → window ≤ later → later < duty.deadline + deadlines_in window duty * duty.period
+    → deadlines_in later duty ≡ deadlines_in window duty
+deadlines_stay window later duty h order before =
+    deadlines_are later (deadlines_in window duty) duty h.recurs before (omega (arith, next_is_near window duty h))
 
 -- at it there is one more
-pub deadlines_step : (window : ℕ) (duty : Duty) → IsDuty duty → window + 1 ≡ duty.deadline + deadlines_in window duty * duty.period → deadlines_in (window + 1) duty ≡ deadlines_in window duty + 1
+pub deadlines_step : (window : ℕ) (duty : Duty) → IsDuty duty → window + 1 ≡ duty.deadline + deadlines_in window duty * duty.period
+    → deadlines_in (window + 1) duty ≡ deadlines_in window duty + 1
 deadlines_step window duty h e = deadlines_are (window + 1) (deadlines_in window duty + 1) duty h.recurs (grind (arith, h.recurs)) (grind arith)
 
 -- a window that is longer by one has at most one more

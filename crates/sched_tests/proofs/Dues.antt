@@ -16,7 +16,8 @@ IsNext window duty = window + 1 ≡ duty.deadline + deadlines_in window duty * d
 mul-add-one : (m n : ℕ) → m * (n + 1) ≡ m * n + m
 mul-add-one m n = grind arith
 
-pub due_stays : (window later : ℕ) (duty : Duty) → IsDuty duty → window ≤ later → later < duty.deadline + deadlines_in window duty * duty.period → due_in later duty ≡ due_in window duty
+pub due_stays : (window later : ℕ) (duty : Duty) → IsDuty duty → window ≤ later → later < duty.deadline + deadlines_in window duty * duty.period
+    → due_in later duty ≡ due_in window duty
 due_stays window later duty h order before = ap (λ n. duty.cost * n) (deadlines_stay window later duty h order before)
 
 pub due_step : (window : ℕ) (duty : Duty) → IsDuty duty → IsNext window duty → due_in (window + 1) duty ≡ due_in window duty + duty.cost
@@ -29,7 +30,8 @@ due_slow window duty h = omega (arith, mul-le-mul_left duty.cost (deadlines_slow
 pub next_again : (window : ℕ) (duty : Duty) → IsDuty duty → IsNext window duty → IsNext (window + duty.period) duty
 next_again window duty h e =
     let n : ℕ = deadlines_in window duty in
-    let more : deadlines_in (window + duty.period) duty ≡ n + 1 = deadlines_are (window + duty.period) (n + 1) duty h.recurs (grind (arith, h.recurs)) (grind (arith, h.recurs)) in
+    let more : deadlines_in (window + duty.period) duty ≡ n + 1 =
+    deadlines_are (window + duty.period) (n + 1) duty h.recurs (grind (arith, h.recurs)) (grind (arith, h.recurs)) in
     rw more (grind arith)
 
 -- and nothing becomes due between the two
@@ -46,7 +48,8 @@ pub record HasAdded (base : ℕ) (duty : Duty) (before due : List ℕ) (at : ℕ
   pub done : (k : ℕ) → k < at → k < length before → get_or due k 0 + due_in (base + k) duty ≡ get_or before k 0 + due_in (base + k + 1) duty
   pub ahead : (k : ℕ) → at ≤ k → k < length before → get_or due k 0 ≡ get_or before k 0
 
-pub added_none : (base : ℕ) (duty : Duty) (before : List ℕ) (at : ℕ) → IsDuty duty → base + at + 1 ≡ duty.deadline + deadlines_in base duty * duty.period → HasAdded base duty before before at
+pub added_none : (base : ℕ) (duty : Duty) (before : List ℕ) (at : ℕ) → IsDuty duty → base + at + 1 ≡ duty.deadline + deadlines_in base duty * duty.period
+    → HasAdded base duty before before at
 added_none base duty before at h e = record {
   deadline =
       let same : deadlines_in (base + at) duty ≡ deadlines_in base duty = deadlines_stay base (base + at) duty h (omega arith) (omega arith) in
@@ -58,7 +61,9 @@ added_none base duty before at h e = record {
   ahead = λ k high within. refl;
 }
 
-added_at : (base : ℕ) (duty : Duty) (before due : List ℕ) (at : ℕ) → IsDuty duty → length due ≡ length before → at < length due → HasAdded base duty before due at → (k : ℕ) → k < at + duty.period → k < length before → get_or (set due at (get_or due at 0 + duty.cost)) k 0 + due_in (base + k) duty ≡ get_or before k 0 + due_in (base + k + 1) duty
+added_at : (base : ℕ) (duty : Duty) (before due : List ℕ) (at : ℕ) → IsDuty duty → length due ≡ length before → at < length due
+    → HasAdded base duty before due at → (k : ℕ) → k < at + duty.period → k < length before
+    → get_or (set due at (get_or due at 0 + duty.cost)) k 0 + due_in (base + k) duty ≡ get_or before k 0 + due_in (base + k + 1) duty
 added_at base duty before due at h long low added k high within = elim (cases_order k at) [
   | inl same ↦
       let step : due_in (base + at + 1) duty ≡ due_in (base + at) duty + duty.cost = due_step (base + at) duty h added.deadline in
@@ -72,7 +77,8 @@ added_at base duty before due at h long low added k high within = elim (cases_or
       rw get_or-set_other (omega arith)
 ]
 
-pub added_more : (base : ℕ) (duty : Duty) (before due : List ℕ) (at : ℕ) → IsDuty duty → length due ≡ length before → at < length due → HasAdded base duty before due at → HasAdded base duty before (set due at (get_or due at 0 + duty.cost)) (at + duty.period)
+pub added_more : (base : ℕ) (duty : Duty) (before due : List ℕ) (at : ℕ) → IsDuty duty → length due ≡ length before → at < length due
+    → HasAdded base duty before due at → HasAdded base duty before (set due at (get_or due at 0 + duty.cost)) (at + duty.period)
 added_more base duty before due at h long low added = record {
   deadline =
       let same : base + (at + duty.period) ≡ base + at + duty.period = omega arith in
@@ -81,5 +87,6 @@ added_more base duty before due at h long low added = record {
   ahead = λ k high within. let other : k ≢ at = omega (arith, h.recurs) in rw get_or-set_other (added.ahead k (omega arith) within);
 }
 
-pub added_bound : (base : ℕ) (duty : Duty) (before due : List ℕ) (at k : ℕ) → IsDuty duty → HasAdded base duty before due at → k < at → k < length before → get_or due k 0 ≤ get_or before k 0 + LONGEST
+pub added_bound : (base : ℕ) (duty : Duty) (before due : List ℕ) (at k : ℕ) → IsDuty duty → HasAdded base duty before due at → k < at → k < length before
+    → get_or due k 0 ≤ get_or before k 0 + LONGEST
 added_bound base duty before due at k h added low within = omega (arith, added.done k low within, due_slow (base + k) duty h)

@@ -27,7 +27,8 @@ share_step share k releases period cost scale long part =
 
 -- a share of the window is within the cost of each release
 share_within : (cost scale k period : ℕ) → 1 ≤ period → cost * scale / period * k ≤ cost * div_ceil k period * scale
-share_within cost scale k period positive = share_step (cost * scale / period) k (div_ceil k period) period cost scale (covers k period positive) (div-mul-le_self (cost * scale) period)
+share_within cost scale k period positive =
+    share_step (cost * scale / period) k (div_ceil k period) period cost scale (covers k period positive) (div-mul-le_self (cost * scale) period)
 
 -- so is either where the duty's period is not 0
 duty_floor : (window k : ℕ) (duty : Duty) → 1 ≤ window → window ≤ k → once_in window duty * SCALE + share_in window duty * k ≤ asked_in k duty * SCALE
@@ -45,28 +46,37 @@ duty_floor window k duty some long = elim (cases_lt duty.period window) [
 both_floors : (a b c x y z scale k : ℕ) → a * scale + b * k ≤ c * scale → x * scale + y * k ≤ z * scale → (a + x) * scale + (b + y) * k ≤ (c + z) * scale
 both_floors a b c x y z scale k one rest = grind arith
 
-floor_within : (window k : ℕ) (duties : List Duty) → 1 ≤ window → window ≤ k → sum_by (once_in window) duties * SCALE + sum_by (share_in window) duties * k ≤ sum_by (asked_in k) duties * SCALE
+floor_within : (window k : ℕ) (duties : List Duty) → 1 ≤ window → window ≤ k
+    → sum_by (once_in window) duties * SCALE + sum_by (share_in window) duties * k ≤ sum_by (asked_in k) duties * SCALE
 floor_within window k [] some long = omega arith
 floor_within window k (duty ∷ duties) some long =
     rw (sum_by-cons (once_in window) duty duties, sum_by-cons (share_in window) duty duties, sum_by-cons (asked_in k) duty duties)
-    (both_floors (once_in window duty) (share_in window duty) (asked_in k duty) (sum_by (once_in window) duties) (sum_by (share_in window) duties) (sum_by (asked_in k) duties) SCALE k (duty_floor window k duty some long) (floor_within window k duties some long))
+    (both_floors (once_in window duty) (share_in window duty) (asked_in k duty) (sum_by (once_in window) duties) (sum_by (share_in window) duties)
+    (sum_by (asked_in k) duties) SCALE k (duty_floor window k duty some long) (floor_within window k duties some long))
 
-three_floors : (own a x b y c z scale k : ℕ) → a * scale + b * k ≤ c * scale → x * scale + y * k ≤ z * scale → (own + a + x) * scale + (b + y) * k ≤ (own + c + z) * scale
+three_floors : (own a x b y c z scale k : ℕ) → a * scale + b * k ≤ c * scale → x * scale + y * k ≤ z * scale
+    → (own + a + x) * scale + (b + y) * k ≤ (own + c + z) * scale
 three_floors own a x b y c z scale k one rest = grind arith
 
 split_product : (k m n : ℕ) → k * (m + n) ≡ k * m + n * k
 split_product k m n = grind arith
 
 -- what one duty needs, by the floors of the others before and behind it
-pub need_floor : (duties : List Duty) (place window k : ℕ) (own : Duty) → place < length duties → own ≡ get_or duties place own → 1 ≤ window → window ≤ k → (own.cost + own.blocking + once_of window own.priority (take place duties) + once_of window own.priority (drop (place + 1) duties)) * SCALE + (share_of window own.priority (take place duties) + share_of window own.priority (drop (place + 1) duties)) * k ≤ need duties place k * SCALE
+pub need_floor : (duties : List Duty) (place window k : ℕ) (own : Duty) → place < length duties → own ≡ get_or duties place own → 1 ≤ window → window ≤ k
+    → (own.cost + own.blocking + once_of window own.priority (take place duties) + once_of window own.priority (drop (place + 1) duties)) * SCALE
+    + (share_of window own.priority (take place duties) + share_of window own.priority (drop (place + 1) duties)) * k
+    ≤ need duties place k * SCALE
 need_floor duties place window k own low e some long =
     let before = floor_within window k (filter (λ duty. nat_le own.priority duty.priority) (take place duties)) some long in
     let behind = floor_within window k (filter (λ duty. nat_le own.priority duty.priority) (drop (place + 1) duties)) some long in
     rw (need_is duties place k own low e)
-    (three_floors (own.cost + own.blocking) (once_of window own.priority (take place duties)) (once_of window own.priority (drop (place + 1) duties)) (share_of window own.priority (take place duties)) (share_of window own.priority (drop (place + 1) duties)) (interference k own.priority (take place duties)) (interference k own.priority (drop (place + 1) duties)) SCALE k before behind)
+    (three_floors (own.cost + own.blocking) (once_of window own.priority (take place duties)) (once_of window own.priority (drop (place + 1) duties))
+    (share_of window own.priority (take place duties)) (share_of window own.priority (drop (place + 1) duties))
+    (interference k own.priority (take place duties)) (interference k own.priority (drop (place + 1) duties)) SCALE k before behind)
 
 -- a window that is enough is no shorter than the floor over what the share leaves
-pub long_enough : (once share k asked scale : ℕ) → once * scale + share * k ≤ asked * scale → asked ≤ k → share < scale → div_ceil (once * scale) (scale - share) ≤ k
+pub long_enough : (once share k asked scale : ℕ) → once * scale + share * k ≤ asked * scale → asked ≤ k → share < scale
+    → div_ceil (once * scale) (scale - share) ≤ k
 long_enough once share k asked scale floor enough less =
     let all : asked * scale ≤ k * scale = mul-le-mul_right scale enough in
     let parts : scale ≡ (scale - share) + share = omega arith in
@@ -82,7 +92,9 @@ never_enough once share k asked scale floor enough full some positive =
     grind arith
 
 -- windows below what is needed in one, or below a floor from it on, are not enough
-pub passed : (duties : List Duty) (place window needed shortest next : ℕ) → ((k : ℕ) → 1 ≤ k → k < window → ¬ (IsEnough duties place k)) → needed ≡ need duties place window → window < needed → ((k : ℕ) → window ≤ k → k < shortest → ¬ (IsEnough duties place k)) → next ≡ max needed shortest → (k : ℕ) → 1 ≤ k → k < next → ¬ (IsEnough duties place k)
+pub passed : (duties : List Duty) (place window needed shortest next : ℕ) → ((k : ℕ) → 1 ≤ k → k < window → ¬ (IsEnough duties place k))
+    → needed ≡ need duties place window → window < needed → ((k : ℕ) → window ≤ k → k < shortest → ¬ (IsEnough duties place k)) → next ≡ max needed shortest
+    → (k : ℕ) → 1 ≤ k → k < next → ¬ (IsEnough duties place k)
 passed duties place window needed shortest next before is more floor greatest k some below enough = elim (cases_lt k window) [
   | inl early ↦ before k some early enough
   | inr late ↦ elim (cases_lt k shortest) [

@@ -1,9 +1,11 @@
 -- What a table says: its duties, or its first line that is refused.
-use Rattle.std.specs.Prelude.{◌≡◌, ℕ, ◌+◌, ◌==◌, ◌&&◌, ◌||◌, not, Bool, true, false, nat_le, nat_lt, if◌then◌else◌, List, [], ◌∷◌, ◌++◌, length, take, Option, Some, None, Result, Ok, Err}
+use Rattle.std.specs.Prelude.{◌≡◌, ℕ, ◌+◌, ◌==◌, ◌&&◌, ◌||◌, not, Bool, true, false, nat_le, nat_lt, if◌then◌else◌}
+use Rattle.std.specs.Prelude.{List, [], ◌∷◌, ◌++◌, length, take, Option, Some, None, Result, Ok, Err}
 use Rattle.std.specs.List.{list_all, list_any, fold}
 use Rattle.std.specs.Char.{is_ascii_digit, is_ascii_lowercase, is_ascii_uppercase}
 use Rattle.std.specs.Str.{bytes_eq}
-use Rattle.sched_tests.specs.declared.duties.TheConstants.{TABLE_BYTES, MOST_DUTIES, NAME_LENGTH, LONGEST, MOST_PRIORITY}
+use Rattle.sched_tests.specs.declared.duties.TheConstants.{TABLE_BYTES, MOST_DUTIES}
+use Rattle.sched_tests.specs.declared.duties.TheConstants.{NAME_LENGTH, LONGEST, MOST_PRIORITY}
 use Rattle.sched_tests.specs.declared.duties.Duty.{Duty}
 use Rattle.sched_tests.specs.declared.duties.TableFault.{TableFault}
 use Rattle.sched_tests.specs.declared.duties.TableFaultKind.{TableFaultKind}

@@ -1,7 +1,9 @@
 //! The processor demand under earliest deadline first.
-ghost use Rattle.std.specs.Prelude.{◌≡◌, ◌<◌, ◌≤◌, ◌+◌, ◌*◌, ◌^◌, length, slice_index, EachIndex, IfSome};
+ghost use Rattle.std.specs.Prelude.{◌≡◌, ◌<◌, ◌≤◌, ◌+◌, ◌*◌, ◌^◌, length};
+ghost use Rattle.std.specs.Prelude.{slice_index, EachIndex, IfSome};
 ghost use Rattle.std.specs.Option.{option_map};
-ghost use Rattle.sched_tests.specs.Demand.{deadlines_in, demand, busy_demand, IsOver, IsFirstOver, first_over_of, IsBusyPeriod, busy_of, NeverOverBeyond};
+ghost use Rattle.sched_tests.specs.Demand.{deadlines_in, demand, busy_demand, IsOver, IsFirstOver};
+ghost use Rattle.sched_tests.specs.Demand.{first_over_of, IsBusyPeriod, busy_of, NeverOverBeyond};
 ghost use Rattle.sched_tests.specs.Chunks.{HasDueOf, HasDue, IsChunkEnd};
 ghost use Rattle.sched_tests.specs.Least.{IsNever};
 ghost use Rattle.sched_tests.specs.Tables.{IsDuty, IsTable};
@@ -55,9 +57,9 @@ fn busy_window(duties: &[Duty]) -> Option<u32>
     None
 }
 
-/// The length of the busy period: the least window from 1 to 10,000,000 in which no more is asked for
-/// than there is time for. None exactly where there is none. Where no window up to it is overrun, no
-/// window of any length is.
+/// The length of the busy period: the least window from 1 to 10,000,000 in which no more is asked
+/// for than there is time for. None exactly where there is none. Where no window up to it is
+/// overrun, no window of any length is.
 pub fn busy(table: &Table) -> Option<u32>
     ensures least { IsBusyPeriod table.now result }
     ensures same { result ≡ busy_of table.now }
@@ -152,8 +154,8 @@ fn first_overrun(duties: &[Duty]) -> Option<(u32, u64)>
     None
 }
 
-/// The least window from 1 to 10,000,000 in which more has to be done than there is time for, and its
-/// demand. None exactly where there is none.
+/// The least window from 1 to 10,000,000 in which more has to be done than there is time for, and
+/// its demand. None exactly where there is none.
 pub fn first_over(table: &Table) -> Option<(u32, u64)>
     ensures least { IsFirstOver table.now (option_map (λ over. over.0) result) }
     ensures same { option_map (λ over. over.0) result ≡ first_over_of table.now }

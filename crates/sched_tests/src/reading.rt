@@ -3,7 +3,9 @@ ghost use Rattle.std.specs.Prelude.{◌≡◌, ◌≤◌, [], length, MatchOptio
 ghost use Rattle.std.specs.List.{list_all};
 ghost use Rattle.ann_base.specs.Answers.{Answers, AnswersAs};
 ghost use Rattle.text_lines.specs.Lines.{line_in, words_of};
-ghost use Rattle.sched_tests.specs.Reading.{is_name_byte, is_name, words_in, are_fields, six_words, duty_in, duty_of, is_taken, is_silent, with_duty, at_line, read_line, table_of};
+ghost use Rattle.sched_tests.specs.Reading.{is_name_byte, is_name, words_in, are_fields};
+ghost use Rattle.sched_tests.specs.Reading.{six_words, duty_in, duty_of, is_taken, is_silent};
+ghost use Rattle.sched_tests.specs.Reading.{with_duty, at_line, read_line, table_of};
 ghost use Rattle.sched_tests.specs.Tables.{IsDuty, IsTable};
 
 use crate::duties::{
@@ -186,8 +188,8 @@ fn read_line(duties: &mut Vec<Duty>, line: TextLine<'_>) -> Result<(), OrMemory<
     }
 }
 
-/// The table that these bytes say. A fault is that of the first line that is refused, or that there is
-/// no duty.
+/// The table that these bytes say. A fault is that of the first line that is refused, or that there
+/// is no duty.
 pub fn read_table(alloc: Global, bytes: &[u8]) -> Result<Table, OrMemory<TableFault>>
     ensures exact { Answers result (table_of bytes.now) }
     ensures limits { IfOk result IsTable }

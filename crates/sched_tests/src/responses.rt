@@ -1,6 +1,7 @@
 //! Response times under fixed priorities.
 ghost use Rattle.std.specs.Prelude.{◌≡◌, ℕ, ◌<◌, ◌≤◌, ◌+◌, ◌*◌, drop, length, nat_le};
-ghost use Rattle.sched_tests.specs.Response.{asked_in, interference, need, IsEnough, IsResponse, response_of};
+ghost use Rattle.sched_tests.specs.Response.{asked_in, interference, need};
+ghost use Rattle.sched_tests.specs.Response.{IsEnough, IsResponse, response_of};
 ghost use Rattle.sched_tests.specs.Floors.{once_of, share_of};
 ghost use Rattle.sched_tests.specs.Tables.{IsDuty, IsTable};
 
@@ -96,7 +97,8 @@ fn floor_of(duties: &[Duty], priority: u8, window: u32) -> Floor
 }
 
 /// A length below which no window from this one on is enough for the duty at this place. Where the
-/// duties above it take almost the whole processor, it lies far beyond what is needed in the window.
+/// duties above it take almost the whole processor, it lies far beyond what is needed in the
+/// window.
 fn shortest_from(duties: &[Duty], place: usize, window: u32) -> u64
     requires table { IsTable duties.now }
     requires place { place < length duties.now }
@@ -138,8 +140,9 @@ fn least_enough(duties: &[Duty], place: usize) -> Option<u32>
     None
 }
 
-/// The response time of the duty at this place: the least window, of at most its deadline, that is no
-/// shorter than what is needed in it. None exactly where there is none: it may miss its deadline.
+/// The response time of the duty at this place: the least window, of at most its deadline, that is
+/// no shorter than what is needed in it. None exactly where there is none: it may miss its
+/// deadline.
 pub fn response(table: &Table, place: u32) -> Option<u32>
     requires { place < length table.now }
     ensures least { IsResponse table.now place result }

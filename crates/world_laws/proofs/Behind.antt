@@ -23,7 +23,8 @@ BehindMove G before lines after = G after
 abbrev pub Turns : GoodWorld → GoodWorld → Step → Type 0
 Turns X Y step = Keeps X (Behind Y) step
 
-turned-kept : (Y Z : GoodWorld) (w v : World) (said ys : List Said) (d : Done) → Kept (Behind Y) w said (done v ys) → Kept (Behind Z) v ys d → Kept (Behind Z) w said d
+turned-kept : (Y Z : GoodWorld) (w v : World) (said ys : List Said) (d : Done) → Kept (Behind Y) w said (done v ys) → Kept (Behind Z) v ys d
+    → Kept (Behind Z) w said d
 unfolding Kept
 turned-kept Y Z w v said ys (done u zs) a b = (a.0 ++ b.0, b.1 ∙ ap (λ xs. xs ++ b.0) a.1 ∙ append_assoc said a.0 b.0, b.2)
 
@@ -31,7 +32,8 @@ kept-holds : (Y : GoodWorld) (w v : World) (said ys : List Said) → Kept (Behin
 unfolding Kept
 kept-holds Y w v said ys a = a.2
 
-then_turn-kept : (Y Z : GoodWorld) (g : Step) (w : World) (said : List Said) (d : Done) → Kept (Behind Y) w said d → Turns Y Z g → Kept (Behind Z) w said (goes_on_with g d)
+then_turn-kept : (Y Z : GoodWorld) (g : Step) (w : World) (said : List Said) (d : Done) → Kept (Behind Y) w said d → Turns Y Z g
+    → Kept (Behind Z) w said (goes_on_with g d)
 unfolding Keeps
 then_turn-kept Y Z g w said (done v ys) a b = turned-kept Y Z w v said ys (g v ys) a (b v (kept-holds Y w v said ys a) ys)
 
@@ -88,7 +90,8 @@ pub says-turns : (X : GoodWorld) (part : Part) (line : Line) → Turns X X (says
 unfolding Keeps Kept
 says-turns X part line w h said = (record { part = part; line = line } ∷ [], refl, h)
 
-for_found-turns : (X Y : GoodWorld) (found : Option Call) (f : Call → Step) → ((w : World) → X w → Y w) → ((d : Call) → Turns X Y (f d)) → Turns X Y (for_some found f)
+for_found-turns : (X Y : GoodWorld) (found : Option Call) (f : Call → Step) → ((w : World) → X w → Y w) → ((d : Call) → Turns X Y (f d))
+    → Turns X Y (for_some found f)
 for_found-turns X Y None f over a = nothing-turns X Y over
 for_found-turns X Y (Some d) f over a = a d
 

@@ -23,7 +23,8 @@ use Rattle.profile_machine.specs.declared.world.lines.Part.TheVariants.{TheFinis
 use Rattle.profile_machine.specs.declared.world.lines.Said.{Said}
 use Rattle.profile_machine.specs.declared.world.marks.Frame.{Frame}
 use Rattle.profile_machine.specs.declared.world.marks.Mark.{Mark}
-use Rattle.profile_machine.specs.declared.world.marks.Mark.TheVariants.{Scope, Handled, InProtected, InAccept, Abortable, InInitialize, InFinalize, InAssign}
+use Rattle.profile_machine.specs.declared.world.marks.Mark.TheVariants.{Scope, Handled, InProtected, InAccept}
+use Rattle.profile_machine.specs.declared.world.marks.Mark.TheVariants.{Abortable, InInitialize, InFinalize, InAssign}
 use Rattle.profile_machine.specs.declared.world.marks.ProtectedMark.{ProtectedMark}
 use Rattle.profile_image.specs.Program.{form_of}
 use Rattle.profile_machine.specs.Steps.{Step, Move, says, changes, looks, settles, rests, watches, ◌▷◌, ◌▶◌}
@@ -33,12 +34,14 @@ use Rattle.profile_machine.specs.Calls.{with_call, enqueue}
 use Rattle.profile_machine.specs.CallEnds.{deliver}
 use Rattle.profile_machine.specs.Protected.{edit_top_protected}
 use Rattle.profile_machine.specs.Sending.{send_on}
-use Rattle.profile_machine.specs.Serving.{release_object, serve_next, with_body_left, not_left, is_own_call, outcome_by, no_longer_serves}
+use Rattle.profile_machine.specs.Serving.{release_object, serve_next, with_body_left}
+use Rattle.profile_machine.specs.Serving.{not_left, is_own_call, outcome_by, no_longer_serves}
 use Rattle.profile_machine.specs.Rendezvous.{end_in_accept}
 use Rattle.profile_machine.specs.Controlled.{end_in_initialize, end_in_finalize, end_in_assign}
 use Rattle.profile_machine.specs.Tasking.{end_scope_mark, take_terminates, unwind_all}
 use Rattle.profile_machine.specs.Act.{end_handled, end_in_abortable, act_statement, act_without, act}
-use Rattle.profile_machine.specs.Instant.{is_over, script_items, events_due, moments_due, timers_due, budgets_due, quantum_spent}
+use Rattle.profile_machine.specs.Instant.{is_over, script_items, events_due, moments_due}
+use Rattle.profile_machine.specs.Instant.{timers_due, budgets_due, quantum_spent}
 use Rattle.profile_machine.specs.Run.{Ran, opening, stop, tock, stopped, then_runs, run}
 use Rattle.machine_laws.specs.Reached.{Reached}
 

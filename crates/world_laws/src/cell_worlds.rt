@@ -1,5 +1,5 @@
-//! Cells of the scopes in use in the worlds that a run reaches: laws of the profile machine's definitions alone.
-//! Each is the contract of a function that does nothing.
+//! Cells of the scopes in use in the worlds that a run reaches: laws of the profile machine's
+//! definitions alone. Each is the contract of a function that does nothing.
 ghost use Rattle.world_laws.specs.CellWorlds.{ReachedCellsAreRight};
 
 /// In every world that a run reaches each scope in use has as many cells as its text says

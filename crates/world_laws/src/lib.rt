@@ -1,8 +1,9 @@
-//! Worlds: laws of the profile machine's definitions alone, which hold of every program, script and bound. Each is the contract of
-//! a function that does nothing.
+//! Worlds: laws of the profile machine's definitions alone, which hold of every program, script and
+//! bound. Each is the contract of a function that does nothing.
 //!
-//! `count_laws` has those that hold of worlds whether a run reaches them or not. Each of the others has one part of what a world is
-//! that a run reaches, and `formed_worlds` puts the parts together: it is well formed.
+//! `count_laws` has those that hold of worlds whether a run reaches them or not. Each of the others
+//! has one part of what a world is that a run reaches, and `formed_worlds` puts the parts together:
+//! it is well formed.
 #![tactic(auto)]
 
 mod action_worlds;

@@ -39,7 +39,8 @@ module _ {X : Type 0} (R : X → X → Type 0) (self : (x : X) → R x x) (g : T
   head-seen true d y z rest e same = subst (λ t. R (seen g (cond t (Some y) rest)) (g z)) (sym e) same
   head-seen false d y z rest e same = subst (λ t. R (seen g (cond t (Some y) rest)) (seen g rest)) (sym e) (self (seen g rest))
 
-  tail-seen : (c : Bool) (z : Task) (rest other : Option Task) → R (seen g rest) (seen g other) → R (seen g (cond c (Some z) rest)) (seen g (cond c (Some z) other))
+  tail-seen : (c : Bool) (z : Task) (rest other : Option Task) → R (seen g rest) (seen g other)
+      → R (seen g (cond c (Some z) rest)) (seen g (cond c (Some z) other))
   tail-seen true z rest other e = self (g z)
   tail-seen false z rest other e = e
 
@@ -48,18 +49,21 @@ module _ {X : Type 0} (R : X → X → Type 0) (self : (x : X) → R x x) (g : T
       → R (seen g (find (is_who name) (cond b (y ∷ zs) (z ∷ set_where (is_who n) y zs)))) (seen g (cond (is_who name z) (Some z) (find (is_who name) zs)))
   set-step name n x y z zs true e same named onward =
       let is : x ≡ z = cc in
-      head-seen (is_who name z) (is_who name y) y z (find (is_who name) zs) (ap (same_who name) (named ∙ ap (λ t. t.who) is)) (subst (λ t. R (g y) (g t)) is same)
+      head-seen (is_who name z) (is_who name y) y z (find (is_who name) zs) (ap (same_who name) (named ∙ ap (λ t. t.who) is))
+      (subst (λ t. R (g y) (g t)) is same)
   set-step name n x y z zs false e same named onward =
       tail-seen (is_who name z) z (find (is_who name) (set_where (is_who n) y zs)) (find (is_who name) zs) (onward e)
 
-  set-seen : (name n : Who) (x y : Task) (xs : List Task) → find (is_who n) xs ≡ Some x → R (g y) (g x) → y.who ≡ x.who → R (seen g (find (is_who name) (set_where (is_who n) y xs))) (seen g (find (is_who name) xs))
+  set-seen : (name n : Who) (x y : Task) (xs : List Task) → find (is_who n) xs ≡ Some x → R (g y) (g x) → y.who ≡ x.who
+      → R (seen g (find (is_who name) (set_where (is_who n) y xs))) (seen g (find (is_who name) xs))
   set-seen name n x y [] e same named = self (seen g None)
   set-seen name n x y (z ∷ zs) e same named = set-step name n x y z zs (is_who n z) e same named (λ k. set-seen name n x y zs k same named)
 
   agent-seen : (before x agent : Task) → Some agent ≡ Some x → R (g before) (g x) → R (g before) (g agent)
   agent-seen before x agent e h = let is : x ≡ agent = cc in subst (λ t. R (g before) (g t)) is h
 
-  edit_found-seen : (n : Who) (f : Task → Task) (w : World) (name : Who) → ((t : Task) → R (g (f t)) (g t)) → ((t : Task) → (f t).who ≡ t.who) → (found : Option Task) → task_at w n ≡ found
+  edit_found-seen : (n : Who) (f : Task → Task) (w : World) (name : Who) → ((t : Task) → R (g (f t)) (g t)) → ((t : Task) → (f t).who ≡ t.who)
+      → (found : Option Task) → task_at w n ≡ found
       → R (g (task_of (edit_task_found n f w found) name)) (g (task_of w name))
   edit_found-seen n f w name same named None is = self (g (task_of w name))
   edit_found-seen (who.Task k) f w (who.Task m) same named (Some x) is = set-seen (who.Task m) (who.Task k) x (f x) w.tasks is (same x) (named x)
@@ -67,10 +71,12 @@ module _ {X : Type 0} (R : X → X → Type 0) (self : (x : X) → R x x) (g : T
   edit_found-seen who.Agent f w (who.Task m) same named (Some x) is = self (g (task_of w (who.Task m)))
   edit_found-seen who.Agent f w who.Agent same named (Some x) is = agent-seen (f x) x w.agent is (same x)
 
-  pub edit_task-related : (n : Who) (f : Task → Task) (w : World) (name : Who) → ((t : Task) → R (g (f t)) (g t)) → ((t : Task) → (f t).who ≡ t.who) → R (g (task_of (edit_task n f w) name)) (g (task_of w name))
+  pub edit_task-related : (n : Who) (f : Task → Task) (w : World) (name : Who) → ((t : Task) → R (g (f t)) (g t)) → ((t : Task) → (f t).who ≡ t.who)
+      → R (g (task_of (edit_task n f w) name)) (g (task_of w name))
   edit_task-related n f w name same named = edit_found-seen n f w name same named (task_at w n) refl
 
-pub edit_task-seen : {X : Type 0} (g : Task → X) (n : Who) (f : Task → Task) (w : World) (name : Who) → ((t : Task) → g (f t) ≡ g t) → ((t : Task) → (f t).who ≡ t.who) → g (task_of (edit_task n f w) name) ≡ g (task_of w name)
+pub edit_task-seen : {X : Type 0} (g : Task → X) (n : Who) (f : Task → Task) (w : World) (name : Who) → ((t : Task) → g (f t) ≡ g t)
+    → ((t : Task) → (f t).who ≡ t.who) → g (task_of (edit_task n f w) name) ≡ g (task_of w name)
 edit_task-seen g n f w name same named = edit_task-related (λ a b. a ≡ b) (λ x. refl) g n f w name same named
 
 -- ---- and of all others nothing changes
@@ -81,7 +87,8 @@ same-as (who.Task x) who.Agent other e = absurd cc
 same-as who.Agent (who.Task y) other e = absurd cc
 same-as who.Agent who.Agent other e = refl
 
-found-step : (n : Who) (z x : Task) (rest : Option Task) (b : Bool) → is_who n z ≡ b → cond b (Some z) rest ≡ Some x → (rest ≡ Some x → is_who n x ≡ true) → is_who n x ≡ true
+found-step : (n : Who) (z x : Task) (rest : Option Task) (b : Bool) → is_who n z ≡ b → cond b (Some z) rest ≡ Some x → (rest ≡ Some x → is_who n x ≡ true)
+    → is_who n x ≡ true
 found-step n z x rest true is e onward = let same : z ≡ x = cc in subst (λ t. is_who n t ≡ true) same is
 found-step n z x rest false is e onward = onward e
 
@@ -89,12 +96,15 @@ found-is : (n : Who) (xs : List Task) (x : Task) → find (is_who n) xs ≡ Some
 found-is n [] x e = absurd cc
 found-is n (z ∷ zs) x e = found-step n z x (find (is_who n) zs) (is_who n z) refl e (λ k. found-is n zs x k)
 
-other-step : (other : Who) (y z : Task) (zs others : List Task) (b : Bool) → is_who other y ≡ false → (b ≡ true → is_who other z ≡ false) → find (is_who other) others ≡ find (is_who other) zs
+other-step : (other : Who) (y z : Task) (zs others : List Task) (b : Bool) → is_who other y ≡ false → (b ≡ true → is_who other z ≡ false)
+    → find (is_who other) others ≡ find (is_who other) zs
     → find (is_who other) (cond b (y ∷ zs) (z ∷ others)) ≡ cond (is_who other z) (Some z) (find (is_who other) zs)
-other-step other y z zs others true p q e = ap (λ t. cond t (Some y) (find (is_who other) zs)) p ∙ sym (ap (λ t. cond t (Some z) (find (is_who other) zs)) (q refl))
+other-step other y z zs others true p q e =
+    ap (λ t. cond t (Some y) (find (is_who other) zs)) p ∙ sym (ap (λ t. cond t (Some z) (find (is_who other) zs)) (q refl))
 other-step other y z zs others false p q e = ap (λ r. cond (is_who other z) (Some z) r) e
 
-set-other : (n other : Who) (y : Task) (xs : List Task) → same_who other n ≡ false → is_who other y ≡ false → find (is_who other) (set_where (is_who n) y xs) ≡ find (is_who other) xs
+set-other : (n other : Who) (y : Task) (xs : List Task) → same_who other n ≡ false → is_who other y ≡ false
+    → find (is_who other) (set_where (is_who n) y xs) ≡ find (is_who other) xs
 set-other n other y [] apart p = refl
 set-other n other y (z ∷ zs) apart p =
     other-step other y z zs (set_where (is_who n) y zs) (is_who n z) p (λ e. same-as n z.who other e ∙ apart) (set-other n other y zs apart p)
@@ -102,16 +112,19 @@ set-other n other y (z ∷ zs) apart p =
 never : {P : Type 0} → true ≡ false → P
 never e = absurd cc
 
-edit_found-other : (n : Who) (f : Task → Task) (w : World) (other : Who) → same_who other n ≡ false → ((t : Task) → (f t).who ≡ t.who) → (found : Option Task) → task_at w n ≡ found → task_of (edit_task_found n f w found) other ≡ task_of w other
+edit_found-other : (n : Who) (f : Task → Task) (w : World) (other : Who) → same_who other n ≡ false → ((t : Task) → (f t).who ≡ t.who) → (found : Option Task)
+    → task_at w n ≡ found → task_of (edit_task_found n f w found) other ≡ task_of w other
 edit_found-other n f w other apart named None is = refl
 edit_found-other (who.Task k) f w (who.Task m) apart named (Some x) is =
-    let out : is_who (who.Task m) (f x) ≡ false = ap (same_who (who.Task m)) (named x) ∙ same-as (who.Task k) x.who (who.Task m) (found-is (who.Task k) w.tasks x is) ∙ apart in
+    let out : is_who (who.Task m) (f x) ≡ false =
+    ap (same_who (who.Task m)) (named x) ∙ same-as (who.Task k) x.who (who.Task m) (found-is (who.Task k) w.tasks x is) ∙ apart in
     ap (λ found. unwrap_or found nobody) (set-other (who.Task k) (who.Task m) (f x) w.tasks apart out)
 edit_found-other (who.Task k) f w who.Agent apart named (Some x) is = refl
 edit_found-other who.Agent f w (who.Task m) apart named (Some x) is = refl
 edit_found-other who.Agent f w who.Agent apart named (Some x) is = never apart
 
-pub edit_task-other : (n : Who) (f : Task → Task) (w : World) (other : Who) → same_who other n ≡ false → ((t : Task) → (f t).who ≡ t.who) → task_of (edit_task n f w) other ≡ task_of w other
+pub edit_task-other : (n : Who) (f : Task → Task) (w : World) (other : Who) → same_who other n ≡ false → ((t : Task) → (f t).who ≡ t.who)
+    → task_of (edit_task n f w) other ≡ task_of w other
 edit_task-other n f w other apart named = edit_found-other n f w other apart named (task_at w n) refl
 
 -- ---- levels
@@ -129,7 +142,8 @@ same-self p w = record { levels = λ name. refl; objects = refl }
 same-then : (p : Image) (a b c : World) → Same p a b → Same p b c → Same p a c
 same-then p a b c h k = record { levels = λ name. k.levels name ∙ h.levels name; objects = k.objects ∙ h.objects }
 
-same-edit : (p : Image) (n : Who) (f : Task → Task) (w : World) → ((t : Task) → levels_in p (f t) ≡ levels_in p t) → ((t : Task) → (f t).who ≡ t.who) → Same p w (edit_task n f w)
+same-edit : (p : Image) (n : Who) (f : Task → Task) (w : World) → ((t : Task) → levels_in p (f t) ≡ levels_in p t) → ((t : Task) → (f t).who ≡ t.who)
+    → Same p w (edit_task n f w)
 same-edit p n f w same named = record { levels = λ name. edit_task-seen (levels_in p) n f w name same named; objects = edit_task-objects n f w }
 
 -- ---- one tick is charged
@@ -162,7 +176,8 @@ same-charge p (who.Task t) w =
     let clock = charge_clock t w in
     let group = charge_group t clock in
     same-then p w group (charge_task p t w) (same-then p w clock group (same-clock p t w) (same-group p t clock))
-    (same-edit p (who.Task t) (quantum_spent_by p) group (λ x. spent-levels p (is_robin_level p x.base) (x.quantum - 1) x) (λ x. spent-who (is_robin_level p x.base) (x.quantum - 1) x))
+    (same-edit p (who.Task t) (quantum_spent_by p) group (λ x. spent-levels p (is_robin_level p x.base) (x.quantum - 1) x)
+    (λ x. spent-who (is_robin_level p x.base) (x.quantum - 1) x))
 
 -- ---- the lines of a tock, and the release that the agent takes up
 
@@ -170,7 +185,8 @@ said-run : (p : Image) (b : Bool) (name : Who) (w : World) → Same p w (cond b 
 said-run p true name w = same-self p w
 said-run p false name w = same-self p w
 
-served : (p : Image) (serving : Option Release) (frames : List Frame) (releases : List Release) (w : World) → Same p w (serve_if_free serving frames releases w).0
+served : (p : Image) (serving : Option Release) (frames : List Frame) (releases : List Release) (w : World)
+    → Same p w (serve_if_free serving frames releases w).0
 served p None [] [] w = same-self p w
 served p None [] (r ∷ rest) w = record { levels = λ name. refl; objects = refl }
 served p None (f ∷ fs) releases w = same-self p w

@@ -18,5 +18,6 @@ objects_are_told p l u w said =
     let made = with_object p l u w in
     let n : ObjectNo = record { 0 = suc w.drawn.objects } in
     let new = new_object p l u (suc w.drawn.objects) in
-    let same : ceiling_of (object_of made n) ≡ (protected_unit_of p u).ceiling = ap (λ (t : Bool). ceiling_of (cond t (Some new) (find (is_object n) w.objects))) (eq-eqb (suc w.drawn.objects) (suc w.drawn.objects) refl) in
+    let same : ceiling_of (object_of made n) ≡ (protected_unit_of p u).ceiling =
+    ap (λ (t : Bool). ceiling_of (cond t (Some new) (find (is_object n) w.objects))) (eq-eqb (suc w.drawn.objects) (suc w.drawn.objects) refl) in
     ap (λ (c : ℕ). done made (said ++ record { part = Own; line = line.New (created.Object n) (Some l.declared) c } ∷ [])) (sym same)

@@ -24,7 +24,15 @@ pub record Core : Type 0 where
   pub deadline : ℤ
 
 abbrev pub core : Task → Core
-core t = record { who = t.who; state = t.state; base = t.base; inherited = t.inherited; kept_level = t.kept_level; deferred_base = t.deferred_base; deadline = t.deadline }
+core t = record {
+  who = t.who;
+  state = t.state;
+  base = t.base;
+  inherited = t.inherited;
+  kept_level = t.kept_level;
+  deferred_base = t.deferred_base;
+  deadline = t.deadline;
+}
 
 -- somebody made this call, if it is there
 abbrev pub CallerIn : List Call → ℕ → CallNo → Who → Type 0

@@ -29,7 +29,8 @@ pub record Silences (X : State) : Type 0 where
 -- the same, and by who waits and becomes ready, or inherits a priority, but by its activation
 pub record BaseMoves (p : Image) (Fits : Fitting) (Sleeps : Sleeping) (X : State) : Type 0 where
   pub quiet : Silences X
-  pub inherits : (name : Who) (cause : Cause) (level : ℕ) (w : World) (said : List Said) → same_cause inherited_by.Activation cause ≡ false → Sleeps w name → X w said → X (inherit name cause level w) said
+  pub inherits : (name : Who) (cause : Cause) (level : ℕ) (w : World) (said : List Said) → same_cause inherited_by.Activation cause ≡ false → Sleeps w name
+      → X w said → X (inherit name cause level w) said
   pub sleeps : (w : World) (name : Who) → is_blocked (task_of w name).state ≡ true → Sleeps w name
   pub sleeps_on : (a b : World) (name : Who) → Same a b → Sleeps a name → Sleeps b name
   pub sleeps_behind : (id : ScopeId) (w : World) (name : Who) → Sleeps w name → Sleeps (end_scope id w) name

@@ -30,12 +30,29 @@ same_then a b c h k = record {
 
 -- ---- a task that is edited, and an object
 
-edit_found-same : (name : Who) (f : Task → Task) (w : World) (found : Option Task) → task_at w name ≡ found → ((t : Task) → core (f t) ≡ core t) → Same w (edit_task_found name f w found)
+edit_found-same : (name : Who) (f : Task → Task) (w : World) (found : Option Task) → task_at w name ≡ found → ((t : Task) → core (f t) ≡ core t)
+    → Same w (edit_task_found name f w found)
 edit_found-same name f w None is same = same_self w
-edit_found-same (who.Task n) f w (Some t) is same = record { tasks = set_where-seen core (is_who (who.Task n)) t (f t) w.tasks is (same t); agent = refl; objects = refl; drawn_tasks = refl; drawn_objects = refl; callers = λ c n k. k; delays = λ u e. e }
+edit_found-same (who.Task n) f w (Some t) is same = record {
+  tasks = set_where-seen core (is_who (who.Task n)) t (f t) w.tasks is (same t);
+  agent = refl;
+  objects = refl;
+  drawn_tasks = refl;
+  drawn_objects = refl;
+  callers = λ c n k. k;
+  delays = λ u e. e;
+}
 edit_found-same who.Agent f w (Some t) is same =
     let one : w.agent ≡ t = cc in
-    record { tasks = refl; agent = same t ∙ ap core (sym one); objects = refl; drawn_tasks = refl; drawn_objects = refl; callers = λ c n k. k; delays = λ u e. e }
+    record {
+      tasks = refl;
+      agent = same t ∙ ap core (sym one);
+      objects = refl;
+      drawn_tasks = refl;
+      drawn_objects = refl;
+      callers = λ c n k. k;
+      delays = λ u e. e;
+    }
 
 pub edit_task-same : (name : Who) (f : Task → Task) (w : World) → ((t : Task) → core (f t) ≡ core t) → Same w (edit_task name f w)
 edit_task-same name f w same = edit_found-same name f w (task_at w name) refl same

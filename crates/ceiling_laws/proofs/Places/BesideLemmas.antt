@@ -69,8 +69,10 @@ puts-apart n _ e = refl
 pub unsaid : (n : Who) (said : List Said) (part : Part) (x : Line) → puts n x ≡ None → last_put n (said ++ said_so part x ∷ []) ≡ last_put n said
 unsaid n said part x e = last_put-append n said (said_so part x) ∙ ap (with_put (last_put n said) part) e ∙ with-none (last_put n said) part
 
-own-placed : (part : Part) (place : Option ℕ) (level : ℕ) (shown : Option ℕ) → part ≡ Own → Lowly level shown (cond (is_part_before Own part) (Some (part, place)) (Some (Own, Some level)))
-own-placed part place level shown is = subst (λ q. Lowly level shown (cond (is_part_before Own q) (Some (q, place)) (Some (Own, Some level)))) (sym is) (refl, le_refl level)
+own-placed : (part : Part) (place : Option ℕ) (level : ℕ) (shown : Option ℕ) → part ≡ Own
+    → Lowly level shown (cond (is_part_before Own part) (Some (part, place)) (Some (Own, Some level)))
+own-placed part place level shown is =
+    subst (λ q. Lowly level shown (cond (is_part_before Own q) (Some (q, place)) (Some (Own, Some level)))) (sym is) (refl, le_refl level)
 
 placed-so : (last : Option (Part × Option ℕ)) (level : ℕ) (shown : Option ℕ) → OwnPut last → Lowly level shown (with_put last Own (Some (Some level)))
 placed-so None level shown own = (refl, le_refl level)
@@ -98,30 +100,42 @@ module _ (p : Image) (s : Levels) where
     ends_scope = λ id w said h. low-same w (end_scope id w) said (λ n. active-plain p w (end_scope id w) n refl refl) h;
   }
 
-  low-inherits : (name : Who) (cause : Cause) (level : ℕ) (w : World) (said : List Said) → same_cause inherited_by.Activation cause ≡ false → Low p s w said → Low p s (inherit name cause level w) said
+  low-inherits : (name : Who) (cause : Cause) (level : ℕ) (w : World) (said : List Said) → same_cause inherited_by.Activation cause ≡ false → Low p s w said
+      → Low p s (inherit name cause level w) said
   unfolding Low
-  low-inherits name cause level w said other h = λ n. lowly-risen (level_shown n s) (last_put n said) (active_of p w n) (active_of p (inherit name cause level w) n) (inherit-rises p name cause level w n) (h n)
+  low-inherits name cause level w said other h =
+      λ n. lowly-risen (level_shown n s) (last_put n said) (active_of p w n) (active_of p (inherit name cause level w) n) (inherit-rises p name cause level w n)
+      (h n)
 
   -- somebody is placed in a world in which all others are as they were
-  own-line : (name : Who) (end : QueueEnd) (deadline : Option ℤ) (w : World) (said : List Said) → OwnPut (last_put name said) → Lowly (active_of p w name) (level_shown name s) (last_put name (said ++ said_so Own (line.Ready name (active_of p w name) end deadline) ∷ []))
+  own-line : (name : Who) (end : QueueEnd) (deadline : Option ℤ) (w : World) (said : List Said) → OwnPut (last_put name said)
+      → Lowly (active_of p w name) (level_shown name s) (last_put name (said ++ said_so Own (line.Ready name (active_of p w name) end deadline) ∷ []))
   own-line name end deadline w said own =
       let x = line.Ready name (active_of p w name) end deadline in
-      subst (Lowly (active_of p w name) (level_shown name s)) (sym (last_put-append name said (said_so Own x) ∙ ap (with_put (last_put name said) Own) (ready-puts name (active_of p w name) end deadline)))
+      subst (Lowly (active_of p w name) (level_shown name s))
+      (sym (last_put-append name said (said_so Own x) ∙ ap (with_put (last_put name said) Own) (ready-puts name (active_of p w name) end deadline)))
       (placed-so (last_put name said) (active_of p w name) (level_shown name s) own)
 
-  other-line : (n name : Who) (end : QueueEnd) (level : ℕ) (deadline : Option ℤ) (a b : World) (said : List Said) → same_who n name ≡ false → active_of p b n ≡ active_of p a n → Lowly (active_of p a n) (level_shown n s) (last_put n said) → Lowly (active_of p b n) (level_shown n s) (last_put n (said ++ said_so Own (line.Ready name level end deadline) ∷ []))
+  other-line : (n name : Who) (end : QueueEnd) (level : ℕ) (deadline : Option ℤ) (a b : World) (said : List Said) → same_who n name ≡ false
+      → active_of p b n ≡ active_of p a n → Lowly (active_of p a n) (level_shown n s) (last_put n said)
+      → Lowly (active_of p b n) (level_shown n s) (last_put n (said ++ said_so Own (line.Ready name level end deadline) ∷ []))
   other-line n name end level deadline a b said apart same h =
-      subst (Lowly (active_of p b n) (level_shown n s)) (sym (unsaid n said Own (line.Ready name level end deadline) (ready-other n name level end deadline apart)))
+      subst (Lowly (active_of p b n) (level_shown n s))
+      (sym (unsaid n said Own (line.Ready name level end deadline) (ready-other n name level end deadline apart)))
       (subst (λ l. Lowly l (level_shown n s) (last_put n said)) (sym same) h)
 
-  line-placed : (name : Who) (end : QueueEnd) (deadline : Option ℤ) (a b : World) (said : List Said) → ((n : Who) → same_who n name ≡ false → active_of p b n ≡ active_of p a n) → Low p s a said → Low p s b (said ++ said_so Own (line.Ready name (active_of p b name) end deadline) ∷ [])
+  line-placed : (name : Who) (end : QueueEnd) (deadline : Option ℤ) (a b : World) (said : List Said)
+      → ((n : Who) → same_who n name ≡ false → active_of p b n ≡ active_of p a n) → Low p s a said
+      → Low p s b (said ++ said_so Own (line.Ready name (active_of p b name) end deadline) ∷ [])
   unfolding Low
   line-placed name end deadline a b said others h = λ n.
       by_test (same_who n name)
-      (λ t. subst (λ k. Lowly (active_of p b k) (level_shown k s) (last_put k (said ++ said_so Own (line.Ready name (active_of p b name) end deadline) ∷ []))) (sym (who-is n name t)) (own-line name end deadline b said (h name).0))
+      (λ t. subst (λ k. Lowly (active_of p b k) (level_shown k s) (last_put k (said ++ said_so Own (line.Ready name (active_of p b name) end deadline) ∷ [])))
+      (sym (who-is n name t)) (own-line name end deadline b said (h name).0))
       (λ apart. other-line n name end (active_of p b name) deadline a b said apart (others n apart) (h n))
 
-  says_ready-low : (name : Who) (end : QueueEnd) (a b : World) (said : List Said) → ((n : Who) → same_who n name ≡ false → active_of p b n ≡ active_of p a n) → Low p s a said → Ends (Low p s) (says_ready p Own name end b said)
+  says_ready-low : (name : Who) (end : QueueEnd) (a b : World) (said : List Said) → ((n : Who) → same_who n name ≡ false → active_of p b n ≡ active_of p a n)
+      → Low p s a said → Ends (Low p s) (says_ready p Own name end b said)
   unfolding says_ready Ends
   says_ready-low name end a b said others h = line-placed name end (deadline_shown p (task_of b name)) a b said others h
 
@@ -130,27 +144,36 @@ module _ (p : Image) (s : Levels) where
   granted-who false n t = refl
 
   grant-others : (name : Who) (w : World) (n : Who) → same_who n name ≡ false → active_of p (grant_quantum p name w) n ≡ active_of p w n
-  grant-others name w n apart = edit-others p name (granted p w.quanta) w n (λ t. granted-who (eqb (active p t) t.base && is_robin_level p t.base) (slice_index_or w.quanta t.base 0) t) apart
+  grant-others name w n apart =
+      edit-others p name (granted p w.quanta) w n
+      (λ t. granted-who (eqb (active p t) t.base && is_robin_level p t.base) (slice_index_or w.quanta t.base 0) t) apart
 
   keep-others : (name : Who) (w : World) (n : Who) → same_who n name ≡ false → active_of p (keep_level p name w) n ≡ active_of p w n
   keep-others name w n apart = edit-others p name (λ t. record t { kept_level = level_kept_by p w t (edf_low p t.base) }) w n (λ t. refl) apart
 
-  tail-low : (name : Who) (end : QueueEnd) (a w : World) (said : List Said) → ((n : Who) → same_who n name ≡ false → active_of p w n ≡ active_of p a n) → Low p s a said → Ends (Low p s) (says_ready p Own name end (grant_quantum p name w) said)
+  tail-low : (name : Who) (end : QueueEnd) (a w : World) (said : List Said) → ((n : Who) → same_who n name ≡ false → active_of p w n ≡ active_of p a n)
+      → Low p s a said → Ends (Low p s) (says_ready p Own name end (grant_quantum p name w) said)
   tail-low name end a w said others h = says_ready-low name end a (grant_quantum p name w) said (λ n apart. grant-others name w n apart ∙ others n apart) h
 
   low_tails : (name : Who) → Keeps (Low p s) (to_tail p Own name)
   unfolding to_tail
   low_tails name = record { runs = λ w said h. tail-low name _ w w said (λ n apart. refl) h }
 
-  ready-others : (name : Who) (w : World) (n : Who) → same_who n name ≡ false → active_of p (keep_level p name (edit_task name (with_state Runnable) w)) n ≡ active_of p w n
-  ready-others name w n apart = keep-others name (edit_task name (with_state Runnable) w) n apart ∙ edit-others p name (with_state Runnable) w n (λ t. refl) apart
+  ready-others : (name : Who) (w : World) (n : Who) → same_who n name ≡ false
+      → active_of p (keep_level p name (edit_task name (with_state Runnable) w)) n ≡ active_of p w n
+  ready-others name w n apart =
+      keep-others name (edit_task name (with_state Runnable) w) n apart ∙ edit-others p name (with_state Runnable) w n (λ t. refl) apart
 
   low_readies : (name : Who) → Keeps (Low p s) (ready p Own name)
   unfolding ready to_tail
-  low_readies name = record { runs = λ w said h. tail-low name _ w (keep_level p name (edit_task name (with_state Runnable) w)) said (λ n apart. ready-others name w n apart) h }
+  low_readies name = record {
+    runs = λ w said h. tail-low name _ w (keep_level p name (edit_task name (with_state Runnable) w)) said (λ n apart. ready-others name w n apart) h;
+  }
 
   low_wakes : (part : Part) (name : Who) → part ≡ Own → Leads (With (Low p s) (λ w. any_world w name)) (Low p s) (ready p part name)
-  low_wakes part name is = subst (λ q. Leads (With (Low p s) (λ w. any_world w name)) (Low p s) (ready p q name)) (sym is) (from-leads (ready p Own name) (λ w said h. h.0) (low_readies name))
+  low_wakes part name is =
+      subst (λ q. Leads (With (Low p s) (λ w. any_world w name)) (Low p s) (ready p q name)) (sym is)
+      (from-leads (ready p Own name) (λ w said h. h.0) (low_readies name))
 
   low_others : OtherMoves p any_world any_task (Low p s)
   low_others = record {
@@ -190,7 +213,8 @@ module _ (p : Image) where
   abbrev pub Shows : Levels → World → Type 0
   Shows sight w = AreAtMostActive p sight w
 
-  low-over : (sight : Levels) (v : World) (xs : List Said) → Low p sight v xs → AreAtMostActive p (seen_behind see_levels any_event sight (lines_of p xs)) (placed_by (lines_of p xs) v)
+  low-over : (sight : Levels) (v : World) (xs : List Said) → Low p sight v xs
+      → AreAtMostActive p (seen_behind see_levels any_event sight (lines_of p xs)) (placed_by (lines_of p xs) v)
   unfolding Low
   low-over sight v xs h = λ n.
       subst (λ s. IsAtMost (level_shown n s) (active_of p (placed_by (lines_of p xs) v) n)) (sym (seen-told sight (lines_of p xs)))

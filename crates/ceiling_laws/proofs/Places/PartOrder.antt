@@ -116,9 +116,11 @@ before-trans a b c p q =
     by_test (is_other a)
     (λ f. by_test (is_other c) (λ g. others-trans a b c f g p q)
     (λ g. neither a c (and_right (is_other a) (is_other c) g) ∙ lt-ltb (rank_of a) (rank_of c)
-    (let h : rank_of b < rank_of c = ltb-true (rank_of b) (rank_of c) (sym (neither b c (and_right (is_other b) (is_other c) g)) ∙ q) in omega (arith, h, rank-before a b p))))
+    (let h : rank_of b < rank_of c = ltb-true (rank_of b) (rank_of c) (sym (neither b c (and_right (is_other b) (is_other c) g)) ∙ q) in
+    omega (arith, h, rank-before a b p))))
     (λ f. neither a c (and_left (is_other a) (is_other c) f) ∙ lt-ltb (rank_of a) (rank_of c)
-    (let h : rank_of a < rank_of b = ltb-true (rank_of a) (rank_of b) (sym (neither a b (and_left (is_other a) (is_other b) f)) ∙ p) in omega (arith, h, rank-before b c q)))
+    (let h : rank_of a < rank_of b = ltb-true (rank_of a) (rank_of b) (sym (neither a b (and_left (is_other a) (is_other b) f)) ∙ p) in
+    omega (arith, h, rank-before b c q)))
 
 pub behind-trans : (a b c : Part) → is_part_before a b ≡ false → is_part_before b c ≡ false → is_part_before a c ≡ false
 behind-trans a b c p q =
@@ -158,7 +160,8 @@ pick-with a x r p q s =
     (λ f g. rw (f, g) refl)
     (λ f g. rw (f, g) (ap (λ t. cond t (Some (a, p)) (Some (x, q))) (behind-trans x r a f g) ∙ sym (ap (λ t. cond t (Some (r, s)) (Some (x, q))) f)))
 
-pick-append : (a x : Part) (place next : Option (Option ℕ)) (last : Option (Part × Option ℕ)) → pick a place (with_put last x next) ≡ with_put (pick a place last) x next
+pick-append : (a x : Part) (place next : Option (Option ℕ)) (last : Option (Part × Option ℕ))
+    → pick a place (with_put last x next) ≡ with_put (pick a place last) x next
 pick-append a x None next last = refl
 pick-append a x (Some p) None last = refl
 pick-append a x (Some p) (Some q) None = refl
@@ -166,7 +169,8 @@ pick-append a x (Some p) (Some q) (Some last) = pick-with a x last.0 p q last.1
 
 pub last_put-append : (n : Who) (xs : List Said) (x : Said) → last_put n (xs ++ x ∷ []) ≡ with_put (last_put n xs) x.part (puts n x.line)
 last_put-append n [] x = pick-none x.part (puts n x.line)
-last_put-append n (a ∷ xs) x = ap (pick a.part (puts n a.line)) (last_put-append n xs x) ∙ pick-append a.part x.part (puts n a.line) (puts n x.line) (last_put n xs)
+last_put-append n (a ∷ xs) x =
+    ap (pick a.part (puts n a.line)) (last_put-append n xs x) ∙ pick-append a.part x.part (puts n a.line) (puts n x.line) (last_put n xs)
 
 -- ---- lines in order
 
@@ -182,7 +186,8 @@ pub all-more : (P Q : Part → Type 0) (xs : List Said) → ((part : Part) → P
 all-more P Q [] f a = tt
 all-more P Q (x ∷ xs) f a = (f x.part a.0, all-more P Q xs f a.1)
 
-all-test : (P : Part → Type 0) (x y : Said) (xs ys : List Said) (b : Bool) → AllParts P (x ∷ y ∷ xs) → AllParts P (y ∷ ys) → AllParts P (cond b (y ∷ ys) (x ∷ y ∷ xs))
+all-test : (P : Part → Type 0) (x y : Said) (xs ys : List Said) (b : Bool) → AllParts P (x ∷ y ∷ xs) → AllParts P (y ∷ ys)
+    → AllParts P (cond b (y ∷ ys) (x ∷ y ∷ xs))
 all-test P x y xs ys true a c = c
 all-test P x y xs ys false a c = a
 
@@ -193,10 +198,17 @@ all-put P x (y ∷ ys) a all = all-test P x y ys (put_in_order x ys) (is_part_be
 asym : (a b : Part) → is_part_before a b ≡ true → is_part_before b a ≡ false
 asym a b e = by_test (is_part_before b a) (λ f. absurd (let never : false ≡ true = sym (irreflexive a) ∙ before-trans a b a e f in cc)) (λ f. f)
 
-below-test : (x y : Said) (ys : List Said) (b : Bool) → is_part_before y.part x.part ≡ b → AllParts (λ part. is_part_before part y.part ≡ false) ys → Sorted ys → Sorted (put_in_order x ys) → Sorted (cond b (y ∷ put_in_order x ys) (x ∷ y ∷ ys))
+below-test : (x y : Said) (ys : List Said) (b : Bool) → is_part_before y.part x.part ≡ b → AllParts (λ part. is_part_before part y.part ≡ false) ys → Sorted ys
+    → Sorted (put_in_order x ys) → Sorted (cond b (y ∷ put_in_order x ys) (x ∷ y ∷ ys))
 below-test x y ys true is all h k = (all-put (λ part. is_part_before part y.part ≡ false) x ys (asym y.part x.part is) all, k)
-below-test x y ys false is all h k =
-    ((is, all-more (λ part. is_part_before part y.part ≡ false) (λ part. is_part_before part x.part ≡ false) ys (λ part e. behind-trans part y.part x.part e is) all), (all, h))
+below-test x y ys false is all h k = (
+  (
+    is,
+    all-more (λ part. is_part_before part y.part ≡ false) (λ part. is_part_before part x.part ≡ false) ys
+        (λ part e. behind-trans part y.part x.part e is) all,
+  ),
+  (all, h),
+)
 
 put-sorted : (x : Said) (ys : List Said) → Sorted ys → Sorted (put_in_order x ys)
 put-sorted x [] h = (tt, tt)
@@ -220,7 +232,8 @@ abbrev last_of : Who → List Said → Option (Part × Option ℕ)
 last_of n [] = None
 last_of n (y ∷ ys) = behind (last_of n ys) (put_at_part y.part (puts n y.line))
 
-by_last : (part : Part) (place : Option (Option ℕ)) (last : Option (Part × Option ℕ)) (e : Option ℕ) → place_by last (unwrap_or place e) ≡ place_by (behind last (put_at_part part place)) e
+by_last : (part : Part) (place : Option (Option ℕ)) (last : Option (Part × Option ℕ)) (e : Option ℕ)
+    → place_by last (unwrap_or place e) ≡ place_by (behind last (put_at_part part place)) e
 by_last part None None e = refl
 by_last part (Some place) None e = refl
 by_last part place (Some last) e = refl
@@ -229,7 +242,8 @@ place-last : (n : Who) (e : Option ℕ) (ys : List Said) → place_behind n e ys
 place-last n e [] = refl
 place-last n e (y ∷ ys) = place-last n (unwrap_or (puts n y.line) e) ys ∙ by_last y.part (puts n y.line) (last_of n ys) e
 
-last-part-step : (P : Part → Type 0) (part : Part) (place : Option (Option ℕ)) (last : Option (Part × Option ℕ)) (r : Part × Option ℕ) → P part → (last ≡ Some r → P r.0) → behind last (put_at_part part place) ≡ Some r → P r.0
+last-part-step : (P : Part → Type 0) (part : Part) (place : Option (Option ℕ)) (last : Option (Part × Option ℕ)) (r : Part × Option ℕ) → P part
+    → (last ≡ Some r → P r.0) → behind last (put_at_part part place) ≡ Some r → P r.0
 last-part-step P part None None r a onward e = absurd cc
 last-part-step P part (Some place) None r a onward e = let one : (part, place) ≡ r = cc in subst (λ (q : Part × Option ℕ). P q.0) one a
 last-part-step P part place (Some last) r a onward e = onward e
@@ -238,7 +252,8 @@ last-part : (P : Part → Type 0) (n : Who) (ys : List Said) (r : Part × Option
 last-part P n [] r all e = absurd cc
 last-part P n (y ∷ ys) r all e = last-part-step P y.part (puts n y.line) (last_of n ys) r all.0 (last-part P n ys r all.1) e
 
-picked : (b : Bool) (x : Part) (p : Option ℕ) (last : Part × Option ℕ) (first : Option (Part × Option ℕ)) → behind (cond b (Some (x, p)) (Some last)) first ≡ cond b (Some (x, p)) (Some last)
+picked : (b : Bool) (x : Part) (p : Option ℕ) (last : Part × Option ℕ) (first : Option (Part × Option ℕ))
+    → behind (cond b (Some (x, p)) (Some last)) first ≡ cond b (Some (x, p)) (Some last)
 picked true x p last first = refl
 picked false x p last first = refl
 
@@ -246,24 +261,31 @@ pick-alone : (x : Part) (p : Option (Option ℕ)) → pick x p None ≡ put_at_p
 pick-alone x None = refl
 pick-alone x (Some p) = refl
 
-passed : (x y : Part) (p q : Option (Option ℕ)) (last : Option (Part × Option ℕ)) → is_part_before y x ≡ true → behind (pick x p last) (put_at_part y q) ≡ pick x p (behind last (put_at_part y q))
+passed : (x y : Part) (p q : Option (Option ℕ)) (last : Option (Part × Option ℕ)) → is_part_before y x ≡ true
+    → behind (pick x p last) (put_at_part y q) ≡ pick x p (behind last (put_at_part y q))
 passed x y None q last is = refl
 passed x y (Some p) None None is = refl
 passed x y (Some p) (Some q) None is = sym (ap (λ t. cond t (Some (x, p)) (Some (y, q))) is)
 passed x y (Some p) q (Some last) is = picked (is_part_before last.0 x) x p last (put_at_part y q)
 
-stopped : (x : Part) (p : Option (Option ℕ)) (last : Option (Part × Option ℕ)) → ((r : Part × Option ℕ) → last ≡ Some r → is_part_before r.0 x ≡ false) → behind last (put_at_part x p) ≡ pick x p last
+stopped : (x : Part) (p : Option (Option ℕ)) (last : Option (Part × Option ℕ)) → ((r : Part × Option ℕ) → last ≡ Some r → is_part_before r.0 x ≡ false)
+    → behind last (put_at_part x p) ≡ pick x p last
 stopped x None None f = refl
 stopped x (Some p) None f = refl
 stopped x None (Some last) f = refl
 stopped x (Some p) (Some last) f = sym (ap (λ t. cond t (Some (x, p)) (Some last)) (f last refl))
 
-last-test : (n : Who) (x y : Said) (ys : List Said) (b : Bool) → is_part_before y.part x.part ≡ b → Sorted (y ∷ ys) → last_of n (put_in_order x ys) ≡ pick x.part (puts n x.line) (last_of n ys)
+last-test : (n : Who) (x y : Said) (ys : List Said) (b : Bool) → is_part_before y.part x.part ≡ b → Sorted (y ∷ ys)
+    → last_of n (put_in_order x ys) ≡ pick x.part (puts n x.line) (last_of n ys)
     → last_of n (cond b (y ∷ put_in_order x ys) (x ∷ y ∷ ys)) ≡ pick x.part (puts n x.line) (last_of n (y ∷ ys))
-last-test n x y ys true is h onward = ap (λ t. behind t (put_at_part y.part (puts n y.line))) onward ∙ passed x.part y.part (puts n x.line) (puts n y.line) (last_of n ys) is
+last-test n x y ys true is h onward =
+    ap (λ t. behind t (put_at_part y.part (puts n y.line))) onward ∙ passed x.part y.part (puts n x.line) (puts n y.line) (last_of n ys) is
 last-test n x y ys false is h onward =
-    stopped x.part (puts n x.line) (last_of n (y ∷ ys)) (λ r e. last-part (λ part. is_part_before part x.part ≡ false) n (y ∷ ys) r
-    (is, all-more (λ part. is_part_before part y.part ≡ false) (λ part. is_part_before part x.part ≡ false) ys (λ part k. behind-trans part y.part x.part k is) h.0) e)
+    stopped x.part (puts n x.line) (last_of n (y ∷ ys)) (λ r e. last-part (λ part. is_part_before part x.part ≡ false) n (y ∷ ys) r (
+      is,
+      all-more (λ part. is_part_before part y.part ≡ false) (λ part. is_part_before part x.part ≡ false) ys
+          (λ part k. behind-trans part y.part x.part k is) h.0,
+    ) e)
 
 last-put : (n : Who) (x : Said) (ys : List Said) → Sorted ys → last_of n (put_in_order x ys) ≡ pick x.part (puts n x.line) (last_of n ys)
 last-put n x [] h = sym (pick-alone x.part (puts n x.line))

@@ -41,7 +41,8 @@ out-same true b x r q f e = e
 out-same false true x r q f e = absurd (let never : true ≡ false = f refl in cc)
 out-same false false x r q f e = e
 
-out-other : (a b : Bool) (x : Entry) (r q : Option Entry) → (a ≡ true → b ≡ false) → r ≡ cond a None q → (if b then Some x else r) ≡ cond a None (if b then Some x else q)
+out-other : (a b : Bool) (x : Entry) (r q : Option Entry) → (a ≡ true → b ≡ false) → r ≡ cond a None q
+    → (if b then Some x else r) ≡ cond a None (if b then Some x else q)
 out-other true true x r q f e = absurd (let never : true ≡ false = f refl in cc)
 out-other true false x r q f e = e
 out-other false true x r q f e = refl
@@ -49,8 +50,10 @@ out-other false false x r q f e = e
 
 out-step : (n m : Who) (x : Entry) (queue rest : List Entry) (b : Bool) → who_eq m x.who ≡ b → entry_of n rest ≡ cond (who_eq n m) None (entry_of n queue)
     → entry_of n (if b then rest else x ∷ rest) ≡ cond (who_eq n m) None (entry_of n (x ∷ queue))
-out-step n m x queue rest true is e = out-same (who_eq n m) (who_eq n x.who) x (entry_of n rest) (entry_of n queue) (λ f. ap (who_eq n) (sym (whose-name m x.who is)) ∙ f) e
-out-step n m x queue rest false is e = out-other (who_eq n m) (who_eq n x.who) x (entry_of n rest) (entry_of n queue) (λ t. ap (λ k. who_eq k x.who) (whose-name n m t) ∙ is) e
+out-step n m x queue rest true is e =
+    out-same (who_eq n m) (who_eq n x.who) x (entry_of n rest) (entry_of n queue) (λ f. ap (who_eq n) (sym (whose-name m x.who is)) ∙ f) e
+out-step n m x queue rest false is e =
+    out-other (who_eq n m) (who_eq n x.who) x (entry_of n rest) (entry_of n queue) (λ t. ap (λ k. who_eq k x.who) (whose-name n m t) ∙ is) e
 
 none-left : (b : Bool) (r : Option Entry) → r ≡ None → r ≡ cond b None r
 none-left true r e = e
@@ -68,9 +71,12 @@ first-step : (b : Bool) (x : Entry) (r second : Option Entry) → (if b then Som
 first-step true x r second = refl
 first-step false x r second = refl
 
-entry-append : (n : Who) (queue : List Entry) (e : Entry) → entry_of n (queue ++ e ∷ []) ≡ otherwise (entry_of n queue) (if who_eq n e.who then Some e else None)
+entry-append : (n : Who) (queue : List Entry) (e : Entry)
+    → entry_of n (queue ++ e ∷ []) ≡ otherwise (entry_of n queue) (if who_eq n e.who then Some e else None)
 entry-append n [] e = refl
-entry-append n (x ∷ queue) e = ap (λ r. if who_eq n x.who then Some x else r) (entry-append n queue e) ∙ first-step (who_eq n x.who) x (entry_of n queue) (if who_eq n e.who then Some e else None)
+entry-append n (x ∷ queue) e =
+    ap (λ r. if who_eq n x.who then Some x else r) (entry-append n queue e)
+    ∙ first-step (who_eq n x.who) x (entry_of n queue) (if who_eq n e.who then Some e else None)
 
 at-head : (b : Bool) (e : Entry) (r : Option Entry) → (if b then Some e else cond b None r) ≡ cond b (Some e) r
 at-head true e r = refl
@@ -97,23 +103,27 @@ level-out : (b : Bool) (r : Option Entry) → level_in (cond b None r) ≡ unwra
 level-out true r = refl
 level-out false r = refl
 
-out-after : (n m : Who) (queue : List Entry) → level_in (entry_of n (without m queue)) ≡ unwrap_or (cond (same_who n m) (Some None) None) (level_in (entry_of n queue))
+out-after : (n m : Who) (queue : List Entry)
+    → level_in (entry_of n (without m queue)) ≡ unwrap_or (cond (same_who n m) (Some None) None) (level_in (entry_of n queue))
 out-after n m queue =
     ap level_in (entry-without n m queue) ∙ level-out (who_eq n m) (entry_of n queue)
     ∙ ap (λ b. unwrap_or (cond b (Some None) None) (level_in (entry_of n queue))) (eq-same n m)
 
-placed-after : (n : Who) (end : QueueEnd) (e : Entry) (queue : List Entry) → level_in (entry_of n (placed end e queue)) ≡ unwrap_or (cond (same_who n e.who) (Some (Some e.level)) None) (level_in (entry_of n queue))
+placed-after : (n : Who) (end : QueueEnd) (e : Entry) (queue : List Entry)
+    → level_in (entry_of n (placed end e queue)) ≡ unwrap_or (cond (same_who n e.who) (Some (Some e.level)) None) (level_in (entry_of n queue))
 placed-after n end e queue =
     ap level_in (entry-placed n end e queue) ∙ level-placed (who_eq n e.who) e (entry_of n queue)
     ∙ ap (λ b. unwrap_or (cond b (Some (Some e.level)) None) (level_in (entry_of n queue))) (eq-same n e.who)
 
-level-after : (p : Image) (n : Who) (queue : List Entry) (x : Line) → level_in (entry_of n (queue_after queue (event_of p x))) ≡ unwrap_or (puts n x) (level_in (entry_of n queue))
+level-after : (p : Image) (n : Who) (queue : List Entry) (x : Line)
+    → level_in (entry_of n (queue_after queue (event_of p x))) ≡ unwrap_or (puts n x) (level_in (entry_of n queue))
 level-after p n queue (line.Ready name level end deadline) = placed-after n end (record { who = name; level = level; deadline = deadline }) queue
 level-after p n queue (line.Block name waits) = out-after n name queue
 level-after p n queue (line.Done t) = out-after n (who.Task t) queue
 level-after p n queue _ = refl
 
-levels-placed : (p : Image) (n : Who) (sight : Levels) (xs : List Said) → level_shown n (levels_told sight (map (λ x. event_of p x.line) xs)) ≡ place_behind n (level_shown n sight) xs
+levels-placed : (p : Image) (n : Who) (sight : Levels) (xs : List Said)
+    → level_shown n (levels_told sight (map (λ x. event_of p x.line) xs)) ≡ place_behind n (level_shown n sight) xs
 levels-placed p n sight [] = refl
 levels-placed p n sight (x ∷ xs) =
     levels-placed p n (see_levels sight (event_of p x.line)) xs ∙ ap (λ e. place_behind n e xs) (level-after p n sight.entries x.line)

@@ -64,24 +64,29 @@ whose-append [] t = refl
 whose-append (x ∷ xs) t = ap (λ ns. x.who ∷ ns) (whose-append xs t)
 
 -- fewer names
-pub names_head : (n : Who) (low drawn : ℕ) (ns fewer : List Who) → NamesFrom low drawn (n ∷ ns) → ((l : ℕ) → NamesFrom l drawn ns → NamesFrom l drawn fewer) → NamesFrom low drawn (n ∷ fewer)
+pub names_head : (n : Who) (low drawn : ℕ) (ns fewer : List Who) → NamesFrom low drawn (n ∷ ns) → ((l : ℕ) → NamesFrom l drawn ns → NamesFrom l drawn fewer)
+    → NamesFrom low drawn (n ∷ fewer)
 names_head (who.Task t) low drawn ns fewer h onward = (h.0, onward (suc t.0) h.1)
 names_head who.Agent low drawn ns fewer h onward = h
 
 pub lower-suc : (low n : ℕ) → low ≤ n → low ≤ suc n
 lower-suc low n h = omega (arith, h)
 
-pub names_tail : (n : Who) (low drawn : ℕ) (ns fewer : List Who) → NamesFrom low drawn (n ∷ ns) → ((l : ℕ) → NamesFrom l drawn ns → NamesFrom l drawn fewer) → NamesFrom low drawn fewer
+pub names_tail : (n : Who) (low drawn : ℕ) (ns fewer : List Who) → NamesFrom low drawn (n ∷ ns) → ((l : ℕ) → NamesFrom l drawn ns → NamesFrom l drawn fewer)
+    → NamesFrom low drawn fewer
 names_tail (who.Task t) low drawn ns fewer h onward = names_lower low (suc t.0) drawn fewer (lower-suc low t.0 h.0) (onward (suc t.0) h.1)
 names_tail who.Agent low drawn ns fewer h onward = never h
 
-pub names_if : (b : Bool) (low drawn : ℕ) (t : Task) (ns : List Who) (fewer : List Task) → NamesFrom low drawn (t.who ∷ ns) → ((l : ℕ) → NamesFrom l drawn ns → NamesFrom l drawn (map whose fewer)) → NamesFrom low drawn (map whose (cond b (t ∷ fewer) fewer))
+pub names_if : (b : Bool) (low drawn : ℕ) (t : Task) (ns : List Who) (fewer : List Task) → NamesFrom low drawn (t.who ∷ ns)
+    → ((l : ℕ) → NamesFrom l drawn ns → NamesFrom l drawn (map whose fewer)) → NamesFrom low drawn (map whose (cond b (t ∷ fewer) fewer))
 names_if true low drawn t ns fewer h onward = names_head t.who low drawn ns (map whose fewer) h onward
 names_if false low drawn t ns fewer h onward = names_tail t.who low drawn ns (map whose fewer) h onward
 
-pub names_without : (name : Who) (low drawn : ℕ) (ts : List Task) → NamesFrom low drawn (map whose ts) → NamesFrom low drawn (map whose (without (is_who name) ts))
+pub names_without : (name : Who) (low drawn : ℕ) (ts : List Task) → NamesFrom low drawn (map whose ts)
+    → NamesFrom low drawn (map whose (without (is_who name) ts))
 names_without name low drawn [] h = h
-names_without name low drawn (t ∷ ts) h = names_if (not (is_who name t)) low drawn t (map whose ts) (without (is_who name) ts) h (λ l k. names_without name l drawn ts k)
+names_without name low drawn (t ∷ ts) h =
+    names_if (not (is_who name t)) low drawn t (map whose ts) (without (is_who name) ts) h (λ l k. names_without name l drawn ts k)
 
 -- ---- each task of the list is found by its name
 
@@ -130,7 +135,8 @@ head-known (who.Task k) low drawn t ts ns is h = record {
 }
 head-known who.Agent low drawn t ts ns is h = never h
 
-tail-known : (n : Who) (low drawn : ℕ) (t : Task) (ts : List Task) (ns : List Who) → t.who ≡ n → NamesFrom low drawn (n ∷ ns) → ((l : ℕ) → NamesFrom l drawn ns → EachTask (Known l drawn ts) ts) → EachTask (Known low drawn (t ∷ ts)) ts
+tail-known : (n : Who) (low drawn : ℕ) (t : Task) (ts : List Task) (ns : List Who) → t.who ≡ n → NamesFrom low drawn (n ∷ ns)
+    → ((l : ℕ) → NamesFrom l drawn ns → EachTask (Known l drawn ts) ts) → EachTask (Known low drawn (t ∷ ts)) ts
 tail-known (who.Task k) low drawn t ts ns is h onward =
     each-on (Known (suc k.0) drawn ts) (Known low drawn (t ∷ ts)) ts (λ u known. record {
       found = ap (λ b. cond b (Some t) (find (is_who u.who) ts)) (later-apart k.0 t.who u.who known.behind_it is) ∙ known.found;
@@ -142,7 +148,10 @@ tail-known who.Agent low drawn t ts ns is h onward = never h
 
 each-known : (low drawn : ℕ) (ts : List Task) → NamesFrom low drawn (map whose ts) → EachTask (Known low drawn ts) ts
 each-known low drawn [] h = tt
-each-known low drawn (t ∷ ts) h = (head-known t.who low drawn t ts (map whose ts) refl h, tail-known t.who low drawn t ts (map whose ts) refl h (λ l k. each-known l drawn ts k))
+each-known low drawn (t ∷ ts) h = (
+  head-known t.who low drawn t ts (map whose ts) refl h,
+  tail-known t.who low drawn t ts (map whose ts) refl h (λ l k. each-known l drawn ts k),
+)
 
 -- ---- what is inherited by an activation
 
@@ -150,7 +159,8 @@ abbrev pub Unactivated : List Inherited → Type 0
 Unactivated [] = Unit {0}
 Unactivated (i ∷ is) = (same_cause inherited_by.Activation i.cause ≡ false) × Unactivated is
 
-unactivated_if : (b : Bool) (i : Inherited) (is : List Inherited) → same_cause inherited_by.Activation i.cause ≡ false → Unactivated is → Unactivated (cond b (i ∷ is) is)
+unactivated_if : (b : Bool) (i : Inherited) (is : List Inherited) → same_cause inherited_by.Activation i.cause ≡ false → Unactivated is
+    → Unactivated (cond b (i ∷ is) is)
 unactivated_if true i is e h = (e, h)
 unactivated_if false i is e h = h
 
@@ -162,7 +172,8 @@ unactivated_without test (i ∷ is) h = unactivated_if (not (test i)) i (without
 pub unactivated-loses : (is : List Inherited) → Unactivated is → without (λ i. same_cause inherited_by.Activation i.cause) is ≡ is
 unactivated-loses [] h = refl
 unactivated-loses (i ∷ is) h =
-    ap (λ b. cond (not b) (i ∷ without (λ j. same_cause inherited_by.Activation j.cause) is) (without (λ j. same_cause inherited_by.Activation j.cause) is)) h.0 ∙ ap (λ js. i ∷ js) (unactivated-loses is h.1)
+    ap (λ b. cond (not b) (i ∷ without (λ j. same_cause inherited_by.Activation j.cause) is) (without (λ j. same_cause inherited_by.Activation j.cause) is)) h.0
+    ∙ ap (λ js. i ∷ js) (unactivated-loses is h.1)
 
 -- ---- a world
 
@@ -193,7 +204,8 @@ sound-plain a b tasks agent drawn appointments h = record {
 }
 
 -- a task is edited, or the agent
-task-sound : (n : TaskNo) (f : Task → Task) (w : World) (found : Option Task) → find (is_who (who.Task n)) w.tasks ≡ found → ((t : Task) → (f t).who ≡ t.who) → Sound w → Sound (edit_task_found (who.Task n) f w found)
+task-sound : (n : TaskNo) (f : Task → Task) (w : World) (found : Option Task) → find (is_who (who.Task n)) w.tasks ≡ found → ((t : Task) → (f t).who ≡ t.who)
+    → Sound w → Sound (edit_task_found (who.Task n) f w found)
 task-sound n f w None is named h = h
 task-sound n f w (Some t) is named h = record {
   names = subst (NamesFrom 0 w.drawn.tasks) (sym (set_where-seen whose (is_who (who.Task n)) t (f t) w.tasks is (named t))) h.names;
@@ -204,7 +216,8 @@ task-sound n f w (Some t) is named h = record {
 pub sound-task : (n : TaskNo) (f : Task → Task) (w : World) → ((t : Task) → (f t).who ≡ t.who) → Sound w → Sound (edit_task (who.Task n) f w)
 sound-task n f w named h = task-sound n f w (task_at w (who.Task n)) refl named h
 
-pub sound-edit : (name : Who) (f : Task → Task) (w : World) → ((t : Task) → (f t).who ≡ t.who) → ((t : Task) → Unactivated t.inherited → Unactivated (f t).inherited) → Sound w → Sound (edit_task name f w)
+pub sound-edit : (name : Who) (f : Task → Task) (w : World) → ((t : Task) → (f t).who ≡ t.who)
+    → ((t : Task) → Unactivated t.inherited → Unactivated (f t).inherited) → Sound w → Sound (edit_task name f w)
 sound-edit (who.Task n) f w named frees h = sound-task n f w named h
 sound-edit who.Agent f w named frees h = record { names = h.names; agent = frees w.agent h.agent; delays = h.delays }
 
@@ -217,7 +230,9 @@ drawn-on d t e = drawn_number d t.0 e
 
 pub sound-add : (t : Task) (w : World) → t.who ≡ who.Task (record { 0 = w.drawn.tasks }) → Sound w → Sound (add_task t w)
 sound-add t w numbered h = record {
-  names = subst (NamesFrom 0 (suc w.drawn.tasks)) (sym (whose-append w.tasks t ∙ ap (λ n. map whose w.tasks ++ n ∷ []) numbered)) (names_behind 0 w.drawn.tasks (map whose w.tasks) h.names);
+  names =
+      subst (NamesFrom 0 (suc w.drawn.tasks)) (sym (whose-append w.tasks t ∙ ap (λ n. map whose w.tasks ++ n ∷ []) numbered))
+      (names_behind 0 w.drawn.tasks (map whose w.tasks) h.names);
   agent = h.agent;
   delays = λ u e. drawn-on w.drawn.tasks u (h.delays u e);
 }
@@ -228,15 +243,18 @@ later_or : {P : Type 0} (a b c : Bool) → (a || b) ≡ true → (b ≡ true →
 later_or true b c e onward = inr refl
 later_or false b c e onward = onward e
 
-put_if : (test : Appointment → Bool) (y a : Appointment) (rest put : List Appointment) (b : Bool) → list_any test (cond b (y ∷ a ∷ rest) (a ∷ put)) ≡ true → (list_any test put ≡ true → (test y ≡ true) ⊎ (list_any test rest ≡ true)) → (test y ≡ true) ⊎ (list_any test (a ∷ rest) ≡ true)
+put_if : (test : Appointment → Bool) (y a : Appointment) (rest put : List Appointment) (b : Bool) → list_any test (cond b (y ∷ a ∷ rest) (a ∷ put)) ≡ true
+    → (list_any test put ≡ true → (test y ≡ true) ⊎ (list_any test rest ≡ true)) → (test y ≡ true) ⊎ (list_any test (a ∷ rest) ≡ true)
 put_if test y a rest put true e onward = or_cases (test y) (list_any test (a ∷ rest)) e
 put_if test y a rest put false e onward = later_or (test a) (list_any test put) (list_any test rest) e onward
 
-pub put-either : (test : Appointment → Bool) (y : Appointment) (xs : List Appointment) → list_any test (put_appointment y xs) ≡ true → (test y ≡ true) ⊎ (list_any test xs ≡ true)
+pub put-either : (test : Appointment → Bool) (y : Appointment) (xs : List Appointment) → list_any test (put_appointment y xs) ≡ true
+    → (test y ≡ true) ⊎ (list_any test xs ≡ true)
 put-either test y [] e = or_cases (test y) false e
 put-either test y (a ∷ rest) e = put_if test y a rest (put_appointment y rest) (int_lt y.moment a.moment) e (put-either test y rest)
 
-appointed-fresh : (drawn : ℕ) (t u : TaskNo) (w : World) → is_fresh drawn (who.Task t) ≡ false → (is_delayed u w ≡ true → is_fresh drawn (who.Task u) ≡ false) → (same_task u t ≡ true) ⊎ (is_delayed u w ≡ true) → is_fresh drawn (who.Task u) ≡ false
+appointed-fresh : (drawn : ℕ) (t u : TaskNo) (w : World) → is_fresh drawn (who.Task t) ≡ false → (is_delayed u w ≡ true → is_fresh drawn (who.Task u) ≡ false)
+    → (same_task u t ≡ true) ⊎ (is_delayed u w ≡ true) → is_fresh drawn (who.Task u) ≡ false
 appointed-fresh drawn t u w own h (inl same) = ap (is_fresh drawn) (who-is (who.Task u) (who.Task t) same) ∙ own
 appointed-fresh drawn t u w own h (inr delayed) = h delayed
 
@@ -244,7 +262,9 @@ pub sound-appoint : (t : TaskNo) (moment : ℤ) (w : World) → is_fresh w.drawn
 sound-appoint t moment w own h = record {
   names = h.names;
   agent = h.agent;
-  delays = λ u e. appointed-fresh w.drawn.tasks t u w own (h.delays u) (put-either (λ a. is_delay_of u a.due) (record { due = due_for.Delay t; moment = moment }) w.appointments e);
+  delays =
+      λ u e. appointed-fresh w.drawn.tasks t u w own (h.delays u)
+      (put-either (λ a. is_delay_of u a.due) (record { due = due_for.Delay t; moment = moment }) w.appointments e);
 }
 
 -- ---- who is there
@@ -253,7 +273,8 @@ sound-appoint t moment w own h = record {
 abbrev pub IsAbsent : Who → Core → Type 0
 IsAbsent name c = (is_agent name ≡ false) × (c ≡ core nobody)
 
-found-known : (n : Who) (w : World) (found : Option Task) → find (is_who n) w.tasks ≡ found → is_agent n ≡ false → Sound w → IsAbsent n (core (unwrap_or found nobody)) ⊎ (is_fresh w.drawn.tasks n ≡ false)
+found-known : (n : Who) (w : World) (found : Option Task) → find (is_who n) w.tasks ≡ found → is_agent n ≡ false → Sound w
+    → IsAbsent n (core (unwrap_or found nobody)) ⊎ (is_fresh w.drawn.tasks n ≡ false)
 found-known n w None is task h = inl (task, refl)
 found-known n w (Some x) is task h =
     let known = found-each (Known 0 w.drawn.tasks w.tasks) (is_who n) w.tasks x (each-known 0 w.drawn.tasks w.tasks h.names) is in
@@ -275,5 +296,6 @@ found_as who.Agent w t task found = absurd cc
 
 pub all_there : (w : World) → Sound w → EachTask (IsThere w) w.tasks
 all_there w h =
-    each-on (Known 0 w.drawn.tasks w.tasks) (IsThere w) w.tasks (λ t k. record { found = found_as t.who w t k.no_agent k.found; drawn = k.drawn_before; no_agent = k.no_agent })
+    each-on (Known 0 w.drawn.tasks w.tasks) (IsThere w) w.tasks
+    (λ t k. record { found = found_as t.who w t k.no_agent k.found; drawn = k.drawn_before; no_agent = k.no_agent })
     (each-known 0 w.drawn.tasks w.tasks h.names)

@@ -36,25 +36,30 @@ Last = Option (Part × Option ℕ)
 pub at_most-out : (place : Option ℕ) (level : ℕ) → place ≡ None → IsAtMost place level
 at_most-out place level out = subst (λ q. IsAtMost q level) (sym out) tt
 
-late_if : (b : Bool) (limit part : Part) (last : Part × Option ℕ) (place : Option ℕ) → is_part_before limit part ≡ false → MayBePlaced limit (Some last) → MayBePlaced limit (cond b (Some last) (Some (part, place)))
+late_if : (b : Bool) (limit part : Part) (last : Part × Option ℕ) (place : Option ℕ) → is_part_before limit part ≡ false → MayBePlaced limit (Some last)
+    → MayBePlaced limit (cond b (Some last) (Some (part, place)))
 late_if true limit part last place fits late = late
 late_if false limit part last place fits late = inr fits
 
-low_if : (b : Bool) (part : Part) (last : Part × Option ℕ) (level : ℕ) (shown : Option ℕ) → (last.1 ≡ None) ⊎ (b ≡ false) → IsAtMost (place_by (cond b (Some last) (Some (part, Some level))) shown) level
+low_if : (b : Bool) (part : Part) (last : Part × Option ℕ) (level : ℕ) (shown : Option ℕ) → (last.1 ≡ None) ⊎ (b ≡ false)
+    → IsAtMost (place_by (cond b (Some last) (Some (part, Some level))) shown) level
 low_if true part last level shown (inl out) = at_most-out last.1 level out
 low_if true part last level shown (inr e) = absurd cc
 low_if false part last level shown late = le_refl level
 
-out_if : (b : Bool) (part : Part) (last : Part × Option ℕ) (shown : Option ℕ) → (last.1 ≡ None) ⊎ (b ≡ false) → place_by (cond b (Some last) (Some (part, None))) shown ≡ None
+out_if : (b : Bool) (part : Part) (last : Part × Option ℕ) (shown : Option ℕ) → (last.1 ≡ None) ⊎ (b ≡ false)
+    → place_by (cond b (Some last) (Some (part, None))) shown ≡ None
 out_if true part last shown (inl out) = out
 out_if true part last shown (inr e) = absurd cc
 out_if false part last shown late = refl
 
-pub put-late : (limit part : Part) (last : Last) (place : Option ℕ) → is_part_before limit part ≡ false → MayBePlaced limit last → MayBePlaced limit (with_put last part (Some place))
+pub put-late : (limit part : Part) (last : Last) (place : Option ℕ) → is_part_before limit part ≡ false → MayBePlaced limit last
+    → MayBePlaced limit (with_put last part (Some place))
 put-late limit part None place fits late = inr fits
 put-late limit part (Some last) place fits late = late_if (is_part_before part last.0) limit part last place fits late
 
-pub put-low : (part : Part) (last : Last) (level : ℕ) (shown : Option ℕ) → MayBePlaced part last → IsAtMost (place_by (with_put last part (Some (Some level))) shown) level
+pub put-low : (part : Part) (last : Last) (level : ℕ) (shown : Option ℕ) → MayBePlaced part last
+    → IsAtMost (place_by (with_put last part (Some (Some level))) shown) level
 put-low part None level shown late = le_refl level
 put-low part (Some last) level shown late = low_if (is_part_before part last.0) part last level shown late
 
@@ -72,8 +77,10 @@ pub block-put : (last : Last) → with_put last TheBlock (Some None) ≡ Some (T
 block-put None = refl
 block-put (Some last) = ap (λ b. cond b (Some last) (Some (TheBlock, None))) (block_last last.0)
 
-pub blocked-put : (last : Last) (part : Part) (place : Option ℕ) → last ≡ Some (TheBlock, None) → is_part_before part TheBlock ≡ true → with_put last part (Some place) ≡ last
-blocked-put last part place is before = subst (λ l. with_put l part (Some place) ≡ l) (sym is) (ap (λ b. cond b (Some (TheBlock, None)) (Some (part, place))) before)
+pub blocked-put : (last : Last) (part : Part) (place : Option ℕ) → last ≡ Some (TheBlock, None) → is_part_before part TheBlock ≡ true
+    → with_put last part (Some place) ≡ last
+blocked-put last part place is before =
+    subst (λ l. with_put l part (Some place) ≡ l) (sym is) (ap (λ b. cond b (Some (TheBlock, None)) (Some (part, place))) before)
 
 pub early-part : (part : Part) → is_part_before ThePlacing part ≡ false → is_part_before part TheBlock ≡ true
 early-part TheCall e = refl
@@ -101,7 +108,8 @@ part-self ThePlacing = refl
 part-self TheBlock = refl
 
 pub apart-sym : (x y : Who) → same_who x y ≡ false → same_who y x ≡ false
-apart-sym x y apart = by_test (same_who y x) (λ same. absurd (let clash : false ≡ true = sym apart ∙ ap (same_who x) (who-is y x same) ∙ same_self x in cc)) (λ e. e)
+apart-sym x y apart =
+    by_test (same_who y x) (λ same. absurd (let clash : false ≡ true = sym apart ∙ ap (same_who x) (who-is y x same) ∙ same_self x in cc)) (λ e. e)
 
 -- ---- states of a task
 
@@ -261,7 +269,8 @@ module _ (p : Image) (s : Levels) (a : Who) where
   runs_or_absent (inl h) = inl h
   runs_or_absent (inr h) = inr (inr h)
 
-  pub placed-good : (d : ℕ) (n : Who) (c : Core) (l : Last) (part : Part) → Fits part n → is_fresh d n ≡ false → MayBePlaced (limit n) l → MayBePlaced part l → (runs_in c ≡ true) ⊎ IsAbsent n c → Good d n c (with_put l part (Some (Some (active_in p c))))
+  pub placed-good : (d : ℕ) (n : Who) (c : Core) (l : Last) (part : Part) → Fits part n → is_fresh d n ≡ false → MayBePlaced (limit n) l → MayBePlaced part l
+      → (runs_in c ≡ true) ⊎ IsAbsent n c → Good d n c (with_put l part (Some (Some (active_in p c))))
   placed-good d n c l part fits drawn late may runs = record {
     late = put-late (limit n) part l (Some (active_in p c)) fits late;
     low = put-low part l (active_in p c) (level_shown n s) may;
@@ -276,20 +285,26 @@ module _ (p : Image) (s : Levels) (a : Who) where
   asleep-hidden n c l (inr (inr absent)) sleeps = nobody-sleeps (subst (λ e. sleeps_in e ≡ true) absent.1 sleeps)
 
   -- so it may be woken in each part that fits
-  pub woken-good : (d : ℕ) (n : Who) (c e : Core) (l : Last) (part : Part) → Fits part n → is_fresh d n ≡ false → sleeps_in c ≡ true → runs_in e ≡ true → Good d n c l → Good d n e (with_put l part (Some (Some (active_in p e))))
-  woken-good d n c e l part fits drawn sleeps runs h = placed-good d n e l part fits drawn h.late (out-late part l (level_shown n s) (asleep-hidden n c l h.shown sleeps)) (inl runs)
+  pub woken-good : (d : ℕ) (n : Who) (c e : Core) (l : Last) (part : Part) → Fits part n → is_fresh d n ≡ false → sleeps_in c ≡ true → runs_in e ≡ true
+      → Good d n c l → Good d n e (with_put l part (Some (Some (active_in p e))))
+  woken-good d n c e l part fits drawn sleeps runs h =
+      placed-good d n e l part fits drawn h.late (out-late part l (level_shown n s) (asleep-hidden n c l h.shown sleeps)) (inl runs)
 
   pub blocked-good : (d : ℕ) (n : Who) (c : Core) (l : Last) → l ≡ Some (TheBlock, None) → Good d n c l
   blocked-good d n c l is = subst (Good d n c) (sym is) (record { late = inl refl; low = tt; shown = inr (inl refl); fresh = λ e. refl })
 
   -- who acts is placed, where nothing hides it and where it has blocked
-  pub placed_by_acting : (d : ℕ) (n : Who) (c : Core) (l : Last) (part : Part) → same_who n a ≡ true → part ≡ ThePlacing → MayBePlaced (limit n) l → is_fresh d n ≡ false → (runs_in c ≡ true) ⊎ ((sleeps_in c ≡ true) × (l ≡ Some (TheBlock, None))) → Later d n c (with_put l part (Some (Some (active_in p c))))
+  pub placed_by_acting : (d : ℕ) (n : Who) (c : Core) (l : Last) (part : Part) → same_who n a ≡ true → part ≡ ThePlacing → MayBePlaced (limit n) l
+      → is_fresh d n ≡ false → (runs_in c ≡ true) ⊎ ((sleeps_in c ≡ true) × (l ≡ Some (TheBlock, None)))
+      → Later d n c (with_put l part (Some (Some (active_in p c))))
   placed_by_acting d n c l part same is late drawn (inl runs) =
       let fits : Fits part n = subst (λ q. is_part_before q part ≡ false) (sym (limit-actor n same)) (ap (is_part_before ThePlacing) is) in
       (placed-good d n c l part fits drawn late (subst (λ q. MayBePlaced q l) (limit-actor n same ∙ sym is) late) (inl runs), λ e. (drawn, inl runs))
   placed_by_acting d n c l part same is late drawn (inr sleeps) =
-      let still : with_put l part (Some (Some (active_in p c))) ≡ l = blocked-put l part (Some (active_in p c)) sleeps.1 (ap (λ q. is_part_before q TheBlock) is) in
+      let still : with_put l part (Some (Some (active_in p c))) ≡ l =
+      blocked-put l part (Some (active_in p c)) sleeps.1 (ap (λ q. is_part_before q TheBlock) is) in
       subst (Later d n c) (sym still) (blocked-good d n c l sleeps.1, λ e. (drawn, inr sleeps))
 
-  pub acting-placed : (d : ℕ) (n : Who) (c : Core) (l : Last) (part : Part) → same_who n a ≡ true → part ≡ ThePlacing → MayBePlaced (limit n) l → Acting d n c l → Later d n c (with_put l part (Some (Some (active_in p c))))
+  pub acting-placed : (d : ℕ) (n : Who) (c : Core) (l : Last) (part : Part) → same_who n a ≡ true → part ≡ ThePlacing → MayBePlaced (limit n) l → Acting d n c l
+      → Later d n c (with_put l part (Some (Some (active_in p c))))
   acting-placed d n c l part same is late acting = placed_by_acting d n c l part same is late acting.0 acting.1

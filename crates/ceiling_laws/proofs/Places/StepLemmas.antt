@@ -9,14 +9,16 @@ use Rattle.profile_machine.specs.declared.world.lines.Line.TheVariants as line
 use Rattle.profile_machine.specs.declared.world.lines.Part.{Part}
 use Rattle.profile_machine.specs.declared.world.lines.Said.{Said}
 use Rattle.profile_machine.specs.declared.world.tasks.State.TheVariants.{Runnable}
-use Rattle.profile_machine.specs.Dispatching.{active, active_of, block, deadline_shown, grant_quantum, keep_level, ready, says_block, says_ready, to_head, to_tail, word_of}
+use Rattle.profile_machine.specs.Dispatching.{active, active_of, block, deadline_shown, grant_quantum, keep_level}
+use Rattle.profile_machine.specs.Dispatching.{ready, says_block, says_ready, to_head, to_tail, word_of}
 use Rattle.profile_machine.specs.Tasks.{edit_task, task_of, with_state}
 use Rattle.ceiling_laws.proofs.Places.PartOrder.{last_put-append}
 use Rattle.ceiling_laws.specs.PlaceLaws.{BlockTakesOut, HeadPlaces, PlacesAtActive, ReadyPlaces, TailPlaces}
 use Rattle.ceiling_laws.specs.Puts.{last_put, with_put}
 use Rattle.line_laws.proofs.Leaving.TaskLemmas.{same_self}
 
-pub says_ready_places : (p : Image) (part : Part) (name : Who) (end : QueueEnd) (w : World) (said : List Said) → PlacesAtActive p part name said (says_ready p part name end w said)
+pub says_ready_places : (p : Image) (part : Part) (name : Who) (end : QueueEnd) (w : World) (said : List Said)
+    → PlacesAtActive p part name said (says_ready p part name end w said)
 unfolding says_ready
 says_ready_places p part name end w said =
     last_put-append name said (record { part = part; line = line.Ready name (active p (task_of w name)) end (deadline_shown p (task_of w name)) })

@@ -27,7 +27,8 @@ use Rattle.profile_image.specs.Program.{edf_low, is_robin_level}
 use Rattle.profile_machine.specs.Run.{tock}
 use Rattle.profile_machine.specs.Scopes.{end_scope}
 use Rattle.profile_machine.specs.Steps.{placed_by, ◌▶◌}
-use Rattle.profile_machine.specs.Tasks.{edit_task, edit_task_found, is_runnable, is_runnable_state, is_who, nobody, task_at, task_of, waiting_in, waiting_of, with_state}
+use Rattle.profile_machine.specs.Tasks.{edit_task, edit_task_found, is_runnable, is_runnable_state, is_who}
+use Rattle.profile_machine.specs.Tasks.{nobody, task_at, task_of, waiting_in, waiting_of, with_state}
 use Rattle.profile_image.specs.Words.{same_who}
 use Rattle.profile_image.specs.declared.image.Image.{Image}
 use Rattle.profile_machine.specs.declared.world.World.{World}
@@ -54,20 +55,24 @@ use Rattle.trace_text.specs.declared.events.Who.TheVariants as who
 
 -- ---- states of tasks that are edited
 
-other-found : (name : Who) (f : Task → Task) (w : World) (n : Who) (found : Option Task) → task_at w name ≡ found → ((t : Task) → (f t).who ≡ t.who) → same_who n name ≡ false → waiting_of (edit_task_found name f w found) n ≡ waiting_of w n
+other-found : (name : Who) (f : Task → Task) (w : World) (n : Who) (found : Option Task) → task_at w name ≡ found → ((t : Task) → (f t).who ≡ t.who)
+    → same_who n name ≡ false → waiting_of (edit_task_found name f w found) n ≡ waiting_of w n
 other-found name f w n None is named apart = refl
 other-found (who.Task m) f w (who.Task k) (Some x) is named apart =
     ap (λ (r : Option Task). waiting_in (unwrap_or r nobody).state)
-    (set-other (who.Task m) (who.Task k) (f x) w.tasks apart (named-apart (who.Task m) (who.Task k) x (f x) (found_is_who (who.Task m) x w.tasks is) (named x) apart))
+    (set-other (who.Task m) (who.Task k) (f x) w.tasks apart
+    (named-apart (who.Task m) (who.Task k) x (f x) (found_is_who (who.Task m) x w.tasks is) (named x) apart))
 other-found (who.Task m) f w who.Agent (Some x) is named apart = refl
 other-found who.Agent f w (who.Task k) (Some x) is named apart = refl
 other-found who.Agent f w who.Agent (Some x) is named apart = absurd cc
 
-other-waits : (name : Who) (f : Task → Task) (w : World) (n : Who) → ((t : Task) → (f t).who ≡ t.who) → same_who n name ≡ false → waiting_of (edit_task name f w) n ≡ waiting_of w n
+other-waits : (name : Who) (f : Task → Task) (w : World) (n : Who) → ((t : Task) → (f t).who ≡ t.who) → same_who n name ≡ false
+    → waiting_of (edit_task name f w) n ≡ waiting_of w n
 other-waits name f w n named apart = other-found name f w n (task_at w name) refl named apart
 
 -- a change that leaves states
-still-waits : (name : Who) (f : Task → Task) (w : World) (n : Who) → ((t : Task) → (f t).who ≡ t.who) → ((t : Task) → (f t).state ≡ t.state) → waiting_of (edit_task name f w) n ≡ waiting_of w n
+still-waits : (name : Who) (f : Task → Task) (w : World) (n : Who) → ((t : Task) → (f t).who ≡ t.who) → ((t : Task) → (f t).state ≡ t.state)
+    → waiting_of (edit_task name f w) n ≡ waiting_of w n
 still-waits name f w n named same =
     by_test (same_who n name)
     (λ t. subst (λ k. waiting_of (edit_task name f w) k ≡ waiting_of w k) (sym (who-is n name t)) (ap waiting_in (edit-state name f w named same)))
@@ -75,7 +80,8 @@ still-waits name f w n named same =
 
 awake-found : (m : Who) (w : World) (found : Option Task) → task_at w m ≡ found → waiting_of (edit_task_found m (with_state Runnable) w found) m ≡ None
 awake-found m w None is = ap (λ (r : Option Task). waiting_in (unwrap_or r nobody).state) is
-awake-found (who.Task t) w (Some x) is = ap (λ (r : Option Task). waiting_in (unwrap_or r nobody).state) (set_where-found (who.Task t) x (with_state Runnable x) w.tasks is refl)
+awake-found (who.Task t) w (Some x) is =
+    ap (λ (r : Option Task). waiting_in (unwrap_or r nobody).state) (set_where-found (who.Task t) x (with_state Runnable x) w.tasks is refl)
 awake-found who.Agent w (Some x) is = refl
 
 granted-who : (test : Bool) (n : ℕ) (t : Task) → (cond test (record t { quantum = n }) t).who ≡ t.who
@@ -114,7 +120,8 @@ waits-never : {P : Type 0} (found : Option Waiting) (waiting : Waiting) → foun
 waits-never found waiting none some = absurd (let never : None ≡ Some waiting = sym none ∙ some in cc)
 
 module _ (p : Image) (s : Levels) where
-  pub out-says : (n : Who) (part : Part) (x : Line) (said : List Said) → puts n x ≡ None → place_by (last_put n said) (level_shown n s) ≡ None → place_by (last_put n (said ++ said_so part x ∷ [])) (level_shown n s) ≡ None
+  pub out-says : (n : Who) (part : Part) (x : Line) (said : List Said) → puts n x ≡ None → place_by (last_put n said) (level_shown n s) ≡ None
+      → place_by (last_put n (said ++ said_so part x ∷ [])) (level_shown n s) ≡ None
   out-says n part x said e h = ap (λ l. place_by l (level_shown n s)) (unsaid n said part x e) ∙ h
 
   out-same : (a b : World) (said : List Said) → ((n : Who) → waiting_of b n ≡ waiting_of a n) → Out s a said → Out s b said
@@ -133,24 +140,30 @@ module _ (p : Image) (s : Levels) where
     ends_scope = λ id w said h. out-same w (end_scope id w) said (λ n. ended-waits w (end_scope id w) n refl refl) h;
   }
 
-  out-inherits : (name : Who) (cause : Cause) (level : ℕ) (w : World) (said : List Said) → same_cause inherited_by.Activation cause ≡ false → Out s w said → Out s (inherit name cause level w) said
+  out-inherits : (name : Who) (cause : Cause) (level : ℕ) (w : World) (said : List Said) → same_cause inherited_by.Activation cause ≡ false → Out s w said
+      → Out s (inherit name cause level w) said
   out-inherits name cause level w said other h =
-      out-same w (inherit name cause level w) said (λ n. still-waits name (λ t. record t { inherited = record { cause = cause; level = level } ∷ t.inherited }) w n (λ t. refl) (λ t. refl)) h
+      out-same w (inherit name cause level w) said
+      (λ n. still-waits name (λ t. record t { inherited = record { cause = cause; level = level } ∷ t.inherited }) w n (λ t. refl) (λ t. refl)) h
 
   -- who is placed does not wait, and others as before
-  out-line : (part : Part) (name : Who) (level : ℕ) (end : QueueEnd) (deadline : Option ℤ) (a b : World) (said : List Said) → waiting_of b name ≡ None → ((n : Who) → same_who n name ≡ false → waiting_of b n ≡ waiting_of a n) → Out s a said
+  out-line : (part : Part) (name : Who) (level : ℕ) (end : QueueEnd) (deadline : Option ℤ) (a b : World) (said : List Said) → waiting_of b name ≡ None
+      → ((n : Who) → same_who n name ≡ false → waiting_of b n ≡ waiting_of a n) → Out s a said
       → Out s b (said ++ said_so part (line.Ready name level end deadline) ∷ [])
   unfolding Out
   out-line part name level end deadline a b said awake others h = λ n waiting e.
       by_test (same_who n name)
       (λ t. waits-never (waiting_of b n) waiting (ap (waiting_of b) (who-is n name t) ∙ awake) e)
-      (λ apart. out-says n part (line.Ready name level end deadline) said (ap (λ t. cond t (Some (Some level)) None) apart) (h n waiting (sym (others n apart) ∙ e)))
+      (λ apart.
+      out-says n part (line.Ready name level end deadline) said (ap (λ t. cond t (Some (Some level)) None) apart) (h n waiting (sym (others n apart) ∙ e)))
 
-  pub tail-out : (part : Part) (name : Who) (a w : World) (said : List Said) → waiting_of w name ≡ None → ((n : Who) → same_who n name ≡ false → waiting_of w n ≡ waiting_of a n) → Out s a said → Ends (Out s) (to_tail p part name w said)
+  pub tail-out : (part : Part) (name : Who) (a w : World) (said : List Said) → waiting_of w name ≡ None
+      → ((n : Who) → same_who n name ≡ false → waiting_of w n ≡ waiting_of a n) → Out s a said → Ends (Out s) (to_tail p part name w said)
   unfolding to_tail says_ready Ends
   tail-out part name a w said awake others h =
       let b = grant_quantum p name w in
-      out-line part name (active_of p b name) Tail (deadline_shown p (task_of b name)) a b said (grant-waits p name w name ∙ awake) (λ n apart. grant-waits p name w n ∙ others n apart) h
+      out-line part name (active_of p b name) Tail (deadline_shown p (task_of b name)) a b said (grant-waits p name w name ∙ awake)
+      (λ n apart. grant-waits p name w n ∙ others n apart) h
 
   out_readies : (part : Part) (name : Who) → Keeps (Out s) (ready p part name)
   unfolding ready
@@ -186,7 +199,8 @@ module _ (p : Image) (s : Levels) where
   out-starts w h = h
 
 module _ (p : Image) where
-  out-over : (sight : Levels) (v : World) (xs : List Said) → Out sight v xs → AreWaitersOut (seen_behind see_levels any_event sight (lines_of p xs)) (placed_by (lines_of p xs) v)
+  out-over : (sight : Levels) (v : World) (xs : List Said) → Out sight v xs
+      → AreWaitersOut (seen_behind see_levels any_event sight (lines_of p xs)) (placed_by (lines_of p xs) v)
   unfolding Out
   out-over sight v xs h = λ n waiting e.
       ap (level_shown n) (seen-told sight (lines_of p xs)) ∙ effects_place_by_the_last p v xs sight n

@@ -85,7 +85,8 @@ Either X Y w said = X w said ⊎ Y w said
 -- At first (F), later (I), and behind the line of an action that begins (J); at a select (W), and where no more is to be said of
 -- who acts (Y). Where who acts owes a line since its active priority may have fallen (O); since a world, of whose tasks some have
 -- only been made (N); and where one of these has ended (E), or who acts (D).
-pub record ActingMoves (p : Image) (actor : Who) (Fits Narrow : Fitting) (Sleeps : Sleeping) (May : Admitting) (Listed Unmade : World → Naming) (F I J W Y D : State) (O N V U : World → State) (E : World → Who → State) : Type 0 where
+pub record ActingMoves (p : Image) (actor : Who) (Fits Narrow : Fitting) (Sleeps : Sleeping) (May : Admitting) (Listed Unmade : World → Naming)
+    (F I J W Y D : State) (O N V U : World → State) (E : World → Who → State) : Type 0 where
   pub fresh : Silences F
   pub later : LaterMoves p actor Fits Sleeps I
   pub entered : LaterMoves p actor Narrow Sleeps J
@@ -102,7 +103,8 @@ pub record ActingMoves (p : Image) (actor : Who) (Fits Narrow : Fitting) (Sleeps
   pub fits_finish : FitsAll Fits TheFinish
   -- who acts is placed, or waits at a select
   pub tails : Keeps I (to_tail p ThePlacing actor)
-  pub waits_at_select : (accepts : List StatementNo) (delay : Option StatementNo) → Leads F W (changes (edit_task actor (with_state (Blocked (waits_for.Select accepts delay true)))))
+  pub waits_at_select : (accepts : List StatementNo) (delay : Option StatementNo)
+      → Leads F W (changes (edit_task actor (with_state (Blocked (waits_for.Select accepts delay true)))))
   -- a moment is appointed for it
   pub appoints_first : (t : TaskNo) (moment : ℤ) → who.Task t ≡ actor → Alters F (appoint (due_for.Delay t) moment)
   pub appoints : (t : TaskNo) (moment : ℤ) → who.Task t ≡ actor → Alters I (appoint (due_for.Delay t) moment)
@@ -132,7 +134,9 @@ pub record ActingMoves (p : Image) (actor : Who) (Fits Narrow : Fitting) (Sleeps
   -- a task is created
   pub creates : (s : StatementNo) (d : DeclNo) (id : Option ScopeId) (t : Task) → Leads (With F (IsNew p t)) I (create_task p actor s d id t)
   -- a call that is sent on and has no room at the accept has ended before the acceptor becomes ready
-  pub meets_late : (t : TaskNo) (s : StatementNo) (c : Call) → Leads (With I (λ w. Sleeps w (who.Task t))) I (meet_without_room p TheFinish (who.Task t) s c (deliver p TheFinish c.number (call_ended.ToRaise exception.Storage)))
+  pub meets_late : (t : TaskNo) (s : StatementNo) (c : Call)
+      → Leads (With I (λ w. Sleeps w (who.Task t))) I
+      (meet_without_room p TheFinish (who.Task t) s c (deliver p TheFinish c.number (call_ended.ToRaise exception.Storage)))
   -- protected objects
   pub makes : (l : Located) (u : ProtectedUnitNo) → Keeps I (changes (with_object p l u) ▷ says_object p l u)
   pub may : (w : World) (o : ObjectNo) (mode : Mode) → entering p w actor o mode ≡ entering_is.Inside → May w o

@@ -54,14 +54,16 @@ AgentKeeps p w = (w.agent.base ≡ interrupt_priority p) × (w.agent.deferred_ba
 unfoldable pub KeepsAgent : Image → State
 KeepsAgent p w said = AgentKeeps p w
 
-pub agent_edited : (p : Image) (name : Who) (f : Task → Task) (w : World) (found : Option Task) → task_at w name ≡ found → ((t : Task) → (f t).base ≡ t.base) → ((t : Task) → (f t).deferred_base ≡ t.deferred_base) → AgentKeeps p w → AgentKeeps p (edit_task_found name f w found)
+pub agent_edited : (p : Image) (name : Who) (f : Task → Task) (w : World) (found : Option Task) → task_at w name ≡ found → ((t : Task) → (f t).base ≡ t.base)
+    → ((t : Task) → (f t).deferred_base ≡ t.deferred_base) → AgentKeeps p w → AgentKeeps p (edit_task_found name f w found)
 agent_edited p name f w None is base deferred h = h
 agent_edited p (who.Task n) f w (Some t) is base deferred h = h
 agent_edited p who.Agent f w (Some t) is base deferred h =
     let one : w.agent ≡ t = cc in
     (base t ∙ ap (λ u. u.base) (sym one) ∙ h.0, deferred t ∙ ap (λ u. u.deferred_base) (sym one) ∙ h.1)
 
-task_edited : (p : Image) (n : TaskNo) (f : Task → Task) (w : World) (found : Option Task) → AgentKeeps p w → AgentKeeps p (edit_task_found (who.Task n) f w found)
+task_edited : (p : Image) (n : TaskNo) (f : Task → Task) (w : World) (found : Option Task) → AgentKeeps p w
+    → AgentKeeps p (edit_task_found (who.Task n) f w found)
 task_edited p n f w None h = h
 task_edited p n f w (Some t) h = h
 
@@ -89,19 +91,32 @@ module _ (p : Image) where
 
   nothing_deferred : (v : World) (level : ℕ) (step : Step) → v.agent.deferred_base ≡ Some level → Leads (At (KeepsAgent p) v) (KeepsAgent p) step
   unfolding KeepsAgent
-  nothing_deferred v level step is = record { runs = λ w said h. absurd (let never : None ≡ Some level = sym h.0.1 ∙ ap (λ u. u.agent.deferred_base) h.1 ∙ is in cc) }
+  nothing_deferred v level step is = record {
+    runs = λ w said h. absurd (let never : None ≡ Some level = sym h.0.1 ∙ ap (λ u. u.agent.deferred_base) h.1 ∙ is in cc);
+  }
 
-  thing_set : (id : Option ScopeId) (d : DeclNo) → Keeps (KeepsAgent p) (for_some id (λ within. looks (λ w. changes (set_thing p (record { within = within; declared = d }) (value_of.Task (Some (record { 0 = w.drawn.tasks - 1 })))))))
-  thing_set id d = for_some-keeps id _ (λ within. looks-keeps _ (λ w. changes-keeps _ (same-alters agent_quiet _ (λ u. fine_same u _ (set_thing-same p (record { within = within; declared = d }) (value_of.Task (Some (record { 0 = w.drawn.tasks - 1 }))) u)))))
+  thing_set : (id : Option ScopeId) (d : DeclNo)
+      → Keeps (KeepsAgent p)
+      (for_some id
+      (λ within. looks (λ w. changes (set_thing p (record { within = within; declared = d }) (value_of.Task (Some (record { 0 = w.drawn.tasks - 1 })))))))
+  thing_set id d =
+      for_some-keeps id _
+      (λ within. looks-keeps _
+      (λ w. changes-keeps _
+      (same-alters agent_quiet _
+      (λ u. fine_same u _ (set_thing-same p (record { within = within; declared = d }) (value_of.Task (Some (record { 0 = w.drawn.tasks - 1 }))) u)))))
 
   agent_created : (name : Who) (s : StatementNo) (d : DeclNo) (id : Option ScopeId) (t : Task) → Keeps (KeepsAgent p) (create_task p name s d id t)
   unfolding create_task says_created
   agent_created name s d id t =
-      then-keeps _ _ (goes-keeps (fine agent_quiet) name (next_of p s)) (then-keeps _ _ (changes-keeps _ (plainly_alters (add_task t) (λ w. refl))) (then-keeps _ _ (thing_set id d) (looks-keeps _ (λ w. any_line Own _))))
+      then-keeps _ _ (goes-keeps (fine agent_quiet) name (next_of p s))
+      (then-keeps _ _ (changes-keeps _ (plainly_alters (add_task t) (λ w. refl))) (then-keeps _ _ (thing_set id d) (looks-keeps _ (λ w. any_line Own _))))
 
   agent_made : (l : Located) (u : ProtectedUnitNo) → Keeps (KeepsAgent p) (changes (with_object p l u) ▷ says_object p l u)
   unfolding says_object
-  agent_made l u = then-keeps _ _ (changes-keeps _ (plainly_alters (with_object p l u) (λ w. refl))) (looks-keeps _ (λ w. any_line Own (line.New (created.Object (record { 0 = w.drawn.objects })) (Some l.declared) (protected_unit_of p u).ceiling)))
+  agent_made l u =
+      then-keeps _ _ (changes-keeps _ (plainly_alters (with_object p l u) (λ w. refl)))
+      (looks-keeps _ (λ w. any_line Own (line.New (created.Object (record { 0 = w.drawn.objects })) (Some l.declared) (protected_unit_of p u).ceiling)))
 
   pub agent_base : FreeBase p EveryPart (KeepsAgent p)
   unfolding KeepsAgent
@@ -125,7 +140,9 @@ module _ (p : Image) where
     may = λ w o mode e. tt;
     may_on = λ a b o same m. tt;
     enters = λ o mode. from-leads (says Own (line.Enter actor o mode)) (λ w said h. h.0) (any_line Own (line.Enter actor o mode));
-    bases_first = λ t level. then-keeps _ _ (changes-keeps _ (task_alters t (λ u. record u { base = level }))) (any_line (part_of actor (who.Task t)) (line.Base t level));
+    bases_first =
+        λ t level.
+        then-keeps _ _ (changes-keeps _ (task_alters t (λ u. record u { base = level }))) (any_line (part_of actor (who.Task t)) (line.Base t level));
     bases = λ t level. then-keeps _ _ (changes-keeps _ (task_alters t (λ u. record u { base = level }))) (any_line ThePlacing (line.Base t level));
     defers = λ t deferred. task_alters t (λ u. record u { deferred_base = deferred });
     takes = λ v level is. nothing_deferred v level _ is;
@@ -170,7 +187,9 @@ module _ (p : Image) where
 
   agent_at_opening : (script : List (ℤ × Item)) → AgentKeeps p (opening p script).0
   unfolding KeepsAgent HasAgent
-  agent_at_opening script = (settles_onward see_nothing any_event HasAgent p tt (KeepsAgent p) (KeepsAgent p) (opens p) (blank_world p script) (agent_settles tt) agent_opens (refl, refl)).shows
+  agent_at_opening script =
+      (settles_onward see_nothing any_event HasAgent p tt (KeepsAgent p) (KeepsAgent p) (opens p) (blank_world p script) (agent_settles tt) agent_opens
+      (refl, refl)).shows
 
   agent_comes : (script : List (ℤ × Item)) (bound : ℕ) (w : World) → Comes p script bound w → AgentKeeps p w
   agent_comes script bound _ opened = agent_at_opening script

@@ -11,7 +11,8 @@ use Rattle.ceiling_laws.proofs.Runs.Kept.Tasks.{same-alters}
 use Rattle.ceiling_laws.proofs.Runs.LevelMoves.{Silences, is_apart, said_so}
 use Rattle.ceiling_laws.proofs.Runs.RunLemmas.{Instants, Settles, free_instants, instant_onward, settles_onward}
 use Rattle.ceiling_laws.proofs.Runs.TockLemmas.{tock-same}
-use Rattle.ceiling_laws.proofs.Runs.Triples.{Alters, Ends, Keeps, State, changes-keeps, for_some-keeps, from-leads, from_at, looks-keeps, nothing-keeps, then-keeps}
+use Rattle.ceiling_laws.proofs.Runs.Triples.{Alters, Ends, Keeps, State, changes-keeps, for_some-keeps}
+use Rattle.ceiling_laws.proofs.Runs.Triples.{from-leads, from_at, looks-keeps, nothing-keeps, then-keeps}
 use Rattle.ceiling_laws.specs.Cores.{ceiling_in}
 use Rattle.ceiling_laws.specs.RunLaws.{AreCeilingsShown, CeilingsAreTold, Tells, ceilings_told, told_first, told_on}
 use Rattle.ceiling_laws.proofs.Runs.Finer.{fine, fine_same}
@@ -48,7 +49,8 @@ use Rattle.profile_machine.specs.declared.world.objects.Object.{Object}
 use Rattle.profile_machine.specs.declared.world.scopes.Located.{Located}
 use Rattle.profile_machine.specs.declared.world.scopes.ScopeId.{ScopeId}
 use Rattle.profile_machine.specs.declared.world.tasks.Task.{Task}
-use Rattle.std.proofs.Common.{Bool, List, None, Option, Some, [], ap, arith, cond, eq-eqb, eqb, false, map, refl, subst, suc, sym, true, ℕ, ◌++◌, ◌∙◌, ◌∷◌, ◌≡◌, ◌≤◌}
+use Rattle.std.proofs.Common.{Bool, List, None, Option, Some, [], ap, arith, cond, eq-eqb, eqb}
+use Rattle.std.proofs.Common.{false, map, refl, subst, suc, sym, true, ℕ, ◌++◌, ◌∙◌, ◌∷◌, ◌≡◌, ◌≤◌}
 use Rattle.std.specs.Prelude.{filter, not, ℤ, ◌-◌}
 use Rattle.line_laws.proofs.Ticks.LineByLine.{Follow, seen_behind, seen_behind-append}
 use Rattle.trace_text.specs.Laws.{ceilings_after, level_of}
@@ -89,7 +91,8 @@ ShowsCeilings shown w = AreCeilingsShown shown w.objects × AreDrawn w.drawn.obj
 TellsCeilings : List (ℕ × ℕ) → State
 TellsCeilings shown w said = Ordered ceilings_by is_object_line said × Sooner ceilings_by is_object_line Own said × ShowsCeilings (told shown said) w
 
-drawn-test : (b : Bool) (drawn : ℕ) (x : Object) (xs : List Object) → x.number.0 ≤ drawn → AreDrawn drawn (map ceiling_in xs) → AreDrawn drawn (map ceiling_in (cond b (x ∷ xs) xs))
+drawn-test : (b : Bool) (drawn : ℕ) (x : Object) (xs : List Object) → x.number.0 ≤ drawn → AreDrawn drawn (map ceiling_in xs)
+    → AreDrawn drawn (map ceiling_in (cond b (x ∷ xs) xs))
 drawn-test true drawn x xs a h = (a, h)
 drawn-test false drawn x xs a h = h
 
@@ -101,7 +104,8 @@ drawn-more : (drawn more : ℕ) (xs : List (ObjectNo × ℕ)) → drawn ≤ more
 drawn-more drawn more [] a h = tt
 drawn-more drawn more (x ∷ xs) a h = (omega (arith, a, h.0), drawn-more drawn more xs a h.1)
 
-other_line-kept : (shown : List (ℕ × ℕ)) (part : Part) (x : Line) (w : World) (said : List Said) → is_object_line x ≡ false → TellsCeilings shown w said → TellsCeilings shown w (said ++ said_so part x ∷ [])
+other_line-kept : (shown : List (ℕ × ℕ)) (part : Part) (x : Line) (w : World) (said : List Said) → is_object_line x ≡ false → TellsCeilings shown w said
+    → TellsCeilings shown w (said ++ said_so part x ∷ [])
 unfolding TellsCeilings
 other_line-kept shown part x w said e h = (
   ordered-append ceilings_by is_object_line said (said_so part x) h.0 (λ t. absurd (let never : false ≡ true = sym e ∙ t in cc)),
@@ -109,7 +113,8 @@ other_line-kept shown part x w said e h = (
   subst (λ s. ShowsCeilings s w) (sym (fold-append ceilings_by is_object_line shown said (said_so part x ∷ []) ∙ ceilings_still (told shown said) x e)) h.2,
 )
 
-plain_kept : (shown : List (ℕ × ℕ)) (a b : World) (said : List Said) → b.objects ≡ a.objects → b.drawn.objects ≡ a.drawn.objects → TellsCeilings shown a said → TellsCeilings shown b said
+plain_kept : (shown : List (ℕ × ℕ)) (a b : World) (said : List Said) → b.objects ≡ a.objects → b.drawn.objects ≡ a.drawn.objects → TellsCeilings shown a said
+    → TellsCeilings shown b said
 unfolding TellsCeilings ShowsCeilings
 plain_kept shown a b said objects drawn h = (
   h.0,
@@ -137,14 +142,19 @@ module _ (p : Image) (shown : List (ℕ × ℕ)) where
       ),
     );
     says = λ part line w said other h. other_line-kept shown part line w said (quiet-no_object line other) h;
-    ends_scope = λ id w said h. (h.0, h.1, (shown-fewer (told shown said) (λ x. not (goes_with id x)) w.objects h.2.0, drawn-fewer w.drawn.objects (λ x. not (goes_with id x)) w.objects h.2.1));
+    ends_scope = λ id w said h. (
+      h.0,
+      h.1,
+      (shown-fewer (told shown said) (λ x. not (goes_with id x)) w.objects h.2.0, drawn-fewer w.drawn.objects (λ x. not (goes_with id x)) w.objects h.2.1),
+    );
   }
 
   ceilings_says : (part : Part) (x : Line) → is_object_line x ≡ false → Keeps (TellsCeilings shown) (says part x)
   unfolding Ends
   ceilings_says part x e = record { runs = λ w said h. other_line-kept shown part x w said e h }
 
-  edit_found-kept : (name : Who) (f : Task → Task) (w : World) (said : List Said) (found : Option Task) → TellsCeilings shown w said → TellsCeilings shown (edit_task_found name f w found) said
+  edit_found-kept : (name : Who) (f : Task → Task) (w : World) (said : List Said) (found : Option Task) → TellsCeilings shown w said
+      → TellsCeilings shown (edit_task_found name f w found) said
   edit_found-kept name f w said None h = h
   edit_found-kept (who.Task n) f w said (Some t) h = plain_kept shown w (with_task (who.Task n) (f t) w) said refl refl h
   edit_found-kept who.Agent f w said (Some t) h = plain_kept shown w (with_task who.Agent (f t) w) said refl refl h
@@ -152,16 +162,21 @@ module _ (p : Image) (shown : List (ℕ × ℕ)) where
   ceilings_edits : (name : Who) (f : Task → Task) → Alters (TellsCeilings shown) (edit_task name f)
   ceilings_edits name f = record { turns = λ w said h. edit_found-kept name f w said (task_at w name) h }
 
-  ceilings_plain : (f : World → World) → ((w : World) → (f w).objects ≡ w.objects) → ((w : World) → (f w).drawn.objects ≡ w.drawn.objects) → Alters (TellsCeilings shown) f
+  ceilings_plain : (f : World → World) → ((w : World) → (f w).objects ≡ w.objects) → ((w : World) → (f w).drawn.objects ≡ w.drawn.objects)
+      → Alters (TellsCeilings shown) f
   ceilings_plain f objects drawn = record { turns = λ w said h. plain_kept shown w (f w) said (objects w) (drawn w) h }
 
   -- a new object, and the line that tells it
   newest : (drawn n : ℕ) → n ≤ drawn → eqb n (suc drawn) ≡ false
   newest drawn n h = grind arith
 
-  older-shown : (drawn level : ℕ) (s : List (ℕ × ℕ)) (xs : List Object) → AreCeilingsShown s xs → AreDrawn drawn (map ceiling_in xs) → AreCeilingsShown ((suc drawn, level) ∷ s) xs
+  older-shown : (drawn level : ℕ) (s : List (ℕ × ℕ)) (xs : List Object) → AreCeilingsShown s xs → AreDrawn drawn (map ceiling_in xs)
+      → AreCeilingsShown ((suc drawn, level) ∷ s) xs
   older-shown drawn level s [] h d = tt
-  older-shown drawn level s (x ∷ xs) h d = (ap (λ t. cond t (Some level) (level_of x.number.0 s)) (newest drawn x.number.0 d.0) ∙ h.0, older-shown drawn level s xs h.1 d.1)
+  older-shown drawn level s (x ∷ xs) h d = (
+    ap (λ t. cond t (Some level) (level_of x.number.0 s)) (newest drawn x.number.0 d.0) ∙ h.0,
+    older-shown drawn level s xs h.1 d.1,
+  )
 
   ceilings_made : (l : Located) (u : ProtectedUnitNo) → Keeps (TellsCeilings shown) (changes (with_object p l u) ▷ says_object p l u)
   unfolding says_object Ends TellsCeilings ShowsCeilings
@@ -195,18 +210,28 @@ module _ (p : Image) (shown : List (ℕ × ℕ)) where
   ceilings_created : (name : Who) (s : StatementNo) (d : DeclNo) (id : Option ScopeId) (t : Task) → Keeps (TellsCeilings shown) (create_task p name s d id t)
   unfolding create_task says_created
   ceilings_created name s d id t =
-      then-keeps _ _ (goes-keeps (fine ceilings_quiet) name (next_of p s)) (then-keeps _ _ (changes-keeps _ (ceilings_plain (add_task t) (λ w. refl) (λ w. refl)))
-      (then-keeps _ _ (for_some-keeps id _ (λ within. looks-keeps _ (λ w. changes-keeps _ (same-alters ceilings_quiet _ (λ u. fine_same u _ (set_thing-same p (record { within = within; declared = d }) (value_of.Task (Some (record { 0 = w.drawn.tasks - 1 }))) u))))))
+      then-keeps _ _ (goes-keeps (fine ceilings_quiet) name (next_of p s))
+      (then-keeps _ _ (changes-keeps _ (ceilings_plain (add_task t) (λ w. refl) (λ w. refl)))
+      (then-keeps _ _
+      (for_some-keeps id _
+      (λ within. looks-keeps _
+      (λ w. changes-keeps _
+      (same-alters ceilings_quiet _
+      (λ u. fine_same u _ (set_thing-same p (record { within = within; declared = d }) (value_of.Task (Some (record { 0 = w.drawn.tasks - 1 }))) u))))))
       (looks-keeps _ (λ w. ceilings_says Own (line.New (created.Task (record { 0 = w.drawn.tasks - 1 })) (Some d) t.base) refl))))
 
-  ceilings_takes : (level : ℕ) → Keeps (TellsCeilings shown) (changes (edit_task who.Agent (λ u. record u { deferred_base = None })) ▷ set_base p ThePlacing ThePlacing who.Agent level)
+  ceilings_takes : (level : ℕ)
+      → Keeps (TellsCeilings shown) (changes (edit_task who.Agent (λ u. record u { deferred_base = None })) ▷ set_base p ThePlacing ThePlacing who.Agent level)
   unfolding set_base says_base
   ceilings_takes level =
-      then-keeps _ _ (changes-keeps _ (ceilings_edits who.Agent (λ u. record u { deferred_base = None }))) (then-keeps _ _ (changes-keeps _ (ceilings_edits who.Agent (λ u. record u { base = level })))
+      then-keeps _ _ (changes-keeps _ (ceilings_edits who.Agent (λ u. record u { deferred_base = None })))
+      (then-keeps _ _ (changes-keeps _ (ceilings_edits who.Agent (λ u. record u { base = level })))
       (then-keeps _ _ nothing-keeps (looks-keeps _ (λ w. replace_in-free ceilings_base ThePlacing who.Agent (task_of w who.Agent).state tt))))
 
-  ceilings_bases : (part : Part) (t : TaskNo) (level : ℕ) → Keeps (TellsCeilings shown) (changes (edit_task (who.Task t) (λ u. record u { base = level })) ▷ says part (line.Base t level))
-  ceilings_bases part t level = then-keeps _ _ (changes-keeps _ (ceilings_edits (who.Task t) (λ u. record u { base = level }))) (ceilings_says part (line.Base t level) refl)
+  ceilings_bases : (part : Part) (t : TaskNo) (level : ℕ)
+      → Keeps (TellsCeilings shown) (changes (edit_task (who.Task t) (λ u. record u { base = level })) ▷ says part (line.Base t level))
+  ceilings_bases part t level =
+      then-keeps _ _ (changes-keeps _ (ceilings_edits (who.Task t) (λ u. record u { base = level }))) (ceilings_says part (line.Base t level) refl)
 
   ceilings_free : (actor : Who) → FreeMoves p actor anywhere (TellsCeilings shown) (TellsCeilings shown) (TellsCeilings shown)
   ceilings_free actor = record {
@@ -244,7 +269,9 @@ module _ (p : Image) where
   unfolding TellsCeilings ShowsCeilings
   ceilings_settle shown v xs h = record {
     follow = any_follow shown (lines_of p xs);
-    shows = subst (λ s. AreCeilingsShown s v.objects × AreDrawn v.drawn.objects (map ceiling_in v.objects)) (sym (seen-told p shown (in_order xs) ∙ fold-in_order ceilings_by is_object_line ceilings_still shown xs h.0)) h.2;
+    shows =
+        subst (λ s. AreCeilingsShown s v.objects × AreDrawn v.drawn.objects (map ceiling_in v.objects))
+        (sym (seen-told p shown (in_order xs) ∙ fold-in_order ceilings_by is_object_line ceilings_still shown xs h.0)) h.2;
   }
 
   ceilings_start : (shown : List (ℕ × ℕ)) (w : World) → ShowsCeilings shown w → TellsCeilings shown w []
@@ -254,7 +281,8 @@ module _ (p : Image) where
   ceilings_instants : Instants ceilings_after any_event ShowsCeilings p
   ceilings_instants = free_instants ceilings_after any_event ShowsCeilings TellsCeilings (ceilings_free p) ceilings_start ceilings_settle
 
-  instant-ceilings : (shown : List (ℕ × ℕ)) (w : World) → ShowsCeilings shown w → ShowsCeilings (seen_behind ceilings_after any_event shown (instant p w).1) (instant p w).0
+  instant-ceilings : (shown : List (ℕ × ℕ)) (w : World) → ShowsCeilings shown w
+      → ShowsCeilings (seen_behind ceilings_after any_event shown (instant p w).1) (instant p w).0
   instant-ceilings shown w h = (instant_onward ceilings_after any_event ShowsCeilings ceilings_instants shown w h).shows
 
   ceilings_open : (shown : List (ℕ × ℕ)) → Keeps (TellsCeilings shown) (opens p)
@@ -266,7 +294,9 @@ module _ (p : Image) where
 
   opening-ceilings : (script : List (ℤ × Item)) → ShowsCeilings (seen_behind ceilings_after any_event [] (opening p script).1) (opening p script).0
   unfolding ShowsCeilings
-  opening-ceilings script = (settles_onward ceilings_after any_event ShowsCeilings p [] (TellsCeilings []) (TellsCeilings []) (opens p) (blank_world p script) (ceilings_settle []) (ceilings_open []) (ceilings_start [] (blank_world p script) (tt, tt))).shows
+  opening-ceilings script =
+      (settles_onward ceilings_after any_event ShowsCeilings p [] (TellsCeilings []) (TellsCeilings []) (opens p) (blank_world p script) (ceilings_settle [])
+      (ceilings_open []) (ceilings_start [] (blank_world p script) (tt, tt))).shows
 
 seen-is-told : (shown : List (ℕ × ℕ)) (lines : List Event) → seen_behind ceilings_after any_event shown lines ≡ ceilings_told shown lines
 seen-is-told shown [] = refl
@@ -280,21 +310,27 @@ tock_lines-ceilings : (shown : List (ℕ × ℕ)) (lines : List Event) → AllAr
 tock_lines-ceilings shown [] a = refl
 tock_lines-ceilings shown (x ∷ xs) a = ap (λ s. seen_behind ceilings_after any_event s xs) (tock_line-ceilings shown x a.0) ∙ tock_lines-ceilings shown xs a.1
 
-tock-ceilings : (p : Image) (shown : List (ℕ × ℕ)) (w : World) → ShowsCeilings shown w → ShowsCeilings (seen_behind ceilings_after any_event shown (tock p w).1) (tock p w).0
+tock-ceilings : (p : Image) (shown : List (ℕ × ℕ)) (w : World) → ShowsCeilings shown w
+    → ShowsCeilings (seen_behind ceilings_after any_event shown (tock p w).1) (tock p w).0
 unfolding ShowsCeilings
 tock-ceilings p shown w h =
     let same = tock-same p w in
-    subst (λ s. AreCeilingsShown s (tock p w).0.objects × AreDrawn (tock p w).0.drawn.objects (map ceiling_in (tock p w).0.objects)) (sym (tock_lines-ceilings shown (tock p w).1 (tocks_say_ticks p w)))
-    (shown-same shown w.objects (tock p w).0.objects same.objects h.0, subst (λ n. AreDrawn n (map ceiling_in (tock p w).0.objects)) (sym same.drawn_objects) (subst (AreDrawn w.drawn.objects) (sym same.objects) h.1))
+    subst (λ s. AreCeilingsShown s (tock p w).0.objects × AreDrawn (tock p w).0.drawn.objects (map ceiling_in (tock p w).0.objects))
+    (sym (tock_lines-ceilings shown (tock p w).1 (tocks_say_ticks p w))) (
+      shown-same shown w.objects (tock p w).0.objects same.objects h.0,
+      subst (λ n. AreDrawn n (map ceiling_in (tock p w).0.objects)) (sym same.drawn_objects) (subst (AreDrawn w.drawn.objects) (sym same.objects) h.1),
+    )
 
-told-shown : (p : Image) (script : List (ℤ × Item)) (bound : ℕ) (lines : List Event) (w : World) → Tells p script bound lines w → ShowsCeilings (seen_behind ceilings_after any_event [] lines) w
+told-shown : (p : Image) (script : List (ℤ × Item)) (bound : ℕ) (lines : List Event) (w : World) → Tells p script bound lines w
+    → ShowsCeilings (seen_behind ceilings_after any_event [] lines) w
 told-shown p script bound _ _ told_first = opening-ceilings p script
 told-shown p script bound _ _ (told_on lines w told going) =
     let next = instant p w in
     let first = instant-ceilings p (seen_behind ceilings_after any_event [] lines) w (told-shown p script bound lines w told) in
     let second = tock-ceilings p (seen_behind ceilings_after any_event (seen_behind ceilings_after any_event [] lines) next.1) next.0 first in
     subst (λ s. ShowsCeilings s (tock p next.0).0)
-    (ap (λ s. seen_behind ceilings_after any_event s (tock p next.0).1) (sym (seen_behind-append ceilings_after any_event [] lines next.1)) ∙ sym (seen_behind-append ceilings_after any_event [] (lines ++ next.1) (tock p next.0).1)) second
+    (ap (λ s. seen_behind ceilings_after any_event s (tock p next.0).1) (sym (seen_behind-append ceilings_after any_event [] lines next.1))
+    ∙ sym (seen_behind-append ceilings_after any_event [] (lines ++ next.1) (tock p next.0).1)) second
 
 pub ceilings_are_told : CeilingsAreTold
 unfolding ShowsCeilings
@@ -302,5 +338,6 @@ ceilings_are_told p script bound lines w told =
     let before = told-shown p script bound lines w told in
     let behind_it = instant-ceilings p (seen_behind ceilings_after any_event [] lines) w before in (
       subst (λ s. AreCeilingsShown s w.objects) (seen-is-told [] lines) before.0,
-      subst (λ s. AreCeilingsShown s (instant p w).0.objects) (sym (seen_behind-append ceilings_after any_event [] lines (instant p w).1) ∙ seen-is-told [] (lines ++ (instant p w).1)) behind_it.0,
+      subst (λ s. AreCeilingsShown s (instant p w).0.objects)
+          (sym (seen_behind-append ceilings_after any_event [] lines (instant p w).1) ∙ seen-is-told [] (lines ++ (instant p w).1)) behind_it.0,
     )

@@ -19,7 +19,8 @@ abbrev core_in : Who → List Core → Core
 core_in n [] = core nobody
 core_in n (c ∷ cs) = cond (same_who n c.who) c (core_in n cs)
 
-core-test : (b : Bool) (t : Task) (rest : Option Task) (cs : Core) → core (unwrap_or rest nobody) ≡ cs → core (unwrap_or (cond b (Some t) rest) nobody) ≡ cond b (core t) cs
+core-test : (b : Bool) (t : Task) (rest : Option Task) (cs : Core) → core (unwrap_or rest nobody) ≡ cs
+    → core (unwrap_or (cond b (Some t) rest) nobody) ≡ cond b (core t) cs
 core-test true t rest cs e = refl
 core-test false t rest cs e = e
 
@@ -37,7 +38,8 @@ abbrev pub ceiling_at : ObjectNo → List (ObjectNo × ℕ) → Option ℕ
 ceiling_at o [] = None
 ceiling_at o (x ∷ xs) = cond (same_object o x.0) (Some x.1) (ceiling_at o xs)
 
-ceiling-test : (b : Bool) (o : ObjectNo) (y x : Object) (rest : Option Object) (c : Option ℕ) → cond b (Some y) rest ≡ Some x → (rest ≡ Some x → c ≡ Some x.ceiling) → cond b (Some y.ceiling) c ≡ Some x.ceiling
+ceiling-test : (b : Bool) (o : ObjectNo) (y x : Object) (rest : Option Object) (c : Option ℕ) → cond b (Some y) rest ≡ Some x
+    → (rest ≡ Some x → c ≡ Some x.ceiling) → cond b (Some y.ceiling) c ≡ Some x.ceiling
 ceiling-test true o y x rest c e onward = let one : y ≡ x = cc in ap (λ (z : Object). Some z.ceiling) one
 ceiling-test false o y x rest c e onward = onward e
 
@@ -45,14 +47,18 @@ pub ceiling-found : (o : ObjectNo) (xs : List Object) (x : Object) → find (is_
 ceiling-found o [] x e = absurd cc
 ceiling-found o (y ∷ ys) x e = ceiling-test (is_object o y) o y x (find (is_object o) ys) (ceiling_at o (map ceiling_in ys)) e (λ k. ceiling-found o ys x k)
 
-shown-test : (b : Bool) (shown : List (ℕ × ℕ)) (o : ObjectNo) (x : Object) (c : ℕ) (rest : Option ℕ) → same_object o x.number ≡ b → level_of x.number.0 shown ≡ Some x.ceiling → cond b (Some x.ceiling) rest ≡ Some c → (rest ≡ Some c → level_of o.0 shown ≡ Some c) → level_of o.0 shown ≡ Some c
+shown-test : (b : Bool) (shown : List (ℕ × ℕ)) (o : ObjectNo) (x : Object) (c : ℕ) (rest : Option ℕ) → same_object o x.number ≡ b
+    → level_of x.number.0 shown ≡ Some x.ceiling → cond b (Some x.ceiling) rest ≡ Some c → (rest ≡ Some c → level_of o.0 shown ≡ Some c)
+    → level_of o.0 shown ≡ Some c
 shown-test true shown o x c rest is level e onward = ap (λ n. level_of n shown) (eqb-true o.0 x.number.0 is) ∙ level ∙ e
 shown-test false shown o x c rest is level e onward = onward e
 
 -- the lines show the ceiling of an object that is there
-pub shown-at : (shown : List (ℕ × ℕ)) (o : ObjectNo) (xs : List Object) (c : ℕ) → AreCeilingsShown shown xs → ceiling_at o (map ceiling_in xs) ≡ Some c → level_of o.0 shown ≡ Some c
+pub shown-at : (shown : List (ℕ × ℕ)) (o : ObjectNo) (xs : List Object) (c : ℕ) → AreCeilingsShown shown xs → ceiling_at o (map ceiling_in xs) ≡ Some c
+    → level_of o.0 shown ≡ Some c
 shown-at shown o [] c h e = absurd cc
-shown-at shown o (x ∷ xs) c h e = shown-test (same_object o x.number) shown o x c (ceiling_at o (map ceiling_in xs)) refl h.0 e (λ k. shown-at shown o xs c h.1 k)
+shown-at shown o (x ∷ xs) c h e =
+    shown-test (same_object o x.number) shown o x c (ceiling_at o (map ceiling_in xs)) refl h.0 e (λ k. shown-at shown o xs c h.1 k)
 
 -- the same of objects that are seen alike, and of fewer
 abbrev Shown : List (ℕ × ℕ) → List (ObjectNo × ℕ) → Type 0
@@ -70,7 +76,8 @@ from-seen shown (x ∷ xs) h = (h.0, from-seen shown xs h.1)
 pub shown-same : (shown : List (ℕ × ℕ)) (xs ys : List Object) → map ceiling_in ys ≡ map ceiling_in xs → AreCeilingsShown shown xs → AreCeilingsShown shown ys
 shown-same shown xs ys same h = from-seen shown ys (subst (Shown shown) (sym same) (to-seen shown xs h))
 
-fewer-test : (b : Bool) (shown : List (ℕ × ℕ)) (x : Object) (xs : List Object) → level_of x.number.0 shown ≡ Some x.ceiling → AreCeilingsShown shown xs → AreCeilingsShown shown (cond b (x ∷ xs) xs)
+fewer-test : (b : Bool) (shown : List (ℕ × ℕ)) (x : Object) (xs : List Object) → level_of x.number.0 shown ≡ Some x.ceiling → AreCeilingsShown shown xs
+    → AreCeilingsShown shown (cond b (x ∷ xs) xs)
 fewer-test true shown x xs level h = (level, h)
 fewer-test false shown x xs level h = h
 
@@ -83,7 +90,8 @@ abbrev pub seen_in : Who → List Core → Option Core
 seen_in n [] = None
 seen_in n (c ∷ cs) = cond (same_who n c.who) (Some c) (seen_in n cs)
 
-seen-test : (b : Bool) (t : Task) (rest : Option Task) (cs : Option Core) → option_map core rest ≡ cs → option_map core (cond b (Some t) rest) ≡ cond b (Some (core t)) cs
+seen-test : (b : Bool) (t : Task) (rest : Option Task) (cs : Option Core) → option_map core rest ≡ cs
+    → option_map core (cond b (Some t) rest) ≡ cond b (Some (core t)) cs
 seen-test true t rest cs e = refl
 seen-test false t rest cs e = e
 
@@ -95,6 +103,7 @@ seen-some : (found : Option Task) (x : Task) → option_map core found ≡ Some 
 seen-some None x e = absurd cc
 seen-some (Some y) x e = (y, refl, let one : core y ≡ core x = cc in one)
 
-pub found-same : (a b : World) (n : Who) (x : Task) → Same a b → find (is_who n) b.tasks ≡ Some x → (y : Task) × (find (is_who n) a.tasks ≡ Some y) × (core y ≡ core x)
+pub found-same : (a b : World) (n : Who) (x : Task) → Same a b → find (is_who n) b.tasks ≡ Some x
+    → (y : Task) × (find (is_who n) a.tasks ≡ Some y) × (core y ≡ core x)
 found-same a b n x same e =
     seen-some (find (is_who n) a.tasks) x (seen-found n a.tasks ∙ ap (seen_in n) (sym same.tasks) ∙ sym (seen-found n b.tasks) ∙ ap (option_map core) e)

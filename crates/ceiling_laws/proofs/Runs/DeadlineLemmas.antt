@@ -87,7 +87,8 @@ all_right-append : (p : Image) (xs : List Said) (x : Said) → AllRight p xs →
 all_right-append p [] x q e = (e, tt)
 all_right-append p (y ∷ ys) x q e = (q.0, all_right-append p ys x q.1 e)
 
-all_right-test : (p : Image) (x y : Said) (ys placed : List Said) (b : Bool) → AllRight p (x ∷ y ∷ ys) → AllRight p placed → AllRight p (cond b (y ∷ placed) (x ∷ y ∷ ys))
+all_right-test : (p : Image) (x y : Said) (ys placed : List Said) (b : Bool) → AllRight p (x ∷ y ∷ ys) → AllRight p placed
+    → AllRight p (cond b (y ∷ placed) (x ∷ y ∷ ys))
 all_right-test p x y ys placed true h k = (h.1.0, k)
 all_right-test p x y ys placed false h k = h
 
@@ -109,14 +110,16 @@ unfolding told_rightly
 some-right p name true deadline h = h refl
 some-right p name false deadline h = refl
 
-may_have-at : (p : Image) (w : World) (name : Who) → edf_is_below_interrupts p ≡ true → w.agent.base ≡ interrupt_priority p → is_edf_level p (active p (task_of w name)) ≡ true → may_have p name ≡ true
+may_have-at : (p : Image) (w : World) (name : Who) → edf_is_below_interrupts p ≡ true → w.agent.base ≡ interrupt_priority p
+    → is_edf_level p (active p (task_of w name)) ≡ true → may_have p name ≡ true
 unfolding may_have
 may_have-at p w (who.Task t) low agent e = has_range (active p (task_of w (who.Task t))) p.policies.dispatching e
 may_have-at p w who.Agent low agent e =
     let off : is_edf_level p (active p w.agent) ≡ false = agent_has_no_deadline p w.agent low agent in
     absurd (let never : false ≡ true = sym off ∙ e in cc)
 
-ready-right : (p : Image) (w : World) (name : Who) → edf_is_below_interrupts p ≡ true → w.agent.base ≡ interrupt_priority p → told_rightly p name (deadline_shown p (task_of w name)) ≡ true
+ready-right : (p : Image) (w : World) (name : Who) → edf_is_below_interrupts p ≡ true → w.agent.base ≡ interrupt_priority p
+    → told_rightly p name (deadline_shown p (task_of w name)) ≡ true
 ready-right p w name low agent = some-right p name (is_edf_level p (active p (task_of w name))) (task_of w name).deadline (may_have-at p w name low agent)
 
 -- ---- steps
@@ -143,7 +146,13 @@ module _ (p : Image) (low : edf_is_below_interrupts p ≡ true) where
 
   rightly_ready : (part : Part) (name : Who) (end : QueueEnd) → Keeps (Rightly p) (says_ready p part name end)
   unfolding Rightly Ends says_ready right_event
-  rightly_ready part name end = record { runs = λ w said h. (h.0, all_right-append p said (said_so part (line.Ready name (active p (task_of w name)) end (deadline_shown p (task_of w name)))) h.1 (ready-right p w name low h.0.0)) }
+  rightly_ready part name end = record {
+    runs = λ w said h. (
+      h.0,
+      all_right-append p said (said_so part (line.Ready name (active p (task_of w name)) end (deadline_shown p (task_of w name)))) h.1
+          (ready-right p w name low h.0.0),
+    );
+  }
 
   rightly_base : FreeBase p EveryPart (Rightly p)
   unfolding right_event
@@ -160,21 +169,36 @@ module _ (p : Image) (low : edf_is_below_interrupts p ≡ true) where
   rightly_created : (name : Who) (s : StatementNo) (d : DeclNo) (id : Option ScopeId) (t : Task) → Keeps (Rightly p) (create_task p name s d id t)
   unfolding create_task says_created right_event
   rightly_created name s d id t =
-      then-keeps _ _ (goes-keeps (fine rightly_quiet) name (next_of p s)) (then-keeps _ _ (changes-keeps _ (rightly_alters (add_task t) (plainly_alters p (add_task t) (λ w. refl))))
-      (then-keeps _ _ (for_some-keeps id _ (λ within. looks-keeps _ (λ w. changes-keeps _ (same-alters rightly_quiet _ (λ u. fine_same u _ (set_thing-same p (record { within = within; declared = d }) (value_of.Task (Some (record { 0 = w.drawn.tasks - 1 }))) u))))))
+      then-keeps _ _ (goes-keeps (fine rightly_quiet) name (next_of p s))
+      (then-keeps _ _ (changes-keeps _ (rightly_alters (add_task t) (plainly_alters p (add_task t) (λ w. refl))))
+      (then-keeps _ _
+      (for_some-keeps id _
+      (λ within. looks-keeps _
+      (λ w. changes-keeps _
+      (same-alters rightly_quiet _
+      (λ u. fine_same u _ (set_thing-same p (record { within = within; declared = d }) (value_of.Task (Some (record { 0 = w.drawn.tasks - 1 }))) u))))))
       (looks-keeps _ (λ w. rightly_says Own _ refl))))
 
   rightly_made : (l : Located) (u : ProtectedUnitNo) → Keeps (Rightly p) (changes (with_object p l u) ▷ says_object p l u)
   unfolding says_object right_event
-  rightly_made l u = then-keeps _ _ (changes-keeps _ (rightly_alters (with_object p l u) (plainly_alters p (with_object p l u) (λ w. refl)))) (looks-keeps _ (λ w. rightly_says Own (line.New (created.Object (record { 0 = w.drawn.objects })) (Some l.declared) (protected_unit_of p u).ceiling) refl))
+  rightly_made l u =
+      then-keeps _ _ (changes-keeps _ (rightly_alters (with_object p l u) (plainly_alters p (with_object p l u) (λ w. refl))))
+      (looks-keeps _
+      (λ w. rightly_says Own (line.New (created.Object (record { 0 = w.drawn.objects })) (Some l.declared) (protected_unit_of p u).ceiling) refl))
 
-  rightly_bases : (part : Part) (t : TaskNo) (level : ℕ) → Keeps (Rightly p) (changes (edit_task (who.Task t) (λ u. record u { base = level })) ▷ says part (line.Base t level))
+  rightly_bases : (part : Part) (t : TaskNo) (level : ℕ)
+      → Keeps (Rightly p) (changes (edit_task (who.Task t) (λ u. record u { base = level })) ▷ says part (line.Base t level))
   unfolding right_event
-  rightly_bases part t level = then-keeps _ _ (changes-keeps _ (rightly_alters (edit_task (who.Task t) (λ u. record u { base = level })) (task_alters p t (λ u. record u { base = level })))) (rightly_says part (line.Base t level) refl)
+  rightly_bases part t level =
+      then-keeps _ _
+      (changes-keeps _ (rightly_alters (edit_task (who.Task t) (λ u. record u { base = level })) (task_alters p t (λ u. record u { base = level }))))
+      (rightly_says part (line.Base t level) refl)
 
   rightly_takes : (v : World) (level : ℕ) (step : Step) → v.agent.deferred_base ≡ Some level → Leads (At (Rightly p) v) (Rightly p) step
   unfolding Rightly
-  rightly_takes v level step is = record { runs = λ w said h. absurd (let never : None ≡ Some level = sym h.0.0.1 ∙ ap (λ u. u.agent.deferred_base) h.1 ∙ is in cc) }
+  rightly_takes v level step is = record {
+    runs = λ w said h. absurd (let never : None ≡ Some level = sym h.0.0.1 ∙ ap (λ u. u.agent.deferred_base) h.1 ∙ is in cc);
+  }
 
   rightly_free : (actor : Who) → FreeMoves p actor anywhere (Rightly p) (Rightly p) (Rightly p)
   unfolding right_event
@@ -189,7 +213,9 @@ module _ (p : Image) (low : edf_is_below_interrupts p ≡ true) where
     enters = λ o mode. from-leads (says Own (line.Enter actor o mode)) (λ w said h. h.0) (rightly_says Own (line.Enter actor o mode) refl);
     bases_first = λ t level. rightly_bases (part_of actor (who.Task t)) t level;
     bases = λ t level. rightly_bases ThePlacing t level;
-    defers = λ t deferred. rightly_alters (edit_task (who.Task t) (λ u. record u { deferred_base = deferred })) (task_alters p t (λ u. record u { deferred_base = deferred }));
+    defers =
+        λ t deferred.
+        rightly_alters (edit_task (who.Task t) (λ u. record u { deferred_base = deferred })) (task_alters p t (λ u. record u { deferred_base = deferred }));
     takes = λ v level is. rightly_takes v level _ is;
     creates = λ s d id t. from-leads (create_task p actor s d id t) (λ w said h. h.0) (rightly_created actor s d id t);
     makes = rightly_made;
@@ -232,7 +258,9 @@ module _ (p : Image) (low : edf_is_below_interrupts p ≡ true) where
   opening-rightly : (script : List (ℤ × Item)) → AllAre (right_event p) (opening p script).1 × AgentKeeps p (opening p script).0
   unfolding Rightly HoldsAgent
   opening-rightly script =
-      let behind_it = settles_onward see_nothing right_at HoldsAgent p tt (Rightly p) (Rightly p) (opens p) (blank_world p script) rightly_settles rightly_opens ((refl, refl), tt) in
+      let behind_it =
+      settles_onward see_nothing right_at HoldsAgent p tt (Rightly p) (Rightly p) (opens p) (blank_world p script) rightly_settles rightly_opens
+      ((refl, refl), tt) in
       (follow-are tt (opening p script).1 behind_it.follow, behind_it.shows)
 
   instant-rightly : (w : World) → AgentKeeps p w → AllAre (right_event p) (instant p w).1 × AgentKeeps p (instant p w).0
@@ -250,13 +278,15 @@ tock_lines-right : (p : Image) (lines : List Event) → AllAre is_of_tock lines 
 tock_lines-right p [] a = tt
 tock_lines-right p (x ∷ xs) a = (tock_line-right p x a.0, tock_lines-right p xs a.1)
 
-told-rightly : (p : Image) (script : List (ℤ × Item)) (bound : ℕ) (lines : List Event) (w : World) → edf_is_below_interrupts p ≡ true → Tells p script bound lines w → AllAre (right_event p) lines × AgentKeeps p w
+told-rightly : (p : Image) (script : List (ℤ × Item)) (bound : ℕ) (lines : List Event) (w : World) → edf_is_below_interrupts p ≡ true
+    → Tells p script bound lines w → AllAre (right_event p) lines × AgentKeeps p w
 told-rightly p script bound _ _ low told_first = opening-rightly p low script
 told-rightly p script bound _ _ low (told_on lines w told going) =
     let before = told-rightly p script bound lines w low told in
     let next = instant-rightly p low w before.1 in
     let same = (tock-same p (instant p w).0).agent in (
-      AllAre-append (right_event p) (lines ++ (instant p w).1) (tock p (instant p w).0).1 (AllAre-append (right_event p) lines (instant p w).1 before.0 next.0) (tock_lines-right p (tock p (instant p w).0).1 (tocks_say_ticks p (instant p w).0)),
+      AllAre-append (right_event p) (lines ++ (instant p w).1) (tock p (instant p w).0).1 (AllAre-append (right_event p) lines (instant p w).1 before.0 next.0)
+          (tock_lines-right p (tock p (instant p w).0).1 (tocks_say_ticks p (instant p w).0)),
       (ap (λ c. c.base) same ∙ next.1.0, ap (λ c. c.deferred_base) same ∙ next.1.1),
     )
 
@@ -266,7 +296,8 @@ abbrev AllEntries : Image → List Entry → Type 0
 AllEntries p [] = Unit {0}
 AllEntries p (x ∷ xs) = (told_rightly p x.who x.deadline ≡ true) × AllEntries p xs
 
-entries-if : (p : Image) (b : Bool) (x : Entry) (rest : List Entry) → told_rightly p x.who x.deadline ≡ true → AllEntries p rest → AllEntries p (if b then rest else x ∷ rest)
+entries-if : (p : Image) (b : Bool) (x : Entry) (rest : List Entry) → told_rightly p x.who x.deadline ≡ true → AllEntries p rest
+    → AllEntries p (if b then rest else x ∷ rest)
 entries-if p true x rest e h = h
 entries-if p false x rest e h = (e, h)
 
@@ -278,7 +309,8 @@ entries-append : (p : Image) (xs : List Entry) (x : Entry) → AllEntries p xs �
 entries-append p [] x h e = (e, tt)
 entries-append p (y ∷ ys) x h e = (h.0, entries-append p ys x h.1 e)
 
-entries-placed : (p : Image) (end : QueueEnd) (x : Entry) (xs : List Entry) → AllEntries p xs → told_rightly p x.who x.deadline ≡ true → AllEntries p (placed end x xs)
+entries-placed : (p : Image) (end : QueueEnd) (x : Entry) (xs : List Entry) → AllEntries p xs → told_rightly p x.who x.deadline ≡ true
+    → AllEntries p (placed end x xs)
 entries-placed p Head x xs h e = (e, entries-without p x.who xs h)
 entries-placed p Tail x xs h e = entries-append p (without x.who xs) x (entries-without p x.who xs h) e
 
@@ -289,17 +321,20 @@ entries-after p xs (written.Block name why) h e = entries-without p name xs h
 entries-after p xs (written.Done t) h e = entries-without p (who.Task t) xs h
 entries-after p xs _ h e = h
 
-entries-told : (p : Image) (sight : Levels) (lines : List Event) → AllEntries p sight.entries → AllAre (right_event p) lines → AllEntries p (levels_told sight lines).entries
+entries-told : (p : Image) (sight : Levels) (lines : List Event) → AllEntries p sight.entries → AllAre (right_event p) lines
+    → AllEntries p (levels_told sight lines).entries
 entries-told p sight [] h a = h
 entries-told p sight (x ∷ xs) h a = entries-told p (see_levels sight x) xs (entries-after p sight.entries x h a.0) a.1
 
-entry-if : (p : Image) (name : Who) (b : Bool) (x entry : Entry) (rest : Option Entry) → who_eq name x.who ≡ b → told_rightly p x.who x.deadline ≡ true → (rest ≡ Some entry → told_rightly p name entry.deadline ≡ true) → (if b then Some x else rest) ≡ Some entry → told_rightly p name entry.deadline ≡ true
+entry-if : (p : Image) (name : Who) (b : Bool) (x entry : Entry) (rest : Option Entry) → who_eq name x.who ≡ b → told_rightly p x.who x.deadline ≡ true
+    → (rest ≡ Some entry → told_rightly p name entry.deadline ≡ true) → (if b then Some x else rest) ≡ Some entry → told_rightly p name entry.deadline ≡ true
 entry-if p name true x entry rest is e onward found =
     let one : x ≡ entry = cc in
     subst (λ (y : Entry). told_rightly p name y.deadline ≡ true) one (subst (λ n. told_rightly p n x.deadline ≡ true) (sym (whose-name name x.who is)) e)
 entry-if p name false x entry rest is e onward found = onward found
 
-entry-right : (p : Image) (name : Who) (xs : List Entry) (entry : Entry) → AllEntries p xs → entry_of name xs ≡ Some entry → told_rightly p name entry.deadline ≡ true
+entry-right : (p : Image) (name : Who) (xs : List Entry) (entry : Entry) → AllEntries p xs → entry_of name xs ≡ Some entry
+    → told_rightly p name entry.deadline ≡ true
 entry-right p name [] entry h e = absurd cc
 entry-right p name (x ∷ xs) entry h e = entry-if p name (who_eq name x.who) x entry (entry_of name xs) refl h.0 (λ k. entry-right p name xs entry h.1 k) e
 
@@ -312,7 +347,8 @@ unfolding told_rightly
 rightly-with p name None d is e = absurd cc
 rightly-with p name (Some other) d is e = e
 
-base-told : (p : Image) (w : World) (name : Who) (bases : List (ℕ × ℕ)) → AreBasesShown bases w → may_have p name ≡ true → (has_edf p ≡ true) × ((x : Task) → task_at w name ≡ Some x → base_of name bases ≡ Some x.base)
+base-told : (p : Image) (w : World) (name : Who) (bases : List (ℕ × ℕ)) → AreBasesShown bases w → may_have p name ≡ true
+    → (has_edf p ≡ true) × ((x : Task) → task_at w name ≡ Some x → base_of name bases ≡ Some x.base)
 unfolding may_have
 base-told p w (who.Task t) bases shown e = (e, λ x found. shown t x found)
 base-told p w who.Agent bases shown e = absurd cc
@@ -322,4 +358,5 @@ deadlines_are_of_tasks p script bound lines w low told name entry deadline found
     let right = told-rightly p script bound lines w low told in
     let entries = entries-told p no_levels lines tt right.0 in
     let may = rightly-with p name entry.deadline deadline is (entry-right p name (levels_told no_levels lines).entries entry entries found) in
-    base-told p w name (levels_told no_levels lines).bases (subst (λ b. AreBasesShown b w) (sym (bases-levels no_levels lines)) (bases_are_told p script bound lines w told).0) may
+    base-told p w name (levels_told no_levels lines).bases
+    (subst (λ b. AreBasesShown b w) (sym (bases-levels no_levels lines)) (bases_are_told p script bound lines w told).0) may

@@ -3,13 +3,17 @@ use Rattle.ann_base.specs.declared.identities.ObjectNo.{ObjectNo}
 use Rattle.ann_base.specs.declared.identities.TaskNo.{TaskNo}
 use Rattle.ceiling_laws.proofs.Runs.ActingMoves.{Admitting, Either}
 use Rattle.ceiling_laws.proofs.Runs.CoreLemmas.{ceiling-found, ceiling_at, core-same, shown-at, shown-fewer, shown-same}
-use Rattle.ceiling_laws.proofs.Runs.EnterLemmas.{AllQuiet, Entered, IsLate, Lawful, NoEnter, all_quiet-append, all_quiet-no_enter, entered-append, entered-begins, entered-in_order, entered-lawful, is_enter, no_enter-append, no_enter-in_order, no_enters-lawful, quiet-late, quiet-no_enter}
-use Rattle.ceiling_laws.proofs.Runs.FreeMoves.{EveryPart, FreeBase, FreeMoves, LatePart, any_task, any_world, free_others, freely, ready_by_line, replace_in-free, to_tail-free}
+use Rattle.ceiling_laws.proofs.Runs.EnterLemmas.{AllQuiet, Entered, IsLate, Lawful, NoEnter, all_quiet-append, all_quiet-no_enter}
+use Rattle.ceiling_laws.proofs.Runs.EnterLemmas.{entered-append, entered-begins, entered-in_order, entered-lawful, is_enter}
+use Rattle.ceiling_laws.proofs.Runs.EnterLemmas.{no_enter-append, no_enter-in_order, no_enters-lawful, quiet-late, quiet-no_enter}
+use Rattle.ceiling_laws.proofs.Runs.FreeMoves.{EveryPart, FreeBase, FreeMoves, LatePart, any_task, any_world}
+use Rattle.ceiling_laws.proofs.Runs.FreeMoves.{free_others, freely, ready_by_line, replace_in-free, to_tail-free}
 use Rattle.ceiling_laws.proofs.Runs.Kept.Act.{effect-leads}
 use Rattle.ceiling_laws.proofs.Fine.Kept.Frames.{goes-keeps, open_sequence-keeps}
 use Rattle.ceiling_laws.proofs.Runs.LevelMoves.{Silences, said_so}
 use Rattle.ceiling_laws.proofs.Runs.RunLemmas.{Others, behind_onward, settles_onward}
-use Rattle.ceiling_laws.proofs.Runs.Triples.{Alters, Ends, Keeps, Leads, State, With, changes-keeps, for_some-keeps, from-leads, from_at, looks-keeps, nothing-keeps, then-keeps}
+use Rattle.ceiling_laws.proofs.Runs.Triples.{Alters, Ends, Keeps, Leads, State, With, changes-keeps, for_some-keeps}
+use Rattle.ceiling_laws.proofs.Runs.Triples.{from-leads, from_at, looks-keeps, nothing-keeps, then-keeps}
 use Rattle.ceiling_laws.proofs.Ceilings.CeilingLemmas.{second_false, not_less, not_above}
 use Rattle.ceiling_laws.proofs.Places.EditLemmas.{active_core}
 use Rattle.ceiling_laws.specs.Cores.{Core, Same, ceiling_in, core}
@@ -20,7 +24,8 @@ use Rattle.machine_laws.specs.LineKinds.{is_of_tock}
 use Rattle.profile_machine.specs.Appointments.{appoint}
 use Rattle.profile_machine.specs.Declarations.{says_object, set_thing, with_object}
 use Rattle.profile_machine.specs.Dispatching.{active, active_of}
-use Rattle.profile_machine.specs.Instant.{budgets_due, effect, effect_of_runner, events_due, finish_action, instant, is_over, moments_due, quantum_spent, script_items, timers_due}
+use Rattle.profile_machine.specs.Instant.{budgets_due, effect, effect_of_runner, events_due, finish_action}
+use Rattle.profile_machine.specs.Instant.{instant, is_over, moments_due, quantum_spent, script_items, timers_due}
 use Rattle.profile_machine.specs.Masters.{forget_task, part_of}
 use Rattle.profile_machine.specs.Priorities.{says_base, set_base}
 use Rattle.profile_image.specs.Program.{has_edf, next_of, protected_unit_of}
@@ -51,7 +56,8 @@ use Rattle.profile_machine.specs.declared.world.objects.Object.{Object}
 use Rattle.profile_machine.specs.declared.world.scopes.Located.{Located}
 use Rattle.profile_machine.specs.declared.world.scopes.ScopeId.{ScopeId}
 use Rattle.profile_machine.specs.declared.world.tasks.Task.{Task}
-use Rattle.std.proofs.Common.{Bool, List, None, Option, Some, [], ap, false, inl, inr, le_trans, ltb, map, nat_le, refl, subst, sym, true, ◌&&◌, ◌∙◌, ◌∷◌, ◌≡◌, ◌≤◌}
+use Rattle.std.proofs.Common.{Bool, List, None, Option, Some, [], ap, false, inl, inr, le_trans}
+use Rattle.std.proofs.Common.{ltb, map, nat_le, refl, subst, sym, true, ◌&&◌, ◌∙◌, ◌∷◌, ◌≡◌, ◌≤◌}
 use Rattle.std.proofs.lemmas.Bool.{and_from, le-leb, or_parts}
 use Rattle.std.specs.Prelude.{not, ℕ, ℤ, ◌-◌, unwrap_or}
 use Rattle.line_laws.proofs.Ticks.LineByLine.{Follow-all, Follow-append, seen_behind}
@@ -68,13 +74,16 @@ use Rattle.trace_text.specs.declared.events.Who.TheVariants as who
 
 -- the object is there, and somebody is not above its ceiling
 MayEnter : Image → Who → Admitting
-MayEnter p name w o = (c : ℕ) × (ceiling_at o (map ceiling_in w.objects) ≡ Some c) × (active p (task_of w name) ≤ c) × (has_edf p ≡ true → (task_of w name).base ≤ c)
+MayEnter p name w o =
+    (c : ℕ) × (ceiling_at o (map ceiling_in w.objects) ≡ Some c) × (active p (task_of w name) ≤ c) × (has_edf p ≡ true → (task_of w name).base ≤ c)
 
-inside-may : (p : Image) (name : Who) (w : World) (o : ObjectNo) (mode : Mode) (found : Option Object) → object_of w o ≡ found → entering_option p w name found mode ≡ entering_is.Inside → MayEnter p name w o
+inside-may : (p : Image) (name : Who) (w : World) (o : ObjectNo) (mode : Mode) (found : Option Object) → object_of w o ≡ found
+    → entering_option p w name found mode ≡ entering_is.Inside → MayEnter p name w o
 unfolding MayEnter
 inside-may p name w o mode None is e = absurd cc
 inside-may p name w o mode (Some x) is e =
-    let test : is_above_ceiling p w name x.ceiling ≡ false = not_above (has_open name x.actions) (is_above_ceiling p w name x.ceiling) (excludes mode (without (is_action_of name) x.actions)) e in
+    let test : is_above_ceiling p w name x.ceiling ≡ false =
+    not_above (has_open name x.actions) (is_above_ceiling p w name x.ceiling) (excludes mode (without (is_action_of name) x.actions)) e in
     let parts = or_parts (ltb x.ceiling (active_of p w name)) (has_edf p && ltb x.ceiling (task_of w name).base) test in (
       x.ceiling,
       ceiling-found o w.objects x is,
@@ -94,13 +103,16 @@ may-on p name a b o same h =
 
 -- ---- the law at the line
 
-base-below : (p : Image) (w : World) (name : Who) (sight : Levels) (entry : Entry) (c : ℕ) (deadline : Option ℤ) → ((d : ℤ) → deadline ≡ Some d → (has_edf p ≡ true) × (base_of name sight.bases ≡ Some (task_of w name).base)) → (has_edf p ≡ true → (task_of w name).base ≤ c) → is_base_below deadline (base_of name sight.bases) c ≡ true
+base-below : (p : Image) (w : World) (name : Who) (sight : Levels) (entry : Entry) (c : ℕ) (deadline : Option ℤ)
+    → ((d : ℤ) → deadline ≡ Some d → (has_edf p ≡ true) × (base_of name sight.bases ≡ Some (task_of w name).base))
+    → (has_edf p ≡ true → (task_of w name).base ≤ c) → is_base_below deadline (base_of name sight.bases) c ≡ true
 base-below p w name sight entry c None shown below = refl
 base-below p w name sight entry c (Some d) shown below =
     let s = shown d refl in
     ap (λ b. is_at_most b c) s.1 ∙ le-leb (task_of w name).base c (below s.0)
 
-below_shown : (p : Image) (w : World) (name : Who) (sight : Levels) (o : ObjectNo) (mode : Mode) → ShowsPlace p w name sight → AreCeilingsShown sight.ceilings w.objects → MayEnter p name w o → is_below_ceiling sight (written.Enter name o mode) ≡ true
+below_shown : (p : Image) (w : World) (name : Who) (sight : Levels) (o : ObjectNo) (mode : Mode) → ShowsPlace p w name sight
+    → AreCeilingsShown sight.ceilings w.objects → MayEnter p name w o → is_below_ceiling sight (written.Enter name o mode) ≡ true
 unfolding MayEnter
 below_shown p w name sight o mode place shown may =
     ap (λ e. is_entry_below e (base_of name sight.bases) (level_of o.0 sight.ceilings)) place.found
@@ -193,7 +205,8 @@ first_none : (v : World) (name : Who) (sight : Levels) (w : World) (said : List 
 unfolding AtFirst None_enter
 first_none v name sight w said h = all_quiet-no_enter said h.1
 
-place-on : (p : Image) (v w : World) (name : Who) (sight : Levels) → core (task_of w name) ≡ core (task_of v name) → ShowsPlace p v name sight → ShowsPlace p w name sight
+place-on : (p : Image) (v w : World) (name : Who) (sight : Levels) → core (task_of w name) ≡ core (task_of v name) → ShowsPlace p v name sight
+    → ShowsPlace p w name sight
 place-on p v w name sight same place = record {
   entry = place.entry;
   found = place.found;
@@ -201,33 +214,53 @@ place-on p v w name sight same place = record {
   base = λ d e. let s = place.base d e in (s.0, s.1 ∙ ap (λ (c : Core). Some c.base) (sym same));
 }
 
-enters_first : (p : Image) (v : World) (name : Who) (sight : Levels) (o : ObjectNo) (mode : Mode) → ShowsPlace p v name sight → Leads (With (AtFirst v name sight) (λ w. MayEnter p name w o)) (OneEnters sight) (says Own (line.Enter name o mode))
+enters_first : (p : Image) (v : World) (name : Who) (sight : Levels) (o : ObjectNo) (mode : Mode) → ShowsPlace p v name sight
+    → Leads (With (AtFirst v name sight) (λ w. MayEnter p name w o)) (OneEnters sight) (says Own (line.Enter name o mode))
 unfolding AtFirst OneEnters Ends
 enters_first p v name sight o mode place = record {
   runs = λ w said h.
       entered-begins sight said (said_so Own (line.Enter name o mode)) h.0.1
-      (record { name = name; object = o; mode = mode; said = refl; below = below_shown p w name sight o mode (place-on p v w name sight h.0.0 place) h.0.2 h.1 });
+      (record {
+        name = name;
+        object = o;
+        mode = mode;
+        said = refl;
+        below = below_shown p w name sight o mode (place-on p v w name sight h.0.0 place) h.0.2 h.1;
+      });
 }
 
 none_created : (p : Image) (name : Who) (s : StatementNo) (d : DeclNo) (id : Option ScopeId) (t : Task) → Keeps None_enter (create_task p name s d id t)
 unfolding create_task says_created
 none_created p name s d id t =
     then-keeps _ _ (goes-keeps (fine none_quiet) name (next_of p s)) (then-keeps _ _ (changes-keeps _ (none_alters (add_task t)))
-    (then-keeps _ _ (for_some-keeps id _ (λ within. looks-keeps _ (λ w. changes-keeps _ (none_alters (set_thing p (record { within = within; declared = d }) (value_of.Task (Some (record { 0 = w.drawn.tasks - 1 })))))))) (looks-keeps _ (λ w. none_says Own (line.New (created.Task (record { 0 = w.drawn.tasks - 1 })) (Some d) t.base) refl))))
+    (then-keeps _ _
+    (for_some-keeps id _
+    (λ within. looks-keeps _
+    (λ w.
+    changes-keeps _ (none_alters (set_thing p (record { within = within; declared = d }) (value_of.Task (Some (record { 0 = w.drawn.tasks - 1 }))))))))
+    (looks-keeps _ (λ w. none_says Own (line.New (created.Task (record { 0 = w.drawn.tasks - 1 })) (Some d) t.base) refl))))
 
 none_made : (p : Image) (l : Located) (u : ProtectedUnitNo) → Keeps None_enter (changes (with_object p l u) ▷ says_object p l u)
 unfolding says_object
-none_made p l u = then-keeps _ _ (changes-keeps _ (none_alters (with_object p l u))) (looks-keeps _ (λ w. none_says Own (line.New (created.Object (record { 0 = w.drawn.objects })) (Some l.declared) (protected_unit_of p u).ceiling) refl))
+none_made p l u =
+    then-keeps _ _ (changes-keeps _ (none_alters (with_object p l u)))
+    (looks-keeps _ (λ w. none_says Own (line.New (created.Object (record { 0 = w.drawn.objects })) (Some l.declared) (protected_unit_of p u).ceiling) refl))
 
-none_takes : (p : Image) (level : ℕ) → Keeps None_enter (changes (edit_task who.Agent (λ u. record u { deferred_base = None })) ▷ set_base p ThePlacing ThePlacing who.Agent level)
+none_takes : (p : Image) (level : ℕ)
+    → Keeps None_enter (changes (edit_task who.Agent (λ u. record u { deferred_base = None })) ▷ set_base p ThePlacing ThePlacing who.Agent level)
 unfolding set_base says_base
 none_takes p level =
-    then-keeps _ _ (changes-keeps _ (none_alters (edit_task who.Agent (λ u. record u { deferred_base = None })))) (then-keeps _ _ (changes-keeps _ (none_alters (edit_task who.Agent (λ u. record u { base = level })))) (then-keeps _ _ nothing-keeps (looks-keeps _ (λ w. replace_in-free (none_base p) ThePlacing who.Agent (task_of w who.Agent).state tt))))
+    then-keeps _ _ (changes-keeps _ (none_alters (edit_task who.Agent (λ u. record u { deferred_base = None }))))
+    (then-keeps _ _ (changes-keeps _ (none_alters (edit_task who.Agent (λ u. record u { base = level }))))
+    (then-keeps _ _ nothing-keeps (looks-keeps _ (λ w. replace_in-free (none_base p) ThePlacing who.Agent (task_of w who.Agent).state tt))))
 
-none_bases : (part : Part) (t : TaskNo) (level : ℕ) → Keeps None_enter (changes (edit_task (who.Task t) (λ u. record u { base = level })) ▷ says part (line.Base t level))
-none_bases part t level = then-keeps _ _ (changes-keeps _ (none_alters (edit_task (who.Task t) (λ u. record u { base = level })))) (none_says part (line.Base t level) refl)
+none_bases : (part : Part) (t : TaskNo) (level : ℕ)
+    → Keeps None_enter (changes (edit_task (who.Task t) (λ u. record u { base = level })) ▷ says part (line.Base t level))
+none_bases part t level =
+    then-keeps _ _ (changes-keeps _ (none_alters (edit_task (who.Task t) (λ u. record u { base = level })))) (none_says part (line.Base t level) refl)
 
-enter_free : (p : Image) (v : World) (name : Who) (sight : Levels) → ShowsPlace p v name sight → FreeMoves p name (MayEnter p name) (AtFirst v name sight) None_enter (OneEnters sight)
+enter_free : (p : Image) (v : World) (name : Who) (sight : Levels) → ShowsPlace p v name sight
+    → FreeMoves p name (MayEnter p name) (AtFirst v name sight) None_enter (OneEnters sight)
 enter_free p v name sight place = record {
   fresh = first_quiet v name sight;
   appoints_first = λ t moment. first_appoints v name sight t moment;
@@ -256,15 +289,18 @@ first_holds : (w : World) (name : Who) (sight : Levels) → AreCeilingsShown sig
 unfolding AtFirst
 first_holds w name sight shown = (refl, tt, shown)
 
-effect-lawful : (p : Image) (w : World) (name : Who) (sight : Levels) → AreCeilingsShown sight.ceilings w.objects → ShowsPlace p w name sight → Lawful sight (settles p (effect p name) w).1
+effect-lawful : (p : Image) (w : World) (name : Who) (sight : Levels) → AreCeilingsShown sight.ceilings w.objects → ShowsPlace p w name sight
+    → Lawful sight (settles p (effect p name) w).1
 effect-lawful p w name sight shown place =
     either-lawful p sight (effect p name w []) ((effect-leads (freely (enter_free p w name sight place))).runs w [] (first_holds w name sight shown))
 
-effect_if-lawful : (p : Image) (w : World) (name : Who) (sight : Levels) (b : Bool) → (b ≡ true → Lawful sight (settles p (effect p name) w).1) → Lawful sight ((elim b as (λ _. Move) [ true ↦ settles p (effect p name) | false ↦ rests ]) w).1
+effect_if-lawful : (p : Image) (w : World) (name : Who) (sight : Levels) (b : Bool) → (b ≡ true → Lawful sight (settles p (effect p name) w).1)
+    → Lawful sight ((elim b as (λ _. Move) [ true ↦ settles p (effect p name) | false ↦ rests ]) w).1
 effect_if-lawful p w name sight true h = h refl
 effect_if-lawful p w name sight false h = tt
 
-finish-lawful : (p : Image) (w : World) (sight : Levels) (ran : Option Who) → w.ran ≡ ran → AreCeilingsShown sight.ceilings w.objects → ShowsRunner p w sight → Lawful sight (effect_of_runner p ran w).1
+finish-lawful : (p : Image) (w : World) (sight : Levels) (ran : Option Who) → w.ran ≡ ran → AreCeilingsShown sight.ceilings w.objects → ShowsRunner p w sight
+    → Lawful sight (effect_of_runner p ran w).1
 finish-lawful p w sight None is shown runner = tt
 finish-lawful p w sight (Some name) is shown runner =
     effect_if-lawful p w name sight (is_over (task_of w name).ticks_left) (λ over. effect-lawful p w name sight shown (runner name is over))
@@ -275,7 +311,14 @@ AnySight sight w = Unit {0}
 
 beside : (p : Image) → Others see_levels is_below_ceiling AnySight p
 unfolding AnySight None_enter
-beside p sight = (None_enter, any_world, any_task, free_others (none_base p), (λ w h. tt), (λ v xs h. record { follow = no_enters-lawful p sight (in_order xs) (no_enter-in_order xs h); shows = tt }))
+beside p sight = (
+  None_enter,
+  any_world,
+  any_task,
+  free_others (none_base p),
+  (λ w h. tt),
+  (λ v xs h. record { follow = no_enters-lawful p sight (in_order xs) (no_enter-in_order xs h); shows = tt }),
+)
 
 follow-test : (sight : Levels) (lines : List Event) → Lawful sight lines → keep_ceilings sight lines ≡ true
 follow-test sight [] h = refl
@@ -295,7 +338,8 @@ tock-event sight (written.Enter name object mode) e = cc
 tock-event sight _ e = refl
 
 pub tocks_keep_ceilings : TocksKeepCeilings
-tocks_keep_ceilings p w sight = follow-test sight (tock p w).1 (Follow-all see_levels is_below_ceiling is_of_tock tock-event sight (tock p w).1 (tocks_say_ticks p w))
+tocks_keep_ceilings p w sight =
+    follow-test sight (tock p w).1 (Follow-all see_levels is_below_ceiling is_of_tock tock-event sight (tock p w).1 (tocks_say_ticks p w))
 
 none_opens : (p : Image) → Keeps None_enter (opens p)
 unfolding opens
@@ -308,4 +352,5 @@ pub opening_keeps_ceilings : (p : Image) (script : List (ℤ × Item)) (sight : 
 unfolding AnySight None_enter
 opening_keeps_ceilings p script sight =
     follow-test sight (opening p script).1
-    (settles_onward see_levels is_below_ceiling AnySight p sight None_enter None_enter (opens p) (blank_world p script) (λ v xs h. record { follow = no_enters-lawful p sight (in_order xs) (no_enter-in_order xs h); shows = tt }) (none_opens p) tt).follow
+    (settles_onward see_levels is_below_ceiling AnySight p sight None_enter None_enter (opens p) (blank_world p script)
+    (λ v xs h. record { follow = no_enters-lawful p sight (in_order xs) (no_enter-in_order xs h); shows = tt }) (none_opens p) tt).follow

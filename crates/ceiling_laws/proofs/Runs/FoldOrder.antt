@@ -29,11 +29,13 @@ module _ {S : Type 0} (next : S → Line → S) (test : Line → Bool) where
   Ordered [] = Unit {0}
   Ordered (x ∷ xs) = (test x.line ≡ true → Later x.part xs) × Ordered xs
 
-  later-append : (part : Part) (xs : List Said) (x : Said) → Later part xs → (test x.line ≡ true → is_part_before x.part part ≡ false) → Later part (xs ++ x ∷ [])
+  later-append : (part : Part) (xs : List Said) (x : Said) → Later part xs → (test x.line ≡ true → is_part_before x.part part ≡ false)
+      → Later part (xs ++ x ∷ [])
   later-append part [] x h a = (a, tt)
   later-append part (y ∷ ys) x h a = (h.0, later-append part ys x h.1 a)
 
-  pub sooner-append : (part : Part) (xs : List Said) (x : Said) → Sooner part xs → (test x.line ≡ true → is_part_before part x.part ≡ false) → Sooner part (xs ++ x ∷ [])
+  pub sooner-append : (part : Part) (xs : List Said) (x : Said) → Sooner part xs → (test x.line ≡ true → is_part_before part x.part ≡ false)
+      → Sooner part (xs ++ x ∷ [])
   sooner-append part [] x h a = (a, tt)
   sooner-append part (y ∷ ys) x h a = (h.0, sooner-append part ys x h.1 a)
 
@@ -41,7 +43,8 @@ module _ {S : Type 0} (next : S → Line → S) (test : Line → Bool) where
   ordered-append [] x o a = ((λ t. tt), tt)
   ordered-append (y ∷ ys) x o a = ((λ t. later-append y.part ys x (o.0 t) (λ u. (a u).0 t)), ordered-append ys x o.1 (λ u. (a u).1))
 
-  later-test : (part : Part) (x y : Said) (ys placed : List Said) (b : Bool) → Later part (x ∷ y ∷ ys) → Later part placed → Later part (cond b (y ∷ placed) (x ∷ y ∷ ys))
+  later-test : (part : Part) (x y : Said) (ys placed : List Said) (b : Bool) → Later part (x ∷ y ∷ ys) → Later part placed
+      → Later part (cond b (y ∷ placed) (x ∷ y ∷ ys))
   later-test part x y ys placed true h k = (h.1.0, k)
   later-test part x y ys placed false h k = h
 
@@ -58,7 +61,8 @@ module _ {S : Type 0} (next : S → Line → S) (test : Line → Bool) where
     by_test true f g = f refl
     by_test false f g = g refl
 
-    swapped : (s : S) (x y : Said) → is_part_before y.part x.part ≡ true → (test x.line ≡ true → test y.line ≡ true → is_part_before y.part x.part ≡ false) → next (next s y.line) x.line ≡ next (next s x.line) y.line
+    swapped : (s : S) (x y : Said) → is_part_before y.part x.part ≡ true → (test x.line ≡ true → test y.line ≡ true → is_part_before y.part x.part ≡ false)
+        → next (next s y.line) x.line ≡ next (next s x.line) y.line
     swapped s x y before apart =
         by_test (test x.line)
         (λ t. by_test (test y.line)
@@ -66,7 +70,8 @@ module _ {S : Type 0} (next : S → Line → S) (test : Line → Bool) where
         (λ u. ap (λ q. next q x.line) (still s y.line u) ∙ sym (still (next s x.line) y.line u)))
         (λ t. still (next s y.line) x.line t ∙ sym (ap (λ q. next q y.line) (still s x.line t)))
 
-    put-test : (s : S) (x y : Said) (ys : List Said) (b : Bool) → is_part_before y.part x.part ≡ b → (test x.line ≡ true → Later x.part (y ∷ ys)) → fold (next s y.line) (put_in_order x ys) ≡ fold (next s y.line) (x ∷ ys)
+    put-test : (s : S) (x y : Said) (ys : List Said) (b : Bool) → is_part_before y.part x.part ≡ b → (test x.line ≡ true → Later x.part (y ∷ ys))
+        → fold (next s y.line) (put_in_order x ys) ≡ fold (next s y.line) (x ∷ ys)
         → fold s (cond b (y ∷ put_in_order x ys) (x ∷ y ∷ ys)) ≡ fold s (x ∷ y ∷ ys)
     put-test s x y ys true is a onward = onward ∙ ap (λ q. fold q ys) (swapped s x y is (λ t u. (a t).0 u))
     put-test s x y ys false is a onward = refl

@@ -2,11 +2,13 @@
 use Rattle.ceiling_laws.proofs.Runs.ActingMoves.{Either}
 use Rattle.ceiling_laws.proofs.Runs.FreeMoves.{FreeMoves, any_task, any_world, anywhere, free_others, freely}
 use Rattle.ceiling_laws.proofs.Runs.Kept.Act.{effect-leads}
-use Rattle.ceiling_laws.proofs.Runs.Kept.Instant.{Appointing, OtherMoves, appointments_due-keeps, budgets_due-keeps, quantum_spent-keeps, script_items-keeps, timers_due-keeps}
+use Rattle.ceiling_laws.proofs.Runs.Kept.Instant.{Appointing, OtherMoves, appointments_due-keeps, budgets_due-keeps}
+use Rattle.ceiling_laws.proofs.Runs.Kept.Instant.{quantum_spent-keeps, script_items-keeps, timers_due-keeps}
 use Rattle.ceiling_laws.proofs.Runs.LevelMoves.{Sleeping}
 use Rattle.ceiling_laws.proofs.Runs.Triples.{Ends, Keeps, Leads, State}
 use Rattle.machine_laws.proofs.Moves.{lines_of}
-use Rattle.profile_machine.specs.Instant.{budgets_due, effect, effect_of_runner, events_due, finish_action, instant, is_over, moments_due, quantum_spent, script_items, timers_due}
+use Rattle.profile_machine.specs.Instant.{budgets_due, effect, effect_of_runner, events_due, finish_action}
+use Rattle.profile_machine.specs.Instant.{instant, is_over, moments_due, quantum_spent, script_items, timers_due}
 use Rattle.profile_machine.specs.Steps.{Done, Move, Step, done, placed_by, rests, settled, settles, ◌▶◌}
 use Rattle.profile_machine.specs.Tasks.{task_of}
 use Rattle.profile_image.specs.declared.image.Image.{Image}
@@ -26,7 +28,8 @@ module _ {S : Type 0} (see : S → Event → S) (lawful : S → Event → Bool) 
   pub rests_onward : (s : S) (w : World) → Shows s w → Onward s (w, [])
   rests_onward s w h = record { follow = tt; shows = h }
 
-  pub then_onward : (f g : Move) (s : S) (w : World) → Onward s (f w) → (Shows (seen_behind see lawful s (f w).1) (f w).0 → Onward (seen_behind see lawful s (f w).1) (g (f w).0)) → Onward s ((f ▶ g) w)
+  pub then_onward : (f g : Move) (s : S) (w : World) → Onward s (f w)
+      → (Shows (seen_behind see lawful s (f w).1) (f w).0 → Onward (seen_behind see lawful s (f w).1) (g (f w).0)) → Onward s ((f ▶ g) w)
   then_onward f g s w a b =
       let next = b a.shows in
       record {
@@ -49,23 +52,29 @@ module _ {S : Type 0} (see : S → Event → S) (lawful : S → Event → Bool) 
 
   -- of what comes about beside the effect of who acts
   abbrev pub Others : Image → Type 1
-  Others p = (s : S) → (N : State) × (Sleeps : Sleeping) × (Drawn : Appointing) × OtherMoves p Sleeps Drawn N × ((w : World) → Shows s w → N w []) × Settles p s N
+  Others p =
+      (s : S) → (N : State) × (Sleeps : Sleeping) × (Drawn : Appointing) × OtherMoves p Sleeps Drawn N × ((w : World) → Shows s w → N w []) × Settles p s N
 
   module _ {p : Image} (others : Others p) where
-    other_onward : (step : Step) → ((N : State) (Sleeps : Sleeping) (Drawn : Appointing) → OtherMoves p Sleeps Drawn N → Keeps N step) → (s : S) (w : World) → Shows s w → Onward s (settles p step w)
+    other_onward : (step : Step) → ((N : State) (Sleeps : Sleeping) (Drawn : Appointing) → OtherMoves p Sleeps Drawn N → Keeps N step) → (s : S) (w : World)
+        → Shows s w → Onward s (settles p step w)
     other_onward step keeps s w h =
         let by = others s in
         settles_onward p s by.0 by.0 step w by.5 (keeps by.0 by.1 by.2 by.3) (by.4 w h)
 
-    pub behind_onward : (s1 : S) (w1 : World) → Shows s1 w1 → Onward s1 ((script_items p ▶ events_due p ▶ moments_due p ▶ timers_due p ▶ budgets_due p ▶ quantum_spent p) w1)
+    pub behind_onward : (s1 : S) (w1 : World) → Shows s1 w1
+        → Onward s1 ((script_items p ▶ events_due p ▶ moments_due p ▶ timers_due p ▶ budgets_due p ▶ quantum_spent p) w1)
     behind_onward s1 w1 h =
-        then_onward (script_items p) (events_due p ▶ moments_due p ▶ timers_due p ▶ budgets_due p ▶ quantum_spent p) s1 w1 (other_onward _ (λ N Sleeps Drawn m. script_items-keeps m) s1 w1 h) (λ h.
+        then_onward (script_items p) (events_due p ▶ moments_due p ▶ timers_due p ▶ budgets_due p ▶ quantum_spent p) s1 w1
+        (other_onward _ (λ N Sleeps Drawn m. script_items-keeps m) s1 w1 h) (λ h.
         let s2 = seen_behind see lawful s1 (script_items p w1).1 in
         let w2 = (script_items p w1).0 in
-        then_onward (events_due p) (moments_due p ▶ timers_due p ▶ budgets_due p ▶ quantum_spent p) s2 w2 (other_onward _ (λ N Sleeps Drawn m. appointments_due-keeps m true) s2 w2 h) (λ h.
+        then_onward (events_due p) (moments_due p ▶ timers_due p ▶ budgets_due p ▶ quantum_spent p) s2 w2
+        (other_onward _ (λ N Sleeps Drawn m. appointments_due-keeps m true) s2 w2 h) (λ h.
         let s3 = seen_behind see lawful s2 (events_due p w2).1 in
         let w3 = (events_due p w2).0 in
-        then_onward (moments_due p) (timers_due p ▶ budgets_due p ▶ quantum_spent p) s3 w3 (other_onward _ (λ N Sleeps Drawn m. appointments_due-keeps m false) s3 w3 h) (λ h.
+        then_onward (moments_due p) (timers_due p ▶ budgets_due p ▶ quantum_spent p) s3 w3
+        (other_onward _ (λ N Sleeps Drawn m. appointments_due-keeps m false) s3 w3 h) (λ h.
         let s4 = seen_behind see lawful s3 (moments_due p w3).1 in
         let w4 = (moments_due p w3).0 in
         then_onward (timers_due p) (budgets_due p ▶ quantum_spent p) s4 w4 (other_onward _ (λ N Sleeps Drawn m. timers_due-keeps m) s4 w4 h) (λ h.
@@ -76,27 +85,32 @@ module _ {S : Type 0} (see : S → Event → S) (lawful : S → Event → Bool) 
 
   -- the effect of who acts, and what comes about beside it
   pub record Instants (p : Image) : Type 1 where
-    pub effects : (s : S) (w : World) (name : Who) → w.ran ≡ Some name → is_over (task_of w name).ticks_left ≡ true → Shows s w → Onward s (settles p (effect p name) w)
+    pub effects : (s : S) (w : World) (name : Who) → w.ran ≡ Some name → is_over (task_of w name).ticks_left ≡ true → Shows s w
+        → Onward s (settles p (effect p name) w)
     pub others : Others p
 
   -- ---- of changes that are free
 
-  pub either_over : (p : Image) (X : State) (s : S) → Settles p s X → (v : World) (xs : List Said) → Either X X v xs → Onward s (placed_by (lines_of p xs) v, lines_of p xs)
+  pub either_over : (p : Image) (X : State) (s : S) → Settles p s X → (v : World) (xs : List Said) → Either X X v xs
+      → Onward s (placed_by (lines_of p xs) v, lines_of p xs)
   either_over p X s over v xs (inl h) = over v xs h
   either_over p X s over v xs (inr h) = over v xs h
 
-  pub free_effects : {p : Image} {X : State} → ((actor : Who) → FreeMoves p actor anywhere X X X) → (s : S) (w : World) (name : Who) → X w [] → Settles p s X → Onward s (settles p (effect p name) w)
+  pub free_effects : {p : Image} {X : State} → ((actor : Who) → FreeMoves p actor anywhere X X X) → (s : S) (w : World) (name : Who) → X w [] → Settles p s X
+      → Onward s (settles p (effect p name) w)
   free_effects {p} {X} free s w name h over =
       settles_onward p s X (Either X X) (effect p name) w (either_over p X s over) (effect-leads (freely (free name))) h
 
-  pub free_instants : {p : Image} (X : S → State) → ((s : S) (actor : Who) → FreeMoves p actor anywhere (X s) (X s) (X s)) → ((s : S) (w : World) → Shows s w → X s w []) → ((s : S) → Settles p s (X s)) → Instants p
+  pub free_instants : {p : Image} (X : S → State) → ((s : S) (actor : Who) → FreeMoves p actor anywhere (X s) (X s) (X s))
+      → ((s : S) (w : World) → Shows s w → X s w []) → ((s : S) → Settles p s (X s)) → Instants p
   free_instants X free start over = record {
     effects = λ s w name ran is h. free_effects (free s) s w name (start s w h) (over s);
     others = λ s. (X s, any_world, any_task, free_others (free s who.Agent).later, start s, over s);
   }
 
   module _ {p : Image} (instants : Instants p) where
-    effect_if : (s : S) (w : World) (name : Who) (test : Bool) → w.ran ≡ Some name → is_over (task_of w name).ticks_left ≡ test → Shows s w → Onward s ((elim test as (λ _. Move) [ true ↦ settles p (effect p name) | false ↦ rests ]) w)
+    effect_if : (s : S) (w : World) (name : Who) (test : Bool) → w.ran ≡ Some name → is_over (task_of w name).ticks_left ≡ test → Shows s w
+        → Onward s ((elim test as (λ _. Move) [ true ↦ settles p (effect p name) | false ↦ rests ]) w)
     effect_if s w name true ran is h = instants.effects s w name ran is h
     effect_if s w name false ran is h = rests_onward s w h
 
@@ -106,5 +120,6 @@ module _ {S : Type 0} (see : S → Event → S) (lawful : S → Event → Bool) 
 
     pub instant_onward : (s : S) (w : World) → Shows s w → Onward s (instant p w)
     instant_onward s w h =
-        then_onward (finish_action p) (script_items p ▶ events_due p ▶ moments_due p ▶ timers_due p ▶ budgets_due p ▶ quantum_spent p) s w (effect_of s w w.ran refl h)
+        then_onward (finish_action p) (script_items p ▶ events_due p ▶ moments_due p ▶ timers_due p ▶ budgets_due p ▶ quantum_spent p) s w
+        (effect_of s w w.ran refl h)
         (behind_onward instants.others (seen_behind see lawful s (finish_action p w).1) (finish_action p w).0)

@@ -33,22 +33,26 @@ set-step : {A B : Type 0} (g : A → B) (test : A → Bool) (x y z : A) (zs : Li
 set-step g test x y z zs true found same onward = let is : z ≡ x = cc in ap (λ v. v ∷ map g zs) (same ∙ ap g (sym is))
 set-step g test x y z zs false found same onward = ap (λ vs. g z ∷ vs) (onward found)
 
-pub set_where-seen : {A B : Type 0} (g : A → B) (test : A → Bool) (x y : A) (xs : List A) → find test xs ≡ Some x → g y ≡ g x → map g (set_where test y xs) ≡ map g xs
+pub set_where-seen : {A B : Type 0} (g : A → B) (test : A → Bool) (x y : A) (xs : List A) → find test xs ≡ Some x → g y ≡ g x
+    → map g (set_where test y xs) ≡ map g xs
 set_where-seen g test x y [] found same = refl
 set_where-seen g test x y (z ∷ zs) found same = set-step g test x y z zs (test z) found same (λ k. set_where-seen g test x y zs k same)
 
-pub edit_found-seen : {A B : Type 0} (g : A → B) (test : A → Bool) (f : A → A) (xs : List A) (found : Option A) → find test xs ≡ found → ((x : A) → g (f x) ≡ g x) → map g (edit_found test f xs found) ≡ map g xs
+pub edit_found-seen : {A B : Type 0} (g : A → B) (test : A → Bool) (f : A → A) (xs : List A) (found : Option A) → find test xs ≡ found
+    → ((x : A) → g (f x) ≡ g x) → map g (edit_found test f xs found) ≡ map g xs
 edit_found-seen g test f xs None is same = refl
 edit_found-seen g test f xs (Some x) is same = set_where-seen g test x (f x) xs is (same x)
 
 -- who was set is found
-set_found-step : (n : Who) (y z : Task) (zs : List Task) (b : Bool) → is_who n z ≡ b → is_who n y ≡ true → find (is_who n) (set_where (is_who n) y zs) ≡ Some y ⊎ (b ≡ true)
+set_found-step : (n : Who) (y z : Task) (zs : List Task) (b : Bool) → is_who n z ≡ b → is_who n y ≡ true
+    → find (is_who n) (set_where (is_who n) y zs) ≡ Some y ⊎ (b ≡ true)
     → find (is_who n) (cond b (y ∷ zs) (z ∷ set_where (is_who n) y zs)) ≡ Some y
 set_found-step n y z zs true is named onward = ap (λ t. cond t (Some y) (find (is_who n) zs)) named
 set_found-step n y z zs false is named (inl onward) = ap (λ t. cond t (Some z) (find (is_who n) (set_where (is_who n) y zs))) is ∙ onward
 set_found-step n y z zs false is named (inr never) = absurd cc
 
-found-named : (n : Who) (x z : Task) (rest : Option Task) (b : Bool) → is_who n z ≡ b → cond b (Some z) rest ≡ Some x → (rest ≡ Some x → is_who n x ≡ true) → is_who n x ≡ true
+found-named : (n : Who) (x z : Task) (rest : Option Task) (b : Bool) → is_who n z ≡ b → cond b (Some z) rest ≡ Some x → (rest ≡ Some x → is_who n x ≡ true)
+    → is_who n x ≡ true
 found-named n x z rest true is e onward = let one : z ≡ x = cc in subst (λ v. is_who n v ≡ true) one is
 found-named n x z rest false is e onward = onward e
 
@@ -56,23 +60,34 @@ pub found_is_who : (n : Who) (x : Task) (xs : List Task) → find (is_who n) xs 
 found_is_who n x [] e = absurd cc
 found_is_who n x (z ∷ zs) e = found-named n x z (find (is_who n) zs) (is_who n z) refl e (λ k. found_is_who n x zs k)
 
-set_finds : (n : Who) (x y z : Task) (zs : List Task) (b : Bool) → cond b (Some z) (find (is_who n) zs) ≡ Some x → (find (is_who n) zs ≡ Some x → find (is_who n) (set_where (is_who n) y zs) ≡ Some y) → (find (is_who n) (set_where (is_who n) y zs) ≡ Some y) ⊎ (b ≡ true)
+set_finds : (n : Who) (x y z : Task) (zs : List Task) (b : Bool) → cond b (Some z) (find (is_who n) zs) ≡ Some x
+    → (find (is_who n) zs ≡ Some x → find (is_who n) (set_where (is_who n) y zs) ≡ Some y) → (find (is_who n) (set_where (is_who n) y zs) ≡ Some y) ⊎ (b ≡ true)
 set_finds n x y z zs true e onward = inr refl
 set_finds n x y z zs false e onward = inl (onward e)
 
 named-so : (n : Who) (x y : Task) → is_who n x ≡ true → y.who ≡ x.who → is_who n y ≡ true
 named-so n x y is same = ap (same_who n) same ∙ is
 
-pub set_where-found : (n : Who) (x y : Task) (xs : List Task) → find (is_who n) xs ≡ Some x → y.who ≡ x.who → find (is_who n) (set_where (is_who n) y xs) ≡ Some y
+pub set_where-found : (n : Who) (x y : Task) (xs : List Task) → find (is_who n) xs ≡ Some x → y.who ≡ x.who
+    → find (is_who n) (set_where (is_who n) y xs) ≡ Some y
 set_where-found n x y [] e same = absurd cc
 set_where-found n x y (z ∷ zs) e same =
-    set_found-step n y z zs (is_who n z) refl (named-so n x y (found_is_who n x (z ∷ zs) e) same) (set_finds n x y z zs (is_who n z) e (λ k. set_where-found n x y zs k same))
+    set_found-step n y z zs (is_who n z) refl (named-so n x y (found_is_who n x (z ∷ zs) e) same)
+    (set_finds n x y z zs (is_who n z) e (λ k. set_where-found n x y zs k same))
 
 -- ---- a task that is edited, and an object
 
-edit_found-same : (name : Who) (f : Task → Task) (w : World) (found : Option Task) → task_at w name ≡ found → ((t : Task) → core (f t) ≡ core t) → Same w (edit_task_found name f w found)
+edit_found-same : (name : Who) (f : Task → Task) (w : World) (found : Option Task) → task_at w name ≡ found → ((t : Task) → core (f t) ≡ core t)
+    → Same w (edit_task_found name f w found)
 edit_found-same name f w None is same = same_self w
-edit_found-same (who.Task n) f w (Some t) is same = record { tasks = set_where-seen core (is_who (who.Task n)) t (f t) w.tasks is (same t); agent = refl; objects = refl; drawn_tasks = refl; drawn_objects = refl; delays = λ u e. e }
+edit_found-same (who.Task n) f w (Some t) is same = record {
+  tasks = set_where-seen core (is_who (who.Task n)) t (f t) w.tasks is (same t);
+  agent = refl;
+  objects = refl;
+  drawn_tasks = refl;
+  drawn_objects = refl;
+  delays = λ u e. e;
+}
 edit_found-same who.Agent f w (Some t) is same =
     let one : w.agent ≡ t = cc in
     record { tasks = refl; agent = same t ∙ ap core (sym one); objects = refl; drawn_tasks = refl; drawn_objects = refl; delays = λ u e. e }

@@ -35,7 +35,8 @@ places-append places (x ∷ xs) ys = places-append (places_after x places) xs ys
 tock_places : (p : Image) (w : World) (places : List Placed) → places_after_all (tock p w).1 places ≡ places
 tock_places p w places = tock_lines-places (tock p w).1 places (tocks_say_ticks p w)
 
-told-places : (p : Image) (script : List (ℤ × Item)) (bound : ℕ) (lines : List Event) (w : World) → Tells p script bound lines w → w.places ≡ places_after_all lines []
+told-places : (p : Image) (script : List (ℤ × Item)) (bound : ℕ) (lines : List Event) (w : World) → Tells p script bound lines w
+    → w.places ≡ places_after_all lines []
 told-places p script bound _ _ told_first = openings_place_by_lines p script
 told-places p script bound _ _ (told_on lines w told going) =
     let i = instant p w in
@@ -47,7 +48,8 @@ told-places p script bound _ _ (told_on lines w told going) =
 
 -- ---- who runs stands first
 
-told-first : (p : Image) (script : List (ℤ × Item)) (bound : ℕ) (lines : List Event) (w : World) (name : Who) → Tells p script bound lines w → w.ran ≡ Some name → dispatching.head_of w.places ≡ Some name
+told-first : (p : Image) (script : List (ℤ × Item)) (bound : ℕ) (lines : List Event) (w : World) (name : Who) → Tells p script bound lines w → w.ran ≡ Some name
+    → dispatching.head_of w.places ≡ Some name
 told-first p script bound _ _ name told_first e = absurd (let none : None ≡ Some name = sym (opening-runner p script) ∙ e in cc)
 told-first p script bound _ _ name (told_on lines w told going) e =
     let behind = (instant p w).0 in
@@ -55,18 +57,21 @@ told-first p script bound _ _ name (told_on lines w told going) e =
 
 -- ---- who stands first stands there
 
-head-test : (name : Who) (b : Bool) (x y : Placed) (placed ys : List Placed) → dispatching.head_of (cond b (y ∷ placed) (x ∷ y ∷ ys)) ≡ Some name → (x.who ≡ name) ⊎ (Some y.who ≡ Some name)
+head-test : (name : Who) (b : Bool) (x y : Placed) (placed ys : List Placed) → dispatching.head_of (cond b (y ∷ placed) (x ∷ y ∷ ys)) ≡ Some name
+    → (x.who ≡ name) ⊎ (Some y.who ≡ Some name)
 head-test name true x y placed ys e = inr e
 head-test name false x y placed ys e = inl cc
 
-head-put : (name : Who) (x : Placed) (xs : List Placed) → dispatching.head_of (put_at_head x xs) ≡ Some name → (x.who ≡ name) ⊎ (dispatching.head_of xs ≡ Some name)
+head-put : (name : Who) (x : Placed) (xs : List Placed) → dispatching.head_of (put_at_head x xs) ≡ Some name
+    → (x.who ≡ name) ⊎ (dispatching.head_of xs ≡ Some name)
 head-put name x [] e = inl cc
 head-put name x (y ∷ ys) e = head-test name (is_above y x) x y (put_at_head x ys) ys e
 
 InQueue : Who → List Entry → Type 0
 InQueue name queue = (entry : Entry) × (entry_of name queue ≡ Some entry)
 
-entry-test : (name : Who) (x : Entry) (queue : List Entry) (b : Bool) → who_eq name x.who ≡ b → (x.who ≡ name) ⊎ (InQueue name queue) → (entry : Entry) × ((if b then Some x else entry_of name queue) ≡ Some entry)
+entry-test : (name : Who) (x : Entry) (queue : List Entry) (b : Bool) → who_eq name x.who ≡ b → (x.who ≡ name) ⊎ (InQueue name queue)
+    → (entry : Entry) × ((if b then Some x else entry_of name queue) ≡ Some entry)
 unfolding InQueue
 entry-test name x queue true is h = (x, refl)
 entry-test name x queue false is (inr h) = h

@@ -30,7 +30,14 @@ spent-core true n t = refl
 spent-core false n t = refl
 
 plain_same : (a b : World) → b.tasks ≡ a.tasks → b.agent ≡ a.agent → b.objects ≡ a.objects → b.drawn ≡ a.drawn → b.appointments ≡ a.appointments → Same a b
-plain_same a b tasks agent objects drawn appointments = record { tasks = ap (map core) tasks; agent = ap core agent; objects = ap (map ceiling_in) objects; drawn_tasks = ap (λ d. d.tasks) drawn; drawn_objects = ap (λ d. d.objects) drawn; delays = λ t e. ap (λ xs. list_any (λ a. is_delay_of t a.due) xs) (sym appointments) ∙ e }
+plain_same a b tasks agent objects drawn appointments = record {
+  tasks = ap (map core) tasks;
+  agent = ap core agent;
+  objects = ap (map ceiling_in) objects;
+  drawn_tasks = ap (λ d. d.tasks) drawn;
+  drawn_objects = ap (λ d. d.objects) drawn;
+  delays = λ t e. ap (λ xs. list_any (λ a. is_delay_of t a.due) xs) (sym appointments) ∙ e;
+}
 
 clock-same : (t : TaskNo) (w : World) → Same w (charge_clock t w)
 clock-same t w =
@@ -91,4 +98,5 @@ pub tock-same : (p : Image) (w : World) → Same w (tock p w).0
 tock-same p w =
     let behind = (before_tick p (choose w) w).0 in
     subst (λ (t : World × List Event). Same w t.0) (sym (tock-parts p w))
-    (same_then w behind (next_tick (choose w) behind) (before_tick-same p (choose w) w) (plain_same behind (next_tick (choose w) behind) refl refl refl refl refl))
+    (same_then w behind (next_tick (choose w) behind) (before_tick-same p (choose w) w)
+    (plain_same behind (next_tick (choose w) behind) refl refl refl refl refl))

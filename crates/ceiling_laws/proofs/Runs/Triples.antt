@@ -109,11 +109,13 @@ cond-leads false f g a b = b
 pub cond-keeps : {X : State} (b : Bool) (f g : Step) → Keeps X f → Keeps X g → Keeps X (cond b f g)
 cond-keeps b f g p q = cond-leads b f g p q
 
-pub option-leads : {X Y : State} {A : Type 0} (x : Option A) (f : Step) (g : A → Step) → Leads X Y f → ((y : A) → Leads X Y (g y)) → Leads X Y (elim x as (λ _. Step) [ None ↦ f | Some y ↦ g y ])
+pub option-leads : {X Y : State} {A : Type 0} (x : Option A) (f : Step) (g : A → Step) → Leads X Y f → ((y : A) → Leads X Y (g y))
+    → Leads X Y (elim x as (λ _. Step) [ None ↦ f | Some y ↦ g y ])
 option-leads None f g a b = a
 option-leads (Some y) f g a b = b y
 
-pub option-keeps : {X : State} {A : Type 0} (x : Option A) (f : Step) (g : A → Step) → Keeps X f → ((y : A) → Keeps X (g y)) → Keeps X (elim x as (λ _. Step) [ None ↦ f | Some y ↦ g y ])
+pub option-keeps : {X : State} {A : Type 0} (x : Option A) (f : Step) (g : A → Step) → Keeps X f → ((y : A) → Keeps X (g y))
+    → Keeps X (elim x as (λ _. Step) [ None ↦ f | Some y ↦ g y ])
 option-keeps x f g a b = option-leads x f g a b
 
 pub when-keeps : {X : State} (b : Bool) (step : Step) → Keeps X step → Keeps X (when b step)
@@ -121,7 +123,8 @@ when-keeps true step a = a
 when-keeps false step a = nothing-keeps
 
 -- the step is kept where the test holds
-pub when-leads : {X Y : State} (b : Bool) (step : Step) → (b ≡ true → Leads X Y step) → ((w : World) (said : List Said) → X w said → Y w said) → Leads X Y (when b step)
+pub when-leads : {X Y : State} (b : Bool) (step : Step) → (b ≡ true → Leads X Y step) → ((w : World) (said : List Said) → X w said → Y w said)
+    → Leads X Y (when b step)
 when-leads true step a k = a refl
 when-leads false step a k = nothing-leads k
 
@@ -133,7 +136,8 @@ pub for_each-keeps : {X : State} {A : Type 0} (xs : List A) (f : A → Step) →
 for_each-keeps [] f a = nothing-keeps
 for_each-keeps (x ∷ xs) f a = then-keeps (f x) (for_each xs f) (a x) (for_each-keeps xs f a)
 
-pub for_some-leads : {X Y : State} {A : Type 0} (x : Option A) (f : A → Step) → ((w : World) (said : List Said) → X w said → Y w said) → ((y : A) → Leads X Y (f y)) → Leads X Y (for_some x f)
+pub for_some-leads : {X Y : State} {A : Type 0} (x : Option A) (f : A → Step) → ((w : World) (said : List Said) → X w said → Y w said)
+    → ((y : A) → Leads X Y (f y)) → Leads X Y (for_some x f)
 for_some-leads None f k a = nothing-leads k
 for_some-leads (Some x) f k a = a x
 

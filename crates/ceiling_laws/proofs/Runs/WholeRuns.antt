@@ -5,7 +5,8 @@ use Rattle.ceiling_laws.proofs.Runs.DeadlineLemmas.{deadlines_are_of_tasks}
 use Rattle.ceiling_laws.proofs.Runs.EnterMoves.{instants_keep_ceilings, opening_keeps_ceilings, tocks_keep_ceilings}
 use Rattle.ceiling_laws.proofs.Runs.ShownPlaces.{who_acts_is_shown}
 use Rattle.ceiling_laws.proofs.Places.TockPlaces.{levels-append}
-use Rattle.ceiling_laws.specs.RunLaws.{AreCeilingsShown, ArePlaced, PlacesKeepCeilings, ShowsPlace, ShowsRunner, Tells, ceilings_told, keep_ceilings, levels_told, told_first, told_on}
+use Rattle.ceiling_laws.specs.RunLaws.{AreCeilingsShown, ArePlaced, PlacesKeepCeilings, ShowsPlace, ShowsRunner}
+use Rattle.ceiling_laws.specs.RunLaws.{Tells, ceilings_told, keep_ceilings, levels_told, told_first, told_on}
 use Rattle.profile_machine.specs.Dispatching.{active_of}
 use Rattle.profile_machine.specs.Instant.{instant, is_over}
 use Rattle.profile_machine.specs.Run.{Ran, at_tick, opening, run_from, run_of, stop, tock}
@@ -37,9 +38,11 @@ keep-end : (sight : Levels) (xs : List Event) (reason : Ended) → keep_ceilings
 keep-end sight [] reason h = refl
 keep-end sight (x ∷ xs) reason h =
     let parts = and_parts (is_below_ceiling sight x) (keep_ceilings (see_levels sight x) xs) h in
-    and_from (is_below_ceiling sight x) (keep_ceilings (see_levels sight x) (xs ++ written.End reason ∷ [])) parts.0 (keep-end (see_levels sight x) xs reason parts.1)
+    and_from (is_below_ceiling sight x) (keep_ceilings (see_levels sight x) (xs ++ written.End reason ∷ [])) parts.0
+    (keep-end (see_levels sight x) xs reason parts.1)
 
-keep-append : (sight : Levels) (xs ys : List Event) → keep_ceilings sight xs ≡ true → keep_ceilings (levels_told sight xs) ys ≡ true → keep_ceilings sight (xs ++ ys) ≡ true
+keep-append : (sight : Levels) (xs ys : List Event) → keep_ceilings sight xs ≡ true → keep_ceilings (levels_told sight xs) ys ≡ true
+    → keep_ceilings sight (xs ++ ys) ≡ true
 keep-append sight [] ys h k = k
 keep-append sight (x ∷ xs) ys h k =
     let parts = and_parts (is_below_ceiling sight x) (keep_ceilings (see_levels sight x) xs) h in
@@ -49,13 +52,17 @@ kept-alone : (n : ℕ) (sight : Levels) (xs : List Event) → keep_ceilings sigh
 kept-alone n sight [] h = refl
 kept-alone n sight (x ∷ xs) h =
     let parts = and_parts (is_below_ceiling sight x) (keep_ceilings (see_levels sight x) xs) h in
-    and_from (is_below_ceiling sight x) (follows_lines see_levels is_below_ceiling (see_levels sight x) (at_tick n xs)) parts.0 (kept-alone n (see_levels sight x) xs parts.1)
+    and_from (is_below_ceiling sight x) (follows_lines see_levels is_below_ceiling (see_levels sight x) (at_tick n xs)) parts.0
+    (kept-alone n (see_levels sight x) xs parts.1)
 
-kept-then : (n : ℕ) (sight : Levels) (xs : List Event) (rest : List (ℕ × Event)) → keep_ceilings sight xs ≡ true → follows_lines see_levels is_below_ceiling (levels_told sight xs) rest ≡ true → follows_lines see_levels is_below_ceiling sight (at_tick n xs ++ rest) ≡ true
+kept-then : (n : ℕ) (sight : Levels) (xs : List Event) (rest : List (ℕ × Event)) → keep_ceilings sight xs ≡ true
+    → follows_lines see_levels is_below_ceiling (levels_told sight xs) rest ≡ true
+    → follows_lines see_levels is_below_ceiling sight (at_tick n xs ++ rest) ≡ true
 kept-then n sight [] rest h k = k
 kept-then n sight (x ∷ xs) rest h k =
     let parts = and_parts (is_below_ceiling sight x) (keep_ceilings (see_levels sight x) xs) h in
-    and_from (is_below_ceiling sight x) (follows_lines see_levels is_below_ceiling (see_levels sight x) (at_tick n xs ++ rest)) parts.0 (kept-then n (see_levels sight x) xs rest parts.1 k)
+    and_from (is_below_ceiling sight x) (follows_lines see_levels is_below_ceiling (see_levels sight x) (at_tick n xs ++ rest)) parts.0
+    (kept-then n (see_levels sight x) xs rest parts.1 k)
 
 -- ---- who acts
 
@@ -63,8 +70,10 @@ task-there : (found : Option Task) → is_over (unwrap_or found nobody).ticks_le
 task-there None e = absurd cc
 task-there (Some x) e = refl
 
-place-shown : (p : Image) (script : List (ℤ × Item)) (bound : ℕ) (lines : List Event) (w : World) → edf_is_below_interrupts p ≡ true → Tells p script bound lines w
-    → (name : Who) → w.ran ≡ Some name → is_over (task_of w name).ticks_left ≡ true → ((entry : Entry) → entry_of name (levels_told no_levels lines).entries ≡ Some entry → entry.level ≤ active_of p w name)
+place-shown : (p : Image) (script : List (ℤ × Item)) (bound : ℕ) (lines : List Event) (w : World) → edf_is_below_interrupts p ≡ true
+    → Tells p script bound lines w
+    → (name : Who) → w.ran ≡ Some name → is_over (task_of w name).ticks_left ≡ true
+    → ((entry : Entry) → entry_of name (levels_told no_levels lines).entries ≡ Some entry → entry.level ≤ active_of p w name)
     → ShowsPlace p w name (levels_told no_levels lines)
 place-shown p script bound lines w low told name ran over placed =
     let shown = who_acts_is_shown p script bound lines w told name ran in
@@ -77,11 +86,14 @@ place-shown p script bound lines w low told name ran over placed =
           (of_task.0, of_task.1 (task_of w name) (task-there (task_at w name) over));
     }
 
-runner-shown : (p : Image) (script : List (ℤ × Item)) (bound : ℕ) (lines : List Event) (w : World) → edf_is_below_interrupts p ≡ true → ArePlaced p script bound → Tells p script bound lines w
+runner-shown : (p : Image) (script : List (ℤ × Item)) (bound : ℕ) (lines : List Event) (w : World) → edf_is_below_interrupts p ≡ true → ArePlaced p script bound
+    → Tells p script bound lines w
     → ShowsRunner p w (levels_told no_levels lines)
-runner-shown p script bound lines w low placed told = λ name ran over. place-shown p script bound lines w low told name ran over (placed lines w told name ran over)
+runner-shown p script bound lines w low placed told =
+    λ name ran over. place-shown p script bound lines w low told name ran over (placed lines w told name ran over)
 
-instant-keeps : (p : Image) (script : List (ℤ × Item)) (bound : ℕ) (lines : List Event) (w : World) → edf_is_below_interrupts p ≡ true → ArePlaced p script bound → Tells p script bound lines w
+instant-keeps : (p : Image) (script : List (ℤ × Item)) (bound : ℕ) (lines : List Event) (w : World) → edf_is_below_interrupts p ≡ true
+    → ArePlaced p script bound → Tells p script bound lines w
     → keep_ceilings (levels_told no_levels lines) (instant p w).1 ≡ true
 instant-keeps p script bound lines w low placed told =
     instants_keep_ceilings p w (levels_told no_levels lines)
@@ -90,15 +102,18 @@ instant-keeps p script bound lines w low placed told =
 
 -- ---- a run
 
-turn-keeps : (now : ℕ) (sight : Levels) (i t : World × List Event) (rest : Ran) (reason : Option Ended) → keep_ceilings sight i.1 ≡ true → keep_ceilings (levels_told sight i.1) t.1 ≡ true
-    → (reason ≡ None → follows_lines see_levels is_below_ceiling (levels_told (levels_told sight i.1) t.1) rest.lines ≡ true) → follows_lines see_levels is_below_ceiling sight (turn now i t rest reason).lines ≡ true
+turn-keeps : (now : ℕ) (sight : Levels) (i t : World × List Event) (rest : Ran) (reason : Option Ended) → keep_ceilings sight i.1 ≡ true
+    → keep_ceilings (levels_told sight i.1) t.1 ≡ true
+    → (reason ≡ None → follows_lines see_levels is_below_ceiling (levels_told (levels_told sight i.1) t.1) rest.lines ≡ true)
+    → follows_lines see_levels is_below_ceiling sight (turn now i t rest reason).lines ≡ true
 unfolding turn
 turn-keeps now sight i t rest (Some reason) h k onward = kept-alone now sight (i.1 ++ written.End reason ∷ []) (keep-end sight i.1 reason h)
 turn-keeps now sight i t rest None h k onward =
     kept-then now sight (i.1 ++ t.1) rest.lines (keep-append sight i.1 t.1 h k)
     (subst (λ s. follows_lines see_levels is_below_ceiling s rest.lines ≡ true) (sym (levels-append sight i.1 t.1)) (onward refl))
 
-run_from-keeps : (fuel : ℕ) (p : Image) (script : List (ℤ × Item)) (bound : ℕ) (lines : List Event) (w : World) → edf_is_below_interrupts p ≡ true → ArePlaced p script bound → Tells p script bound lines w
+run_from-keeps : (fuel : ℕ) (p : Image) (script : List (ℤ × Item)) (bound : ℕ) (lines : List Event) (w : World) → edf_is_below_interrupts p ≡ true
+    → ArePlaced p script bound → Tells p script bound lines w
     → follows_lines see_levels is_below_ceiling (levels_told no_levels lines) (run_from fuel p bound w).lines ≡ true
 unfolding turn
 run_from-keeps zero p script bound lines w low placed told = refl
@@ -106,7 +121,8 @@ run_from-keeps (suc fuel) p script bound lines w low placed told =
     let i = instant p w in
     let t = tock p i.0 in
     let sight = levels_told no_levels lines in
-    turn-keeps w.time sight i t (run_from fuel p bound t.0) (stop p bound i.0) (instant-keeps p script bound lines w low placed told) (tocks_keep_ceilings p i.0 (levels_told sight i.1))
+    turn-keeps w.time sight i t (run_from fuel p bound t.0) (stop p bound i.0) (instant-keeps p script bound lines w low placed told)
+    (tocks_keep_ceilings p i.0 (levels_told sight i.1))
     (λ going. subst (λ s. follows_lines see_levels is_below_ceiling s (run_from fuel p bound t.0).lines ≡ true)
     (levels-append no_levels (lines ++ i.1) t.1 ∙ ap (λ s. levels_told s t.1) (levels-append no_levels lines i.1))
     (run_from-keeps fuel p script bound ((lines ++ i.1) ++ t.1) t.0 low placed (told_on lines w told going)))
@@ -115,4 +131,5 @@ pub places_keep_ceilings : PlacesKeepCeilings
 places_keep_ceilings p script bound low placed =
     let o = opening p script in
     lines_hold see_levels is_below_ceiling no_levels (run_of p script bound)
-    (kept-then 0 no_levels o.1 (run_from (suc bound) p bound o.0).lines (opening_keeps_ceilings p script no_levels) (run_from-keeps (suc bound) p script bound o.1 o.0 low placed told_first))
+    (kept-then 0 no_levels o.1 (run_from (suc bound) p bound o.0).lines (opening_keeps_ceilings p script no_levels)
+    (run_from-keeps (suc bound) p script bound o.1 o.0 low placed told_first))

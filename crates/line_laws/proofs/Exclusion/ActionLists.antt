@@ -50,7 +50,8 @@ Once (a ∷ actions) = (has_open a.who actions ≡ false) × Once actions
 
 -- ---- one is closed
 
-closed-step : (n o object : ℕ) (a : shown.Action) (actions left : List shown.Action) (b : Bool) → eqb n o ≡ false → a.object ≡ object → (b ≡ true → o ≡ object) → on n left ≡ on n actions → on n (cond b actions (a ∷ left)) ≡ on n (a ∷ actions)
+closed-step : (n o object : ℕ) (a : shown.Action) (actions left : List shown.Action) (b : Bool) → eqb n o ≡ false → a.object ≡ object → (b ≡ true → o ≡ object)
+    → on n left ≡ on n actions → on n (cond b actions (a ∷ left)) ≡ on n (a ∷ actions)
 closed-step n o object a actions left true e is k h =
     let other : eqb n a.object ≡ false = subst (λ m. eqb n m ≡ false) (k refl ∙ sym is) e in
     sym (ap (λ t. cond t (stripped a ∷ on n actions) (on n actions)) other)
@@ -66,11 +67,13 @@ abbrev first_out : Who → List Action → List Action
 first_out name [] = []
 first_out name (a ∷ actions) = cond (same_who name a.who) actions (a ∷ first_out name actions)
 
-out-step : (o : ℕ) (name : Who) (a : shown.Action) (actions left : List shown.Action) (b c : Bool) → eqb o a.object ≡ b → same_who name a.who ≡ c → on o left ≡ first_out name (on o actions)
+out-step : (o : ℕ) (name : Who) (a : shown.Action) (actions left : List shown.Action) (b c : Bool) → eqb o a.object ≡ b → same_who name a.who ≡ c
+    → on o left ≡ first_out name (on o actions)
     → on o (cond (b && c) actions (a ∷ left)) ≡ first_out name (cond b (stripped a ∷ on o actions) (on o actions))
 out-step o name a actions left true true e f h = sym (ap (λ t. cond t (on o actions) (stripped a ∷ first_out name (on o actions))) f)
 out-step o name a actions left true false e f h =
-    ap (λ t. cond t (stripped a ∷ on o left) (on o left)) e ∙ ap (λ rest. stripped a ∷ rest) h ∙ sym (ap (λ t. cond t (on o actions) (stripped a ∷ first_out name (on o actions))) f)
+    ap (λ t. cond t (stripped a ∷ on o left) (on o left)) e ∙ ap (λ rest. stripped a ∷ rest) h
+    ∙ sym (ap (λ t. cond t (on o actions) (stripped a ∷ first_out name (on o actions))) f)
 out-step o name a actions left false c e f h = ap (λ t. cond t (stripped a ∷ on o left) (on o left)) e ∙ h
 
 closed-same : (o : ℕ) (name : Who) (s : List shown.Action) → on o (closed o name s) ≡ first_out name (on o s)
@@ -80,7 +83,8 @@ closed-same o name (a ∷ actions) =
     ∙ out-step o name a actions (closed o name actions) (eqb o a.object) (same_who name a.who) refl refl (closed-same o name actions)
 
 -- nobody has two, so the first is the only one
-none-step : (b : Bool) (a : Action) (rest found : List Action) → not (is_empty (cond b (a ∷ found) found)) ≡ false → (b ≡ false) × (not (is_empty found) ≡ false)
+none-step : (b : Bool) (a : Action) (rest found : List Action) → not (is_empty (cond b (a ∷ found) found)) ≡ false
+    → (b ≡ false) × (not (is_empty found) ≡ false)
 none-step true a rest found e = absurd cc
 none-step false a rest found e = (refl, e)
 
@@ -88,9 +92,11 @@ pub none-without : (name : Who) (actions : List Action) → has_open name action
 none-without name [] e = refl
 none-without name (a ∷ actions) e =
     let parts = none-step (same_who name a.who) a actions (filter (is_action_of name) actions) e in
-    ap (λ t. cond (not t) (a ∷ without (is_action_of name) actions) (without (is_action_of name) actions)) parts.0 ∙ ap (λ rest. a ∷ rest) (none-without name actions parts.1)
+    ap (λ t. cond (not t) (a ∷ without (is_action_of name) actions) (without (is_action_of name) actions)) parts.0
+    ∙ ap (λ rest. a ∷ rest) (none-without name actions parts.1)
 
-first_out-step : (name : Who) (a : Action) (actions left : List Action) (b : Bool) → same_who name a.who ≡ b → has_open a.who actions ≡ false → first_out name actions ≡ left → without (is_action_of name) actions ≡ left → cond b actions (a ∷ first_out name actions) ≡ cond (not b) (a ∷ left) left
+first_out-step : (name : Who) (a : Action) (actions left : List Action) (b : Bool) → same_who name a.who ≡ b → has_open a.who actions ≡ false
+    → first_out name actions ≡ left → without (is_action_of name) actions ≡ left → cond b actions (a ∷ first_out name actions) ≡ cond (not b) (a ∷ left) left
 first_out-step name a actions left true e none h k =
     let is : name ≡ a.who = same_who-path name a.who e in
     sym (none-without name actions (subst (λ n. has_open n actions ≡ false) (sym is) none)) ∙ k
@@ -101,10 +107,12 @@ first_out-only name [] h = refl
 first_out-only name (a ∷ actions) h =
     first_out-step name a actions (without (is_action_of name) actions) (same_who name a.who) refl h.0 (first_out-only name actions h.1) refl
 
-pub closed-only : (o : ℕ) (name : Who) (s : List shown.Action) (actions : List Action) → on o s ≡ actions → Once actions → on o (closed o name s) ≡ without (is_action_of name) actions
+pub closed-only : (o : ℕ) (name : Who) (s : List shown.Action) (actions : List Action) → on o s ≡ actions → Once actions
+    → on o (closed o name s) ≡ without (is_action_of name) actions
 closed-only o name s actions e h = closed-same o name s ∙ ap (first_out name) e ∙ first_out-only name actions h
 
-still-none : (other : Who) (b c : Bool) (a : Action) (found left : List Action) → same_who other a.who ≡ c → not (is_empty (cond c (a ∷ found) found)) ≡ false → (not (is_empty found) ≡ false → not (is_empty (filter (is_action_of other) left)) ≡ false)
+still-none : (other : Who) (b c : Bool) (a : Action) (found left : List Action) → same_who other a.who ≡ c → not (is_empty (cond c (a ∷ found) found)) ≡ false
+    → (not (is_empty found) ≡ false → not (is_empty (filter (is_action_of other) left)) ≡ false)
     → not (is_empty (filter (is_action_of other) (cond b (a ∷ left) left))) ≡ false
 still-none other false c a found left is e onward = onward (none-step c a left found e).1
 still-none other true c a found left is e onward =
@@ -114,7 +122,8 @@ still-none other true c a found left is e onward =
 none-left : (other name : Who) (actions : List Action) → has_open other actions ≡ false → has_open other (without (is_action_of name) actions) ≡ false
 none-left other name [] e = refl
 none-left other name (a ∷ actions) e =
-    still-none other (not (same_who name a.who)) (same_who other a.who) a (filter (is_action_of other) actions) (without (is_action_of name) actions) refl e (λ k. none-left other name actions k)
+    still-none other (not (same_who name a.who)) (same_who other a.who) a (filter (is_action_of other) actions) (without (is_action_of name) actions) refl e
+    (λ k. none-left other name actions k)
 
 once-step : (b : Bool) (a : Action) (left : List Action) → has_open a.who left ≡ false → Once left → Once (cond b (a ∷ left) left)
 once-step true a left e h = (e, h)
@@ -151,9 +160,13 @@ free-beside m [] e = refl
 free-beside Write (a ∷ actions) e = absurd cc
 free-beside Read (a ∷ actions) e = all-read (a ∷ actions) (not-false (list_all (λ x. is_read x.mode) (a ∷ actions)) e)
 
-beside-step : (o : ℕ) (m : Mode) (a : shown.Action) (actions : List shown.Action) (b : Bool) → eqb o a.object ≡ b → (list_all (reads_beside m) (on o actions) ≡ true → list_all (is_beside o m) actions ≡ true)
-    → list_all (reads_beside m) (cond b (stripped a ∷ on o actions) (on o actions)) ≡ true → ((not b || not (is_write m || is_write a.mode)) && list_all (is_beside o m) actions) ≡ true
-beside-step o m a actions true is onward e = let parts = and_parts (reads_beside m (stripped a)) (list_all (reads_beside m) (on o actions)) e in and_from (reads_beside m (stripped a)) (list_all (is_beside o m) actions) parts.0 (onward parts.1)
+beside-step : (o : ℕ) (m : Mode) (a : shown.Action) (actions : List shown.Action) (b : Bool) → eqb o a.object ≡ b
+    → (list_all (reads_beside m) (on o actions) ≡ true → list_all (is_beside o m) actions ≡ true)
+    → list_all (reads_beside m) (cond b (stripped a ∷ on o actions) (on o actions)) ≡ true
+    → ((not b || not (is_write m || is_write a.mode)) && list_all (is_beside o m) actions) ≡ true
+beside-step o m a actions true is onward e =
+    let parts = and_parts (reads_beside m (stripped a)) (list_all (reads_beside m) (on o actions)) e in
+    and_from (reads_beside m (stripped a)) (list_all (is_beside o m) actions) parts.0 (onward parts.1)
 beside-step o m a actions false is onward e = onward e
 
 pub all-beside : (o : ℕ) (m : Mode) (s : List shown.Action) → list_all (reads_beside m) (on o s) ≡ true → list_all (is_beside o m) s ≡ true
@@ -171,7 +184,8 @@ not-all-step Write x y e k = refl
 
 not-all-read : (actions : List Action) → list_all (λ a. is_read a.mode) actions ≡ false → list_any (excludes_one Read) actions ≡ true
 not-all-read [] e = absurd cc
-not-all-read (a ∷ actions) e = not-all-step a.mode (list_all (λ x. is_read x.mode) actions) (list_any (excludes_one Read) actions) e (λ k. not-all-read actions k)
+not-all-read (a ∷ actions) e =
+    not-all-step a.mode (list_all (λ x. is_read x.mode) actions) (list_any (excludes_one Read) actions) e (λ k. not-all-read actions k)
 
 held-any : (m : Mode) (actions : List Action) → excludes m actions ≡ true → list_any (excludes_one m) actions ≡ true
 held-any m [] e = absurd cc
@@ -181,27 +195,33 @@ held-any Read (a ∷ actions) e = not-all-read (a ∷ actions) (not-true (list_a
 abbrev pub other_excludes : Who → Mode → Action → Bool
 other_excludes name m a = not (who_eq name a.who) && excludes_one m a
 
-any-step : (same eq : Bool) (m : Mode) (a : Action) (left : List Action) (y : Bool) → eq ≡ same → list_any (excludes_one m) (cond (not same) (a ∷ left) left) ≡ true → (list_any (excludes_one m) left ≡ true → y ≡ true)
+any-step : (same eq : Bool) (m : Mode) (a : Action) (left : List Action) (y : Bool) → eq ≡ same
+    → list_any (excludes_one m) (cond (not same) (a ∷ left) left) ≡ true → (list_any (excludes_one m) left ≡ true → y ≡ true)
     → ((not eq && excludes_one m a) || y) ≡ true
 any-step true eq m a left y is e k = ap (λ t. (not t && excludes_one m a) || y) is ∙ k e
 any-step false eq m a left y is e k = ap (λ t. (not t && excludes_one m a) || y) is ∙ or-on (excludes_one m a) (list_any (excludes_one m) left) y e k
 
-pub other-any : (name : Who) (m : Mode) (actions : List Action) → list_any (excludes_one m) (without (is_action_of name) actions) ≡ true → list_any (other_excludes name m) actions ≡ true
+pub other-any : (name : Who) (m : Mode) (actions : List Action) → list_any (excludes_one m) (without (is_action_of name) actions) ≡ true
+    → list_any (other_excludes name m) actions ≡ true
 other-any name m [] e = e
 other-any name m (a ∷ actions) e =
-    any-step (same_who name a.who) (who_eq name a.who) m a (without (is_action_of name) actions) (list_any (other_excludes name m) actions) (who_eq-is name a.who) e (λ k. other-any name m actions k)
+    any-step (same_who name a.who) (who_eq name a.who) m a (without (is_action_of name) actions) (list_any (other_excludes name m) actions)
+    (who_eq-is name a.who) e (λ k. other-any name m actions k)
 
-pub held-by_other : (name : Who) (m : Mode) (actions : List Action) → excludes m (without (is_action_of name) actions) ≡ true → list_any (other_excludes name m) actions ≡ true
+pub held-by_other : (name : Who) (m : Mode) (actions : List Action) → excludes m (without (is_action_of name) actions) ≡ true
+    → list_any (other_excludes name m) actions ≡ true
 held-by_other name m actions e = other-any name m actions (held-any m (without (is_action_of name) actions) e)
 
 abbrev pub holds_it : ℕ → Who → Mode → shown.Action → Bool
 holds_it o name m a = eqb o a.object && not (who_eq name a.who) && (is_write m || is_write a.mode)
 
-shown-step : (o : ℕ) (name : Who) (m : Mode) (a : shown.Action) (actions : List shown.Action) (b z : Bool) → list_any (other_excludes name m) (cond b (stripped a ∷ on o actions) (on o actions)) ≡ true
+shown-step : (o : ℕ) (name : Who) (m : Mode) (a : shown.Action) (actions : List shown.Action) (b z : Bool)
+    → list_any (other_excludes name m) (cond b (stripped a ∷ on o actions) (on o actions)) ≡ true
     → (list_any (other_excludes name m) (on o actions) ≡ true → z ≡ true) → ((b && not (who_eq name a.who) && (is_write m || is_write a.mode)) || z) ≡ true
 shown-step o name m a actions true z e k = or-on (other_excludes name m (stripped a)) (list_any (other_excludes name m) (on o actions)) z e k
 shown-step o name m a actions false z e k = k e
 
-pub shown-any : (o : ℕ) (name : Who) (m : Mode) (s : List shown.Action) → list_any (other_excludes name m) (on o s) ≡ true → list_any (holds_it o name m) s ≡ true
+pub shown-any : (o : ℕ) (name : Who) (m : Mode) (s : List shown.Action) → list_any (other_excludes name m) (on o s) ≡ true
+    → list_any (holds_it o name m) s ≡ true
 shown-any o name m [] e = e
 shown-any o name m (a ∷ actions) e = shown-step o name m a actions (eqb o a.object) (list_any (holds_it o name m) actions) e (λ k. shown-any o name m actions k)

@@ -1,6 +1,7 @@
 -- Every run keeps exclusion: the actions that lines show on an object of the world are those that the world has, and
 -- somebody is let in only where these allow it.
-use Rattle.std.proofs.Common.{◌≡◌, ℕ, ℤ, suc, ◌<◌, Bool, true, false, cond, not, eqb, ◌&&◌, ◌||◌, List, [], ◌∷◌, ◌++◌, Option, Some, None, refl, sym, ap, subst, ◌∙◌, eq-eqb, arith}
+use Rattle.std.proofs.Common.{◌≡◌, ℕ, ℤ, suc, ◌<◌, Bool, true, false, cond, not, eqb, ◌&&◌, ◌||◌, List}
+use Rattle.std.proofs.Common.{[], ◌∷◌, ◌++◌, Option, Some, None, refl, sym, ap, subst, ◌∙◌, eq-eqb, arith}
 use Rattle.std.specs.Prelude.{find}
 use Rattle.std.specs.List.{list_all, list_any}
 use Rattle.ann_base.specs.declared.identities.ObjectNo.{ObjectNo}
@@ -46,7 +47,8 @@ use Rattle.line_laws.proofs.Ticks.LineByLine.{seen_behind, seen_behind-append, F
 use Rattle.line_laws.specs.ExclusionLaws.{enters_rightly, EntersOk}
 use Rattle.line_laws.proofs.Exclusion.OwnLines.{told, Told, Told-append, Told-in_order}
 use Rattle.line_laws.proofs.Exclusion.ObjectLists.{object_number, changed, found-below, left-found}
-use Rattle.line_laws.proofs.Exclusion.ActionLists.{on, Once, closed-other, closed-only, closed-new, none-without, Once-without, free-beside, all-beside, held-by_other, other_excludes, shown-any}
+use Rattle.line_laws.proofs.Exclusion.ActionLists.{on, Once, closed-other, closed-only, closed-new, none-without, Once-without}
+use Rattle.line_laws.proofs.Exclusion.ActionLists.{free-beside, all-beside, held-by_other, other_excludes, shown-any}
 use Rattle.line_laws.proofs.Ticks.ReleaseLemmas.{events_of}
 use Rattle.machine_laws.proofs.Kept.Combinators.{Leads}
 
@@ -90,7 +92,8 @@ told-follow p (x ∷ xs) s t h =
     ((e.1, subst (λ q. RightOf q (events_of p xs)) (sym e.2) rest.0), ap (λ q. actions_behind q (events_of p xs)) e.2 ∙ rest.1)
 
 -- lines that are not told apart say nothing of them
-told-other : (part : Part) (x : Line) (s : List shown.Action) (f : List shown.Action → Type 0) → is_told_apart x ≡ false → f s → told_of part (action_event x) s f
+told-other : (part : Part) (x : Line) (s : List shown.Action) (f : List shown.Action → Type 0) → is_told_apart x ≡ false → f s
+    → told_of part (action_event x) s f
 told-other part (said.Enter name object mode) s f e h = cc
 told-other part (said.Exit name object) s f e h = cc
 told-other part (said.Held name object mode) s f e h = cc
@@ -128,10 +131,12 @@ edit_task-unmoved name f w = edit_found-unmoved name f w (task_at w name)
 
 -- ---- objects that are edited, made and gone
 
-same_drawn : (o : ObjectNo) (f : Object → Object) (w : World) → ((x : Object) → (f x).number ≡ x.number) → Falls object_number (suc w.drawn.objects) w.objects → Falls object_number (suc w.drawn.objects) (edit_object o f w).objects
+same_drawn : (o : ObjectNo) (f : Object → Object) (w : World) → ((x : Object) → (f x).number ≡ x.number) → Falls object_number (suc w.drawn.objects) w.objects
+    → Falls object_number (suc w.drawn.objects) (edit_object o f w).objects
 same_drawn o f w k h = Falls-edit_where object_number (is_object o) f (λ x. ap (λ n. n.0) (k x)) (suc w.drawn.objects) w.objects h
 
-edited-tells : (o : ObjectNo) (f : Object → Object) (w : World) → ((x : Object) → (f x).number ≡ x.number) → ((x : Object) → (f x).actions ≡ x.actions) → Tells w [] (edit_object o f w)
+edited-tells : (o : ObjectNo) (f : Object → Object) (w : World) → ((x : Object) → (f x).number ≡ x.number) → ((x : Object) → (f x).actions ≡ x.actions)
+    → Tells w [] (edit_object o f w)
 edited-tells o f w k a s h = (
   s,
   refl,
@@ -147,21 +152,27 @@ edited-tells o f w k a s h = (
   ),
 )
 
-new-step : (b : Bool) (n d : ℕ) (s : List shown.Action) (new y : Object) (rest : Option Object) → eqb n d ≡ b → new.actions ≡ [] → on d s ≡ [] → cond b (Some new) rest ≡ Some y → (rest ≡ Some y → (on n s ≡ y.actions) × Once y.actions) → (on n s ≡ y.actions) × Once y.actions
+new-step : (b : Bool) (n d : ℕ) (s : List shown.Action) (new y : Object) (rest : Option Object) → eqb n d ≡ b → new.actions ≡ [] → on d s ≡ []
+    → cond b (Some new) rest ≡ Some y → (rest ≡ Some y → (on n s ≡ y.actions) × Once y.actions) → (on n s ≡ y.actions) × Once y.actions
 new-step true n d s new y rest is none empty e onward =
     let same : new ≡ y = cc in
     let nothing : [] ≡ y.actions = sym none ∙ ap (λ z. z.actions) same in
     (ap (λ m. on m s) (eqb-true n d is) ∙ empty ∙ nothing, subst Once nothing tt)
 new-step false n d s new y rest is none empty e onward = onward e
 
-added-tells : (new : Object) (w v : World) → new.number.0 ≡ suc w.drawn.objects → new.actions ≡ [] → v.objects ≡ new ∷ w.objects → v.drawn.objects ≡ suc w.drawn.objects → Tells w [] v
+added-tells : (new : Object) (w v : World) → new.number.0 ≡ suc w.drawn.objects → new.actions ≡ [] → v.objects ≡ new ∷ w.objects
+    → v.drawn.objects ≡ suc w.drawn.objects → Tells w [] v
 added-tells new w v number none objects drawn s h = (
   s,
   refl,
   (
-    λ n y e. new-step (is_object n new) n.0 new.number.0 s new y (find (is_object n) w.objects) refl none (ap (λ m. on m s) number ∙ h.1 (suc w.drawn.objects) (omega arith)) (sym (ap (find (is_object n)) objects) ∙ e) (h.0 n y),
+    λ n y e. new-step (is_object n new) n.0 new.number.0 s new y (find (is_object n) w.objects) refl none
+        (ap (λ m. on m s) number ∙ h.1 (suc w.drawn.objects) (omega arith)) (sym (ap (find (is_object n)) objects) ∙ e) (h.0 n y),
     λ n high. h.1 n (omega (arith, high, drawn)),
-    subst (λ xs. Falls object_number (suc v.drawn.objects) xs) (sym objects) (omega (arith, number, drawn), subst (λ m. Falls object_number m w.objects) (sym number) h.2),
+    subst (λ xs. Falls object_number (suc v.drawn.objects) xs) (sym objects) (
+      omega (arith, number, drawn),
+      subst (λ m. Falls object_number m w.objects) (sym number) h.2,
+    ),
   ),
 )
 
@@ -172,7 +183,8 @@ left-tells test w v objects drawn s h = (
   (
     λ n y e. h.0 n y (left-found n (λ x. not (test x)) (suc w.drawn.objects) w.objects y h.2 (sym (ap (find (is_object n)) objects) ∙ e)),
     λ n high. h.1 n (omega (arith, high, drawn)),
-    subst (λ xs. Falls object_number (suc v.drawn.objects) xs) (sym objects) (subst (λ m. Falls object_number (suc m) (without test w.objects)) (sym drawn) (Falls-without object_number test (suc w.drawn.objects) w.objects h.2)),
+    subst (λ xs. Falls object_number (suc v.drawn.objects) xs) (sym objects)
+        (subst (λ m. Falls object_number (suc m) (without test w.objects)) (sym drawn) (Falls-without object_number test (suc w.drawn.objects) w.objects h.2)),
   ),
 )
 
@@ -184,15 +196,18 @@ new_action o name mode = record { object = o.0; who = name; mode = mode }
 on-new : (n o : ObjectNo) (name : Who) (mode : Mode) (s : List shown.Action) → eqb n.0 o.0 ≡ false → on n.0 (new_action o name mode ∷ s) ≡ on n.0 s
 on-new n o name mode s e = ap (λ t. cond t (record { who = name; mode = mode } ∷ on n.0 s) (on n.0 s)) e
 
-on-same : (o : ObjectNo) (name : Who) (mode : Mode) (s : List shown.Action) → on o.0 (new_action o name mode ∷ s) ≡ record { who = name; mode = mode } ∷ on o.0 s
+on-same : (o : ObjectNo) (name : Who) (mode : Mode) (s : List shown.Action)
+    → on o.0 (new_action o name mode ∷ s) ≡ record { who = name; mode = mode } ∷ on o.0 s
 on-same o name mode s = ap (λ t. cond t (record { who = name; mode = mode } ∷ on o.0 s) (on o.0 s)) (eq-eqb o.0 o.0 refl)
 
-let_in-right : (name : Who) (o : ObjectNo) (mode : Mode) (w : World) (s : List shown.Action) → LetsIn name o mode w → ShowsActions s w → enters_rightly s (written.Enter name o mode) ≡ true
+let_in-right : (name : Who) (o : ObjectNo) (mode : Mode) (w : World) (s : List shown.Action) → LetsIn name o mode w → ShowsActions s w
+    → enters_rightly s (written.Enter name o mode) ≡ true
 let_in-right name o mode w s lets h =
     let before = h.0 o lets.object lets.found in
     let others : without (is_action_of name) lets.object.actions ≡ lets.object.actions = none-without name lets.object.actions lets.outside in
     let free : excludes mode lets.object.actions ≡ false = subst (λ xs. excludes mode xs ≡ false) others lets.free in
-    all-beside o.0 mode s (subst (λ xs. list_all (λ (a : Action). not (is_write mode || is_write a.mode)) xs ≡ true) (sym before.0) (free-beside mode lets.object.actions free))
+    all-beside o.0 mode s
+    (subst (λ xs. list_all (λ (a : Action). not (is_write mode || is_write a.mode)) xs ≡ true) (sym before.0) (free-beside mode lets.object.actions free))
 
 higher : (n o d : ℕ) → o < suc d → d < n → eqb n o ≡ false
 higher n o d a b = grind arith
@@ -200,7 +215,8 @@ higher n o d a b = grind arith
 some_same : (x y : Object) → Some x ≡ Some y → x ≡ y
 some_same x y e = cc
 
-enters-tells : (name : Who) (o : ObjectNo) (mode : Mode) (w : World) → LetsIn name o mode w → Tells w (own (said.Enter name o mode) ∷ []) (open_action name o mode w)
+enters-tells : (name : Who) (o : ObjectNo) (mode : Mode) (w : World) → LetsIn name o mode w
+    → Tells w (own (said.Enter name o mode) ∷ []) (open_action name o mode w)
 enters-tells name o mode w lets s h =
     let f : Object → Object = λ x. record x { actions = record { who = name; mode = mode } ∷ x.actions } in
     let low : o.0 < suc w.drawn.objects = found-below o (suc w.drawn.objects) w.objects lets.object h.2 lets.found in (
@@ -213,7 +229,8 @@ enters-tells name o mode w lets s h =
             let same : lets.object ≡ x = some_same lets.object x (sym lets.found ∙ found) in
             let actions : y.actions ≡ record { who = name; mode = mode } ∷ x.actions = ap (λ z. z.actions) made in
             let outside : has_open name x.actions ≡ false = subst (λ z. has_open name z.actions ≡ false) same lets.outside in (
-              ap (λ m. on m.0 (new_action o name mode ∷ s)) is ∙ on-same o name mode s ∙ ap (λ xs. record { who = name; mode = mode } ∷ xs) before.0 ∙ sym actions,
+              ap (λ m. on m.0 (new_action o name mode ∷ s)) is ∙ on-same o name mode s ∙ ap (λ xs. record { who = name; mode = mode } ∷ xs) before.0
+                  ∙ sym actions,
               subst Once (sym actions) (outside, before.1),
             ))
             (λ differs found. let before = h.0 n y found in (on-new n o name mode s differs ∙ before.0, before.1)),
@@ -222,11 +239,16 @@ enters-tells name o mode w lets s h =
       ),
     )
 
-none-step : (n o : ℕ) (a : shown.Action) (actions left : List shown.Action) (b : Bool) → on n (a ∷ actions) ≡ [] → (on n actions ≡ [] → on n left ≡ []) → (test : Bool) → eqb n a.object ≡ test → on n (cond b actions (a ∷ left)) ≡ []
-none-step n o a actions left b e onward true is = absurd (let some : record { who = a.who; mode = a.mode } ∷ on n actions ≡ [] = sym (ap (λ t. cond t (record { who = a.who; mode = a.mode } ∷ on n actions) (on n actions)) is) ∙ e in cc)
+none-step : (n o : ℕ) (a : shown.Action) (actions left : List shown.Action) (b : Bool) → on n (a ∷ actions) ≡ [] → (on n actions ≡ [] → on n left ≡ [])
+    → (test : Bool) → eqb n a.object ≡ test → on n (cond b actions (a ∷ left)) ≡ []
+none-step n o a actions left b e onward true is =
+    absurd (let some : record { who = a.who; mode = a.mode } ∷ on n actions ≡ [] =
+    sym (ap (λ t. cond t (record { who = a.who; mode = a.mode } ∷ on n actions) (on n actions)) is) ∙ e in
+    cc)
 none-step n o a actions left true e onward false is = sym (ap (λ t. cond t (record { who = a.who; mode = a.mode } ∷ on n actions) (on n actions)) is) ∙ e
 none-step n o a actions left false e onward false is =
-    ap (λ t. cond t (record { who = a.who; mode = a.mode } ∷ on n left) (on n left)) is ∙ onward (sym (ap (λ t. cond t (record { who = a.who; mode = a.mode } ∷ on n actions) (on n actions)) is) ∙ e)
+    ap (λ t. cond t (record { who = a.who; mode = a.mode } ∷ on n left) (on n left)) is
+    ∙ onward (sym (ap (λ t. cond t (record { who = a.who; mode = a.mode } ∷ on n actions) (on n actions)) is) ∙ e)
 
 none-closed : (n o : ℕ) (name : Who) (s : List shown.Action) → on n s ≡ [] → on n (closed o name s) ≡ []
 none-closed n o name [] e = refl
@@ -239,18 +261,25 @@ exits-shown name o w s h =
       λ n y e. changed n o f w.objects y (λ x. refl) e
           (λ is x found made.
           let before = h.0 o x found in
-          let actions : y.actions ≡ without (is_action_of name) x.actions = ap (λ z. z.actions) made in
-          (ap (λ m. on m.0 (closed o.0 name s)) is ∙ closed-only o.0 name s x.actions before.0 before.1 ∙ sym actions, subst Once (sym actions) (Once-without name x.actions before.1)))
+          let actions : y.actions ≡ without (is_action_of name) x.actions = ap (λ z. z.actions) made in (
+            ap (λ m. on m.0 (closed o.0 name s)) is ∙ closed-only o.0 name s x.actions before.0 before.1 ∙ sym actions,
+            subst Once (sym actions) (Once-without name x.actions before.1),
+          ))
           (λ differs found. let before = h.0 n y found in (closed-other n.0 o.0 name s differs ∙ before.0, before.1)),
       λ n high. none-closed n o.0 name s (h.1 n high),
       same_drawn o f w (λ x. refl) h.2,
     )
 
-visits-tells : (name : Who) (o : ObjectNo) (mode : Mode) (xs : List Said) (w v : World) → LetsIn name o mode w → AreOthers xs → Tells w [] v → Tells w (own (said.Enter name o mode) ∷ xs ++ own (said.Exit name o) ∷ []) v
+visits-tells : (name : Who) (o : ObjectNo) (mode : Mode) (xs : List Said) (w v : World) → LetsIn name o mode w → AreOthers xs → Tells w [] v
+    → Tells w (own (said.Enter name o mode) ∷ xs ++ own (said.Exit name o) ∷ []) v
 visits-tells name o mode xs w v lets others k s h =
     let behind = k s h in (
       s,
-      (refl, let_in-right name o mode w s lets h, told-others xs (own (said.Exit name o) ∷ []) (new_action o name mode ∷ s) s others (refl, refl, closed-new o.0 name mode s)),
+      (
+        refl,
+        let_in-right name o mode w s lets h,
+        told-others xs (own (said.Exit name o) ∷ []) (new_action o name mode ∷ s) s others (refl, refl, closed-new o.0 name mode s),
+      ),
       subst (λ t. ShowsActions t v) (sym behind.1) behind.2,
     )
 
@@ -258,7 +287,12 @@ held-tells : (name : Who) (o : ObjectNo) (mode : Mode) (w : World) → FindsHeld
 held-tells name o mode w finds s h =
     let before = h.0 o finds.object finds.found in (
       s,
-      (refl, shown-any o.0 name mode s (subst (λ xs. list_any (other_excludes name mode) xs ≡ true) (sym before.0) (held-by_other name mode finds.object.actions finds.held)), refl),
+      (
+        refl,
+        shown-any o.0 name mode s
+            (subst (λ xs. list_any (other_excludes name mode) xs ≡ true) (sym before.0) (held-by_other name mode finds.object.actions finds.held)),
+        refl,
+      ),
       h,
     )
 
@@ -272,8 +306,10 @@ tells = record {
   rests = λ w s h. (tt, h);
   leads_on = λ a b c {xs} {ys} p q s h.
       let f = p s h in
-      let g = q (actions_behind s xs) f.1 in
-      (Follow-append actions_after enters_rightly s xs ys f.0 g.0, subst (λ t. ShowsActions t c) (sym (seen_behind-append actions_after enters_rightly s xs ys)) g.1);
+      let g = q (actions_behind s xs) f.1 in (
+        Follow-append actions_after enters_rightly s xs ys f.0 g.0,
+        subst (λ t. ShowsActions t c) (sym (seen_behind-append actions_after enters_rightly s xs ys)) g.1,
+      );
   settles = λ p a b xs k s h.
       let f = k s h in
       let lines = told-follow p (in_order xs) s f.0 (Told-in_order action_event Right actions_after xs s f.0 f.1) in
@@ -292,7 +328,9 @@ tells = record {
   adds_call = λ c w. unmoved w;
   forgets_call = λ c w. unmoved w;
   edits_object = λ o f w k a. edited-tells o f w k a;
-  adds_object = λ p l u w. added-tells (new_object p l u (suc w.drawn.objects)) w (record w { objects = new_object p l u (suc w.drawn.objects) ∷ w.objects; drawn = object_drawn w.drawn }) refl refl refl refl;
+  adds_object =
+      λ p l u w. added-tells (new_object p l u (suc w.drawn.objects)) w
+      (record w { objects = new_object p l u (suc w.drawn.objects) ∷ w.objects; drawn = object_drawn w.drawn }) refl refl refl refl;
   enters = enters-tells;
   exits = λ name o w s h. (closed o.0 name s, (refl, refl, refl), exits-shown name o w s h);
   visits = visits-tells;
@@ -340,17 +378,20 @@ openings-lead_on p script =
     let h = effect-leads (all_of tells).fine p (opens p) (opens-keeps (all_of tells) p) (blank_world p script) tt [] (λ o x e. absurd cc, λ n high. refl, tt) in
     record { follow = h.0; shows = h.1 }
 
-instants-lead_on : (p : Image) (s : List shown.Action) (w : World) → OpenActions s w → Leads_on actions_after enters_rightly OpenActions s (instant p w).1 (instant p w).0
+instants-lead_on : (p : Image) (s : List shown.Action) (w : World) → OpenActions s w
+    → Leads_on actions_after enters_rightly OpenActions s (instant p w).1 (instant p w).0
 unfolding Leads OpenActions
 instants-lead_on p s w a =
     let h = instant-leads (all_of tells) p (record { puts = λ name number pieces text v x good is e q g. (q, refl, g) }) w tt s a in
     record { follow = h.0; shows = h.1 }
 
-tocks-lead_on : (p : Image) (s : List shown.Action) (w : World) → OpenActions s w → Leads_on actions_after enters_rightly OpenActions s (tock p w).1 (tock p w).0
+tocks-lead_on : (p : Image) (s : List shown.Action) (w : World) → OpenActions s w
+    → Leads_on actions_after enters_rightly OpenActions s (tock p w).1 (tock p w).0
 unfolding Leads OpenActions
 tocks-lead_on p s w a =
     let h = before_tick-leads (all_of tells) (tocks_of tocks) p (choose w) w tt s a in
-    subst (λ (t : World × List Event). Leads_on actions_after enters_rightly OpenActions s t.1 t.0) (sym (tock-parts p w)) (record { follow = h.0; shows = h.1 })
+    subst (λ (t : World × List Event). Leads_on actions_after enters_rightly OpenActions s t.1 t.0) (sym (tock-parts p w))
+    (record { follow = h.0; shows = h.1 })
 
 exclusion : OfRuns actions_after enters_rightly OpenActions []
 exclusion = record {

@@ -31,12 +31,14 @@ module _ {S E : Type 0} (one : Line → Option E) (right : S → E → Type 0) (
   Told-append (x ∷ xs) ys a b c h k = told-also x.part (one x.line) a (λ q. Told xs q b) (λ q. Told (xs ++ ys) q c) (λ q g. Told-append xs ys q b c g k) h
 
   -- two lines change places where the second is of an earlier part: one of both tells nothing
-  told-swap : (p q : Part) (m n : Option E) (s : S) (f : S → Type 0) → is_part_before q p ≡ true → told p m s (λ k. told q n k f) → told q n s (λ k. told p m k f)
+  told-swap : (p q : Part) (m n : Option E) (s : S) (f : S → Type 0) → is_part_before q p ≡ true → told p m s (λ k. told q n k f)
+      → told q n s (λ k. told p m k f)
   told-swap p q None n s f before h = h
   told-swap p q (Some m) None s f before h = h
   told-swap p q (Some m) (Some n) s f before h = absurd (both_own p q h.0 h.2.0 before)
 
-  put-test : (x y : Said) (ys placed : List Said) (a c : S) (test : Bool) → is_part_before y.part x.part ≡ test → ((q : S) → Told (x ∷ ys) q c → Told placed q c) → Told (x ∷ y ∷ ys) a c → Told (cond test (y ∷ placed) (x ∷ y ∷ ys)) a c
+  put-test : (x y : Said) (ys placed : List Said) (a c : S) (test : Bool) → is_part_before y.part x.part ≡ test
+      → ((q : S) → Told (x ∷ ys) q c → Told placed q c) → Told (x ∷ y ∷ ys) a c → Told (cond test (y ∷ placed) (x ∷ y ∷ ys)) a c
   put-test x y ys placed a c false is onward h = h
   put-test x y ys placed a c true is onward h =
       told-also y.part (one y.line) a (λ q. Told (x ∷ ys) q c) (λ q. Told placed q c) onward

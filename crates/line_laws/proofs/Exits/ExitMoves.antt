@@ -30,12 +30,16 @@ use Rattle.machine_laws.proofs.Kept.Frames.{first-natures}
 use Rattle.line_laws.proofs.Exits.OpenCounts.{count-first}
 use Rattle.line_laws.proofs.Exits.Steady.{Holds, action_on_top}
 use Rattle.line_laws.proofs.Exits.FreeActs.{held-on_top}
-use Rattle.line_laws.proofs.Exits.ExitTies.{Credit, Tied, Tells, Shown, actions_behind, unmoved, moved, edited-tied, same-tied, pushed-tied, popped-tied, added-tied, forgotten-tied, opens-tied, begins-tells, ends-tells, visits-tells, settled-tells, then-tells, other-tells}
+use Rattle.line_laws.proofs.Exits.ExitTies.{Credit, Tied, Tells, Shown, actions_behind, unmoved, moved, edited-tied}
+use Rattle.line_laws.proofs.Exits.ExitTies.{same-tied, pushed-tied, popped-tied, added-tied, forgotten-tied, opens-tied}
+use Rattle.line_laws.proofs.Exits.ExitTies.{begins-tells, ends-tells, visits-tells, settled-tells, then-tells, other-tells}
 
 gone-tied : (name : Who) (onward : Option StatementNo) (w : World) (c : Credit) (s : List shown.Action) → Tied s c w → Tied s c (gone_on name onward w)
-gone-tied name onward w = same-tied name (λ t. with_frames (edit_first (goes_on onward) t.frames) t) w (λ t. refl) (λ t. first-natures (goes_on onward) t.frames (λ x. refl))
+gone-tied name onward w =
+    same-tied name (λ t. with_frames (edit_first (goes_on onward) t.frames) t) w (λ t. refl) (λ t. first-natures (goes_on onward) t.frames (λ x. refl))
 
-state-tells : (name : Who) (f : Task → Task) (w : World) → ((t : Task) → (f t).who ≡ t.who) → ((t : Task) → (f t).frames ≡ t.frames) → Tells w [] (edit_task name f w)
+state-tells : (name : Who) (f : Task → Task) (w : World) → ((t : Task) → (f t).who ≡ t.who) → ((t : Task) → (f t).frames ≡ t.frames)
+    → Tells w [] (edit_task name f w)
 state-tells name f w named same = moved w (edit_task name f w) (same-tied name f w named (λ t. ap natures (same t)))
 
 -- ---- a region that begins to be left
@@ -50,10 +54,13 @@ scope-action f (InInitialize l) = refl
 scope-action f (InFinalize o) = refl
 scope-action f (InAssign m) = refl
 
-top-tied : (name : Who) (f : Frame → Frame) (w : World) → ((x : Frame) → action_in (f x).mark ≡ action_in x.mark) → (c : Credit) (s : List shown.Action) → Tied s c w → Tied s c (edit_top name f w)
-top-tied name f w same = edited-tied name (λ t. with_frames (edit_first f t.frames) t) w (λ t. refl) (λ t o. let e = count-first o f t.frames same in omega (arith, e))
+top-tied : (name : Who) (f : Frame → Frame) (w : World) → ((x : Frame) → action_in (f x).mark ≡ action_in x.mark) → (c : Credit) (s : List shown.Action)
+    → Tied s c w → Tied s c (edit_top name f w)
+top-tied name f w same =
+    edited-tied name (λ t. with_frames (edit_first f t.frames) t) w (λ t. refl) (λ t o. let e = count-first o f t.frames same in omega (arith, e))
 
-leaving-tied : (name : Who) (leaving : Leaving) (w : World) (c : Credit) (s : List shown.Action) → Tied s c w → Tied s c (edit_top name (left_so_frame leaving) (edit_top_scope name being_left_mark w))
+leaving-tied : (name : Who) (leaving : Leaving) (w : World) (c : Credit) (s : List shown.Action) → Tied s c w
+    → Tied s c (edit_top name (left_so_frame leaving) (edit_top_scope name being_left_mark w))
 leaving-tied name leaving w c s h =
     top-tied name (left_so_frame leaving) (edit_top_scope name being_left_mark w) (λ x. refl) c s
     (top-tied name (λ x. with_mark (edit_scope_mark being_left_mark x.mark) x) w (λ x. scope-action being_left_mark x.mark) c s h)
@@ -79,8 +86,14 @@ fine = record {
   listed = λ w g. each-anybody w.tasks;
   awaits = λ name w g is. tt;
   edits_task = λ name f w g same_who same_frames same_state same_master same_clock. state-tells name f w same_who same_frames;
-  edits_frames = λ name f w g same. moved w (edit_task name (λ t. with_frames (f t.frames) t) w) (same-tied name (λ t. with_frames (f t.frames) t) w (λ t. refl) (λ t. same t.frames));
-  pushes_on = λ name onward f g w good may top region release action abortable c s h. (s, refl, pushed-tied name f (gone_on name onward w) action c s (gone-tied name onward w c s h));
+  edits_frames =
+      λ name f w g same.
+      moved w (edit_task name (λ t. with_frames (f t.frames) t) w) (same-tied name (λ t. with_frames (f t.frames) t) w (λ t. refl) (λ t. same t.frames));
+  pushes_on = λ name onward f g w good may top region release action abortable c s h. (
+    s,
+    refl,
+    pushed-tied name f (gone_on name onward w) action c s (gone-tied name onward w c s h),
+  );
   opens_abortable = λ name f w g o region release action. moved w (push name f w) (pushed-tied name f w action);
   pops = λ name f w g may top action. moved w (pop name w) (popped-tied name w);
   begins_leaving = λ name f m r leaving w g may top is region left c s h. (s, refl, leaving-tied name leaving w c s h);

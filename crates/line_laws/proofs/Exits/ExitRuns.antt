@@ -51,7 +51,9 @@ unfolding Leads
 opening-led p script = effect-leads telling.fine p (opens p) (opens-keeps telling p) (blank_world p script) tt no_credit [] (blank-tied p script)
 
 instant-led : (p : Image) (s : List shown.Action) (w : World) → IsRunnerFree w → Tied s no_credit w → let i = instant p w in LedOn s i.1 i.0
-instant-led p s w free h = instant-from telling stays_held acts_free p (record { puts = λ name number pieces text v x good is e c q g. (q, refl, g) }) w tt (λ name ran over. runner-free w free name ran over) no_credit s h
+instant-led p s w free h =
+    instant-from telling stays_held acts_free p (record { puts = λ name number pieces text v x good is e c q g. (q, refl, g) }) w tt
+    (λ name ran over. runner-free w free name ran over) no_credit s h
 
 tock-led : (p : Image) (s : List shown.Action) (w : World) → Tied s no_credit w → let t = tock p w in LedOn s t.1 t.0
 unfolding Leads
@@ -61,28 +63,37 @@ tock-led p s w h =
 
 -- ---- line by line
 
-follows-then : (n : ℕ) (s : List shown.Action) (events : List Event) (rest : List TraceLine) → RightOf s events → follows_lines actions_after exits_rightly (actions_behind s events) rest ≡ true → follows_lines actions_after exits_rightly s (at_tick n events ++ rest) ≡ true
+follows-then : (n : ℕ) (s : List shown.Action) (events : List Event) (rest : List TraceLine) → RightOf s events
+    → follows_lines actions_after exits_rightly (actions_behind s events) rest ≡ true
+    → follows_lines actions_after exits_rightly s (at_tick n events ++ rest) ≡ true
 follows-then n s [] rest a b = b
-follows-then n s (x ∷ xs) rest a b = and_from (exits_rightly s x) (follows_lines actions_after exits_rightly (actions_after s x) (at_tick n xs ++ rest)) a.0 (follows-then n (actions_after s x) xs rest a.1 b)
+follows-then n s (x ∷ xs) rest a b =
+    and_from (exits_rightly s x) (follows_lines actions_after exits_rightly (actions_after s x) (at_tick n xs ++ rest)) a.0
+    (follows-then n (actions_after s x) xs rest a.1 b)
 
 follows-alone : (n : ℕ) (s : List shown.Action) (events : List Event) → RightOf s events → follows_lines actions_after exits_rightly s (at_tick n events) ≡ true
 follows-alone n s [] a = refl
-follows-alone n s (x ∷ xs) a = and_from (exits_rightly s x) (follows_lines actions_after exits_rightly (actions_after s x) (at_tick n xs)) a.0 (follows-alone n (actions_after s x) xs a.1)
+follows-alone n s (x ∷ xs) a =
+    and_from (exits_rightly s x) (follows_lines actions_after exits_rightly (actions_after s x) (at_tick n xs)) a.0 (follows-alone n (actions_after s x) xs a.1)
 
 -- one instant, what follows it, and what is left of the run
 abbrev turn : ℕ → World × List Event → World × List Event → Ran → Option Ended → Ran
 turn now i t rest (Some reason) = stopped now i.1 reason
 turn now i t rest None = then_runs now (i.1 ++ t.1) rest
 
-turn-follows : (now : ℕ) (s : List shown.Action) (i t : World × List Event) (rest : Ran) (reason : Option Ended) → RightOf s i.1 → RightOf (actions_behind s i.1) t.1
-    → (reason ≡ None → follows_lines actions_after exits_rightly (actions_behind (actions_behind s i.1) t.1) rest.lines ≡ true) → follows_lines actions_after exits_rightly s (turn now i t rest reason).lines ≡ true
-turn-follows now s i t rest (Some reason) a b k = follows-alone now s (i.1 ++ written.End reason ∷ []) (Follow-append actions_after exits_rightly s i.1 (written.End reason ∷ []) a (refl, tt))
+turn-follows : (now : ℕ) (s : List shown.Action) (i t : World × List Event) (rest : Ran) (reason : Option Ended) → RightOf s i.1
+    → RightOf (actions_behind s i.1) t.1
+    → (reason ≡ None → follows_lines actions_after exits_rightly (actions_behind (actions_behind s i.1) t.1) rest.lines ≡ true)
+    → follows_lines actions_after exits_rightly s (turn now i t rest reason).lines ≡ true
+turn-follows now s i t rest (Some reason) a b k =
+    follows-alone now s (i.1 ++ written.End reason ∷ []) (Follow-append actions_after exits_rightly s i.1 (written.End reason ∷ []) a (refl, tt))
 turn-follows now s i t rest None a b k =
     follows-then now s (i.1 ++ t.1) rest.lines (Follow-append actions_after exits_rightly s i.1 t.1 a b)
     (subst (λ q. follows_lines actions_after exits_rightly q rest.lines ≡ true) (sym (seen_behind-append actions_after exits_rightly s i.1 t.1)) (k refl))
 
 module _ (p : Image) (script : List (ℤ × Item)) (bound : ℕ) (free : RunnersAreFree p script bound) where
-  run_from-follows : (fuel : ℕ) (w : World) (s : List shown.Action) → Comes p script bound w → Tied s no_credit w → follows_lines actions_after exits_rightly s (run_from fuel p bound w).lines ≡ true
+  run_from-follows : (fuel : ℕ) (w : World) (s : List shown.Action) → Comes p script bound w → Tied s no_credit w
+      → follows_lines actions_after exits_rightly s (run_from fuel p bound w).lines ≡ true
   run_from-follows zero w s comes h = follows-alone w.time s (written.End why.Bound ∷ []) (refl, tt)
   run_from-follows (suc fuel) w s comes h =
       let i = instant p w in
@@ -100,7 +111,8 @@ module _ (p : Image) (script : List (ℤ × Item)) (bound : ℕ) (free : Runners
 
 -- ---- with what is known of `enter` and `held` lines
 
-whole-right : (actions : List shown.Action) (event : Event) → IsTrue (enters_rightly actions event) → IsTrue (exits_rightly actions event) → IsTrue (is_exclusive actions event)
+whole-right : (actions : List shown.Action) (event : Event) → IsTrue (enters_rightly actions event) → IsTrue (exits_rightly actions event)
+    → IsTrue (is_exclusive actions event)
 whole-right actions (written.Exit who object) enters exits = exits
 whole-right actions _ enters exits = enters
 

@@ -18,7 +18,8 @@ use Rattle.machine_laws.proofs.Kept.Act.{Acts}
 use Rattle.line_laws.specs.ExitLaws.{IsRunnerFree}
 use Rattle.line_laws.proofs.Exits.TaskEdits.{one_of-is, edited}
 use Rattle.machine_laws.proofs.Kept.Protected.{protected-nature}
-use Rattle.line_laws.proofs.Exits.Steady.{FreeIn, action_on_top, Holding, Holds, edit_top-spares, edit_top_protected-spares, begin_call-steady, deliver-steady, send_on-steady, enqueue-steady, settle_sent-steady, Steady, Spares}
+use Rattle.line_laws.proofs.Exits.Steady.{FreeIn, action_on_top, Holding, Holds, edit_top-spares, edit_top_protected-spares, begin_call-steady}
+use Rattle.line_laws.proofs.Exits.Steady.{deliver-steady, send_on-steady, enqueue-steady, settle_sent-steady, Steady, Spares}
 
 pub stays_held : Stays (Holds action_on_top)
 unfolding Steady Spares
@@ -46,11 +47,14 @@ still-free : (name : Who) (w : World) → IsFree name w → IsFree name (edit_ta
 still-free name w free =
     let v = edit_task name (with_ticks None) w in
     subst (λ (t : Task). FreeIn name t.state) (one_of-is v name)
-    (edited (λ t. FreeIn name t.state) name name (with_ticks None) w (λ t. refl) (λ same t h. h) (subst (λ (t : Task). FreeIn name t.state) (sym (one_of-is w name)) free))
+    (edited (λ t. FreeIn name t.state) name name (with_ticks None) w (λ t. refl) (λ same t h. h)
+    (subst (λ (t : Task). FreeIn name t.state) (sym (one_of-is w name)) free))
 
 pub acts_free : Acts IsFree (Holds action_on_top)
 acts_free = record {
-  holds = λ name f m w free top is. subst (λ t. Holding action_on_top name m.object t) (sym (one_of-is w name)) (on_top (frames_of w name) f top ∙ ap action_in is, free);
+  holds =
+      λ name f m w free top is.
+      subst (λ t. Holding action_on_top name m.object t) (sym (one_of-is w name)) (on_top (frames_of w name) f top ∙ ap action_in is, free);
   without_ticks = λ name w free. still-free name w free;
 }
 

@@ -35,7 +35,8 @@ any-step false c n h k = let g : 0 < 0 + n = h in k (omega (arith, g))
 
 pub opened-any : (name : Who) (o : ℕ) (s : List shown.Action) → 0 < opened name o s → list_any (λ a. eqb o a.object && who_eq name a.who) s ≡ true
 opened-any name o [] h = absurd (omega (arith, h))
-opened-any name o (a ∷ actions) h = any-step (is_own name o a) (list_any (λ x. eqb o x.object && who_eq name x.who) actions) (opened name o actions) h (λ g. opened-any name o actions g)
+opened-any name o (a ∷ actions) h =
+    any-step (is_own name o a) (list_any (λ x. eqb o x.object && who_eq name x.who) actions) (opened name o actions) h (λ g. opened-any name o actions g)
 
 who_eq-path : (a b : Who) → who_eq a b ≡ true → a ≡ b
 who_eq-path (who.Task a) (who.Task b) e = ap (λ (n : ℕ). who.Task (record { 0 = n })) (eqb-true a.0 b.0 e)
@@ -56,7 +57,8 @@ own-same name m o k a e =
     subst (λ x. bit (is_own name o a) ≤ bit (is_same name o x k)) (sym subject)
     (subst (λ x. bit (is_own name o a) ≤ bit (is_same name o a.who x)) (sym object) (omega arith))
 
-closed-step : (name m : Who) (o k : ℕ) (a : shown.Action) (actions left : List shown.Action) (b : Bool) → is_own m k a ≡ b → opened name o actions ≤ opened name o left + bit (is_same name o m k)
+closed-step : (name m : Who) (o k : ℕ) (a : shown.Action) (actions left : List shown.Action) (b : Bool) → is_own m k a ≡ b
+    → opened name o actions ≤ opened name o left + bit (is_same name o m k)
     → opened name o (a ∷ actions) ≤ opened name o (cond b actions (a ∷ left)) + bit (is_same name o m k)
 closed-step name m o k a actions left true e h = let one = own-same name m o k a e in omega (arith, one)
 closed-step name m o k a actions left false e h = omega (arith, h)
@@ -76,7 +78,8 @@ abbrev pub count : ℕ → List Nature → ℕ
 count o [] = 0
 count o (n ∷ ns) = bit (is_on o n.action) + count o ns
 
-pub count-first : (o : ℕ) (f : Frame → Frame) (fs : List Frame) → ((x : Frame) → action_in (f x).mark ≡ action_in x.mark) → count o (natures (edit_first f fs)) ≡ count o (natures fs)
+pub count-first : (o : ℕ) (f : Frame → Frame) (fs : List Frame) → ((x : Frame) → action_in (f x).mark ≡ action_in x.mark)
+    → count o (natures (edit_first f fs)) ≡ count o (natures fs)
 count-first o f [] same = refl
 count-first o f (x ∷ xs) same = ap (λ a. bit (is_on o a) + count o (natures xs)) (same x)
 
@@ -85,6 +88,7 @@ count-pop o [] = omega arith
 count-pop o (f ∷ fs) = let one = bit-least (is_on o (nature f.mark).action) in omega (arith, one)
 
 -- where the object of the action on top is known
-pub count-top : (o : ℕ) (x : ObjectNo) (fs : List Frame) → action_first (natures fs) ≡ Some x → count o (natures fs) ≡ bit (eqb o x.0) + count o (natures (rest_of fs))
+pub count-top : (o : ℕ) (x : ObjectNo) (fs : List Frame) → action_first (natures fs) ≡ Some x
+    → count o (natures fs) ≡ bit (eqb o x.0) + count o (natures (rest_of fs))
 count-top o x [] e = absurd cc
 count-top o x (f ∷ fs) e = ap (λ a. bit (is_on o a) + count o (natures fs)) e

@@ -48,16 +48,23 @@ use Rattle.profile_image.specs.Program.{next_of, form_of, is_robin_level, edf_lo
 use Rattle.profile_machine.specs.Steps.{Step, Done, done, goes_on_with, says, changes, looks, when, nothing, for_some, ◌▷◌}
 use Rattle.profile_machine.specs.Tasks.{task_of, edit_task, with_frames, with_state, with_ticks, waiting_in, waiting_of}
 use Rattle.profile_machine.specs.Dispatching.{active, deadline_shown, level_kept_by, keep_level, granted, grant_quantum, says_ready, to_tail, ready}
-use Rattle.profile_machine.specs.Frames.{frames_of, top_of, edit_first, edit_top, goes_on, goes, push, pop, new_frame, left_so, leaving_of, with_mark, leaves, raises, has_room, open_handled, open_at, open_sequence, onward_of, exit_loop, stands_in, pass_on}
+use Rattle.profile_machine.specs.Frames.{frames_of, top_of, edit_first, edit_top, goes_on, goes, push, pop, new_frame, left_so, leaving_of, with_mark}
+use Rattle.profile_machine.specs.Frames.{leaves, raises, has_room, open_handled, open_at, open_sequence, onward_of, exit_loop, stands_in, pass_on}
 use Rattle.profile_machine.specs.Appointments.{drop_delay, appoint}
 use Rattle.profile_machine.specs.Operators.{Valued, checked}
 use Rattle.profile_image.specs.Program.{declaration_of}
 use Rattle.profile_machine.specs.Scopes.{write_cell}
-use Rattle.profile_machine.specs.Calls.{edit_call, forget_call, with_call, says_call, edit_queue, take_call, put_call, place_of_entry, enqueued, enqueue, unqueued, is_cancellable, attempt_on, attempt, call_of}
+use Rattle.profile_machine.specs.Calls.{edit_call, forget_call, with_call, says_call, edit_queue, take_call, put_call}
+use Rattle.profile_machine.specs.Calls.{place_of_entry, enqueued, enqueue, unqueued, is_cancellable, attempt_on, attempt, call_of}
 use Rattle.profile_machine.specs.Unwinding.{struck_frame, may_unwind, leave_by_abort, stop_waiting, wake_and_leave, unwind_blocked, unwind_in, unwind}
-use Rattle.profile_machine.specs.CallEnds.{onward_when_done, onward_when_cancelled, go_by_outcome, resume, store, or_stored, copy_back, with_results, edit_depth, edit_frame, edit_abortable, edit_abortable_at, triggered_mark, trigger_at, trigger_outcome, forget_trigger, run_triggered, ended_by_itself, behind_abortable, end_abortable, end_abortable_in, end_top_abortable, waited_mark, is_cancelled, end_wait, waits_for_call, waits_for_end, abortable_depth, end_for_abortable, end_for_caller, end_for, end_with, with_outcome, end_call, deliver}
+use Rattle.profile_machine.specs.CallEnds.{onward_when_done, onward_when_cancelled, go_by_outcome, resume, store, or_stored, copy_back}
+use Rattle.profile_machine.specs.CallEnds.{with_results, edit_depth, edit_frame, edit_abortable, edit_abortable_at, triggered_mark, trigger_at}
+use Rattle.profile_machine.specs.CallEnds.{trigger_outcome, forget_trigger, run_triggered, ended_by_itself, behind_abortable, end_abortable}
+use Rattle.profile_machine.specs.CallEnds.{end_abortable_in, end_top_abortable, waited_mark, is_cancelled, end_wait, waits_for_call, waits_for_end}
+use Rattle.profile_machine.specs.CallEnds.{abortable_depth, end_for_abortable, end_for_caller, end_for, end_with, with_outcome, end_call, deliver}
 use Rattle.profile_machine.specs.declared.world.appointments.Due.TheVariants as due_for
-use Rattle.profile_machine.specs.Sending.{open_abortable, appoint_timeout, send_on, sent_call, is_to_be_cancelled, cancel_sent, is_triggering, may_begin_abortable, begin_abortable, timeout_again, sent_not_begun_by, sent_not_begun, may_time_out}
+use Rattle.profile_machine.specs.Sending.{open_abortable, appoint_timeout, send_on, sent_call, is_to_be_cancelled, cancel_sent, is_triggering}
+use Rattle.profile_machine.specs.Sending.{may_begin_abortable, begin_abortable, timeout_again, sent_not_begun_by, sent_not_begun, may_time_out}
 use Rattle.profile_machine.specs.Protected.{edit_protected, edit_top_protected, begin_call, begun_call}
 use Rattle.profile_machine.specs.Serving.{settle_sent}
 use Rattle.machine_laws.proofs.FinestMoves.{Nature, natures, nature, action_first}
@@ -85,9 +92,11 @@ pub record Sight (N X : Type 0) : Type 0 where
   pub first : (f : Frame → Frame) (fs : List Frame) → ((x : Frame) → nature (f x).mark ≡ nature x.mark) → seen (edit_first f fs) ≡ seen fs
   pub depth : (depth : ℕ) (f : Frame → Frame) (fs : List Frame) → ((x : Frame) → nature (f x).mark ≡ nature x.mark) → seen (edit_depth depth f fs) ≡ seen fs
   pub abortable : (f : AbortableMark → AbortableMark) (mark : Mark) → nature (edit_abortable f mark) ≡ nature mark
-  pub protected : (f : ProtectedMark → ProtectedMark) → ((m : ProtectedMark) → nature (InProtected (f m)) ≡ nature (InProtected m)) → (mark : Mark) → nature (edit_protected f mark) ≡ nature mark
+  pub protected : (f : ProtectedMark → ProtectedMark) → ((m : ProtectedMark) → nature (InProtected (f m)) ≡ nature (InProtected m)) → (mark : Mark)
+      → nature (edit_protected f mark) ≡ nature mark
 
-pub protected-alike : (f : ProtectedMark → ProtectedMark) → ((m : ProtectedMark) → nature (InProtected (f m)) ≡ nature (InProtected m)) → (mark : Mark) → nature (edit_protected f mark) ≡ nature mark
+pub protected-alike : (f : ProtectedMark → ProtectedMark) → ((m : ProtectedMark) → nature (InProtected (f m)) ≡ nature (InProtected m)) → (mark : Mark)
+    → nature (edit_protected f mark) ≡ nature mark
 protected-alike f same (Scope m) = refl
 protected-alike f same (Handled s) = refl
 protected-alike f same (InProtected m) = same m
@@ -134,7 +143,8 @@ pub end-waits : (c : CallNo) (waiting : Option Waiting) → waits_for_end c wait
 end-waits c (Some (waits_for.EndOfCall d)) e = refl
 end-waits c _ e = absurd (false≢true e)
 
-waits-apart : {N X : Type 0} (sight : Sight N X) (me : Who) (o : X) (w : World) (n : TaskNo) → Holds sight me o w → is_at_call (waiting_of w (who.Task n)) ≡ true → Apart me (who.Task n)
+waits-apart : {N X : Type 0} (sight : Sight N X) (me : Who) (o : X) (w : World) (n : TaskNo) → Holds sight me o w
+    → is_at_call (waiting_of w (who.Task n)) ≡ true → Apart me (who.Task n)
 unfolding Apart
 waits-apart sight me o w n h e =
     by_test (same_who me (who.Task n))
@@ -150,7 +160,8 @@ module _ {N X : Type 0} (sight : Sight N X) (me : Who) (o : X) where
   unfolding Spares Apart
   edits_other-spares name f apart named w h = edited (Holding sight me o) me name f w named (λ same. absurd (false≢true (sym apart ∙ same))) h
 
-  pub edits-spares : (name : Who) (f : Task → Task) → ((t : Task) → (f t).who ≡ t.who) → ((t : Task) → sight.seen (f t).frames ≡ sight.seen t.frames) → ((t : Task) → (f t).state ≡ t.state) → Spares sight me o (edit_task name f)
+  pub edits-spares : (name : Who) (f : Task → Task) → ((t : Task) → (f t).who ≡ t.who) → ((t : Task) → sight.seen (f t).frames ≡ sight.seen t.frames)
+      → ((t : Task) → (f t).state ≡ t.state) → Spares sight me o (edit_task name f)
   unfolding Spares
   edits-spares name f named frames state w h =
       edited (Holding sight me o) me name f w named (λ same t g. (frames t ∙ g.0, subst (FreeIn me) (sym (state t)) g.1)) h
@@ -158,7 +169,8 @@ module _ {N X : Type 0} (sight : Sight N X) (me : Who) (o : X) where
   pub edit_top-spares : (name : Who) (f : Frame → Frame) → ((x : Frame) → sight.nature (f x).mark ≡ sight.nature x.mark) → Spares sight me o (edit_top name f)
   edit_top-spares name f same = edits-spares name (λ t. with_frames (edit_first f t.frames) t) (λ t. refl) (λ t. sight.first f t.frames same) (λ t. refl)
 
-  pub edit_top_protected-spares : (name : Who) (f : ProtectedMark → ProtectedMark) → ((m : ProtectedMark) → sight.nature (InProtected (f m)) ≡ sight.nature (InProtected m)) → Spares sight me o (edit_top_protected name f)
+  pub edit_top_protected-spares : (name : Who) (f : ProtectedMark → ProtectedMark)
+      → ((m : ProtectedMark) → sight.nature (InProtected (f m)) ≡ sight.nature (InProtected m)) → Spares sight me o (edit_top_protected name f)
   edit_top_protected-spares name f same = edit_top-spares name _ (λ x. sight.protected f same x.mark)
 
   push_other-spares : (name : Who) (f : Frame) → Apart me name → Spares sight me o (push name f)
@@ -186,7 +198,9 @@ module _ {N X : Type 0} (sight : Sight N X) (me : Who) (o : X) where
 
   enqueued-spares : (p : Image) (c : Call) → Spares sight me o (enqueued p c)
   unfolding Spares
-  enqueued-spares p c w h = edit_queue-spares c.owner (place_of_entry p c.entry) (put_call p.policies.queuing w c.number c.priority) (edit_call c.number (λ d. record d { begun = false }) w) h
+  enqueued-spares p c w h =
+      edit_queue-spares c.owner (place_of_entry p c.entry) (put_call p.policies.queuing w c.number c.priority)
+      (edit_call c.number (λ d. record d { begun = false }) w) h
 
   unqueued-spares : (p : Image) (c : Call) → Spares sight me o (unqueued p c)
   unfolding Spares
@@ -213,8 +227,10 @@ module _ {N X : Type 0} (sight : Sight N X) (me : Who) (o : X) where
   forget_trigger-spares None = unchanged-spares
   forget_trigger-spares (Some c) = forget_call-spares c
 
-  edit_frame-spares : (name : Who) (depth : ℕ) (f : Frame → Frame) → ((x : Frame) → sight.nature (f x).mark ≡ sight.nature x.mark) → Spares sight me o (edit_frame name depth f)
-  edit_frame-spares name depth f same = edits-spares name (λ t. with_frames (edit_depth depth f t.frames) t) (λ t. refl) (λ t. sight.depth depth f t.frames same) (λ t. refl)
+  edit_frame-spares : (name : Who) (depth : ℕ) (f : Frame → Frame) → ((x : Frame) → sight.nature (f x).mark ≡ sight.nature x.mark)
+      → Spares sight me o (edit_frame name depth f)
+  edit_frame-spares name depth f same =
+      edits-spares name (λ t. with_frames (edit_depth depth f t.frames) t) (λ t. refl) (λ t. sight.depth depth f t.frames same) (λ t. refl)
 
   edit_abortable_at-spares : (name : Who) (depth : ℕ) (f : AbortableMark → AbortableMark) → Spares sight me o (edit_abortable_at name depth f)
   edit_abortable_at-spares name depth f = edit_frame-spares name depth (λ x. with_mark (edit_abortable f x.mark) x) (λ x. sight.abortable f x.mark)
@@ -249,7 +265,8 @@ module _ {N X : Type 0} (sight : Sight N X) (me : Who) (o : X) where
   unfolding Steady
   watches-steady f a w h said = a w h w h said
 
-  branch-steady : (b : Bool) (f g : Step) → (b ≡ true → Steady sight me o f) → (b ≡ false → Steady sight me o g) → Steady sight me o (elim b as (λ _. Step) [ true ↦ f | false ↦ g ])
+  branch-steady : (b : Bool) (f g : Step) → (b ≡ true → Steady sight me o f) → (b ≡ false → Steady sight me o g)
+      → Steady sight me o (elim b as (λ _. Step) [ true ↦ f | false ↦ g ])
   branch-steady true f g a b = a refl
   branch-steady false f g a b = b refl
 
@@ -280,7 +297,10 @@ module _ {N X : Type 0} (sight : Sight N X) (me : Who) (o : X) where
 
   exit_loop-steady : (name : Who) (p : Image) (loop : StatementNo) → Steady sight me o (exit_loop p name loop)
   unfolding exit_loop
-  exit_loop-steady name p loop = looks-steady _ (λ w. branch-steady (stands_in p loop (top_of w name)) (goes name (next_of p loop)) (leaves name (how.Exit loop)) (λ e. goes-steady name (next_of p loop)) (λ e. leaves-steady name (how.Exit loop)))
+  exit_loop-steady name p loop =
+      looks-steady _
+      (λ w. branch-steady (stands_in p loop (top_of w name)) (goes name (next_of p loop)) (leaves name (how.Exit loop)) (λ e. goes-steady name (next_of p loop))
+      (λ e. leaves-steady name (how.Exit loop)))
 
   pass_on-steady : (p : Image) (name : Who) (leaving : Leaving) → Steady sight me o (pass_on p name leaving)
   unfolding pass_on
@@ -295,7 +315,8 @@ module _ {N X : Type 0} (sight : Sight N X) (me : Who) (o : X) where
 
   keep_level-spares : (p : Image) (name : Who) → Spares sight me o (keep_level p name)
   unfolding Spares
-  keep_level-spares p name w h = edited (Holding sight me o) me name (λ t. record t { kept_level = level_kept_by p w t (edf_low p t.base) }) w (λ t. refl) (λ same t g. g) h
+  keep_level-spares p name w h =
+      edited (Holding sight me o) me name (λ t. record t { kept_level = level_kept_by p w t (edf_low p t.base) }) w (λ t. refl) (λ same t g. g) h
 
   grant_quantum-spares : (p : Image) (name : Who) → Spares sight me o (grant_quantum p name)
   unfolding Spares
@@ -307,7 +328,9 @@ module _ {N X : Type 0} (sight : Sight N X) (me : Who) (o : X) where
 
   to_tail-steady : (p : Image) (part : Part) (name : Who) → Steady sight me o (to_tail p part name)
   unfolding to_tail says_ready
-  to_tail-steady p part name = then-steady _ _ (changes-steady _ (grant_quantum-spares p name)) (looks-steady _ (λ w. says-steady part (line.Ready name (active p (task_of w name)) Tail (deadline_shown p (task_of w name)))))
+  to_tail-steady p part name =
+      then-steady _ _ (changes-steady _ (grant_quantum-spares p name))
+      (looks-steady _ (λ w. says-steady part (line.Ready name (active p (task_of w name)) Tail (deadline_shown p (task_of w name)))))
 
   runnable-spares : (name : Who) → Spares sight me o (edit_task name (with_state Runnable))
   unfolding Spares
@@ -318,10 +341,13 @@ module _ {N X : Type 0} (sight : Sight N X) (me : Who) (o : X) where
   ready-steady p part name =
       then-steady _ _ (changes-steady _ (runnable-spares name)) (then-steady _ _ (changes-steady _ (keep_level-spares p name)) (to_tail-steady p part name))
 
-  open_handled-steady : (p : Image) (part : Part) (name : Who) (s : StatementNo) (form : StatementForm) → Apart me name → Steady sight me o (open_handled p part name s form)
+  open_handled-steady : (p : Image) (part : Part) (name : Who) (s : StatementNo) (form : StatementForm) → Apart me name
+      → Steady sight me o (open_handled p part name s form)
   unfolding open_handled
   open_handled-steady p part name s (form.Handled handlers first) apart =
-      looks-steady _ (λ w. branch-steady (has_room w name 1 0) (goes name (next_of p s) ▷ changes (push name (new_frame (Handled s) (Some first)))) (raises part name exception.Storage)
+      looks-steady _
+      (λ w. branch-steady (has_room w name 1 0) (goes name (next_of p s) ▷ changes (push name (new_frame (Handled s) (Some first))))
+      (raises part name exception.Storage)
       (λ e. then-steady _ _ (goes-steady name (next_of p s)) (changes-steady _ (push_other-spares name (new_frame (Handled s) (Some first)) apart)))
       (λ e. raises-steady part name exception.Storage))
   open_handled-steady p part name s _ apart = nothing-steady
@@ -339,12 +365,14 @@ module _ {N X : Type 0} (sight : Sight N X) (me : Who) (o : X) where
 
   leave_by_abort-steady : (name : Who) → Steady sight me o (leave_by_abort name)
   unfolding leave_by_abort
-  leave_by_abort-steady name = then-steady _ _ (changes-steady _ (edits-spares name (with_ticks None) (λ t. refl) (λ t. refl) (λ t. refl))) (leaves-steady name how.Abort)
+  leave_by_abort-steady name =
+      then-steady _ _ (changes-steady _ (edits-spares name (with_ticks None) (λ t. refl) (λ t. refl) (λ t. refl))) (leaves-steady name how.Abort)
 
   wake_and_leave-steady : (p : Image) (part : Part) (name : Who) → Steady sight me o (wake_and_leave p part name)
   unfolding wake_and_leave stop_waiting
   wake_and_leave-steady p part name =
-      then-steady (changes (drop_delay name) ▷ ready p part name) (leave_by_abort name) (then-steady _ _ (changes-steady _ (drop_delay-spares name)) (ready-steady p part name)) (leave_by_abort-steady name)
+      then-steady (changes (drop_delay name) ▷ ready p part name) (leave_by_abort name)
+      (then-steady _ _ (changes-steady _ (drop_delay-spares name)) (ready-steady p part name)) (leave_by_abort-steady name)
 
   attempt_on-steady : (p : Image) (part : Part) (c : Call) → Steady sight me o (attempt_on p part c)
   unfolding attempt_on
@@ -353,9 +381,11 @@ module _ {N X : Type 0} (sight : Sight N X) (me : Who) (o : X) where
       (λ e. then-steady _ _ (changes-steady _ (unqueued-spares p c)) (says-steady part _))
       (λ e. changes-steady _ (edit_call-spares c.number (λ d. record d { attempted = true })))
 
-  attempt-steady : (p : Image) (part : Part) (c : CallNo) (cancels stays : Step) → Steady sight me o cancels → Steady sight me o stays → Steady sight me o (attempt p part c cancels stays)
+  attempt-steady : (p : Image) (part : Part) (c : CallNo) (cancels stays : Step) → Steady sight me o cancels → Steady sight me o stays
+      → Steady sight me o (attempt p part c cancels stays)
   attempt-steady p part c cancels stays a b =
-      with_call-steady c _ (λ d. then-steady (attempt_on p part d) _ (attempt_on-steady p part d) (branch-steady (is_cancellable d) cancels stays (λ e. a) (λ e. b)))
+      with_call-steady c _
+      (λ d. then-steady (attempt_on p part d) _ (attempt_on-steady p part d) (branch-steady (is_cancellable d) cancels stays (λ e. a) (λ e. b)))
 
   unwind_blocked-steady : (p : Image) (part : Part) (name : Who) (waiting : Waiting) → Steady sight me o (unwind_blocked p part name waiting)
   unfolding unwind_blocked
@@ -391,7 +421,8 @@ module _ {N X : Type 0} (sight : Sight N X) (me : Who) (o : X) where
 
   resume-steady : (p : Image) (part : Part) (c : Call) (outcome : Outcome) → Steady sight me o (resume p part c outcome)
   unfolding resume
-  resume-steady p part c outcome = then-steady _ _ (changes-steady _ (forget_call-spares c.number)) (go_by_outcome-steady p part (who.Task c.caller) c.statement outcome)
+  resume-steady p part c outcome =
+      then-steady _ _ (changes-steady _ (forget_call-spares c.number)) (go_by_outcome-steady p part (who.Task c.caller) c.statement outcome)
 
   abbrev Right : Valued World → Type 0
   Right (Ok v) = Holds sight me o v
@@ -404,16 +435,19 @@ module _ {N X : Type 0} (sight : Sight N X) (me : Who) (o : X) where
   store-right : (p : Image) (v : Variable) (value : Value) (w : World) → Holds sight me o w → Right (store p v value w)
   store-right p v value w h = bound-right (checked (declaration_of p v.declared).constraint value) (λ x. Ok (write_cell v.within v.place x w)) (λ x. h)
 
-  or_stored-holds : (result : Valued World) (again : World → World × Bool) (w : World) → Holds sight me o w → Right result → ((v : World) → Holds sight me o v → Holds sight me o (again v).0) → Holds sight me o (or_stored w result again).0
+  or_stored-holds : (result : Valued World) (again : World → World × Bool) (w : World) → Holds sight me o w → Right result
+      → ((v : World) → Holds sight me o v → Holds sight me o (again v).0) → Holds sight me o (or_stored w result again).0
   or_stored-holds (Ok next) again w h a b = b next a
   or_stored-holds (Err e) again w h a b = h
 
-  copy_back-holds : (p : Image) (results : List (Option Variable)) (values : List Value) (w : World) → Holds sight me o w → Holds sight me o (copy_back p results values w).0
+  copy_back-holds : (p : Image) (results : List (Option Variable)) (values : List Value) (w : World) → Holds sight me o w
+      → Holds sight me o (copy_back p results values w).0
   copy_back-holds p [] values w h = h
   copy_back-holds p (None ∷ results) [] w h = h
   copy_back-holds p (None ∷ results) (v ∷ values) w h = copy_back-holds p results values w h
   copy_back-holds p (Some target ∷ results) [] w h = h
-  copy_back-holds p (Some target ∷ results) (v ∷ values) w h = or_stored-holds (store p target v w) (copy_back p results values) w h (store-right p target v w h) (λ u g. copy_back-holds p results values u g)
+  copy_back-holds p (Some target ∷ results) (v ∷ values) w h =
+      or_stored-holds (store p target v w) (copy_back p results values) w h (store-right p target v w h) (λ u g. copy_back-holds p results values u g)
 
   with_results-holds : (p : Image) (c : Call) (outcome : Outcome) (w : World) → Holds sight me o w → Holds sight me o (with_results p c outcome w).0
   with_results-holds p c call_ended.Finished w h = copy_back-holds p c.results c.values w h
@@ -427,18 +461,21 @@ module _ {N X : Type 0} (sight : Sight N X) (me : Who) (o : X) where
       then-steady _ _ (changes-steady _ (edit_abortable_at-spares (who.Task t) depth triggered_mark))
       (then-steady _ _ (says-steady part _) (changes-steady _ (edit_frame-spares (who.Task t) depth struck_frame (λ x. refl))))
 
-  run_triggered-steady : (p : Image) (part : Part) (name : Who) (select : StatementNo) (outcome : Outcome) → Steady sight me o (run_triggered p part name select outcome)
+  run_triggered-steady : (p : Image) (part : Part) (name : Who) (select : StatementNo) (outcome : Outcome)
+      → Steady sight me o (run_triggered p part name select outcome)
   unfolding run_triggered
   run_triggered-steady p part name select call_ended.Finished = goes-steady name (onward_when_done p select)
   run_triggered-steady p part name select call_ended.Cancelled = nothing-steady
   run_triggered-steady p part name select (call_ended.ToRaise e) = raises-steady part name e
   run_triggered-steady p part name select (call_ended.WasRaised e) = leaves-steady name (how.Exception e)
 
-  behind_abortable-steady : (p : Image) (part : Part) (name : Who) (m : AbortableMark) (outcome : Outcome) → Steady sight me o (behind_abortable p part name m outcome)
+  behind_abortable-steady : (p : Image) (part : Part) (name : Who) (m : AbortableMark) (outcome : Outcome)
+      → Steady sight me o (behind_abortable p part name m outcome)
   unfolding behind_abortable
   behind_abortable-steady p part name m outcome = when-steady m.triggered _ (λ e. run_triggered-steady p part name m.select outcome)
 
-  end_abortable-steady : (p : Image) (part : Part) (name : Who) (m : AbortableMark) (f : Frame) (below : List Frame) → Apart me name → Steady sight me o (end_abortable p part name m f below)
+  end_abortable-steady : (p : Image) (part : Part) (name : Who) (m : AbortableMark) (f : Frame) (below : List Frame) → Apart me name
+      → Steady sight me o (end_abortable p part name m f below)
   unfolding end_abortable
   end_abortable-steady p part name m f below apart =
       looks-steady _ (λ w. then-steady (changes (pop name)) _ (changes-steady _ (pop_other-spares name apart))
@@ -446,28 +483,34 @@ module _ {N X : Type 0} (sight : Sight N X) (me : Who) (o : X) where
       (branch-steady (ended_by_itself f below) (behind_abortable p part name m (trigger_outcome w m.call)) (pass_on p name (leaving_of f))
       (λ e. behind_abortable-steady p part name m (trigger_outcome w m.call)) (λ e. pass_on-steady p name (leaving_of f)))))
 
-  end_abortable_in-steady : (p : Image) (part : Part) (name : Who) (f : Frame) (below : List Frame) (mark : Mark) → Apart me name → Steady sight me o (end_abortable_in p part name f below mark)
+  end_abortable_in-steady : (p : Image) (part : Part) (name : Who) (f : Frame) (below : List Frame) (mark : Mark) → Apart me name
+      → Steady sight me o (end_abortable_in p part name f below mark)
   unfolding end_abortable_in
   end_abortable_in-steady p part name f below (Abortable m) apart = end_abortable-steady p part name m f below apart
   end_abortable_in-steady p part name f below _ apart = nothing-steady
 
-  end_top_abortable-steady : (p : Image) (part : Part) (name : Who) (frames : List Frame) → Apart me name → Steady sight me o (end_top_abortable p part name frames)
+  end_top_abortable-steady : (p : Image) (part : Part) (name : Who) (frames : List Frame) → Apart me name
+      → Steady sight me o (end_top_abortable p part name frames)
   unfolding end_top_abortable
   end_top_abortable-steady p part name [] apart = nothing-steady
   end_top_abortable-steady p part name (f ∷ below) apart = end_abortable_in-steady p part name f below f.mark apart
 
-  end_wait-steady : (p : Image) (part : Part) (c : Call) (depth : ℕ) (outcome : Outcome) → Apart me (who.Task c.caller) → Steady sight me o (end_wait p part c depth outcome)
+  end_wait-steady : (p : Image) (part : Part) (c : Call) (depth : ℕ) (outcome : Outcome) → Apart me (who.Task c.caller)
+      → Steady sight me o (end_wait p part c depth outcome)
   unfolding end_wait
   end_wait-steady p part c depth outcome apart =
       let name = who.Task c.caller in
       then-steady (ready p part name) _ (ready-steady p part name)
-      (then-steady (changes (edit_abortable_at name depth (waited_mark (not (is_cancelled outcome))))) _ (changes-steady _ (edit_abortable_at-spares name depth (waited_mark (not (is_cancelled outcome)))))
-      (then-steady (looks (λ w. end_top_abortable p part name (frames_of w name))) _ (looks-steady _ (λ w. end_top_abortable-steady p part name (frames_of w name) apart)) (open_sequence-steady p part name apart)))
+      (then-steady (changes (edit_abortable_at name depth (waited_mark (not (is_cancelled outcome))))) _
+      (changes-steady _ (edit_abortable_at-spares name depth (waited_mark (not (is_cancelled outcome)))))
+      (then-steady (looks (λ w. end_top_abortable p part name (frames_of w name))) _
+      (looks-steady _ (λ w. end_top_abortable-steady p part name (frames_of w name) apart)) (open_sequence-steady p part name apart)))
 
   end_for_abortable-steady : (p : Image) (part : Part) (c : Call) (depth : ℕ) (outcome : Outcome) → Steady sight me o (end_for_abortable p part c depth outcome)
   unfolding end_for_abortable
   end_for_abortable-steady p part c depth outcome =
-      watches-steady _ (λ w h. branch-steady (waits_for_end c.number (waiting_of w (who.Task c.caller))) (end_wait p part c depth outcome) (trigger_at part c.caller depth)
+      watches-steady _
+      (λ w h. branch-steady (waits_for_end c.number (waiting_of w (who.Task c.caller))) (end_wait p part c depth outcome) (trigger_at part c.caller depth)
       (λ e. end_wait-steady p part c depth outcome (waits-apart sight me o w c.caller h (end-waits c.number (waiting_of w (who.Task c.caller)) e)))
       (λ e. trigger_at-steady part c.caller depth))
 
@@ -487,7 +530,8 @@ module _ {N X : Type 0} (sight : Sight N X) (me : Who) (o : X) where
   end_with-steady : (p : Image) (part : Part) (c : Call) (outcome : Outcome) → Steady sight me o (end_with p part c outcome)
   unfolding end_with
   end_with-steady p part c outcome =
-      then-steady _ _ (changes-steady _ (edit_call-spares c.number (with_outcome outcome))) (looks-steady _ (λ w. end_for-steady p part c outcome (abortable_depth w c)))
+      then-steady _ _ (changes-steady _ (edit_call-spares c.number (with_outcome outcome)))
+      (looks-steady _ (λ w. end_for-steady p part c outcome (abortable_depth w c)))
 
   becomes-steady : (v : World) → Holds sight me o v → Steady sight me o (changes (λ _. v))
   unfolding Steady
@@ -501,7 +545,8 @@ module _ {N X : Type 0} (sight : Sight N X) (me : Who) (o : X) where
 
   pub deliver-steady : (p : Image) (part : Part) (c : CallNo) (outcome : Outcome) → Steady sight me o (deliver p part c outcome)
   unfolding deliver
-  deliver-steady p part c outcome = with_call-steady c _ (λ d. then-steady (end_call p part d outcome) _ (end_call-steady p part d outcome) (unwind-steady p part (who.Task d.caller)))
+  deliver-steady p part c outcome =
+      with_call-steady c _ (λ d. then-steady (end_call p part d outcome) _ (end_call-steady p part d outcome) (unwind-steady p part (who.Task d.caller)))
 
   -- ---- a call is sent on, and one begins
 
@@ -520,7 +565,8 @@ module _ {N X : Type 0} (sight : Sight N X) (me : Who) (o : X) where
   cancel_sent-steady : (p : Image) (c : Call) → Steady sight me o (cancel_sent p c)
   unfolding cancel_sent
   cancel_sent-steady p c =
-      then-steady _ _ (changes-steady _ (unqueued-spares p c)) (then-steady _ _ (says-steady TheFinish _) (deliver-steady p TheFinish c.number call_ended.Cancelled))
+      then-steady _ _ (changes-steady _ (unqueued-spares p c))
+      (then-steady _ _ (says-steady TheFinish _) (deliver-steady p TheFinish c.number call_ended.Cancelled))
 
   sixth : (a b c d e f g : Bool) → (a && b && c && d && e && f && g) ≡ true → f ≡ true
   sixth a b c d e true g h = refl
@@ -536,14 +582,17 @@ module _ {N X : Type 0} (sight : Sight N X) (me : Who) (o : X) where
   begin_abortable-steady p c =
       with_call-steady c _ (λ d. watches-steady _ (λ w h. when-steady (may_begin_abortable w d) _ (λ e.
       let name = who.Task d.caller in
-      let waits = sixth (is_triggering d.kind) (is_none (abortable_depth w d)) (not d.firm) (not d.attempted) (is_none d.outcome) (waits_for_call d.number (waiting_of w name)) (has_room w name 1 0) e in
+      let waits =
+      sixth (is_triggering d.kind) (is_none (abortable_depth w d)) (not d.firm) (not d.attempted) (is_none d.outcome)
+      (waits_for_call d.number (waiting_of w name)) (has_room w name 1 0) e in
       let apart = waits-apart sight me o w d.caller h (call-waits d.number (waiting_of w name) waits) in
       then-steady _ _ (changes-steady (open_abortable p name d.statement (Some d.number)) (push_other-spares name _ apart)) (ready-steady p TheFinish name))))
 
   sent_not_begun_by-steady : (p : Image) (c : Call) (test : Bool) → Steady sight me o (sent_not_begun_by p c test)
   unfolding sent_not_begun_by
   sent_not_begun_by-steady p c true = cancel_sent-steady p c
-  sent_not_begun_by-steady p c false = then-steady (changes (timeout_again p c)) _ (changes-steady _ (unless_firm-spares p c.firm c)) (begin_abortable-steady p c.number)
+  sent_not_begun_by-steady p c false =
+      then-steady (changes (timeout_again p c)) _ (changes-steady _ (unless_firm-spares p c.firm c)) (begin_abortable-steady p c.number)
 
   sent_not_begun-steady : (p : Image) (c : CallNo) → Steady sight me o (sent_not_begun p c)
   unfolding sent_not_begun

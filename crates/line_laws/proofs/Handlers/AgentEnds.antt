@@ -39,11 +39,14 @@ module _ (r : RegionNo) where
   wait-keeps : Keeps (Busy Rooted (Some r)) (BusyStep Rooted (Some r)) (wait_for_dependents who.Agent r)
   unfolding wait_for_dependents
   wait-keeps =
-      looks-from (chains (busies rooted (Some r))) (λ w. when (has_dependents w r) (block TheBlock who.Agent (waits_for.Dependents r))) (λ w good. keeps-from (chains (busies rooted (Some r))) _ w good
+      looks-from (chains (busies rooted (Some r))) (λ w. when (has_dependents w r) (block TheBlock who.Agent (waits_for.Dependents r)))
+      (λ w good. keeps-from (chains (busies rooted (Some r))) _ w good
       (when-keeps-if (chains (busies rooted (Some r))) (has_dependents w r) (block TheBlock who.Agent (waits_for.Dependents r)) (λ is. depends-none w good is)))
 
-  leave-from : (p : Image) (m : ScopeMark) (leaving : Leaving) (f : Frame) (w : World) → Busy Rooted (Some r) w → top_of w who.Agent ≡ Some f → f.mark ≡ Scope m → m.region ≡ Some r → m.being_left ≡ false → From (BusyStep Rooted (Some r)) w (leave_region p who.Agent m leaving r)
-  leave-from p m leaving f w good top is region left = leave_region-from (busies rooted (Some r)) (busy_openings (Some r)) p who.Agent f m leaving r w good tt top is region left wait-keeps
+  leave-from : (p : Image) (m : ScopeMark) (leaving : Leaving) (f : Frame) (w : World) → Busy Rooted (Some r) w → top_of w who.Agent ≡ Some f → f.mark ≡ Scope m
+      → m.region ≡ Some r → m.being_left ≡ false → From (BusyStep Rooted (Some r)) w (leave_region p who.Agent m leaving r)
+  leave-from p m leaving f w good top is region left =
+      leave_region-from (busies rooted (Some r)) (busy_openings (Some r)) p who.Agent f m leaving r w good tt top is region left wait-keeps
 
   let_go : (w v : World) (xs : List Said) → BusyStep Rooted (Some r) w xs v → BusyStep Rooted None w xs v
   let_go w v xs s = record {
@@ -55,16 +58,25 @@ module _ (r : RegionNo) where
   hold f w good top region =
       let found = has_top w.agent.frames f top in
       let owned : MarksOwned good.colour (natures (f ∷ found.0)) = subst (λ fs. MarksOwned good.colour (natures fs)) found.1 good.apart.marks in
-      record { colour = good.colour; apart = good.apart; held_owned = subst (RegionOwned good.colour) region owned.0; marks = good.marks; runs = good.runs; serves = good.serves }
+      record {
+        colour = good.colour;
+        apart = good.apart;
+        held_owned = subst (RegionOwned good.colour) region owned.0;
+        marks = good.marks;
+        runs = good.runs;
+        serves = good.serves;
+      }
 
-  left-from : (p : Image) (m : ScopeMark) (leaving : Leaving) (f : Frame) (w : World) → Busy Rooted None w → top_of w who.Agent ≡ Some f → f.mark ≡ Scope m → m.region ≡ Some r → m.being_left ≡ false → From (BusyStep Rooted None) w (leave_region p who.Agent m leaving r)
+  left-from : (p : Image) (m : ScopeMark) (leaving : Leaving) (f : Frame) (w : World) → Busy Rooted None w → top_of w who.Agent ≡ Some f → f.mark ≡ Scope m
+      → m.region ≡ Some r → m.being_left ≡ false → From (BusyStep Rooted None) w (leave_region p who.Agent m leaving r)
   left-from p m leaving f w good top is region left =
       from_by (BusyStep Rooted (Some r)) (BusyStep Rooted None) (leave_region p who.Agent m leaving r) w (λ v xs s. let_go w v xs s)
       (leave-from p m leaving f w (hold f w good top (ap region_of_mark is ∙ region)) top is region left)
 
 -- ---- the end of the mark on top, but of a protected action
 
-pub own_end-from : (p : Image) (f : Frame) (mark : Mark) (w : World) → Busy Rooted None w → top_of w who.Agent ≡ Some f → f.mark ≡ mark → is_protected mark ≡ false → From (BusyStep Rooted None) w (end_mark p who.Agent f mark)
+pub own_end-from : (p : Image) (f : Frame) (mark : Mark) (w : World) → Busy Rooted None w → top_of w who.Agent ≡ Some f → f.mark ≡ mark
+    → is_protected mark ≡ false → From (BusyStep Rooted None) w (end_mark p who.Agent f mark)
 own_end-from p f mark w good top is free =
     end_mark-from (busies rooted None) (busy_openings None) p who.Agent f mark w good tt top is
     (λ m r same region left. left-from r p m (leaving_of f) f w good top (is ∙ same) region left)

@@ -14,7 +14,8 @@ use Rattle.profile_machine.specs.declared.world.marks.Purpose.TheVariants as ope
 use Rattle.profile_machine.specs.Steps.{Step, Move, Done, done, placed_by, settled, settles, rests, ◌▶◌}
 use Rattle.profile_machine.specs.Scopes.{plainly}
 use Rattle.profile_machine.specs.Tasks.{task_of}
-use Rattle.profile_machine.specs.Instant.{effect, is_over, effect_of_runner, finish_action, script_items, events_due, moments_due, timers_due, budgets_due, quantum_spent, instant}
+use Rattle.profile_machine.specs.Instant.{effect, is_over, effect_of_runner, finish_action, script_items}
+use Rattle.profile_machine.specs.Instant.{events_due, moments_due, timers_due, budgets_due, quantum_spent, instant}
 use Rattle.profile_machine.specs.Run.{environment, blank_world, opens, opening}
 use Rattle.machine_laws.proofs.Moves.{lines_of}
 use Rattle.machine_laws.proofs.FineMoves.{natures}
@@ -80,10 +81,13 @@ spared-attended colour a b lines h s = record {
 -- ---- the effect of the action that ended
 
 effect-from : (p : Image) (name : Who) (w : World) → Attending w → From Acted w (effect p name)
-effect-from p (who.Task n) w h = from_by (Spared h.colour true) Acted (effect p (who.Task n)) w (λ v xs s. spared-acted h.colour w v xs h s) (task_effect-from h.colour p n w h.apart)
+effect-from p (who.Task n) w h =
+    from_by (Spared h.colour true) Acted (effect p (who.Task n)) w (λ v xs s. spared-acted h.colour w v xs h s) (task_effect-from h.colour p n w h.apart)
 effect-from p who.Agent w h = agent_effect-from p w h
 
-by_ticks-attended : (p : Image) (name : Who) (test : Bool) (w : World) → Attending w → let m = (elim test as (λ _. Move) [ true ↦ settles p (effect p name) | false ↦ rests ]) w in Attended w m.1 m.0
+by_ticks-attended : (p : Image) (name : Who) (test : Bool) (w : World) → Attending w →
+    let m = (elim test as (λ _. Move) [ true ↦ settles p (effect p name) | false ↦ rests ]) w in
+    Attended w m.1 m.0
 by_ticks-attended p name true w h = settles-attended p (effect p name) w (effect-from p name w h)
 by_ticks-attended p name false w h = attended-rests w h
 
@@ -93,7 +97,9 @@ by_runner-attended p (Some name) w h = by_ticks-attended p name (is_over (task_o
 
 -- ---- instants
 
-behind-attended : (p : Image) (w : World) → Attending w → let m = (script_items p ▶ events_due p ▶ moments_due p ▶ timers_due p ▶ budgets_due p ▶ quantum_spent p) w in Attended w m.1 m.0
+behind-attended : (p : Image) (w : World) → Attending w →
+    let m = (script_items p ▶ events_due p ▶ moments_due p ▶ timers_due p ▶ budgets_due p ▶ quantum_spent p) w in
+    Attended w m.1 m.0
 unfolding Leads
 behind-attended p w h =
     let m = (script_items p ▶ events_due p ▶ moments_due p ▶ timers_due p ▶ budgets_due p ▶ quantum_spent p) w in
@@ -124,7 +130,8 @@ opens-keeps : (colour : Colour) (p : Image) → Keeps (Apart colour) (Spared col
 unfolding opens
 opens-keeps colour p =
     let moves = spares colour true in
-    then-keeps (chains moves) _ _ (changes-keeps (chains moves) _ (open_scope-alters (spared_openings colour true) p environment p.environment (plainly None) opened_for.Task tt))
+    then-keeps (chains moves) _ _
+    (changes-keeps (chains moves) _ (open_scope-alters (spared_openings colour true) p environment p.environment (plainly None) opened_for.Task tt))
     (then-keeps (chains moves) _ _ (says-keeps moves Own (said.New (created.Task (record { 0 = 0 })) None p.main.priority) refl)
     (then-keeps (chains moves) _ _ (to_tail-keeps moves p Own environment tt) (open_sequence-keeps moves p Own environment tt)))
 
@@ -132,4 +139,6 @@ pub opening-attended : (p : Image) (script : List (ℤ × Item)) → Attended (b
 opening-attended p script =
     let w = blank_world p script in
     let h = blank-attending p script in
-    settles-attended p (opens p) w (from_by (Spared h.colour true) Acted (opens p) w (λ v xs s. spared-acted h.colour w v xs h s) (keeps_at (Apart h.colour) (Spared h.colour true) (opens p) w h.apart (opens-keeps h.colour p)))
+    settles-attended p (opens p) w
+    (from_by (Spared h.colour true) Acted (opens p) w (λ v xs s. spared-acted h.colour w v xs h s)
+    (keeps_at (Apart h.colour) (Spared h.colour true) (opens p) w h.apart (opens-keeps h.colour p)))

@@ -56,7 +56,8 @@ event-after p placed _ = refl
 
 events-behind : (p : Image) (placed : Bool) (xs : List Said) → placed_behind placed (map (λ x. event_of p x.line) xs) ≡ said_behind placed xs
 events-behind p placed [] = refl
-events-behind p placed (x ∷ xs) = ap (λ q. placed_behind q (map (λ y. event_of p y.line) xs)) (event-after p placed x.line) ∙ events-behind p (said_after placed x.line) xs
+events-behind p placed (x ∷ xs) =
+    ap (λ q. placed_behind q (map (λ y. event_of p y.line) xs)) (event-after p placed x.line) ∙ events-behind p (said_after placed x.line) xs
 
 -- ---- where the agent is not taken out
 
@@ -100,9 +101,11 @@ none_blocks-behind : (placed : Bool) (xs : List Said) → NoneBlocks xs → said
 none_blocks-behind true [] a = refl
 none_blocks-behind false [] a = refl
 none_blocks-behind placed (x ∷ xs) a =
-    none_blocks-behind (said_after placed x.line) xs a.1 ∙ ap (λ q. q || are_calls xs) (after-called placed x.line a.0) ∙ sym (or-assoc placed (calls_agent x.line) (are_calls xs))
+    none_blocks-behind (said_after placed x.line) xs a.1 ∙ ap (λ q. q || are_calls xs) (after-called placed x.line a.0)
+    ∙ sym (or-assoc placed (calls_agent x.line) (are_calls xs))
 
-put-test-calls : (x y : Said) (ys placed : List Said) (test : Bool) → are_calls placed ≡ (calls_agent x.line || are_calls ys) → are_calls (cond test (y ∷ placed) (x ∷ y ∷ ys)) ≡ (calls_agent x.line || are_calls (y ∷ ys))
+put-test-calls : (x y : Said) (ys placed : List Said) (test : Bool) → are_calls placed ≡ (calls_agent x.line || are_calls ys)
+    → are_calls (cond test (y ∷ placed) (x ∷ y ∷ ys)) ≡ (calls_agent x.line || are_calls (y ∷ ys))
 put-test-calls x y ys placed true e = ap (λ q. calls_agent y.line || q) e ∙ or-swap (calls_agent y.line) (calls_agent x.line) (are_calls ys)
 put-test-calls x y ys placed false e = refl
 
@@ -114,7 +117,8 @@ in_order-calls : (xs : List Said) → are_calls (in_order xs) ≡ are_calls xs
 in_order-calls [] = refl
 in_order-calls (x ∷ xs) = put-calls x (in_order xs) ∙ ap (λ q. calls_agent x.line || q) (in_order-calls xs)
 
-put-test-none : (x y : Said) (ys placed : List Said) (test : Bool) → blocks_agent x.line ≡ false → NoneBlocks (y ∷ ys) → NoneBlocks placed → NoneBlocks (cond test (y ∷ placed) (x ∷ y ∷ ys))
+put-test-none : (x y : Said) (ys placed : List Said) (test : Bool) → blocks_agent x.line ≡ false → NoneBlocks (y ∷ ys) → NoneBlocks placed
+    → NoneBlocks (cond test (y ∷ placed) (x ∷ y ∷ ys))
 put-test-none x y ys placed true e a b = (a.0, b)
 put-test-none x y ys placed false e a b = (e, a)
 
@@ -127,7 +131,8 @@ in_order-none [] a = tt
 in_order-none (x ∷ xs) a = put-none x (in_order xs) a.0 (in_order-none xs a.1)
 
 -- it is placed where it was, or where it is called
-pub lines-call : (p : Image) (placed : Bool) (xs : List Said) → NoneBlocks xs → placed_behind placed (map (λ x. event_of p x.line) (in_order xs)) ≡ (placed || are_calls xs)
+pub lines-call : (p : Image) (placed : Bool) (xs : List Said) → NoneBlocks xs
+    → placed_behind placed (map (λ x. event_of p x.line) (in_order xs)) ≡ (placed || are_calls xs)
 lines-call p placed xs a =
     events-behind p placed (in_order xs) ∙ none_blocks-behind placed (in_order xs) (in_order-none xs a) ∙ ap (λ q. placed || q) (in_order-calls xs)
 
@@ -154,7 +159,8 @@ pub Closes-before : (xs ys : List Said) → Closes xs → NoneCalls ys → Close
 Closes-before _ ys (closes x xs part blocks none) a = closes x (xs ++ ys) part blocks (NoneCalls-append xs ys none a)
 Closes-before _ ys (closes_behind x xs c) a = closes_behind x (xs ++ ys) (Closes-before xs ys c a)
 
-put-test-uncalled : (x y : Said) (ys placed : List Said) (test : Bool) → calls_agent x.line ≡ false → NoneCalls (y ∷ ys) → NoneCalls placed → NoneCalls (cond test (y ∷ placed) (x ∷ y ∷ ys))
+put-test-uncalled : (x y : Said) (ys placed : List Said) (test : Bool) → calls_agent x.line ≡ false → NoneCalls (y ∷ ys) → NoneCalls placed
+    → NoneCalls (cond test (y ∷ placed) (x ∷ y ∷ ys))
 put-test-uncalled x y ys placed true e a b = (a.0, b)
 put-test-uncalled x y ys placed false e a b = (e, a)
 
@@ -175,15 +181,18 @@ block_last (OfOther name) = refl
 block_last ThePlacing = refl
 block_last TheBlock = refl
 
-put-test-closing : (x y : Said) (ys placed : List Said) (test : Bool) → x.part ≡ TheBlock → blocks_agent x.line ≡ true → NoneCalls (y ∷ ys) → Closes placed → Closes (cond test (y ∷ placed) (x ∷ y ∷ ys))
+put-test-closing : (x y : Said) (ys placed : List Said) (test : Bool) → x.part ≡ TheBlock → blocks_agent x.line ≡ true → NoneCalls (y ∷ ys) → Closes placed
+    → Closes (cond test (y ∷ placed) (x ∷ y ∷ ys))
 put-test-closing x y ys placed true part blocks none c = closes_behind y placed c
 put-test-closing x y ys placed false part blocks none c = closes x (y ∷ ys) part blocks none
 
 put-closing : (x : Said) (ys : List Said) → x.part ≡ TheBlock → blocks_agent x.line ≡ true → NoneCalls ys → Closes (put_in_order x ys)
 put-closing x [] part blocks none = closes x [] part blocks none
-put-closing x (y ∷ ys) part blocks none = put-test-closing x y ys (put_in_order x ys) (is_part_before y.part x.part) part blocks none (put-closing x ys part blocks none.1)
+put-closing x (y ∷ ys) part blocks none =
+    put-test-closing x y ys (put_in_order x ys) (is_part_before y.part x.part) part blocks none (put-closing x ys part blocks none.1)
 
-put-test-closed : (x y : Said) (ys placed : List Said) (test : Bool) → is_part_before y.part x.part ≡ test → Closes (y ∷ ys) → (Closes ys → Closes placed) → Closes (cond test (y ∷ placed) (x ∷ y ∷ ys))
+put-test-closed : (x y : Said) (ys placed : List Said) (test : Bool) → is_part_before y.part x.part ≡ test → Closes (y ∷ ys) → (Closes ys → Closes placed)
+    → Closes (cond test (y ∷ placed) (x ∷ y ∷ ys))
 put-test-closed x y ys placed false is c onward = closes_behind x (y ∷ ys) c
 put-test-closed x _ _ placed true is (closes y ys part blocks none) onward =
     absurd (false≢true (sym (block_last x.part) ∙ sym (ap (λ q. is_part_before q x.part) part) ∙ is))

@@ -87,7 +87,10 @@ module _ (colour : Colour) (drawn : ℕ) where
 
   pub tasks-free : (ts : List Task) → TasksFree colour drawn ts → TasksFree (with_next drawn colour) (suc drawn) ts
   tasks-free [] h = tt
-  tasks-free (t ∷ ts) h = (record { named = h.0.named; marks = marks-free (natures t.frames) h.0.marks; master = region-free t.master h.0.master }, tasks-free ts h.1)
+  tasks-free (t ∷ ts) h = (
+    record { named = h.0.named; marks = marks-free (natures t.frames) h.0.marks; master = region-free t.master h.0.master },
+    tasks-free ts h.1,
+  )
 
   pub region-owned : (r : Option RegionNo) → RegionOwned colour r → RegionOwned (with_next drawn colour) r
   region-owned None h = tt
@@ -112,13 +115,18 @@ module _ (colour : Colour) (drawn : ℕ) where
 
 -- ---- no task depends on a coloured region
 
-master-test : (colour : Colour) (drawn : ℕ) (master : Option RegionNo) (r : RegionNo) → RegionFree colour drawn master → colour r.0 ≡ true → is_the same_region master r ≡ false
+master-test : (colour : Colour) (drawn : ℕ) (master : Option RegionNo) (r : RegionNo) → RegionFree colour drawn master → colour r.0 ≡ true
+    → is_the same_region master r ≡ false
 master-test colour drawn None r h e = refl
-master-test colour drawn (Some m) r h e = false_from_ne_true (same_region m r) (λ same. let is : m.0 ≡ r.0 = eqb-true m.0 r.0 same in false≢true (sym h.0 ∙ ap colour is ∙ e))
+master-test colour drawn (Some m) r h e =
+    false_from_ne_true (same_region m r) (λ same. let is : m.0 ≡ r.0 = eqb-true m.0 r.0 same in false≢true (sym h.0 ∙ ap colour is ∙ e))
 
-pub no_dependents : (colour : Colour) (drawn : ℕ) (r : RegionNo) (ts : List Task) → colour r.0 ≡ true → TasksFree colour drawn ts → list_any (λ t. is_the same_region t.master r) ts ≡ false
+pub no_dependents : (colour : Colour) (drawn : ℕ) (r : RegionNo) (ts : List Task) → colour r.0 ≡ true → TasksFree colour drawn ts
+    → list_any (λ t. is_the same_region t.master r) ts ≡ false
 no_dependents colour drawn r [] e h = refl
-no_dependents colour drawn r (t ∷ ts) e h = or_from (is_the same_region t.master r) (list_any (λ u. is_the same_region u.master r) ts) (master-test colour drawn t.master r h.0.master e) (no_dependents colour drawn r ts e h.1)
+no_dependents colour drawn r (t ∷ ts) e h =
+    or_from (is_the same_region t.master r) (list_any (λ u. is_the same_region u.master r) ts) (master-test colour drawn t.master r h.0.master e)
+    (no_dependents colour drawn r ts e h.1)
 
 -- one more above the lowest
 pub rooted-pushed : (n : Nature) (ns : List Nature) → n.release ≡ None → n.abortable ≡ false → Rooted ns → Rooted (n ∷ ns)

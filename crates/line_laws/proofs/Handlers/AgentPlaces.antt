@@ -28,7 +28,8 @@ abbrev pub placed_in : List Placed → Bool
 placed_in [] = false
 placed_in (x ∷ xs) = is_agent x.who || placed_in xs
 
-put-test : (x y : Placed) (xs put : List Placed) (test : Bool) → placed_in put ≡ (is_agent x.who || placed_in xs) → placed_in (cond test (x ∷ y ∷ xs) (y ∷ put)) ≡ (is_agent x.who || placed_in (y ∷ xs))
+put-test : (x y : Placed) (xs put : List Placed) (test : Bool) → placed_in put ≡ (is_agent x.who || placed_in xs)
+    → placed_in (cond test (x ∷ y ∷ xs) (y ∷ put)) ≡ (is_agent x.who || placed_in (y ∷ xs))
 put-test x y xs put true e = refl
 put-test x y xs put false e = ap (λ q. is_agent y.who || q) e ∙ or-swap (is_agent y.who) (is_agent x.who) (placed_in xs)
 
@@ -36,7 +37,8 @@ tail-placed : (x : Placed) (xs : List Placed) → placed_in (put_at_tail x xs) �
 tail-placed x [] = refl
 tail-placed x (y ∷ xs) = put-test x y xs (put_at_tail x xs) (is_above x y) (tail-placed x xs)
 
-head-test : (x y : Placed) (xs put : List Placed) (test : Bool) → placed_in put ≡ (is_agent x.who || placed_in xs) → placed_in (cond test (y ∷ put) (x ∷ y ∷ xs)) ≡ (is_agent x.who || placed_in (y ∷ xs))
+head-test : (x y : Placed) (xs put : List Placed) (test : Bool) → placed_in put ≡ (is_agent x.who || placed_in xs)
+    → placed_in (cond test (y ∷ put) (x ∷ y ∷ xs)) ≡ (is_agent x.who || placed_in (y ∷ xs))
 head-test x y xs put true e = ap (λ q. is_agent y.who || q) e ∙ or-swap (is_agent y.who) (is_agent x.who) (placed_in xs)
 head-test x y xs put false e = refl
 
@@ -48,7 +50,8 @@ put-placed : (end : QueueEnd) (x : Placed) (xs : List Placed) → placed_in (put
 put-placed Tail x xs = tail-placed x xs
 put-placed Head x xs = head-placed x xs
 
-agent-out-test : (x : Placed) (name : Who) (ys : List Placed) → x.who ≡ name → placed_in ys ≡ false → placed_in (cond (not (same_who who.Agent x.who)) (x ∷ ys) ys) ≡ false
+agent-out-test : (x : Placed) (name : Who) (ys : List Placed) → x.who ≡ name → placed_in ys ≡ false
+    → placed_in (cond (not (same_who who.Agent x.who)) (x ∷ ys) ys) ≡ false
 agent-out-test x who.Agent ys is e = ap (λ q. placed_in (cond (not (same_who who.Agent q)) (x ∷ ys) ys)) is ∙ e
 agent-out-test x (who.Task n) ys is e = ap (λ q. placed_in (cond (not (same_who who.Agent q)) (x ∷ ys) ys)) is ∙ ap (λ q. is_agent q || placed_in ys) is ∙ e
 
@@ -60,7 +63,8 @@ kept-placed : (b : Bool) (x : Placed) (ys : List Placed) → is_agent x.who ≡ 
 kept-placed true x ys e = ap (λ q. q || placed_in ys) e
 kept-placed false x ys e = refl
 
-task-out-test : (t : TaskNo) (x : Placed) (name : Who) (ys xs : List Placed) → x.who ≡ name → placed_in ys ≡ placed_in xs → placed_in (cond (not (same_who (who.Task t) x.who)) (x ∷ ys) ys) ≡ (is_agent x.who || placed_in xs)
+task-out-test : (t : TaskNo) (x : Placed) (name : Who) (ys xs : List Placed) → x.who ≡ name → placed_in ys ≡ placed_in xs
+    → placed_in (cond (not (same_who (who.Task t) x.who)) (x ∷ ys) ys) ≡ (is_agent x.who || placed_in xs)
 task-out-test t x who.Agent ys xs is e = ap (λ q. placed_in (cond (not (same_who (who.Task t) q)) (x ∷ ys) ys)) is ∙ ap (λ q. is_agent x.who || q) e
 task-out-test t x (who.Task n) ys xs is e =
     kept-placed (not (same_who (who.Task t) x.who)) x ys (ap is_agent is) ∙ e ∙ sym (ap (λ q. is_agent q || placed_in xs) is)
@@ -70,8 +74,10 @@ task-out t [] = refl
 task-out t (x ∷ xs) = task-out-test t x x.who (take_out (who.Task t) xs) xs refl (task-out t xs)
 
 places-after : (event : Event) (places : List Placed) → placed_in (places_after event places) ≡ placed_after (placed_in places) event
-places-after (line.Ready who.Agent level end deadline) places = put-placed end (record { who = who.Agent; level = level; deadline = deadline }) (take_out who.Agent places)
-places-after (line.Ready (who.Task t) level end deadline) places = put-placed end (record { who = who.Task t; level = level; deadline = deadline }) (take_out (who.Task t) places) ∙ task-out t places
+places-after (line.Ready who.Agent level end deadline) places =
+    put-placed end (record { who = who.Agent; level = level; deadline = deadline }) (take_out who.Agent places)
+places-after (line.Ready (who.Task t) level end deadline) places =
+    put-placed end (record { who = who.Task t; level = level; deadline = deadline }) (take_out (who.Task t) places) ∙ task-out t places
 places-after (line.Block who.Agent why) places = agent-out places
 places-after (line.Block (who.Task t) why) places = task-out t places
 places-after (line.Done t) places = task-out t places
@@ -92,7 +98,8 @@ present : List Entry → Bool
 present [] = false
 present (e ∷ queue) = is_agent e.who || present queue
 
-found-test : (e : Entry) (name : Who) (rest : Option Entry) (b : Bool) → e.who ≡ name → is_some rest ≡ b → is_some (cond (who_eq who.Agent e.who) (Some e) rest) ≡ (is_agent e.who || b)
+found-test : (e : Entry) (name : Who) (rest : Option Entry) (b : Bool) → e.who ≡ name → is_some rest ≡ b
+    → is_some (cond (who_eq who.Agent e.who) (Some e) rest) ≡ (is_agent e.who || b)
 found-test e who.Agent rest b is k = ap (λ q. is_some (cond (who_eq who.Agent q) (Some e) rest)) is ∙ sym (ap (λ q. is_agent q || b) is)
 found-test e (who.Task n) rest b is k = ap (λ q. is_some (cond (who_eq who.Agent q) (Some e) rest)) is ∙ k ∙ sym (ap (λ q. is_agent q || b) is)
 
@@ -101,7 +108,8 @@ unfolding present
 entry-present [] = refl
 entry-present (e ∷ queue) = found-test e e.who (entry_of who.Agent queue) (present queue) refl (entry-present queue)
 
-agent-gone-test : (e : Entry) (name : Who) (rest : List Entry) → e.who ≡ name → present rest ≡ false → present (cond (who_eq who.Agent e.who) rest (e ∷ rest)) ≡ false
+agent-gone-test : (e : Entry) (name : Who) (rest : List Entry) → e.who ≡ name → present rest ≡ false
+    → present (cond (who_eq who.Agent e.who) rest (e ∷ rest)) ≡ false
 unfolding present
 agent-gone-test e who.Agent rest is k = ap (λ q. present (cond (who_eq who.Agent q) rest (e ∷ rest))) is ∙ k
 agent-gone-test e (who.Task n) rest is k = ap (λ q. present (cond (who_eq who.Agent q) rest (e ∷ rest))) is ∙ ap (λ q. is_agent q || present rest) is ∙ k
@@ -116,10 +124,12 @@ unfolding present
 kept-present true e rest k = refl
 kept-present false e rest k = ap (λ q. q || present rest) k
 
-task-gone-test : (t : TaskNo) (e : Entry) (name : Who) (rest queue : List Entry) → e.who ≡ name → present rest ≡ present queue → present (cond (who_eq (who.Task t) e.who) rest (e ∷ rest)) ≡ (is_agent e.who || present queue)
+task-gone-test : (t : TaskNo) (e : Entry) (name : Who) (rest queue : List Entry) → e.who ≡ name → present rest ≡ present queue
+    → present (cond (who_eq (who.Task t) e.who) rest (e ∷ rest)) ≡ (is_agent e.who || present queue)
 unfolding present
 task-gone-test t e who.Agent rest queue is k = ap (λ q. present (cond (who_eq (who.Task t) q) rest (e ∷ rest))) is ∙ ap (λ q. is_agent e.who || q) k
-task-gone-test t e (who.Task n) rest queue is k = kept-present (who_eq (who.Task t) e.who) e rest (ap is_agent is) ∙ k ∙ sym (ap (λ q. is_agent q || present queue) is)
+task-gone-test t e (who.Task n) rest queue is k =
+    kept-present (who_eq (who.Task t) e.who) e rest (ap is_agent is) ∙ k ∙ sym (ap (λ q. is_agent q || present queue) is)
 
 task-gone : (t : TaskNo) (queue : List Entry) → present (shown.without (who.Task t) queue) ≡ present queue
 unfolding present
@@ -138,7 +148,8 @@ put-present Tail e queue = present-behind (shown.without e.who queue) e
 
 present-after : (event : Event) (queue : List Entry) → present (queue_after queue event) ≡ placed_after (present queue) event
 present-after (line.Ready who.Agent level end deadline) queue = put-present end (record { who = who.Agent; level = level; deadline = deadline }) queue
-present-after (line.Ready (who.Task t) level end deadline) queue = put-present end (record { who = who.Task t; level = level; deadline = deadline }) queue ∙ task-gone t queue
+present-after (line.Ready (who.Task t) level end deadline) queue =
+    put-present end (record { who = who.Task t; level = level; deadline = deadline }) queue ∙ task-gone t queue
 present-after (line.Block who.Agent why) queue = agent-gone queue
 present-after (line.Block (who.Task t) why) queue = task-gone t queue
 present-after (line.Done t) queue = task-gone t queue
@@ -152,7 +163,8 @@ present-all : (lines : List Event) (queue : List Entry) → present (queue_behin
 present-all [] queue = refl
 present-all (x ∷ xs) queue = present-all xs (queue_after queue x) ∙ ap (λ q. placed_behind q xs) (present-after x queue)
 
-pub seen-behind : (lines : List Event) (queue : List Entry) → is_some (entry_of who.Agent (queue_behind queue lines)) ≡ placed_behind (is_some (entry_of who.Agent queue)) lines
+pub seen-behind : (lines : List Event) (queue : List Entry)
+    → is_some (entry_of who.Agent (queue_behind queue lines)) ≡ placed_behind (is_some (entry_of who.Agent queue)) lines
 seen-behind lines queue =
     entry-present (queue_behind queue lines) ∙ present-all lines queue ∙ ap (λ q. placed_behind q lines) (sym (entry-present queue))
 

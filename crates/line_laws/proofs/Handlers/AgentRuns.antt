@@ -1,6 +1,7 @@
 -- Every run keeps the law of handlers: behind each tock the agent is in the queue exactly where some release is not yet served,
 -- and where it runs one release is being served.
-use Rattle.std.proofs.Common.{◌≡◌, ℕ, ℤ, suc, ◌≤◌, Bool, true, false, not, ◌||◌, eqb, List, [], ◌∷◌, length, Option, Some, None, is_some, refl, sym, ap, subst, ◌∙◌, arith}
+use Rattle.std.proofs.Common.{◌≡◌, ℕ, ℤ, suc, ◌≤◌, Bool, true, false, not, ◌||◌, eqb, List, [], ◌∷◌}
+use Rattle.std.proofs.Common.{length, Option, Some, None, is_some, refl, sym, ap, subst, ◌∙◌, arith}
 use Rattle.std.specs.Prelude.{nat_lt, IsTrue}
 use Rattle.std.proofs.lemmas.Bool.{and_from, false≢true}
 use Rattle.trace_text.specs.declared.events.Event.{Event}
@@ -100,7 +101,8 @@ not_below : (m n : ℕ) → n ≤ m → nat_lt m n ≡ false
 not_below m n a = grind arith
 
 -- some release is not yet served exactly where one is served or pending
-unserved-by : (serving : Option Release) (releases : List Release) (s : Releases) (w : World) → w.serving ≡ serving → w.releases ≡ releases → ShowsTurn s w → nat_lt s.served s.released ≡ (is_some serving || not (is_empty releases))
+unserved-by : (serving : Option Release) (releases : List Release) (s : Releases) (w : World) → w.serving ≡ serving → w.releases ≡ releases → ShowsTurn s w
+    → nat_lt s.served s.released ≡ (is_some serving || not (is_empty releases))
 unserved-by (Some r) releases s w is e h =
     let serves : Serves (Some r.number) s.serving s.begun s.served = subst (λ q. Serves (number_of q) s.serving s.begun s.served) is h.fits_now.serves in
     let next : s.begun ≡ suc s.served = serves.2 in
@@ -166,7 +168,8 @@ module _ (p : Image) (script : List (ℤ × Item)) (bound : ℕ) where
 
   pub agent_is_right : AtEachTick see_releases no_releases (λ s. IsTrue (is_agent_right s)) (run_of p script bound)
   agent_is_right tick low =
-      ticks_hold see_releases is_agent_right (λ s. IsTrue (is_agent_right s)) (λ s e. e) 0 no_releases (run_of p script bound) (run-ticks see_releases is_in_order is_agent_right agent-ticks) tick (omega arith) low
+      ticks_hold see_releases is_agent_right (λ s. IsTrue (is_agent_right s)) (λ s e. e) 0 no_releases (run_of p script bound)
+      (run-ticks see_releases is_in_order is_agent_right agent-ticks) tick (omega arith) low
 
   pub run_keeps_handlers : HandlersOk (run_of p script bound)
   run_keeps_handlers = record { in_order = runs_serve_in_turn p script bound; agent = agent_is_right }

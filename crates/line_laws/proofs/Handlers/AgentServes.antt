@@ -1,6 +1,7 @@
 -- The agent's protected action ends: queued calls are served, and where it is the action of its release the release has been
 -- served, and the agent blocks if none is pending.
-use Rattle.std.proofs.Common.{◌≡◌, ℕ, zero, suc, Bool, true, false, not, ◌||◌, List, [], ◌∷◌, length, Option, Some, None, refl, sym, ap, subst, ◌∙◌, append_assoc}
+use Rattle.std.proofs.Common.{◌≡◌, ℕ, zero, suc, Bool, true, false, not, ◌||◌, List, [], ◌∷◌}
+use Rattle.std.proofs.Common.{length, Option, Some, None, refl, sym, ap, subst, ◌∙◌, append_assoc}
 use Rattle.ann_base.specs.declared.identities.CallNo.{CallNo}
 use Rattle.ann_base.specs.declared.identities.ObjectNo.{ObjectNo}
 use Rattle.ann_base.specs.declared.exceptions.Raised.{Raised}
@@ -40,7 +41,10 @@ use Rattle.profile_machine.specs.Values.{object_of}
 use Rattle.profile_machine.specs.Protected.{edit_top_protected, serve_call, begin_call, body_opens, has_room_for_body, served_next}
 use Rattle.profile_machine.specs.Sending.{send_on}
 use Rattle.profile_machine.specs.Unwinding.{may_unwind}
-use Rattle.profile_machine.specs.Serving.{wait_for_own, resume_own, may_open_abortable, serves_nothing, is_served_now, serve_ends, end_release, close_action, behind_action, release_object, settle_sent, begins_part, chosen_is_sent, part_of_start, serve_chosen, serve_next, serve_calls, go_on_by_mode, with_body_left, not_left, end_operation, is_own_call, outcome_by, finish_raised, finish_well, finish_call, no_longer_serves, end_entry_body, end_in_protected_by, end_in_protected}
+use Rattle.profile_machine.specs.Serving.{wait_for_own, resume_own, may_open_abortable, serves_nothing, is_served_now, serve_ends, end_release, close_action}
+use Rattle.profile_machine.specs.Serving.{behind_action, release_object, settle_sent, begins_part, chosen_is_sent, part_of_start, serve_chosen, serve_next}
+use Rattle.profile_machine.specs.Serving.{serve_calls, go_on_by_mode, with_body_left, not_left, end_operation, is_own_call, outcome_by, finish_raised}
+use Rattle.profile_machine.specs.Serving.{finish_well, finish_call, no_longer_serves, end_entry_body, end_in_protected_by, end_in_protected}
 use Rattle.machine_laws.proofs.Moves.{own}
 use Rattle.machine_laws.proofs.FineMoves.{Nature, nature, natures}
 use Rattle.machine_laws.proofs.Kept.Frames.{edit_top-alters, plain_steps}
@@ -83,7 +87,8 @@ free-acted n w good pending = record {
   placing = calm_so (refl, tt) (good.runs ∙ sym (ap (λ q. q || false) good.runs));
 }
 
-blocked-acted : (n : ℕ) (w : World) → Busy Emptied None w → is_empty w.releases ≡ true → Acted w (own (said.Served n) ∷ record { part = TheBlock; line = said.Block who.Agent (word_of waits_for.Release) } ∷ []) (blocked_world w)
+blocked-acted : (n : ℕ) (w : World) → Busy Emptied None w → is_empty w.releases ≡ true
+    → Acted w (own (said.Served n) ∷ record { part = TheBlock; line = said.Block who.Agent (word_of waits_for.Release) } ∷ []) (blocked_world w)
 blocked-acted n w good none = record {
   attending = record {
     colour = good.colour;
@@ -94,9 +99,14 @@ blocked-acted n w good none = record {
   placing = closes_so (closes_behind _ _ (closes _ [] refl refl tt)) refl;
 }
 
-ends-test : (n : ℕ) (w : World) (test : Bool) → Busy Emptied None w → is_empty w.releases ≡ test → From Acted w (says Own (said.Served n) ▷ changes serves_nothing ▷ when test (block TheBlock who.Agent waits_for.Release))
+ends-test : (n : ℕ) (w : World) (test : Bool) → Busy Emptied None w → is_empty w.releases ≡ test
+    → From Acted w (says Own (said.Served n) ▷ changes serves_nothing ▷ when test (block TheBlock who.Agent waits_for.Release))
 unfolding From Kept block says_block
-ends-test n w true good e before = (own (said.Served n) ∷ record { part = TheBlock; line = said.Block who.Agent (word_of waits_for.Release) } ∷ [], append_assoc before (own (said.Served n) ∷ []) (record { part = TheBlock; line = said.Block who.Agent (word_of waits_for.Release) } ∷ []), blocked-acted n w good e)
+ends-test n w true good e before = (
+  own (said.Served n) ∷ record { part = TheBlock; line = said.Block who.Agent (word_of waits_for.Release) } ∷ [],
+  append_assoc before (own (said.Served n) ∷ []) (record { part = TheBlock; line = said.Block who.Agent (word_of waits_for.Release) } ∷ []),
+  blocked-acted n w good e,
+)
 ends-test n w false good e before = (own (said.Served n) ∷ [], refl, free-acted n w good e)
 
 serve_ends-from : (n : ℕ) (w : World) → Busy Emptied None w → From Acted w (serve_ends n)
@@ -106,7 +116,8 @@ serve_ends-from n w good before = ends-test n w (is_empty w.releases) good refl 
 pub end_release-from : (n : ℕ) (w : World) → Busy Emptied None w → From Acted w (end_release n)
 unfolding end_release
 end_release-from n w good =
-    looks_by Acted (λ v. when (is_served_now n v.serving) (serve_ends n)) w (when_by Acted (is_served_now n w.serving) (serve_ends n) w (λ e. serve_ends-from n w good)
+    looks_by Acted (λ v. when (is_served_now n v.serving) (serve_ends n)) w
+    (when_by Acted (is_served_now n w.serving) (serve_ends n) w (λ e. serve_ends-from n w good)
     (λ e. nothing_by Acted w (busy-acted Emptied emptied-stands None w [] w good.runs (record { busy = good; calm = tt }))))
 
 -- ---- the action of an object ends
@@ -124,7 +135,8 @@ rest-natures : (fs : List Frame) (n : Nature) (rest : List Nature) → natures f
 rest-natures [] n rest e = cc
 rest-natures (f ∷ fs) n rest e = cc
 
-exited : (Stands : List Nature → Type 0) (m : ProtectedMark) (w : World) → (h : Heads m.release w) → Stands h.rest → BusyStep Stands None w (own (said.Exit who.Agent m.object) ∷ []) (close_action who.Agent m.object (pop who.Agent w))
+exited : (Stands : List Nature → Type 0) (m : ProtectedMark) (w : World) → (h : Heads m.release w) → Stands h.rest
+    → BusyStep Stands None w (own (said.Exit who.Agent m.object) ∷ []) (close_action who.Agent m.object (pop who.Agent w))
 exited Stands m w h stands =
     let out = agent_marked h.busy.colour w (rest_of w.agent.frames) h.busy.apart (owned-popped h.busy.colour w.agent.frames h.busy.apart.marks) in
     record {
@@ -139,7 +151,8 @@ exited Stands m w h stands =
       calm = (refl, tt);
     }
 
-exit-from : (Stands : List Nature → Type 0) (m : ProtectedMark) (w : World) → (h : Heads m.release w) → Stands h.rest → From (BusyStep Stands None) w (says Own (said.Exit who.Agent m.object) ▷ changes (pop who.Agent) ▷ changes (close_action who.Agent m.object))
+exit-from : (Stands : List Nature → Type 0) (m : ProtectedMark) (w : World) → (h : Heads m.release w) → Stands h.rest
+    → From (BusyStep Stands None) w (says Own (said.Exit who.Agent m.object) ▷ changes (pop who.Agent) ▷ changes (close_action who.Agent m.object))
 unfolding From Kept
 exit-from Stands m w h stands before = (own (said.Exit who.Agent m.object) ∷ [], refl, exited Stands m w h stands)
 
@@ -147,8 +160,10 @@ exit-from Stands m w h stands before = (own (said.Exit who.Agent m.object) ∷ [
 module _ (colour : Colour) where
   own_waits-keeps : (p : Image) (c : Call) (test : Bool) → Keeps (Apart colour) (Spared colour true) (wait_for_own p who.Agent c test)
   unfolding wait_for_own
-  own_waits-keeps p c true = changes-keeps (chains (spares colour true)) _ (open_abortable-alters (spares colour true) p (who.Task c.caller) c.statement (Some c.number) tt)
-  own_waits-keeps p c false = looks-keeps (chains (spares colour true)) _ (λ w. wait_or_unwind-keeps (spares colour true) p who.Agent c (may_unwind (frames_of w who.Agent)))
+  own_waits-keeps p c true =
+      changes-keeps (chains (spares colour true)) _ (open_abortable-alters (spares colour true) p (who.Task c.caller) c.statement (Some c.number) tt)
+  own_waits-keeps p c false =
+      looks-keeps (chains (spares colour true)) _ (λ w. wait_or_unwind-keeps (spares colour true) p who.Agent c (may_unwind (frames_of w who.Agent)))
 
   own_resumes-keeps : (p : Image) (c : Call) (outcome : Option Outcome) → Keeps (Apart colour) (Spared colour true) (resume_own p who.Agent c outcome)
   unfolding resume_own
@@ -159,42 +174,57 @@ module _ (colour : Colour) where
   own_call-keeps p c = with_call-keeps (plain_steps (spares colour true)) c _ (λ d. own_resumes-keeps p d d.outcome)
 
 -- what stands behind the exit
-own_call-from : (p : Image) (c : CallNo) (w : World) → Busy Rooted None w → From (BusyStep Rooted None) w (with_call c (λ d. resume_own p who.Agent d d.outcome))
+own_call-from : (p : Image) (c : CallNo) (w : World) → Busy Rooted None w
+    → From (BusyStep Rooted None) w (with_call c (λ d. resume_own p who.Agent d d.outcome))
 own_call-from p c w good =
     from_by (Spared good.colour true) (BusyStep Rooted None) (with_call c (λ d. resume_own p who.Agent d d.outcome)) w (λ v xs s. spared rooted None w v good s)
-    (keeps_at (Apart good.colour) (Spared good.colour true) (with_call c (λ d. resume_own p who.Agent d d.outcome)) w good.apart (own_call-keeps good.colour p c))
+    (keeps_at (Apart good.colour) (Spared good.colour true) (with_call c (λ d. resume_own p who.Agent d d.outcome)) w good.apart
+    (own_call-keeps good.colour p c))
 
 goes_on-keeps : (p : Image) (m : ProtectedMark) (call : Option CallNo) → Keeps (Busy Rooted None) (BusyStep Rooted None) (behind_action p who.Agent m None call)
 unfolding behind_action
 goes_on-keeps p m None = pass_on-keeps (plain_steps (busies rooted None)) p who.Agent m.body_left tt
 goes_on-keeps p m (Some c) = from-keeps (chains (busies rooted None)) _ (λ w good. own_call-from p c w good)
 
-behind_inner-from : (p : Image) (m : ProtectedMark) (call : Option CallNo) (w : World) → Busy Rooted None w → From (BusyStep Rooted None) w (lose_running p who.Agent (inherited_by.Ceiling m.object) ▷ set_deferred p who.Agent ▷ behind_action p who.Agent m None call)
+behind_inner-from : (p : Image) (m : ProtectedMark) (call : Option CallNo) (w : World) → Busy Rooted None w
+    → From (BusyStep Rooted None) w
+    (lose_running p who.Agent (inherited_by.Ceiling m.object) ▷ set_deferred p who.Agent ▷ behind_action p who.Agent m None call)
 behind_inner-from p m call w good =
     let moves = busies rooted None in
-    keeps-from (chains moves) _ w good (then-keeps (chains moves) _ _ (lose_running-keeps moves p who.Agent (inherited_by.Ceiling m.object) tt) (then-keeps (chains moves) _ _ (set_deferred-keeps moves p who.Agent tt) (goes_on-keeps p m call)))
+    keeps-from (chains moves) _ w good
+    (then-keeps (chains moves) _ _ (lose_running-keeps moves p who.Agent (inherited_by.Ceiling m.object) tt)
+    (then-keeps (chains moves) _ _ (set_deferred-keeps moves p who.Agent tt) (goes_on-keeps p m call)))
 
-behind_lowest-from : (p : Image) (m : ProtectedMark) (n : ℕ) (call : Option CallNo) (w : World) → Busy Emptied None w → From Acted w (lose_running p who.Agent (inherited_by.Ceiling m.object) ▷ set_deferred p who.Agent ▷ behind_action p who.Agent m (Some n) call)
+behind_lowest-from : (p : Image) (m : ProtectedMark) (n : ℕ) (call : Option CallNo) (w : World) → Busy Emptied None w
+    → From Acted w (lose_running p who.Agent (inherited_by.Ceiling m.object) ▷ set_deferred p who.Agent ▷ behind_action p who.Agent m (Some n) call)
 unfolding behind_action
 behind_lowest-from p m n call w good =
     let moves = busies emptied None in
-    then_by (BusyStep Emptied None) Acted Acted (lose_running p who.Agent (inherited_by.Ceiling m.object)) (set_deferred p who.Agent ▷ end_release n) w (λ v u xs zs s k. busy_then Emptied emptied-stands None w v u xs zs good.runs s k)
+    then_by (BusyStep Emptied None) Acted Acted (lose_running p who.Agent (inherited_by.Ceiling m.object)) (set_deferred p who.Agent ▷ end_release n) w
+    (λ v u xs zs s k. busy_then Emptied emptied-stands None w v u xs zs good.runs s k)
     (keeps-from (chains moves) _ w good (lose_running-keeps moves p who.Agent (inherited_by.Ceiling m.object) tt))
-    (λ v xs s. then_by (BusyStep Emptied None) Acted Acted (set_deferred p who.Agent) (end_release n) v (λ u t ys zs k l. busy_then Emptied emptied-stands None v u t ys zs s.busy.runs k l)
+    (λ v xs s. then_by (BusyStep Emptied None) Acted Acted (set_deferred p who.Agent) (end_release n) v
+    (λ u t ys zs k l. busy_then Emptied emptied-stands None v u t ys zs s.busy.runs k l)
     (keeps-from (chains moves) _ v s.busy (set_deferred-keeps moves p who.Agent tt))
     (λ u ys k. end_release-from n u k.busy))
 
 -- by the release that ends with it
-released-from : (p : Image) (m : ProtectedMark) (release : Option ℕ) (w : World) → m.release ≡ release → Heads m.release w → From Acted w (says Own (said.Exit who.Agent m.object) ▷ changes (pop who.Agent) ▷ changes (close_action who.Agent m.object) ▷ lose_running p who.Agent (inherited_by.Ceiling m.object) ▷ set_deferred p who.Agent ▷ behind_action p who.Agent m release m.own_call)
+released-from : (p : Image) (m : ProtectedMark) (release : Option ℕ) (w : World) → m.release ≡ release → Heads m.release w
+    → From Acted w
+    (says Own (said.Exit who.Agent m.object) ▷ changes (pop who.Agent) ▷ changes (close_action who.Agent m.object)
+    ▷ lose_running p who.Agent (inherited_by.Ceiling m.object) ▷ set_deferred p who.Agent ▷ behind_action p who.Agent m release m.own_call)
 released-from p m None w e h =
     let stands : Rooted (action_of m.release ∷ h.rest) = subst Rooted h.heads h.busy.marks in
-    then_by (BusyStep Rooted None) Acted Acted (says Own (said.Exit who.Agent m.object) ▷ changes (pop who.Agent) ▷ changes (close_action who.Agent m.object)) (lose_running p who.Agent (inherited_by.Ceiling m.object) ▷ set_deferred p who.Agent ▷ behind_action p who.Agent m None m.own_call) w
+    then_by (BusyStep Rooted None) Acted Acted (says Own (said.Exit who.Agent m.object) ▷ changes (pop who.Agent) ▷ changes (close_action who.Agent m.object))
+    (lose_running p who.Agent (inherited_by.Ceiling m.object) ▷ set_deferred p who.Agent ▷ behind_action p who.Agent m None m.own_call) w
     (λ v u xs zs s k. busy_then Rooted stands_rooted None w v u xs zs h.busy.runs s k)
     (exit-from Rooted m w h (above_lowest (action_of m.release) h.rest e stands))
-    (λ v xs s. from_by (BusyStep Rooted None) Acted _ v (λ u zs k. busy-acted Rooted stands_rooted None v zs u s.busy.runs k) (behind_inner-from p m m.own_call v s.busy))
+    (λ v xs s. from_by (BusyStep Rooted None) Acted _ v (λ u zs k. busy-acted Rooted stands_rooted None v zs u s.busy.runs k)
+    (behind_inner-from p m m.own_call v s.busy))
 released-from p m (Some n) w e h =
     let stands : Rooted (action_of m.release ∷ h.rest) = subst Rooted h.heads h.busy.marks in
-    then_by (BusyStep Emptied None) Acted Acted (says Own (said.Exit who.Agent m.object) ▷ changes (pop who.Agent) ▷ changes (close_action who.Agent m.object)) (lose_running p who.Agent (inherited_by.Ceiling m.object) ▷ set_deferred p who.Agent ▷ behind_action p who.Agent m (Some n) m.own_call) w
+    then_by (BusyStep Emptied None) Acted Acted (says Own (said.Exit who.Agent m.object) ▷ changes (pop who.Agent) ▷ changes (close_action who.Agent m.object))
+    (lose_running p who.Agent (inherited_by.Ceiling m.object) ▷ set_deferred p who.Agent ▷ behind_action p who.Agent m (Some n) m.own_call) w
     (λ v u xs zs s k. busy_then Emptied emptied-stands None w v u xs zs h.busy.runs s k)
     (exit-from Emptied m w h (lowest_alone (action_of m.release) h.rest n e stands))
     (λ v xs s. behind_lowest-from p m n m.own_call v s.busy)
@@ -208,7 +238,8 @@ release_object-from p m w h = released-from p m m.release w refl h
 heads-spared : (release : Option ℕ) (w v : World) {lines : List Said} → (h : Heads release w) → Spared h.busy.colour true w lines v → Heads release v
 heads-spared release w v h s = record { busy = (spared rooted None w v h.busy s).busy; rest = h.rest; heads = s.marks_same ∙ h.heads }
 
-step_then : (release : Option ℕ) (f g : Step) (w : World) → Heads release w → ((colour : Colour) → Keeps (Apart colour) (Spared colour true) f) → ((v : World) → Heads release v → From Acted v g) → From Acted w (f ▷ g)
+step_then : (release : Option ℕ) (f g : Step) (w : World) → Heads release w → ((colour : Colour) → Keeps (Apart colour) (Spared colour true) f)
+    → ((v : World) → Heads release v → From Acted v g) → From Acted w (f ▷ g)
 step_then release f g w h kept onward =
     then_by (Spared h.busy.colour true) Acted Acted f g w (λ v u xs zs s k. spared_then h.busy.colour w v u xs zs s k)
     (keeps_at (Apart h.busy.colour) (Spared h.busy.colour true) f w h.busy.apart (kept h.busy.colour))
@@ -233,29 +264,44 @@ begins-keeps p true c = begin_abortable-keeps (busies rooted None) p c
 begins-keeps p false c = nothing-keeps (chains (busies rooted None))
 
 -- the body of a queued call opens
-opens-from : (p : Image) (c : Call) (o : ObjectNo) (sent : Bool) (number : CallNo) (w : World) → Busy Rooted None w → From Acted w (body_opens p who.Agent o c ▷ begins_part p sent number)
+opens-from : (p : Image) (c : Call) (o : ObjectNo) (sent : Bool) (number : CallNo) (w : World) → Busy Rooted None w
+    → From Acted w (body_opens p who.Agent o c ▷ begins_part p sent number)
 opens-from p c o sent number w good =
     let moves = busies rooted None in
-    from_by (BusyStep Rooted None) Acted (body_opens p who.Agent o c ▷ begins_part p sent number) w (λ v xs s. busy-acted Rooted stands_rooted None w xs v good.runs s)
-    (keeps-from (chains moves) _ w good (then-keeps (chains moves) _ _ (body_opens-keeps moves (busy_openings None) p who.Agent o c tt) (begins-keeps p sent number)))
+    from_by (BusyStep Rooted None) Acted (body_opens p who.Agent o c ▷ begins_part p sent number) w
+    (λ v xs s. busy-acted Rooted stands_rooted None w xs v good.runs s)
+    (keeps-from (chains moves) _ w good
+    (then-keeps (chains moves) _ _ (body_opens-keeps moves (busy_openings None) p who.Agent o c tt) (begins-keeps p sent number)))
 
 -- ---- queued calls are served, and then the object is released
 
 module _ (p : Image) (m : ProtectedMark) where
-  serve_call-from : (is_sent : Bool) (c : CallNo) (d : Call) (again : Step) (w : World) → ((v : World) → Heads m.release v → From Acted v again) → Heads m.release w
-      → From Acted w (serve_call p (part_of_start is_sent) who.Agent m.object d (begins_part p is_sent c) (deliver p (part_of_start is_sent) c (call_ended.ToRaise exception.Storage) ▷ again))
+  serve_call-from : (is_sent : Bool) (c : CallNo) (d : Call) (again : Step) (w : World) → ((v : World) → Heads m.release v → From Acted v again)
+      → Heads m.release w
+      → From Acted w
+      (serve_call p (part_of_start is_sent) who.Agent m.object d (begins_part p is_sent c)
+      (deliver p (part_of_start is_sent) c (call_ended.ToRaise exception.Storage) ▷ again))
   serve_call-from is_sent c d again w onward h =
       let part = part_of_start is_sent in
       let otherwise = deliver p part c (call_ended.ToRaise exception.Storage) ▷ again in
-      let by_room = λ (b : Bool). elim b as (λ _. Step) [ true ↦ body_opens p who.Agent m.object d ▷ begins_part p is_sent c | false ↦ says part (said.Finish who.Agent d.number (meeting.Raised exception.Storage)) ▷ otherwise ] in
+      let by_room =
+      λ (b : Bool). elim b as (λ _. Step) [
+        | true ↦ body_opens p who.Agent m.object d ▷ begins_part p is_sent c
+        | false ↦ says part (said.Finish who.Agent d.number (meeting.Raised exception.Storage)) ▷ otherwise
+      ] in
       looks_by Acted (λ v. begin_call p part who.Agent d ▷ by_room (has_room_for_body p v who.Agent d.entry)) w
-      (step_then m.release (begin_call p part who.Agent d) (by_room (has_room_for_body p w who.Agent d.entry)) w h (λ colour. begin_call-keeps (spares colour true) p part who.Agent d)
-      (λ v k. either_by Acted (has_room_for_body p w who.Agent d.entry) (body_opens p who.Agent m.object d ▷ begins_part p is_sent c) (says part (said.Finish who.Agent d.number (meeting.Raised exception.Storage)) ▷ otherwise) v
+      (step_then m.release (begin_call p part who.Agent d) (by_room (has_room_for_body p w who.Agent d.entry)) w h
+      (λ colour. begin_call-keeps (spares colour true) p part who.Agent d)
+      (λ v k. either_by Acted (has_room_for_body p w who.Agent d.entry) (body_opens p who.Agent m.object d ▷ begins_part p is_sent c)
+      (says part (said.Finish who.Agent d.number (meeting.Raised exception.Storage)) ▷ otherwise) v
       (opens-from p d m.object is_sent c v k.busy)
-      (step_then m.release (says part (said.Finish who.Agent d.number (meeting.Raised exception.Storage))) otherwise v k (λ colour. says-keeps (spares colour true) part (said.Finish who.Agent d.number (meeting.Raised exception.Storage)) refl)
-      (λ u l. step_then m.release (deliver p part c (call_ended.ToRaise exception.Storage)) again u l (λ colour. deliver-keeps (spares colour true) p part c (call_ended.ToRaise exception.Storage)) onward))))
+      (step_then m.release (says part (said.Finish who.Agent d.number (meeting.Raised exception.Storage))) otherwise v k
+      (λ colour. says-keeps (spares colour true) part (said.Finish who.Agent d.number (meeting.Raised exception.Storage)) refl)
+      (λ u l. step_then m.release (deliver p part c (call_ended.ToRaise exception.Storage)) again u l
+      (λ colour. deliver-keeps (spares colour true) p part c (call_ended.ToRaise exception.Storage)) onward))))
 
-  serve_chosen-from : (is_sent : Bool) (again : Step) (chosen : Option CallNo) (w : World) → ((v : World) → Heads m.release v → From Acted v again) → Heads m.release w → From Acted w (serve_chosen p who.Agent m is_sent again chosen)
+  serve_chosen-from : (is_sent : Bool) (again : Step) (chosen : Option CallNo) (w : World) → ((v : World) → Heads m.release v → From Acted v again)
+      → Heads m.release w → From Acted w (serve_chosen p who.Agent m is_sent again chosen)
   serve_chosen-from is_sent again None w onward h = release_object-from p m w h
   serve_chosen-from is_sent again (Some c) w onward h = call_then m.release c _ w h (λ d. serve_call-from is_sent c d again w onward h)
 
@@ -264,7 +310,9 @@ module _ (p : Image) (m : ProtectedMark) where
   serve_next-from zero sent w h = release_object-from p m w h
   serve_next-from (suc fuel) sent w h =
       let served = λ (v : World). served_next p v who.Agent (object_of v m.object) in
-      looks_by Acted (λ v. settle_sent p sent (chosen_is_sent sent (served v)) ▷ serve_chosen p who.Agent m (chosen_is_sent sent (served v)) (serve_next fuel p who.Agent m None) (served v)) w
+      looks_by Acted
+      (λ v. settle_sent p sent (chosen_is_sent sent (served v))
+      ▷ serve_chosen p who.Agent m (chosen_is_sent sent (served v)) (serve_next fuel p who.Agent m None) (served v)) w
       (step_then m.release (settle_sent p sent (chosen_is_sent sent (served w))) _ w h (λ colour. settles-keeps colour p sent (chosen_is_sent sent (served w)))
       (λ v k. serve_chosen-from (chosen_is_sent sent (served w)) (serve_next fuel p who.Agent m None) (served w) v (λ u l. serve_next-from fuel None u l) k))
 
@@ -280,18 +328,23 @@ module _ (p : Image) (m : ProtectedMark) where
   raised-from : (c : Call) (e : Raised) (w : World) → Heads m.release w → From Acted w (finish_raised p who.Agent m c e)
   unfolding finish_raised
   raised-from c e w h =
-      step_then m.release (says TheFinish (said.Finish who.Agent c.number (meeting.Raised e))) _ w h (λ colour. says-keeps (spares colour true) TheFinish (said.Finish who.Agent c.number (meeting.Raised e)) refl)
-      (λ v k. step_then m.release (deliver p TheFinish c.number (outcome_by (is_own_call who.Agent m.own_call c) e)) _ v k (λ colour. deliver-keeps (spares colour true) p TheFinish c.number (outcome_by (is_own_call who.Agent m.own_call c) e))
+      step_then m.release (says TheFinish (said.Finish who.Agent c.number (meeting.Raised e))) _ w h
+      (λ colour. says-keeps (spares colour true) TheFinish (said.Finish who.Agent c.number (meeting.Raised e)) refl)
+      (λ v k. step_then m.release (deliver p TheFinish c.number (outcome_by (is_own_call who.Agent m.own_call c) e)) _ v k
+      (λ colour. deliver-keeps (spares colour true) p TheFinish c.number (outcome_by (is_own_call who.Agent m.own_call c) e))
       (λ u l. serve_calls-from None u l))
 
   well-from : (c : Call) (sending : Option Sending) (w : World) → Heads m.release w → From Acted w (finish_well p who.Agent m c sending)
   unfolding finish_well
   well-from c None w h =
-      step_then m.release (says TheFinish (said.Finish who.Agent c.number meeting.Ok)) _ w h (λ colour. says-keeps (spares colour true) TheFinish (said.Finish who.Agent c.number meeting.Ok) refl)
-      (λ v k. step_then m.release (deliver p TheFinish c.number call_ended.Finished) _ v k (λ colour. deliver-keeps (spares colour true) p TheFinish c.number call_ended.Finished)
+      step_then m.release (says TheFinish (said.Finish who.Agent c.number meeting.Ok)) _ w h
+      (λ colour. says-keeps (spares colour true) TheFinish (said.Finish who.Agent c.number meeting.Ok) refl)
+      (λ v k. step_then m.release (deliver p TheFinish c.number call_ended.Finished) _ v k
+      (λ colour. deliver-keeps (spares colour true) p TheFinish c.number call_ended.Finished)
       (λ u l. serve_calls-from None u l))
   well-from c (Some s) w h =
-      step_then m.release (says TheFinish (said.Finish who.Agent c.number meeting.Requeue)) _ w h (λ colour. says-keeps (spares colour true) TheFinish (said.Finish who.Agent c.number meeting.Requeue) refl)
+      step_then m.release (says TheFinish (said.Finish who.Agent c.number meeting.Requeue)) _ w h
+      (λ colour. says-keeps (spares colour true) TheFinish (said.Finish who.Agent c.number meeting.Requeue) refl)
       (λ v k. step_then m.release (send_on c.number s) _ v k (λ colour. send_on-keeps (spares colour true) c.number s)
       (λ u l. step_then m.release (enqueue p c.number) _ u l (λ colour. enqueue-keeps (plain_steps (spares colour true)) p c.number)
       (λ t n. serve_calls-from (Some c.number) t n)))
@@ -308,14 +361,20 @@ module _ (p : Image) (m : ProtectedMark) where
 -- ---- a body in the action has ended
 
 module _ (p : Image) (m : ProtectedMark) (leaving : Leaving) where
-  edits_then : (f : ProtectedMark → ProtectedMark) (g : Step) (w : World) → ((x : ProtectedMark) → (f x).release ≡ x.release) → ((x : ProtectedMark) → (f x).object ≡ x.object) → Heads m.release w → ((v : World) → Heads m.release v → From Acted v g) → From Acted w (changes (edit_top_protected who.Agent f) ▷ changes (edit_top who.Agent not_left) ▷ g)
+  edits_then : (f : ProtectedMark → ProtectedMark) (g : Step) (w : World) → ((x : ProtectedMark) → (f x).release ≡ x.release)
+      → ((x : ProtectedMark) → (f x).object ≡ x.object) → Heads m.release w → ((v : World) → Heads m.release v → From Acted v g)
+      → From Acted w (changes (edit_top_protected who.Agent f) ▷ changes (edit_top who.Agent not_left) ▷ g)
   edits_then f g w same alike h onward =
-      step_then m.release (changes (edit_top_protected who.Agent f)) _ w h (λ colour. changes-keeps (chains (spares colour true)) _ (edit_top_protected-alters (spares colour true) who.Agent f same alike))
-      (λ v k. step_then m.release (changes (edit_top who.Agent not_left)) g v k (λ colour. changes-keeps (chains (spares colour true)) _ (edit_top-alters (spares colour true) who.Agent not_left (λ x. refl))) onward)
+      step_then m.release (changes (edit_top_protected who.Agent f)) _ w h
+      (λ colour. changes-keeps (chains (spares colour true)) _ (edit_top_protected-alters (spares colour true) who.Agent f same alike))
+      (λ v k. step_then m.release (changes (edit_top who.Agent not_left)) g v k
+      (λ colour. changes-keeps (chains (spares colour true)) _ (edit_top-alters (spares colour true) who.Agent not_left (λ x. refl))) onward)
 
   operation-from : (w : World) → Heads m.release w → From Acted w (end_operation p who.Agent m leaving)
   unfolding end_operation
-  operation-from w h = edits_then (with_body_left leaving) (go_on_by_mode p who.Agent (with_body_left leaving m) m.mode) w (λ x. refl) (λ x. refl) h (λ v k. by_mode-from p (with_body_left leaving m) m.mode v k)
+  operation-from w h =
+      edits_then (with_body_left leaving) (go_on_by_mode p who.Agent (with_body_left leaving m) m.mode) w (λ x. refl) (λ x. refl) h
+      (λ v k. by_mode-from p (with_body_left leaving m) m.mode v k)
 
   entry_body-from : (c : CallNo) (w : World) → Heads m.release w → From Acted w (end_entry_body p who.Agent m leaving c)
   unfolding end_entry_body
@@ -328,7 +387,8 @@ module _ (p : Image) (m : ProtectedMark) (leaving : Leaving) where
   by_body-from None w h = operation-from w h
   by_body-from (Some c) w h = entry_body-from c w h
 
-  pub action_end-from : (f : Frame) (w : World) → Busy Rooted None w → top_of w who.Agent ≡ Some f → f.mark ≡ InProtected m → From Acted w (end_in_protected p who.Agent m leaving)
+  pub action_end-from : (f : Frame) (w : World) → Busy Rooted None w → top_of w who.Agent ≡ Some f → f.mark ≡ InProtected m
+      → From Acted w (end_in_protected p who.Agent m leaving)
   unfolding end_in_protected
   action_end-from f w good top is =
       let found = has_top w.agent.frames f top in

@@ -49,11 +49,13 @@ pub effects-runner : (r : Option Who) (events : List Event) → AllAre is_of_eff
 effects-runner r [] a = refl
 effects-runner r (x ∷ xs) a = ap (λ q. runner_behind q xs) (effect-runner r x a.0) ∙ effects-runner r xs a.1
 
-run-runner : (same : Bool) (ran : Option Who) (name : Who) (w : World) → same_option same_who ran (Some name) ≡ same → runner_behind ran (cond same rests (say (line.Run name)) w).1 ≡ Some name
+run-runner : (same : Bool) (ran : Option Who) (name : Who) (w : World) → same_option same_who ran (Some name) ≡ same
+    → runner_behind ran (cond same rests (say (line.Run name)) w).1 ≡ Some name
 run-runner true ran name w e = ran-path ran name e
 run-runner false ran name w e = refl
 
-serve_if_free-runner : (r : Option Who) (serving : Option Release) (frames : List Frame) (releases : List Release) (w : World) → runner_behind r ((serve_if_free serving frames releases w).1 ++ []) ≡ r
+serve_if_free-runner : (r : Option Who) (serving : Option Release) (frames : List Frame) (releases : List Release) (w : World)
+    → runner_behind r ((serve_if_free serving frames releases w).1 ++ []) ≡ r
 serve_if_free-runner r None [] [] w = refl
 serve_if_free-runner r None [] (x ∷ rest) w = refl
 serve_if_free-runner r None (f ∷ fs) releases w = refl
@@ -93,9 +95,11 @@ nothing-served w h is none runs =
     absurd (false≢true (sym (h.attends ∙ ap (λ q. is_some q || not (is_empty w.releases)) is ∙ ap (λ q. not (is_empty q)) none) ∙ runs))
 
 no_marks : {P : Type 0} (w : World) (f : Frame) (fs : List Frame) → Attending w → w.serving ≡ None → w.agent.frames ≡ f ∷ fs → P
-no_marks w f fs h is e = absurd (let none : natures (f ∷ fs) ≡ [] = subst (λ q. natures q ≡ []) e (subst (λ r. Marked r (natures w.agent.frames)) is h.marks) in cc)
+no_marks w f fs h is e =
+    absurd (let none : natures (f ∷ fs) ≡ [] = subst (λ q. natures q ≡ []) e (subst (λ r. Marked r (natures w.agent.frames)) is h.marks) in cc)
 
-serve_if_free-ticked : (serving : Option Release) (frames : List Frame) (releases : List Release) (w : World) → w.serving ≡ serving → w.agent.frames ≡ frames → w.releases ≡ releases → Attending w → Ticked (Some who.Agent) w (serve_if_free serving frames releases w).0
+serve_if_free-ticked : (serving : Option Release) (frames : List Frame) (releases : List Release) (w : World) → w.serving ≡ serving → w.agent.frames ≡ frames
+    → w.releases ≡ releases → Attending w → Ticked (Some who.Agent) w (serve_if_free serving frames releases w).0
 serve_if_free-ticked None [] [] w is e none h = record { attending = h; runs_same = refl; serves = λ chosen runs. nothing-served w h is none runs }
 serve_if_free-ticked None [] (r ∷ rest) w is e pending h = record {
   attending = record {
@@ -123,9 +127,13 @@ module _ (p : Image) (name : Who) where
       let moves = spares h.colour true in
       let begun = begin_action p name w in
       let paid = charge p name begun in
-      let first = moves.edits_task name (with_ticks (Some (unwrap_or (task_of w name).ticks_left (cost p w name)))) w h.apart (λ t. refl) (λ t. refl) (λ t. refl) (λ t. refl) (λ t. refl) in
+      let first =
+      moves.edits_task name (with_ticks (Some (unwrap_or (task_of w name).ticks_left (cost p w name)))) w h.apart (λ t. refl) (λ t. refl) (λ t. refl)
+      (λ t. refl) (λ t. refl) in
       let second = charge-alters moves (spared_settings h.colour true) p name begun (moves.behind w begun first) in
-      let third = moves.edits_task name (λ t. with_ticks (one_tick_less t.ticks_left) t) paid (moves.behind begun paid second) (λ t. refl) (λ t. refl) (λ t. refl) (λ t. refl) (λ t. refl) in
+      let third =
+      moves.edits_task name (λ t. with_ticks (one_tick_less t.ticks_left) t) paid (moves.behind begun paid second) (λ t. refl) (λ t. refl) (λ t. refl)
+      (λ t. refl) (λ t. refl) in
       moves.goes_on w begun (charged p name w) {xs = []} {ys = []} first (moves.goes_on begun paid (charged p name w) {xs = []} {ys = []} second third)
 
   charged-ticked : (w v : World) → Ticked (Some name) w v → Ticked (Some name) w (charged p name v)
@@ -153,7 +161,13 @@ next-ticked : (chosen : Option Who) (w v : World) → Ticked chosen w v → Tick
 next-ticked chosen w v t = record {
   attending = record {
     colour = t.attending.colour;
-    apart = record { tasks = t.attending.apart.tasks; marks = t.attending.apart.marks; attends = t.attending.apart.attends; drawn = t.attending.apart.drawn; none = t.attending.apart.none };
+    apart = record {
+      tasks = t.attending.apart.tasks;
+      marks = t.attending.apart.marks;
+      attends = t.attending.apart.attends;
+      drawn = t.attending.apart.drawn;
+      none = t.attending.apart.none;
+    };
     marks = t.attending.marks;
     attends = t.attending.attends;
   };
@@ -163,4 +177,5 @@ next-ticked chosen w v t = record {
 
 pub tock-ticked : (p : Image) (w : World) → Attending w → Ticked (choose w) w (tock p w).0
 tock-ticked p w h =
-    subst (λ (a : World × List Event). Ticked (choose w) w a.0) (sym (tock-parts p w)) (next-ticked (choose w) w (before_tick p (choose w) w).0 (before_tick-ticked p (choose w) w h))
+    subst (λ (a : World × List Event). Ticked (choose w) w a.0) (sym (tock-parts p w))
+    (next-ticked (choose w) w (before_tick p (choose w) w).0 (before_tick-ticked p (choose w) w h))

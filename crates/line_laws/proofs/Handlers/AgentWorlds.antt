@@ -80,7 +80,11 @@ MarksFree-later colour m n [] a h = tt
 MarksFree-later colour m n (x ∷ xs) a h = (h.0, RegionFree-later colour m n x.region a h.1, MarksFree-later colour m n xs a h.2)
 
 pub TaskFree-later : (colour : Colour) (m n : ℕ) (t : Task) → m ≤ n → TaskFree colour m t → TaskFree colour n t
-TaskFree-later colour m n t a h = record { named = h.named; marks = MarksFree-later colour m n (natures t.frames) a h.marks; master = RegionFree-later colour m n t.master a h.master }
+TaskFree-later colour m n t a h = record {
+  named = h.named;
+  marks = MarksFree-later colour m n (natures t.frames) a h.marks;
+  master = RegionFree-later colour m n t.master a h.master;
+}
 
 pub TasksFree-later : (colour : Colour) (m n : ℕ) (ts : List Task) → m ≤ n → TasksFree colour m ts → TasksFree colour n ts
 TasksFree-later colour m n [] a h = tt
@@ -93,18 +97,21 @@ next-free colour drawn h = false_from_ne_true (colour (suc drawn)) (λ e. let wi
 -- ---- lists of tasks
 
 module _ (colour : Colour) (drawn : ℕ) where
-  put-free : (test : Bool) (x t : Task) (ts rest : List Task) → TaskFree colour drawn x → TasksFree colour drawn (t ∷ ts) → TasksFree colour drawn rest → TasksFree colour drawn (cond test (x ∷ ts) (t ∷ rest))
+  put-free : (test : Bool) (x t : Task) (ts rest : List Task) → TaskFree colour drawn x → TasksFree colour drawn (t ∷ ts) → TasksFree colour drawn rest
+      → TasksFree colour drawn (cond test (x ∷ ts) (t ∷ rest))
   put-free true x t ts rest a h k = (a, h.1)
   put-free false x t ts rest a h k = (h.0, k)
 
-  pub set-free : (test : Task → Bool) (x : Task) (ts : List Task) → TaskFree colour drawn x → TasksFree colour drawn ts → TasksFree colour drawn (set_where test x ts)
+  pub set-free : (test : Task → Bool) (x : Task) (ts : List Task) → TaskFree colour drawn x → TasksFree colour drawn ts
+      → TasksFree colour drawn (set_where test x ts)
   set-free test x [] a h = tt
   set-free test x (t ∷ ts) a h = put-free (test t) x t ts (set_where test x ts) a h (set-free test x ts a h.1)
 
   some-is : (t u : Task) → Some t ≡ Some u → t ≡ u
   some-is t u e = cc
 
-  first-free : (test : Bool) (t : Task) (rest : Option Task) (u : Task) → TaskFree colour drawn t → (rest ≡ Some u → TaskFree colour drawn u) → cond test (Some t) rest ≡ Some u → TaskFree colour drawn u
+  first-free : (test : Bool) (t : Task) (rest : Option Task) (u : Task) → TaskFree colour drawn t → (rest ≡ Some u → TaskFree colour drawn u)
+      → cond test (Some t) rest ≡ Some u → TaskFree colour drawn u
   first-free true t rest u a k e = subst (TaskFree colour drawn) (some-is t u e) a
   first-free false t rest u a k e = k e
 
@@ -130,15 +137,18 @@ module _ (colour : Colour) (drawn : ℕ) where
 
 -- ---- the marks of a task, and the region in which it creates others
 
-found-marks : (colour : Colour) (drawn : ℕ) (found : Option Task) → ((t : Task) → found ≡ Some t → TaskFree colour drawn t) → MarksFree colour drawn (natures (unwrap_or found nobody).frames)
+found-marks : (colour : Colour) (drawn : ℕ) (found : Option Task) → ((t : Task) → found ≡ Some t → TaskFree colour drawn t)
+    → MarksFree colour drawn (natures (unwrap_or found nobody).frames)
 found-marks colour drawn None h = tt
 found-marks colour drawn (Some t) h = (h t refl).marks
 
 pub marks-free : (colour : Colour) (w : World) (name : Who) → IsTask name → Apart colour w → MarksFree colour w.drawn.regions (natures (frames_of w name))
 marks-free colour w who.Agent is h = elim is [ ]
-marks-free colour w (who.Task n) is h = found-marks colour w.drawn.regions (found_task (who.Task n) w.tasks) (λ t e. found-free colour w.drawn.regions (is_who (who.Task n)) w.tasks t h.tasks e)
+marks-free colour w (who.Task n) is h =
+    found-marks colour w.drawn.regions (found_task (who.Task n) w.tasks) (λ t e. found-free colour w.drawn.regions (is_who (who.Task n)) w.tasks t h.tasks e)
 
-region-found : (colour : Colour) (drawn : ℕ) (r : Option RegionNo) → colour 0 ≡ false → RegionFree colour drawn r → RegionFree colour drawn (Some (region_or_none r))
+region-found : (colour : Colour) (drawn : ℕ) (r : Option RegionNo) → colour 0 ≡ false → RegionFree colour drawn r
+    → RegionFree colour drawn (Some (region_or_none r))
 region-found colour drawn None none h = (none, omega arith)
 region-found colour drawn (Some r) none h = h
 
@@ -146,7 +156,8 @@ region_of : Option Frame → Option RegionNo
 region_of None = None
 region_of (Some f) = region_of_mark f.mark
 
-first-region : (colour : Colour) (drawn : ℕ) (frames : List Frame) → MarksFree colour drawn (natures frames) → RegionFree colour drawn (region_of (first_of frames))
+first-region : (colour : Colour) (drawn : ℕ) (frames : List Frame) → MarksFree colour drawn (natures frames)
+    → RegionFree colour drawn (region_of (first_of frames))
 unfolding region_of
 first-region colour drawn [] h = tt
 first-region colour drawn (f ∷ fs) h = h.1
@@ -159,4 +170,5 @@ region_of-top (Some f) = refl
 pub top_region-free : (colour : Colour) (w : World) (name : Who) → IsTask name → Apart colour w → RegionFree colour w.drawn.regions (Some (top_region w name))
 top_region-free colour w name is h =
     subst (λ r. RegionFree colour w.drawn.regions (Some r)) (region_of-top (top_of w name))
-    (region-found colour w.drawn.regions (region_of (top_of w name)) h.none (first-region colour w.drawn.regions (frames_of w name) (marks-free colour w name is h)))
+    (region-found colour w.drawn.regions (region_of (top_of w name)) h.none
+    (first-region colour w.drawn.regions (frames_of w name) (marks-free colour w name is h)))

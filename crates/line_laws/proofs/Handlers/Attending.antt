@@ -10,7 +10,8 @@ use Rattle.profile_machine.specs.declared.world.lines.Said.{Said}
 use Rattle.ann_base.specs.Lists.{is_empty}
 use Rattle.machine_laws.proofs.Moves.{lines_of}
 use Rattle.machine_laws.proofs.FineMoves.{Nature, natures}
-use Rattle.line_laws.proofs.Handlers.AgentLines.{placed_behind, calls_agent, are_calls, are_calls-append, NoneBlocks, NoneBlocks-append, NoneCalls, Closes, Closes-behind, Closes-before, lines-call, lines-close}
+use Rattle.line_laws.proofs.Handlers.AgentLines.{placed_behind, calls_agent, are_calls, are_calls-append, NoneBlocks, NoneBlocks-append}
+use Rattle.line_laws.proofs.Handlers.AgentLines.{NoneCalls, Closes, Closes-behind, Closes-before, lines-call, lines-close}
 use Rattle.line_laws.proofs.Handlers.AgentWorlds.{Colour, Apart}
 use Rattle.line_laws.proofs.Handlers.AgentMarks.{Standing}
 use Rattle.line_laws.proofs.Handlers.SparedMoves.{agent_runs, Attends_all, Spared, or-assoc}
@@ -32,7 +33,8 @@ pub data Placing (before : Bool) (lines : List Said) (after : Bool) : Type 0 whe
   calm_so : NoneBlocks lines → after ≡ (before || are_calls lines) → Placing before lines after
   closes_so : Closes lines → after ≡ false → Placing before lines after
 
-pub placing-lines : (p : Image) (before : Bool) (lines : List Said) (after : Bool) → Placing before lines after → placed_behind before (lines_of p lines) ≡ after
+pub placing-lines : (p : Image) (before : Bool) (lines : List Said) (after : Bool) → Placing before lines after
+    → placed_behind before (lines_of p lines) ≡ after
 placing-lines p before lines after (calm_so calm e) = lines-call p before lines calm ∙ sym e
 placing-lines p before lines after (closes_so closed e) = lines-close p before lines closed ∙ sym e
 
@@ -40,12 +42,14 @@ pub or_false : (b : Bool) → (b || false) ≡ b
 or_false true = refl
 or_false false = refl
 
-pub called-append : (before between after : Bool) (xs ys : List Said) → between ≡ (before || are_calls xs) → after ≡ (between || are_calls ys) → after ≡ (before || are_calls (xs ++ ys))
+pub called-append : (before between after : Bool) (xs ys : List Said) → between ≡ (before || are_calls xs) → after ≡ (between || are_calls ys)
+    → after ≡ (before || are_calls (xs ++ ys))
 called-append before between after xs ys e f =
     f ∙ ap (λ q. q || are_calls ys) e ∙ or-assoc before (are_calls xs) (are_calls ys) ∙ ap (λ q. before || q) (sym (are_calls-append xs ys))
 
 -- behind lines that do not take it out
-pub calm-placing : (before between after : Bool) (xs ys : List Said) → NoneBlocks xs → between ≡ (before || are_calls xs) → Placing between ys after → Placing before (xs ++ ys) after
+pub calm-placing : (before between after : Bool) (xs ys : List Said) → NoneBlocks xs → between ≡ (before || are_calls xs) → Placing between ys after
+    → Placing before (xs ++ ys) after
 calm-placing before between after xs ys calm e (calm_so more f) = calm_so (NoneBlocks-append xs ys calm more) (called-append before between after xs ys e f)
 calm-placing before between after xs ys calm e (closes_so closed f) = closes_so (Closes-behind xs ys closed) f
 
@@ -54,9 +58,12 @@ none-called [] e = tt
 none-called (x ∷ xs) e = let parts = or_parts (calls_agent x.line) (are_calls xs) e in (parts.0, none-called xs parts.1)
 
 -- before lines that neither take it out nor place it
-pub placing-quiet : (before between after : Bool) (xs ys : List Said) → Placing before xs between → NoneBlocks ys → are_calls ys ≡ false → after ≡ (between || are_calls ys) → Placing before (xs ++ ys) after
-placing-quiet before between after xs ys (calm_so calm e) more quiet f = calm_so (NoneBlocks-append xs ys calm more) (called-append before between after xs ys e f)
-placing-quiet before between after xs ys (closes_so closed e) more quiet f = closes_so (Closes-before xs ys closed (none-called ys quiet)) (f ∙ ap (λ q. between || q) quiet ∙ or_false between ∙ e)
+pub placing-quiet : (before between after : Bool) (xs ys : List Said) → Placing before xs between → NoneBlocks ys → are_calls ys ≡ false
+    → after ≡ (between || are_calls ys) → Placing before (xs ++ ys) after
+placing-quiet before between after xs ys (calm_so calm e) more quiet f =
+    calm_so (NoneBlocks-append xs ys calm more) (called-append before between after xs ys e f)
+placing-quiet before between after xs ys (closes_so closed e) more quiet f =
+    closes_so (Closes-before xs ys closed (none-called ys quiet)) (f ∙ ap (λ q. between || q) quiet ∙ or_false between ∙ e)
 
 -- ---- what an action of the agent leads to
 
@@ -77,7 +84,8 @@ module _ (Stands : List Nature → Type 0) (stand : (ns : List Nature) → Stand
     attends = b.runs ∙ sym (ap (λ q. q || not (is_empty w.releases)) b.serves);
   }
 
-  pub busy-acted : (before : World) (lines : List Said) (after : World) → agent_runs before ≡ true → BusyStep Stands held before lines after → Acted before lines after
+  pub busy-acted : (before : World) (lines : List Said) (after : World) → agent_runs before ≡ true → BusyStep Stands held before lines after
+      → Acted before lines after
   busy-acted before lines after runs s = record {
     attending = busy-attends after s.busy;
     placing = calm_so s.calm (s.busy.runs ∙ sym (ap (λ q. q || are_calls lines) runs));
@@ -91,7 +99,10 @@ module _ (Stands : List Nature → Type 0) (stand : (ns : List Nature) → Stand
 
 -- what spares the agent, before and behind
 pub spared_then : (colour : Colour) (a b c : World) (xs ys : List Said) → Spared colour true a xs b → Acted b ys c → Acted a (xs ++ ys) c
-spared_then colour a b c xs ys s k = record { attending = k.attending; placing = calm-placing (agent_runs a) (agent_runs b) (agent_runs c) xs ys s.calm s.called k.placing }
+spared_then colour a b c xs ys s k = record {
+  attending = k.attending;
+  placing = calm-placing (agent_runs a) (agent_runs b) (agent_runs c) xs ys s.calm s.called k.placing;
+}
 
 pub attending-spared : (colour : Colour) (wakes : Bool) (a b : World) {lines : List Said} → Attending a → Spared colour wakes a lines b → Attending b
 attending-spared colour wakes a b h s = record {

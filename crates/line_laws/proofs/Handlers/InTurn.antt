@@ -1,6 +1,7 @@
 -- Every run serves releases in turn: the release that the agent serves is the last that was taken up, and the one behind the
 -- last that was served.
-use Rattle.std.proofs.Common.{◌≡◌, ℕ, ℤ, suc, ◌+◌, ◌≤◌, Bool, true, false, cond, ◌&&◌, if◌then◌else◌, option_map, eqb, leb, List, [], ◌∷◌, ◌++◌, length, Option, Some, None, refl, sym, ap, subst, ◌∙◌, eq-eqb, arith}
+use Rattle.std.proofs.Common.{◌≡◌, ℕ, ℤ, suc, ◌+◌, ◌≤◌, Bool, true, false, cond, ◌&&◌, if◌then◌else◌, option_map, eqb, leb}
+use Rattle.std.proofs.Common.{List, [], ◌∷◌, ◌++◌, length, Option, Some, None, refl, sym, ap, subst, ◌∙◌, eq-eqb, arith}
 use Rattle.std.specs.Prelude.{unwrap_or}
 use Rattle.std.proofs.lemmas.Bool.{and_from, le-leb}
 use Rattle.trace_text.specs.declared.events.Event.{Event}
@@ -27,7 +28,8 @@ use Rattle.profile_machine.specs.Cost.{cost}
 use Rattle.profile_machine.specs.Handlers.{charge}
 use Rattle.profile_machine.specs.Instant.{instant}
 use Rattle.profile_machine.specs.declared.world.appointments.HandlerOf.{HandlerOf}
-use Rattle.profile_machine.specs.Run.{opens, opening, blank_world, with_serving, say, serve_if_free, serve, says_idle, one_tick_less, begin_action, tock, run_of}
+use Rattle.profile_machine.specs.Run.{opens, opening, blank_world, with_serving, say, serve_if_free}
+use Rattle.profile_machine.specs.Run.{serve, says_idle, one_tick_less, begin_action, tock, run_of}
 use Rattle.machine_laws.proofs.FinestMoves.{all_of, effect-leads}
 use Rattle.machine_laws.proofs.Moves.{Moves, AreOthers, own, is_told_apart}
 use Rattle.machine_laws.proofs.Kept.Handlers.{charge-alters}
@@ -119,7 +121,8 @@ record Next (p : Image) (x : Line) (s : Releases) (f : Turn → Type 0) : Type 0
 one_off-alone : (number : ℕ) (numbers : List ℕ) → numbers ≡ number ∷ [] → one_off number numbers ≡ []
 one_off-alone number numbers e = ap (one_off number) e ∙ ap (λ test. if test then [] else number ∷ []) (eq-eqb number number refl)
 
-came-next : (p : Image) (number : ℕ) (handler : HandlerOf) (turn : Turn) (s : Releases) (f : Turn → Type 0) → Fits turn s → number ≡ suc turn.0 → f (suc turn.0, turn.1) → Next p (said.Release number handler) s f
+came-next : (p : Image) (number : ℕ) (handler : HandlerOf) (turn : Turn) (s : Releases) (f : Turn → Type 0) → Fits turn s → number ≡ suc turn.0
+    → f (suc turn.0, turn.1) → Next p (said.Release number handler) s f
 came-next p number handler turn s f fits e onward =
     let all_came : turn.0 ≡ s.released = fits.all_came in
     let within : s.begun ≤ s.released = fits.within in
@@ -131,7 +134,8 @@ came-next p number handler turn s f fits e onward =
       onward = onward;
     }
 
-ended-next : (p : Image) (number : ℕ) (turn : Turn) (s : Releases) (f : Turn → Type 0) → Fits turn s → turn.1 ≡ Some number → f (turn.0, None) → Next p (said.Served number) s f
+ended-next : (p : Image) (number : ℕ) (turn : Turn) (s : Releases) (f : Turn → Type 0) → Fits turn s → turn.1 ≡ Some number → f (turn.0, None)
+    → Next p (said.Served number) s f
 ended-next p number turn s f fits e onward =
     let serves : Serves (Some number) s.serving s.begun s.served = subst (λ q. Serves q s.serving s.begun s.served) e fits.serves in
     let last : number ≡ s.begun = serves.1 in
@@ -139,16 +143,25 @@ ended-next p number turn s f fits e onward =
     let within : s.begun ≤ s.released = fits.within in
     record {
       turn = (turn.0, None);
-      right = and_from (eqb number (s.served + 1)) (leb number s.released) (eq-eqb number (s.served + 1) (omega (arith, last, next))) (le-leb number s.released (omega (arith, last, within)));
+      right =
+          and_from (eqb number (s.served + 1)) (leb number s.released) (eq-eqb number (s.served + 1) (omega (arith, last, next)))
+          (le-leb number s.released (omega (arith, last, within)));
       fits_next = record { all_came = fits.all_came; within = within; serves = (one_off-alone number s.serving serves.0, omega (arith, next)) };
       begun_next = refl;
       onward = onward;
     }
 
-line-next : (p : Image) (x : Line) (part : Part) (turn : Turn) (s : Releases) (f : Turn → Type 0) → Fits turn s → tells_turn part (telling_of x) turn f → Next p x s f
+line-next : (p : Image) (x : Line) (part : Part) (turn : Turn) (s : Releases) (f : Turn → Type 0) → Fits turn s → tells_turn part (telling_of x) turn f
+    → Next p x s f
 line-next p (said.Release number handler) part turn s f fits h = came-next p number handler turn s f fits h.1 h.2
 line-next p (said.Served number) part turn s f fits h = ended-next p number turn s f fits h.1 h.2
-line-next p _ part turn s f fits h = record { turn = turn; right = refl; fits_next = record { all_came = fits.all_came; within = fits.within; serves = fits.serves }; begun_next = refl; onward = h }
+line-next p _ part turn s f fits h = record {
+  turn = turn;
+  right = refl;
+  fits_next = record { all_came = fits.all_came; within = fits.within; serves = fits.serves };
+  begun_next = refl;
+  onward = h;
+}
 
 told-lead : (p : Image) (xs : List Said) (turn last : Turn) (s : Releases) → Fits turn s → TellsTurn xs turn last → LeadTo s (events_of p xs) last
 told-lead p [] turn last s fits h = record { in_turn = tt; fits_behind = subst (λ q. Fits q s) h fits; begun_behind = refl }
@@ -205,7 +218,10 @@ tells_turns = record {
   says = λ part line w other. (other-on part line (turn_of w) (λ q. q ≡ turn_of w) other refl, λ n h. h);
   rests = λ w. (λ s fits. record { in_turn = tt; fits_behind = fits; begun_behind = refl }, λ n h. h);
   leads_on = λ a b c {xs} {ys} p q. shown-then a b c xs ys p q;
-  settles = λ p a b xs k. (λ s fits. told-lead p (in_order xs) (turn_of a) (turn_of b) s fits (Told-in_order telling_of IsRight turn_after xs (turn_of a) (turn_of b) k.0), k.1);
+  settles = λ p a b xs k. (
+    λ s fits. told-lead p (in_order xs) (turn_of a) (turn_of b) s fits (Told-in_order telling_of IsRight turn_after xs (turn_of a) (turn_of b) k.0),
+    k.1,
+  );
   silently = λ a b k. (λ s fits. record { in_turn = tt; fits_behind = subst (λ q. Fits q s) k.0 fits; begun_behind = refl }, k.1);
   edits_task = λ name f w k. edit_task-unmoved name f w;
   adds_task = λ t w k. unmoved w;
@@ -237,7 +253,10 @@ tells_turns = record {
   adds_budget = λ w. unmoved w;
   edits_budget = λ b f w. unmoved w;
   sets_budget_due = λ budget w. unmoved w;
-  releases = λ handler argument w. ((refl, refl, refl), λ n h. Pending-behind n w.drawn.releases w.releases (record { number = suc w.drawn.releases; handler = handler; argument = argument }) refl h);
+  releases = λ handler argument w. (
+    (refl, refl, refl),
+    λ n h. Pending-behind n w.drawn.releases w.releases (record { number = suc w.drawn.releases; handler = handler; argument = argument }) refl h,
+  );
   has_served = λ r w is. ((refl, ap number_of is, refl), λ n h. h);
   sets_port = λ n value w. unmoved w;
   masks = λ n flag w. unmoved w;
@@ -262,7 +281,10 @@ moves-lead_on s before lines after m h =
     let lead = m.0 s h.fits_now in
     record {
       follow = lead.in_turn;
-      shows = record { fits_now = lead.fits_behind; pending_now = subst (λ n. Pending n after.drawn.releases after.releases) (sym lead.begun_behind) (m.1 s.begun h.pending_now) };
+      shows = record {
+        fits_now = lead.fits_behind;
+        pending_now = subst (λ n. Pending n after.drawn.releases after.releases) (sym lead.begun_behind) (m.1 s.begun h.pending_now);
+      };
     }
 
 pub nothing_shown : (p : Image) (script : List (ℤ × Item)) → ShowsTurn no_releases (blank_world p script)
@@ -271,27 +293,36 @@ nothing_shown p script = record { fits_now = record { all_came = refl; within = 
 openings-lead_on : (p : Image) (script : List (ℤ × Item)) → LeadsOn no_releases (opening p script).1 (opening p script).0
 unfolding Leads
 openings-lead_on p script =
-    moves-lead_on no_releases (blank_world p script) (opening p script).1 (opening p script).0 (effect-leads (all_of tells_turns).fine p (opens p) (opens-keeps (all_of tells_turns) p) (blank_world p script) tt) (nothing_shown p script)
+    moves-lead_on no_releases (blank_world p script) (opening p script).1 (opening p script).0
+    (effect-leads (all_of tells_turns).fine p (opens p) (opens-keeps (all_of tells_turns) p) (blank_world p script) tt) (nothing_shown p script)
 
 instants-lead_on : (p : Image) (s : Releases) (w : World) → ShowsTurn s w → LeadsOn s (instant p w).1 (instant p w).0
 unfolding Leads
 instants-lead_on p s w h =
-    moves-lead_on s w (instant p w).1 (instant p w).0 (instant-leads (all_of tells_turns) p (record { puts = λ name s pieces text v x good is e. unmoved x }) w tt) h
+    moves-lead_on s w (instant p w).1 (instant p w).0
+    (instant-leads (all_of tells_turns) p (record { puts = λ name s pieces text v x good is e. unmoved x }) w tt) h
 
 -- ---- a tock takes up the first that is pending, where none is being served
 
 -- a line of a tock that takes up none shows nothing of releases
 run-shows : (s : Releases) (name : Who) (w : World) → ShowsTurn s w → ShowsTurn (see_releases s (line.Run name)) w
-run-shows s name w h = record { fits_now = record { all_came = h.fits_now.all_came; within = h.fits_now.within; serves = h.fits_now.serves }; pending_now = h.pending_now }
+run-shows s name w h = record {
+  fits_now = record { all_came = h.fits_now.all_came; within = h.fits_now.within; serves = h.fits_now.serves };
+  pending_now = h.pending_now;
+}
 
 idle-shows : (s : Releases) (w : World) → ShowsTurn s w → ShowsTurn (see_releases s line.Idle) w
-idle-shows s w h = record { fits_now = record { all_came = h.fits_now.all_came; within = h.fits_now.within; serves = h.fits_now.serves }; pending_now = h.pending_now }
+idle-shows s w h = record {
+  fits_now = record { all_came = h.fits_now.all_came; within = h.fits_now.within; serves = h.fits_now.serves };
+  pending_now = h.pending_now;
+}
 
 idle-lead_on : (ran : Option Who) (w : World) (s : Releases) → ShowsTurn s w → LeadsOn s (says_idle ran w).1 (says_idle ran w).0
 idle-lead_on None w s h = record { follow = tt; shows = h }
 idle-lead_on (Some name) w s h = record { follow = (refl, tt); shows = idle-shows s w h }
 
-taken_up : (s : Releases) (w : World) (r : Release) (rest : List Release) → w.serving ≡ None → w.releases ≡ r ∷ rest → ShowsTurn s w → LeadsOn s (line.Serve r.number ∷ []) (with_serving r rest w)
+taken_up : (s : Releases) (w : World) (r : Release) (rest : List Release) → w.serving ≡ None → w.releases ≡ r ∷ rest → ShowsTurn s w
+    → LeadsOn s (line.Serve r.number ∷ []) (with_serving r rest w)
 taken_up s w r rest is e h =
     let serves : Serves None s.serving s.begun s.served = subst (λ q. Serves (number_of q) s.serving s.begun s.served) is h.fits_now.serves in
     let first : Pending s.begun w.drawn.releases (r ∷ rest) = subst (Pending s.begun w.drawn.releases) e h.pending_now in
@@ -303,7 +334,8 @@ taken_up s w r rest is e h =
     record {
       follow = (
         and_from (eqb r.number (s.begun + 1) && leb r.number s.released) (eqb (length s.serving) 0)
-            (and_from (eqb r.number (s.begun + 1)) (leb r.number s.released) (eq-eqb r.number (s.begun + 1) (omega (arith, number))) (le-leb r.number s.released (omega (arith, number, drawn, all_came))))
+            (and_from (eqb r.number (s.begun + 1)) (leb r.number s.released) (eq-eqb r.number (s.begun + 1) (omega (arith, number)))
+            (le-leb r.number s.released (omega (arith, number, drawn, all_came))))
             (ap (λ (q : List ℕ). eqb (length q) 0) serves.0),
         tt,
       );
@@ -317,7 +349,10 @@ taken_up s w r rest is e h =
       };
     }
 
-serve_if_free-lead_on : (serving : Option Release) (frames : List Frame) (releases : List Release) (w : World) (s : Releases) → w.serving ≡ serving → w.releases ≡ releases → ShowsTurn s w → let done = serve_if_free serving frames releases w in LeadsOn s (done.1 ++ []) done.0
+serve_if_free-lead_on : (serving : Option Release) (frames : List Frame) (releases : List Release) (w : World) (s : Releases) → w.serving ≡ serving
+    → w.releases ≡ releases → ShowsTurn s w →
+    let done = serve_if_free serving frames releases w in
+    LeadsOn s (done.1 ++ []) done.0
 serve_if_free-lead_on None [] [] w s is e h = record { follow = tt; shows = h }
 serve_if_free-lead_on None [] (r ∷ rest) w s is e h = taken_up s w r rest is e h
 serve_if_free-lead_on None (f ∷ fs) releases w s is e h = record { follow = tt; shows = h }
@@ -335,21 +370,27 @@ charged-unmoved p name w =
     let begun = begin_action p name w in
     let paid = charge p name begun in
     unmoved-then w begun (charged p name w) (edit_task-unmoved name (with_ticks (Some (unwrap_or (task_of w name).ticks_left (cost p w name)))) w)
-    (unmoved-then begun paid (charged p name w) (charge-alters (all_of tells_turns).fine (all_of tells_turns).settings p name begun tt) (edit_task-unmoved name (λ t. with_ticks (one_tick_less t.ticks_left) t) paid))
+    (unmoved-then begun paid (charged p name w) (charge-alters (all_of tells_turns).fine (all_of tells_turns).settings p name begun tt)
+    (edit_task-unmoved name (λ t. with_ticks (one_tick_less t.ticks_left) t) paid))
 
-served-lead_on : (p : Image) (name : Who) (s : Releases) (w : World) → ShowsTurn s w → let done = serve name w in LeadsOn s (done.1 ++ []) (charged p name done.0)
+served-lead_on : (p : Image) (name : Who) (s : Releases) (w : World) → ShowsTurn s w →
+    let done = serve name w in
+    LeadsOn s (done.1 ++ []) (charged p name done.0)
 served-lead_on p name s w h =
     let done = serve name w in
     let lead = serve-lead_on name w s h in
     record { follow = lead.follow; shows = shows-unmoved (behind s (done.1 ++ [])) done.0 (charged p name done.0) lead.shows (charged-unmoved p name done.0) }
 
-run-lead_on : (p : Image) (same : Bool) (name : Who) (w : World) (s : Releases) → ShowsTurn s w → let first = cond same rests (say (line.Run name)) w in let done = serve name first.0 in LeadsOn s (first.1 ++ (done.1 ++ [])) (charged p name done.0)
+run-lead_on : (p : Image) (same : Bool) (name : Who) (w : World) (s : Releases) → ShowsTurn s w →
+    let first = cond same rests (say (line.Run name)) w in
+    let done = serve name first.0 in LeadsOn s (first.1 ++ (done.1 ++ [])) (charged p name done.0)
 run-lead_on p true name w s h = served-lead_on p name s w h
 run-lead_on p false name w s h =
     let lead = served-lead_on p name (see_releases s (line.Run name)) w (run-shows s name w h) in
     record { follow = (refl, lead.follow); shows = lead.shows }
 
-before_tick-lead_on : (p : Image) (chosen : Option Who) (w : World) (s : Releases) → ShowsTurn s w → LeadsOn s (before_tick p chosen w).1 (before_tick p chosen w).0
+before_tick-lead_on : (p : Image) (chosen : Option Who) (w : World) (s : Releases) → ShowsTurn s w
+    → LeadsOn s (before_tick p chosen w).1 (before_tick p chosen w).0
 before_tick-lead_on p None w s h = idle-lead_on w.ran w s h
 before_tick-lead_on p (Some name) w s h = run-lead_on p (same_option same_who w.ran (Some name)) name w s h
 

@@ -26,7 +26,8 @@ use Rattle.machine_laws.proofs.FineMoves.{FineMoves, Anybody, Nature, nature, na
 use Rattle.machine_laws.proofs.FinestMoves.{FinestMoves, SettingMoves, setting_moves, MarkOpenings, finest, begun}
 use Rattle.line_laws.proofs.Handlers.AgentLines.{placed_behind, placed_behind-append, are_calls, NoneBlocks, NoneBlocks-append, lines-call}
 use Rattle.line_laws.proofs.Handlers.AgentWorlds.{IsTask, Colour, RegionOwned, MarksOwned, Apart}
-use Rattle.line_laws.proofs.Handlers.AgentMarks.{Rooted, Stacking, rooted, rooted-unabortable, rooted-inside, has_top, rooted-pushed, with_next, tasks-free, region-owned, marks-owned, next-drawn, next-none, next-owned}
+use Rattle.line_laws.proofs.Handlers.AgentMarks.{Rooted, Stacking, rooted, rooted-unabortable, rooted-inside, has_top, rooted-pushed}
+use Rattle.line_laws.proofs.Handlers.AgentMarks.{with_next, tasks-free, region-owned, marks-owned, next-drawn, next-none, next-owned}
 use Rattle.line_laws.proofs.Handlers.SparedMoves.{visit-calm, agent_runs, Spared, coarse_spares, coarse_openings}
 
 -- the agent serves, and its marks stand
@@ -46,11 +47,13 @@ pub record BusyMove (Stands : List Nature → Type 0) (held : Option RegionNo) (
   pub busy : Busy Stands held after
   pub placed : placed_behind true lines ≡ true
 
-natures-pushed : (Stands : List Nature → Type 0) → Stacking Stands → (n : Nature) (fs : List Frame) (f : Frame) (rest : List Frame) → fs ≡ f ∷ rest → n.release ≡ None → n.abortable ≡ false → Stands (natures fs) → Stands (n ∷ natures fs)
+natures-pushed : (Stands : List Nature → Type 0) → Stacking Stands → (n : Nature) (fs : List Frame) (f : Frame) (rest : List Frame) → fs ≡ f ∷ rest
+    → n.release ≡ None → n.abortable ≡ false → Stands (natures fs) → Stands (n ∷ natures fs)
 natures-pushed Stands stacking n fs f rest e release abortable h =
     subst (λ q. Stands (n ∷ natures q)) (sym e) (stacking.opened n (nature f.mark) (natures rest) release abortable (subst (λ q. Stands (natures q)) e h))
 
-natures-popped : (Stands : List Nature → Type 0) → Stacking Stands → (fs : List Frame) (f : Frame) (rest : List Frame) → fs ≡ f ∷ rest → is_protected f.mark ≡ false → Stands (natures fs) → Stands (natures (rest_of fs))
+natures-popped : (Stands : List Nature → Type 0) → Stacking Stands → (fs : List Frame) (f : Frame) (rest : List Frame) → fs ≡ f ∷ rest
+    → is_protected f.mark ≡ false → Stands (natures fs) → Stands (natures (rest_of fs))
 natures-popped Stands stacking fs f rest e action h =
     subst (λ q. Stands (natures (rest_of q))) (sym e) (stacking.ended (nature f.mark) (natures rest) action (subst (λ q. Stands (natures q)) e h))
 
@@ -66,7 +69,8 @@ first-same onward [] = refl
 first-same onward (f ∷ fs) = refl
 
 -- the marks of the agent are others
-pub agent_marked : (colour : Colour) (w : World) (fs : List Frame) → Apart colour w → MarksOwned colour (natures fs) → Apart colour (record w { agent = with_frames fs w.agent })
+pub agent_marked : (colour : Colour) (w : World) (fs : List Frame) → Apart colour w → MarksOwned colour (natures fs)
+    → Apart colour (record w { agent = with_frames fs w.agent })
 agent_marked colour w fs a owned = record { tasks = a.tasks; marks = owned; attends = a.attends; drawn = a.drawn; none = a.none }
 
 module _ {Stands : List Nature → Type 0} (stacking : Stacking Stands) (held : Option RegionNo) where
@@ -91,21 +95,35 @@ module _ {Stands : List Nature → Type 0} (stacking : Stacking Stands) (held : 
   }
 
   -- marks of the agent
-  pub own_pushed : (f : Frame) (w : World) → (good : G w) → Stands (nature f.mark ∷ natures w.agent.frames) → RegionOwned good.colour (nature f.mark).region → R w [] (push who.Agent f w)
+  pub own_pushed : (f : Frame) (w : World) → (good : G w) → Stands (nature f.mark ∷ natures w.agent.frames) → RegionOwned good.colour (nature f.mark).region
+      → R w [] (push who.Agent f w)
   own_pushed f w good stands region = record {
-    busy = record { colour = good.colour; apart = agent_marked good.colour w (f ∷ w.agent.frames) good.apart (region, good.apart.marks); held_owned = good.held_owned; marks = stands; runs = good.runs; serves = good.serves };
+    busy = record {
+      colour = good.colour;
+      apart = agent_marked good.colour w (f ∷ w.agent.frames) good.apart (region, good.apart.marks);
+      held_owned = good.held_owned;
+      marks = stands;
+      runs = good.runs;
+      serves = good.serves;
+    };
     calm = tt;
   }
 
-  own_pushed_on : (onward : Option StatementNo) (f g : Frame) (w : World) → G w → top_of w who.Agent ≡ Some g → (nature f.mark).region ≡ None → (nature f.mark).release ≡ None → (nature f.mark).abortable ≡ false → R w [] (push who.Agent f (gone_on who.Agent onward w))
+  own_pushed_on : (onward : Option StatementNo) (f g : Frame) (w : World) → G w → top_of w who.Agent ≡ Some g → (nature f.mark).region ≡ None
+      → (nature f.mark).release ≡ None → (nature f.mark).abortable ≡ false → R w [] (push who.Agent f (gone_on who.Agent onward w))
   own_pushed_on onward f g w good top region release abortable =
       let found = has_top w.agent.frames g top in
-      let stands : Stands (nature f.mark ∷ natures w.agent.frames) = natures-pushed Stands stacking (nature f.mark) w.agent.frames g found.0 found.1 release abortable good.marks in
+      let stands : Stands (nature f.mark ∷ natures w.agent.frames) =
+      natures-pushed Stands stacking (nature f.mark) w.agent.frames g found.0 found.1 release abortable good.marks in
       let same : natures (edit_first (goes_on onward) w.agent.frames) ≡ natures w.agent.frames = first-same onward w.agent.frames in
       record {
         busy = record {
           colour = good.colour;
-          apart = agent_marked good.colour w (f ∷ edit_first (goes_on onward) w.agent.frames) good.apart (no_region-owned good.colour (nature f.mark).region region, subst (MarksOwned good.colour) (sym same) good.apart.marks);
+          apart =
+              agent_marked good.colour w (f ∷ edit_first (goes_on onward) w.agent.frames) good.apart (
+                no_region-owned good.colour (nature f.mark).region region,
+                subst (MarksOwned good.colour) (sym same) good.apart.marks,
+              );
           held_owned = good.held_owned;
           marks = subst (λ ns. Stands (nature f.mark ∷ ns)) (sym same) stands;
           runs = good.runs;
@@ -129,8 +147,10 @@ module _ {Stands : List Nature → Type 0} (stacking : Stacking Stands) (held : 
         calm = tt;
       }
 
-  pushed_on : (name : Who) (onward : Option StatementNo) (f g : Frame) (w : World) → G w → top_of w name ≡ Some g → (nature f.mark).region ≡ None → (nature f.mark).release ≡ None → (nature f.mark).abortable ≡ false → R w [] (push name f (gone_on name onward w))
-  pushed_on (who.Task n) onward f g w good top region release abortable = spared w _ good ((coarse_spares good.colour true).pushes_on (who.Task n) onward f g w good.apart tt top region release abortable)
+  pushed_on : (name : Who) (onward : Option StatementNo) (f g : Frame) (w : World) → G w → top_of w name ≡ Some g → (nature f.mark).region ≡ None
+      → (nature f.mark).release ≡ None → (nature f.mark).abortable ≡ false → R w [] (push name f (gone_on name onward w))
+  pushed_on (who.Task n) onward f g w good top region release abortable =
+      spared w _ good ((coarse_spares good.colour true).pushes_on (who.Task n) onward f g w good.apart tt top region release abortable)
   pushed_on who.Agent onward f g w good top region release abortable = own_pushed_on onward f g w good top region release abortable
 
   popped : (name : Who) (f : Frame) (w : World) → G w → top_of w name ≡ Some f → is_protected f.mark ≡ false → R w [] (pop name w)
@@ -151,7 +171,20 @@ module _ {Stands : List Nature → Type 0} (stacking : Stacking Stands) (held : 
     rests = λ w g. record { busy = g; placed = refl };
     leads_on = λ a b c {xs} {ys} h k. record { busy = k.busy; placed = placed_behind-append true xs ys ∙ ap (λ q. placed_behind q ys) h.placed ∙ k.placed };
     settles = λ p a b xs h. record {
-      busy = record { colour = h.busy.colour; apart = record { tasks = h.busy.apart.tasks; marks = h.busy.apart.marks; attends = h.busy.apart.attends; drawn = h.busy.apart.drawn; none = h.busy.apart.none }; held_owned = h.busy.held_owned; marks = h.busy.marks; runs = h.busy.runs; serves = h.busy.serves };
+      busy = record {
+        colour = h.busy.colour;
+        apart = record {
+          tasks = h.busy.apart.tasks;
+          marks = h.busy.apart.marks;
+          attends = h.busy.apart.attends;
+          drawn = h.busy.apart.drawn;
+          none = h.busy.apart.none;
+        };
+        held_owned = h.busy.held_owned;
+        marks = h.busy.marks;
+        runs = h.busy.runs;
+        serves = h.busy.serves;
+      };
       placed = lines-call p true xs h.calm;
     };
     silently = λ a b h. record { busy = h.busy; placed = refl };
@@ -159,7 +192,9 @@ module _ {Stands : List Nature → Type 0} (stacking : Stacking Stands) (held : 
     task_other = λ n. tt;
     listed = λ w g. (coarse_spares g.colour true).listed w g.apart;
     awaits = λ name w g is. (coarse_spares g.colour true).awaits name w g.apart is;
-    edits_task = λ name f w g same_who same_frames same_state same_master. spared w _ g ((coarse_spares g.colour true).edits_task name f w g.apart same_who same_frames same_state same_master);
+    edits_task =
+        λ name f w g same_who same_frames same_state same_master.
+        spared w _ g ((coarse_spares g.colour true).edits_task name f w g.apart same_who same_frames same_state same_master);
     edits_frames = λ name f w g same. spared w _ g ((coarse_spares g.colour true).edits_frames name f w g.apart same);
     pushes_on = λ name onward f h w g may top region release abortable. pushed_on name onward f h w g top region release abortable;
     opens_abortable = λ name f w g o region release. spared w _ g ((coarse_spares g.colour true).opens_abortable name f w g.apart o region release);
@@ -168,7 +203,8 @@ module _ {Stands : List Nature → Type 0} (stacking : Stacking Stands) (held : 
     blocks = λ name waiting w g o. spared w _ g ((coarse_spares g.colour true).blocks name waiting w g.apart o);
     places = λ p part name end w g may. placed p part name end w g;
     says_blocked = λ part name waiting w g o. spared w w g ((coarse_spares g.colour true).says_blocked part name waiting w g.apart o);
-    adds_task = λ name onward t w g o same_who none master. spared w _ g ((coarse_spares g.colour true).adds_task name onward t w g.apart o same_who none master);
+    adds_task =
+        λ name onward t w g o same_who none master. spared w _ g ((coarse_spares g.colour true).adds_task name onward t w g.apart o same_who none master);
     forgets_task = λ name w g. spared w _ g ((coarse_spares g.colour true).forgets_task name w g.apart);
     sets_quantum = λ level ticks w g. spared w _ g ((coarse_spares g.colour true).sets_quantum level ticks w g.apart);
     ends_environment = λ leaving w g. spared w _ g ((coarse_spares g.colour true).ends_environment leaving w g.apart);
@@ -210,16 +246,21 @@ module _ {Stands : List Nature → Type 0} (stacking : Stacking Stands) (held : 
 -- ---- the agent opens marks above its action
 
 module _ (held : Option RegionNo) where
-  own_above : (f : Frame) (w : World) → Busy Rooted held w → (nature f.mark).region ≡ None → (nature f.mark).release ≡ None → (nature f.mark).abortable ≡ false → BusyStep Rooted held w [] (push who.Agent f w)
+  own_above : (f : Frame) (w : World) → Busy Rooted held w → (nature f.mark).region ≡ None → (nature f.mark).release ≡ None → (nature f.mark).abortable ≡ false
+      → BusyStep Rooted held w [] (push who.Agent f w)
   own_above f w good region release abortable =
-      own_pushed rooted held f w good (rooted-pushed (nature f.mark) (natures w.agent.frames) release abortable good.marks) (no_region-owned good.colour (nature f.mark).region region)
+      own_pushed rooted held f w good (rooted-pushed (nature f.mark) (natures w.agent.frames) release abortable good.marks)
+      (no_region-owned good.colour (nature f.mark).region region)
 
-  pushed_above : (name : Who) (f : Frame) (w : World) → Busy Rooted held w → (nature f.mark).region ≡ None → (nature f.mark).release ≡ None → (nature f.mark).abortable ≡ false → BusyStep Rooted held w [] (push name f w)
-  pushed_above (who.Task n) f w good region release abortable = spared rooted held w _ good ((coarse_openings good.colour true).pushes (who.Task n) f w good.apart tt region release abortable)
+  pushed_above : (name : Who) (f : Frame) (w : World) → Busy Rooted held w → (nature f.mark).region ≡ None → (nature f.mark).release ≡ None
+      → (nature f.mark).abortable ≡ false → BusyStep Rooted held w [] (push name f w)
+  pushed_above (who.Task n) f w good region release abortable =
+      spared rooted held w _ good ((coarse_openings good.colour true).pushes (who.Task n) f w good.apart tt region release abortable)
   pushed_above who.Agent f w good region release abortable = own_above f w good region release abortable
 
   -- a scope of the agent draws a coloured region
-  own_drawn : (f : Frame) (w : World) → Busy Rooted held w → (nature f.mark).region ≡ Some (record { 0 = suc w.drawn.regions }) → (nature f.mark).release ≡ None → (nature f.mark).abortable ≡ false → BusyStep Rooted held w [] (push who.Agent f (draw_region true w))
+  own_drawn : (f : Frame) (w : World) → Busy Rooted held w → (nature f.mark).region ≡ Some (record { 0 = suc w.drawn.regions }) → (nature f.mark).release ≡ None
+      → (nature f.mark).abortable ≡ false → BusyStep Rooted held w [] (push who.Agent f (draw_region true w))
   own_drawn f w good region release abortable =
       let drawn = w.drawn.regions in
       let coloured = with_next drawn good.colour in
@@ -228,7 +269,10 @@ module _ (held : Option RegionNo) where
           colour = coloured;
           apart = record {
             tasks = tasks-free good.colour drawn w.tasks good.apart.tasks;
-            marks = (subst (RegionOwned coloured) (sym region) (next-owned good.colour drawn), marks-owned good.colour drawn (natures w.agent.frames) good.apart.marks);
+            marks = (
+              subst (RegionOwned coloured) (sym region) (next-owned good.colour drawn),
+              marks-owned good.colour drawn (natures w.agent.frames) good.apart.marks,
+            );
             attends = good.apart.attends;
             drawn = next-drawn good.colour drawn good.apart.drawn;
             none = next-none good.colour drawn good.apart.none;
@@ -245,7 +289,8 @@ module _ (held : Option RegionNo) where
   from_before : (v w : World) {lines : List Said} (u : World) → BusyStep Rooted held v lines u → BusyStep Rooted held w lines u
   from_before v w u s = record { busy = s.busy; calm = s.calm }
 
-  own_opened : (kept : Bool) (purpose : Purpose) (first : Option StatementNo) (w v : World) → Busy Rooted held v → v.drawn.regions ≡ w.drawn.regions → BusyStep Rooted held w [] (push who.Agent (new_frame (new_scope_mark (next_id w) (region_of_next kept w) purpose) first) (draw_region kept v))
+  own_opened : (kept : Bool) (purpose : Purpose) (first : Option StatementNo) (w v : World) → Busy Rooted held v → v.drawn.regions ≡ w.drawn.regions
+      → BusyStep Rooted held w [] (push who.Agent (new_frame (new_scope_mark (next_id w) (region_of_next kept w) purpose) first) (draw_region kept v))
   own_opened false purpose first w v good e =
       let f = new_frame (new_scope_mark (next_id w) None purpose) first in
       from_before v w (push who.Agent f v) (own_above f v good refl refl refl)
@@ -253,10 +298,13 @@ module _ (held : Option RegionNo) where
       let f = new_frame (new_scope_mark (next_id w) (region_of_next true w) purpose) first in
       from_before v w (push who.Agent f (draw_region true v)) (own_drawn f v good (ap (λ n. Some (record { 0 = suc n })) (sym e)) refl refl)
 
-  scope_opened : (p : Image) (name : Who) (scope : ScopeNo) (b : Beginning) (purpose : Purpose) (w : World) → Busy Rooted held w → BusyStep Rooted held w [] (open_scope p name scope b purpose w)
-  scope_opened p (who.Task n) scope b purpose w good = spared rooted held w _ good ((coarse_openings good.colour true).opens_scope p (who.Task n) scope b purpose w good.apart tt)
+  scope_opened : (p : Image) (name : Who) (scope : ScopeNo) (b : Beginning) (purpose : Purpose) (w : World) → Busy Rooted held w
+      → BusyStep Rooted held w [] (open_scope p name scope b purpose w)
+  scope_opened p (who.Task n) scope b purpose w good =
+      spared rooted held w _ good ((coarse_openings good.colour true).opens_scope p (who.Task n) scope b purpose w good.apart tt)
   scope_opened p who.Agent scope b purpose w good =
-      own_opened (scope_of p scope).kept purpose (scope_of p scope).first w (begin_scope p who.Agent scope b w) ((busies rooted held).begins_scope p who.Agent scope b w good).busy refl
+      own_opened (scope_of p scope).kept purpose (scope_of p scope).first w (begin_scope p who.Agent scope b w)
+      ((busies rooted held).begins_scope p who.Agent scope b w good).busy refl
 
   pub busy-inside : (w : World) → Busy Rooted held w → in_protected w who.Agent ≡ true
   busy-inside w good = rooted-inside w.agent.frames good.marks
@@ -277,7 +325,9 @@ module _ (held : Option RegionNo) where
   pub busy_openings : MarkOpenings (Busy Rooted held) Anybody IsTask (BusyStep Rooted held)
   busy_openings = record {
     pushes = λ name f w g may region release action abortable. pushed_above name f w g region release abortable;
-    begins = λ name o mode call may w v xs g lets k. begun (coarse_busies rooted held) name o mode call None (λ u good. pushed_above name (new_frame (new_protected_mark o mode call None) None) u good refl refl refl) w v xs g lets k;
+    begins =
+        λ name o mode call may w v xs g lets k. begun (coarse_busies rooted held) name o mode call None
+        (λ u good. pushed_above name (new_frame (new_protected_mark o mode call None) None) u good refl refl refl) w v xs g lets k;
     opens_scope = λ p name scope b purpose w g may. scope_opened p name scope b purpose w g;
     outside = λ name w g may e. outside_task name w g e;
     within_part = λ name f w g may top e. part_of_task name f w g top e;

@@ -1,6 +1,7 @@
 -- What a task does spares the agent: it leaves the agent's marks and the release that it serves alone, and does not take it out
 -- of the ready queues; where it releases a handler it may wake it.
-use Rattle.std.proofs.Common.{◌≡◌, ℕ, suc, ◌≤◌, Bool, true, false, not, ◌||◌, List, [], ◌∷◌, ◌++◌, Option, Some, None, is_some, refl, sym, ap, subst, ◌∙◌, arith}
+use Rattle.std.proofs.Common.{◌≡◌, ℕ, suc, ◌≤◌, Bool, true, false, not, ◌||◌, List, [], ◌∷◌, ◌++◌}
+use Rattle.std.proofs.Common.{Option, Some, None, is_some, refl, sym, ap, subst, ◌∙◌, arith}
 use Rattle.std.proofs.lemmas.Bool.{false≢true, or_from}
 use Rattle.ann_base.specs.declared.identities.ObjectNo.{ObjectNo}
 use Rattle.ann_base.specs.declared.identities.RegionNo.{RegionNo}
@@ -30,7 +31,8 @@ use Rattle.profile_machine.specs.Protected.{open_action}
 use Rattle.ann_base.specs.Lists.{is_empty}
 use Rattle.world_tables.specs.Lists.{rest_of}
 use Rattle.profile_image.specs.Program.{scope_of}
-use Rattle.profile_machine.specs.Tasks.{task_at, edit_task_found, edit_task, with_state, with_frames, is_runnable, is_runnable_state, waiting_in, waiting_of, is_who}
+use Rattle.profile_machine.specs.Tasks.{task_at, edit_task_found, edit_task, with_state, with_frames}
+use Rattle.profile_machine.specs.Tasks.{is_runnable, is_runnable_state, waiting_in, waiting_of, is_who}
 use Rattle.profile_machine.specs.Frames.{edit_first, edit_top, goes_on, push, pop, new_frame}
 use Rattle.profile_machine.specs.Scopes.{begin_scope, draw_region, region_of_next, open_scope, next_id, new_scope_mark}
 use Rattle.profile_machine.specs.Masters.{waits_for_activation, forget_task}
@@ -39,9 +41,12 @@ use Rattle.profile_machine.specs.Tasking.{add_task}
 use Rattle.profile_machine.specs.Serving.{close_action}
 use Rattle.machine_laws.proofs.Moves.{Puts, own}
 use Rattle.machine_laws.proofs.FineMoves.{FineMoves, Openings, Exits, AnyRegion, nature, natures, is_apart, AreQuiet, ready_line, edit_task-drawn}
-use Rattle.machine_laws.proofs.FinestMoves.{FinestMoves, SettingMoves, setting_moves, MarkOpenings, OwnRegions, ActionEnds, Anyhow, finest, mark_openings, own_regions, action_ends}
-use Rattle.line_laws.proofs.Handlers.AgentLines.{placed_behind, placed_behind-append, calls_agent, blocks_agent, are_calls, are_calls-append, NoneBlocks, NoneBlocks-append, lines-call}
-use Rattle.line_laws.proofs.Handlers.AgentWorlds.{IsTask, Colour, RegionFree, MarksFree, TaskFree, TasksFree, MarksOwned, Attends, Apart, TasksFree-later, next-free, set-free, found-free, filter-free, append-free, listed-free, top_region-free}
+use Rattle.machine_laws.proofs.FinestMoves.{FinestMoves, SettingMoves, setting_moves, MarkOpenings, OwnRegions}
+use Rattle.machine_laws.proofs.FinestMoves.{ActionEnds, Anyhow, finest, mark_openings, own_regions, action_ends}
+use Rattle.line_laws.proofs.Handlers.AgentLines.{placed_behind, placed_behind-append, calls_agent, blocks_agent}
+use Rattle.line_laws.proofs.Handlers.AgentLines.{are_calls, are_calls-append, NoneBlocks, NoneBlocks-append, lines-call}
+use Rattle.line_laws.proofs.Handlers.AgentWorlds.{IsTask, Colour, RegionFree, MarksFree, TaskFree, TasksFree, MarksOwned, Attends, Apart, TasksFree-later}
+use Rattle.line_laws.proofs.Handlers.AgentWorlds.{next-free, set-free, found-free, filter-free, append-free, listed-free, top_region-free}
 
 -- no release ends
 abbrev pub NoRelease : Who → Option ℕ → Type 0
@@ -94,7 +99,8 @@ quiet-none [] a = tt
 quiet-none (x ∷ xs) a = (quiet-blocks x.line a.0, quiet-none xs a.1)
 
 -- an action that begins and ends at once
-pub visit-calm : (name : Who) (o : ObjectNo) (mode : Mode) (xs : List Said) → AreQuiet xs → NoneBlocks (own (said.Enter name o mode) ∷ xs ++ own (said.Exit name o) ∷ [])
+pub visit-calm : (name : Who) (o : ObjectNo) (mode : Mode) (xs : List Said) → AreQuiet xs
+    → NoneBlocks (own (said.Enter name o mode) ∷ xs ++ own (said.Exit name o) ∷ [])
 visit-calm name o mode xs quiet = (refl, NoneBlocks-append xs (own (said.Exit name o) ∷ []) (quiet-none xs quiet) (refl, tt))
 
 quiet-uncalled : (xs : List Said) → AreQuiet xs → are_calls xs ≡ false
@@ -124,7 +130,8 @@ module _ (colour : Colour) (wakes : Bool) where
   G = Apart colour
 
   -- a change of neither tasks nor the agent
-  still : (w v : World) → G w → v.tasks ≡ w.tasks → v.agent ≡ w.agent → v.drawn.regions ≡ w.drawn.regions → v.serving ≡ w.serving → v.releases ≡ w.releases → R w [] v
+  still : (w v : World) → G w → v.tasks ≡ w.tasks → v.agent ≡ w.agent → v.drawn.regions ≡ w.drawn.regions → v.serving ≡ w.serving → v.releases ≡ w.releases
+      → R w [] v
   still w v good tasks agent regions serving releases = record {
     apart = record {
       tasks = subst (λ ts. TasksFree colour v.drawn.regions ts) (sym tasks) (subst (λ n. TasksFree colour n w.tasks) (sym regions) good.tasks);
@@ -137,16 +144,23 @@ module _ (colour : Colour) (wakes : Bool) where
     serving_same = serving;
     calm = tt;
     called = ap is_runnable agent ∙ or_false (agent_runs w);
-    attends = λ h. ap is_runnable agent ∙ h ∙ sym (ap (λ s. is_some s || not (is_empty v.releases)) serving ∙ ap (λ rs. is_some w.serving || not (is_empty rs)) releases);
+    attends =
+        λ h.
+        ap is_runnable agent ∙ h ∙ sym (ap (λ s. is_some s || not (is_empty v.releases)) serving ∙ ap (λ rs. is_some w.serving || not (is_empty rs)) releases);
     quiet = λ e. refl;
   }
 
   -- an edit of somebody: of a task, what keeps it free; of the agent, what keeps marks and state
-  edited-found : (name : Who) (f : Task → Task) (w : World) (found : Option Task) → G w → task_at w name ≡ found → ((t : Task) → IsTask name → TaskFree colour w.drawn.regions t → TaskFree colour w.drawn.regions (f t)) → (name ≡ who.Agent → (natures (f w.agent).frames ≡ natures w.agent.frames) × ((f w.agent).state ≡ w.agent.state)) → R w [] (edit_task_found name f w found)
+  edited-found : (name : Who) (f : Task → Task) (w : World) (found : Option Task) → G w → task_at w name ≡ found
+      → ((t : Task) → IsTask name → TaskFree colour w.drawn.regions t → TaskFree colour w.drawn.regions (f t))
+      → (name ≡ who.Agent → (natures (f w.agent).frames ≡ natures w.agent.frames) × ((f w.agent).state ≡ w.agent.state))
+      → R w [] (edit_task_found name f w found)
   edited-found name f w None good is free same = still w w good refl refl refl refl refl
   edited-found (who.Task n) f w (Some t) good is free same = record {
     apart = record {
-      tasks = set-free colour w.drawn.regions (is_who (who.Task n)) (f t) w.tasks (free t tt (found-free colour w.drawn.regions (is_who (who.Task n)) w.tasks t good.tasks is)) good.tasks;
+      tasks =
+          set-free colour w.drawn.regions (is_who (who.Task n)) (f t) w.tasks
+          (free t tt (found-free colour w.drawn.regions (is_who (who.Task n)) w.tasks t good.tasks is)) good.tasks;
       marks = good.marks;
       attends = good.attends;
       drawn = good.drawn;
@@ -178,7 +192,9 @@ module _ (colour : Colour) (wakes : Bool) where
         quiet = λ e. refl;
       })
 
-  edited : (name : Who) (f : Task → Task) (w : World) → G w → ((t : Task) → IsTask name → TaskFree colour w.drawn.regions t → TaskFree colour w.drawn.regions (f t)) → (name ≡ who.Agent → (natures (f w.agent).frames ≡ natures w.agent.frames) × ((f w.agent).state ≡ w.agent.state)) → R w [] (edit_task name f w)
+  edited : (name : Who) (f : Task → Task) (w : World) → G w
+      → ((t : Task) → IsTask name → TaskFree colour w.drawn.regions t → TaskFree colour w.drawn.regions (f t))
+      → (name ≡ who.Agent → (natures (f w.agent).frames ≡ natures w.agent.frames) × ((f w.agent).state ≡ w.agent.state)) → R w [] (edit_task name f w)
   edited name f w good free same = edited-found name f w (task_at w name) good refl free same
 
   no_agent : (name : Who) → IsTask name → name ≡ who.Agent → ⊥
@@ -186,7 +202,8 @@ module _ (colour : Colour) (wakes : Bool) where
   no_agent who.Agent is e = is
 
   -- an edit of a task
-  task_edited : (name : Who) (f : Task → Task) (w : World) → G w → IsTask name → ((t : Task) → TaskFree colour w.drawn.regions t → TaskFree colour w.drawn.regions (f t)) → R w [] (edit_task name f w)
+  task_edited : (name : Who) (f : Task → Task) (w : World) → G w → IsTask name
+      → ((t : Task) → TaskFree colour w.drawn.regions t → TaskFree colour w.drawn.regions (f t)) → R w [] (edit_task name f w)
   task_edited name f w good is free = edited name f w good (λ t k. free t) (λ e. absurd (no_agent name is e))
 
   then : (a b c : World) {xs ys : List Said} → R a xs b → R b ys c → R a (xs ++ ys) c
@@ -195,7 +212,9 @@ module _ (colour : Colour) (wakes : Bool) where
     marks_same = k.marks_same ∙ h.marks_same;
     serving_same = k.serving_same ∙ h.serving_same;
     calm = NoneBlocks-append xs ys h.calm k.calm;
-    called = k.called ∙ ap (λ q. q || are_calls ys) h.called ∙ or-assoc (agent_runs a) (are_calls xs) (are_calls ys) ∙ ap (λ q. agent_runs a || q) (sym (are_calls-append xs ys));
+    called =
+        k.called ∙ ap (λ q. q || are_calls ys) h.called ∙ or-assoc (agent_runs a) (are_calls xs) (are_calls ys)
+        ∙ ap (λ q. agent_runs a || q) (sym (are_calls-append xs ys));
     attends = λ e. k.attends (h.attends e);
     quiet = λ e. are_calls-append xs ys ∙ or_from (are_calls xs) (are_calls ys) (h.quiet e) (k.quiet e);
   }
@@ -213,7 +232,8 @@ module _ (colour : Colour) (wakes : Bool) where
   }
 
   -- a mark of a task is opened, and ends
-  pushed : (name : Who) (f : Frame) (w : World) → G w → IsTask name → (nature f.mark).release ≡ None → RegionFree colour w.drawn.regions (nature f.mark).region → R w [] (push name f w)
+  pushed : (name : Who) (f : Frame) (w : World) → G w → IsTask name → (nature f.mark).release ≡ None → RegionFree colour w.drawn.regions (nature f.mark).region
+      → R w [] (push name f w)
   pushed name f w good is release region =
       task_edited name (λ t. with_frames (f ∷ t.frames) t) w good is (λ t h. record { named = h.named; marks = (release, region, h.marks); master = h.master })
 
@@ -226,9 +246,11 @@ module _ (colour : Colour) (wakes : Bool) where
 
   popped : (name : Who) (w : World) → G w → IsTask name → R w [] (pop name w)
   popped name w good is =
-      task_edited name (λ t. with_frames (rest_of t.frames) t) w good is (λ t h. record { named = h.named; marks = first-marks w.drawn.regions t.frames h.marks; master = h.master })
+      task_edited name (λ t. with_frames (rest_of t.frames) t) w good is
+      (λ t h. record { named = h.named; marks = first-marks w.drawn.regions t.frames h.marks; master = h.master })
 
-  frames_edited : (name : Who) (f : List Frame → List Frame) (w : World) → G w → ((fs : List Frame) → natures (f fs) ≡ natures fs) → R w [] (edit_task name (λ t. with_frames (f t.frames) t) w)
+  frames_edited : (name : Who) (f : List Frame → List Frame) (w : World) → G w → ((fs : List Frame) → natures (f fs) ≡ natures fs)
+      → R w [] (edit_task name (λ t. with_frames (f t.frames) t) w)
   frames_edited name f w good same =
       edited name (λ t. with_frames (f t.frames) t) w good
       (λ t is h. record { named = h.named; marks = subst (MarksFree colour w.drawn.regions) (sym (same t.frames)) h.marks; master = h.master })
@@ -242,13 +264,16 @@ module _ (colour : Colour) (wakes : Bool) where
   gone_on name onward w good = frames_edited name (edit_first (goes_on onward)) w good (first-same onward)
 
   -- a scope is opened, and draws its region where it is kept
-  region-drawn : (kept : Bool) (w v : World) → G w → v.tasks ≡ w.tasks → v.agent ≡ w.agent → v.drawn.regions ≡ w.drawn.regions → v.serving ≡ w.serving → v.releases ≡ w.releases → R w [] (draw_region kept v)
+  region-drawn : (kept : Bool) (w v : World) → G w → v.tasks ≡ w.tasks → v.agent ≡ w.agent → v.drawn.regions ≡ w.drawn.regions → v.serving ≡ w.serving
+      → v.releases ≡ w.releases → R w [] (draw_region kept v)
   region-drawn false w v good tasks agent regions serving releases = still w v good tasks agent regions serving releases
   region-drawn true w v good tasks agent regions serving releases =
       let later : w.drawn.regions ≤ suc v.drawn.regions = subst (λ n. w.drawn.regions ≤ suc n) (sym regions) (omega arith) in
       record {
         apart = record {
-          tasks = subst (λ ts. TasksFree colour (suc v.drawn.regions) ts) (sym tasks) (TasksFree-later colour w.drawn.regions (suc v.drawn.regions) w.tasks later good.tasks);
+          tasks =
+              subst (λ ts. TasksFree colour (suc v.drawn.regions) ts) (sym tasks)
+              (TasksFree-later colour w.drawn.regions (suc v.drawn.regions) w.tasks later good.tasks);
           marks = subst (λ (a : Task). MarksOwned colour (natures a.frames)) (sym agent) good.marks;
           attends = subst (λ (a : Task). Attends a.state) (sym agent) good.attends;
           drawn = λ k e. let within : k ≤ w.drawn.regions = good.drawn k e in omega (arith, within, later);
@@ -258,22 +283,27 @@ module _ (colour : Colour) (wakes : Bool) where
         serving_same = serving;
         calm = tt;
         called = ap is_runnable agent ∙ or_false (agent_runs w);
-        attends = λ h. ap is_runnable agent ∙ h ∙ sym (ap (λ s. is_some s || not (is_empty v.releases)) serving ∙ ap (λ rs. is_some w.serving || not (is_empty rs)) releases);
+        attends =
+            λ h. ap is_runnable agent ∙ h
+            ∙ sym (ap (λ s. is_some s || not (is_empty v.releases)) serving ∙ ap (λ rs. is_some w.serving || not (is_empty rs)) releases);
         quiet = λ e. refl;
       }
 
-  next-region : (kept : Bool) (w : World) → G w → (regions : ℕ) → regions ≡ w.drawn.regions → RegionFree colour (draw_region kept w).drawn.regions (region_of_next kept w)
+  next-region : (kept : Bool) (w : World) → G w → (regions : ℕ) → regions ≡ w.drawn.regions
+      → RegionFree colour (draw_region kept w).drawn.regions (region_of_next kept w)
   next-region false w good n e = tt
   next-region true w good n e = (next-free colour w.drawn.regions good.drawn, omega arith)
 
-  scope_opened : (p : Image) (name : Who) (scope : ScopeNo) (b : Beginning) (purpose : Purpose) (w : World) → G w → IsTask name → R w [] (open_scope p name scope b purpose w)
+  scope_opened : (p : Image) (name : Who) (scope : ScopeNo) (b : Beginning) (purpose : Purpose) (w : World) → G w → IsTask name
+      → R w [] (open_scope p name scope b purpose w)
   scope_opened p name scope b purpose w good is =
       let kept = (scope_of p scope).kept in
       let begun = begin_scope p name scope b w in
       let drawn = draw_region kept begun in
       let f = new_frame (new_scope_mark (next_id w) (region_of_next kept w) purpose) (scope_of p scope).first in
       let first = region-drawn kept w begun good refl refl refl refl refl in
-      then w drawn (push name f drawn) first (pushed name f drawn first.apart is refl (next-region kept begun (still w begun good refl refl refl refl refl).apart w.drawn.regions refl))
+      then w drawn (push name f drawn) first
+      (pushed name f drawn first.apart is refl (next-region kept begun (still w begun good refl refl refl refl refl).apart w.drawn.regions refl))
 
   -- a line that places nobody stands beside a change
   with_line : (x : Said) (w v : World) → blocks_agent x.line ≡ false → calls_agent x.line ≡ false → R w [] v → R w (x ∷ []) v
@@ -287,9 +317,11 @@ module _ (colour : Colour) (wakes : Bool) where
     quiet = λ e. or_from (calls_agent x.line) false (calls) refl;
   }
 
-  visited : (name : Who) (o : ObjectNo) (mode : Mode) (xs : List Said) (w v : World) → AreQuiet xs → R w [] v → R w (own (said.Enter name o mode) ∷ xs ++ own (said.Exit name o) ∷ []) v
+  visited : (name : Who) (o : ObjectNo) (mode : Mode) (xs : List Said) (w v : World) → AreQuiet xs → R w [] v
+      → R w (own (said.Enter name o mode) ∷ xs ++ own (said.Exit name o) ∷ []) v
   visited name o mode xs w v quiet h =
-      let none : are_calls (xs ++ own (said.Exit name o) ∷ []) ≡ false = are_calls-append xs (own (said.Exit name o) ∷ []) ∙ or_from (are_calls xs) false (quiet-uncalled xs quiet) refl in
+      let none : are_calls (xs ++ own (said.Exit name o) ∷ []) ≡ false =
+      are_calls-append xs (own (said.Exit name o) ∷ []) ∙ or_from (are_calls xs) false (quiet-uncalled xs quiet) refl in
       record {
         apart = h.apart;
         marks_same = h.marks_same;
@@ -316,13 +348,20 @@ module _ (colour : Colour) (wakes : Bool) where
   task_placed p part who.Agent end w good is = elim is [ ]
   task_placed p part (who.Task n) end w good is = task_said (ready_line p part (who.Task n) end w) w good refl refl
 
-  task_blocked : (part : Part) (name : Who) (waiting : Waiting) (w : World) → G w → IsTask name → R w (record { part = part; line = said.Block name (word_of waiting) } ∷ []) w
+  task_blocked : (part : Part) (name : Who) (waiting : Waiting) (w : World) → G w → IsTask name
+      → R w (record { part = part; line = said.Block name (word_of waiting) } ∷ []) w
   task_blocked part who.Agent waiting w good is = elim is [ ]
   task_blocked part (who.Task n) waiting w good is = task_said (record { part = part; line = said.Block (who.Task n) (word_of waiting) }) w good refl refl
 
   task_added : (t : Task) (w : World) → G w → TaskFree colour w.drawn.regions t → R w [] (add_task t w)
   task_added t w good free = record {
-    apart = record { tasks = append-free colour w.drawn.regions w.tasks t good.tasks free; marks = good.marks; attends = good.attends; drawn = good.drawn; none = good.none };
+    apart = record {
+      tasks = append-free colour w.drawn.regions w.tasks t good.tasks free;
+      marks = good.marks;
+      attends = good.attends;
+      drawn = good.drawn;
+      none = good.none;
+    };
     marks_same = refl;
     serving_same = refl;
     calm = tt;
@@ -331,7 +370,8 @@ module _ (colour : Colour) (wakes : Bool) where
     quiet = λ e. refl;
   }
 
-  task_created : (name : Who) (onward : Option StatementNo) (t : Task) (w : World) → G w → IsTask name → t.who ≡ who.Task (record { 0 = w.drawn.tasks }) → t.frames ≡ [] → t.master ≡ Some (top_region w name) → R w [] (add_task t (edit_top name (goes_on onward) w))
+  task_created : (name : Who) (onward : Option StatementNo) (t : Task) (w : World) → G w → IsTask name → t.who ≡ who.Task (record { 0 = w.drawn.tasks })
+      → t.frames ≡ [] → t.master ≡ Some (top_region w name) → R w [] (add_task t (edit_top name (goes_on onward) w))
   task_created name onward t w good is same_who none master =
       let gone = edit_top name (goes_on onward) w in
       let first = gone_on name onward w good in
@@ -340,11 +380,19 @@ module _ (colour : Colour) (wakes : Bool) where
         marks = subst (λ fs. MarksFree colour w.drawn.regions (natures fs)) (sym none) tt;
         master = subst (RegionFree colour w.drawn.regions) (sym master) (top_region-free colour w name is good);
       } in
-      then w gone (add_task t gone) first (task_added t gone first.apart (subst (λ d. TaskFree colour d.regions t) (sym (edit_task-drawn name (λ u. with_frames (edit_first (goes_on onward) u.frames) u) w)) free))
+      then w gone (add_task t gone) first
+      (task_added t gone first.apart
+      (subst (λ d. TaskFree colour d.regions t) (sym (edit_task-drawn name (λ u. with_frames (edit_first (goes_on onward) u.frames) u) w)) free))
 
   task_forgotten : (name : Who) (w : World) → G w → R w [] (forget_task name w)
   task_forgotten name w good = record {
-    apart = record { tasks = filter-free colour w.drawn.regions (λ t. not (is_who name t)) w.tasks good.tasks; marks = good.marks; attends = good.attends; drawn = good.drawn; none = good.none };
+    apart = record {
+      tasks = filter-free colour w.drawn.regions (λ t. not (is_who name t)) w.tasks good.tasks;
+      marks = good.marks;
+      attends = good.attends;
+      drawn = good.drawn;
+      none = good.none;
+    };
     marks_same = refl;
     serving_same = refl;
     calm = tt;
@@ -379,7 +427,13 @@ module _ (colour : Colour) (wakes : Bool) where
       placed = lines-call p (agent_runs a) xs h.calm ∙ sym h.called;
       attends = h.attends;
     };
-    silently = λ a b h. record { apart = h.apart; marks_same = h.marks_same; serving_same = h.serving_same; placed = or_false (agent_runs a) ∙ sym h.called; attends = h.attends };
+    silently = λ a b h. record {
+      apart = h.apart;
+      marks_same = h.marks_same;
+      serving_same = h.serving_same;
+      placed = or_false (agent_runs a) ∙ sym h.called;
+      attends = h.attends;
+    };
     other_may = λ name o. o;
     task_other = λ n. tt;
     listed = λ w g. listed-free colour w.drawn.regions w.tasks g.tasks;
@@ -399,7 +453,8 @@ module _ (colour : Colour) (wakes : Bool) where
     opens_abortable = λ name f w g o region release. pushed name f w g o release (no_region w.drawn.regions (nature f.mark).region region);
     pops = λ name f w g may top action. popped name w g may;
     readies = λ name w g o. task_edited name (with_state Runnable) w g o (λ t h. record { named = h.named; marks = h.marks; master = h.master });
-    blocks = λ name waiting w g o. task_edited name (with_state (Blocked waiting)) w g o (λ t h. record { named = h.named; marks = h.marks; master = h.master });
+    blocks =
+        λ name waiting w g o. task_edited name (with_state (Blocked waiting)) w g o (λ t h. record { named = h.named; marks = h.marks; master = h.master });
     places = λ p part name end w g may. task_placed p part name end w g may;
     says_blocked = λ part name waiting w g o. task_blocked part name waiting w g o;
     adds_task = λ name onward t w g o same_who none master. task_created name onward t w g o same_who none master;
@@ -449,7 +504,9 @@ module _ (colour : Colour) (wakes : Bool) where
   spared_exits = record {
     exits = λ name m w g may end.
         let first = popped name w g may in
-        then w (pop name w) (close_action name m.object (pop name w)) first (with_line (own (said.Exit name m.object)) (pop name w) (close_action name m.object (pop name w)) refl refl (still (pop name w) _ first.apart refl refl refl refl refl));
+        then w (pop name w) (close_action name m.object (pop name w)) first
+        (with_line (own (said.Exit name m.object)) (pop name w) (close_action name m.object (pop name w)) refl refl
+        (still (pop name w) _ first.apart refl refl refl refl refl));
   }
 
   pub spares : FinestMoves G IsTask IsTask R Q

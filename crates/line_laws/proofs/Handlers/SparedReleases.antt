@@ -59,14 +59,18 @@ not_empty : (rs : List Release) (r : Release) → is_empty (rs ++ r ∷ []) ≡ 
 not_empty [] r = refl
 not_empty (x ∷ xs) r = refl
 
-woken : (colour : Colour) (p : Image) (w : World) → Apart colour w → IsAwaited w → let made = edit_task who.Agent (with_state Runnable) w in let after = grant_quantum p who.Agent (keep_level p who.Agent made) in Wakes colour w (ready_line p Own who.Agent Tail after ∷ []) after
+woken : (colour : Colour) (p : Image) (w : World) → Apart colour w → IsAwaited w →
+    let made = edit_task who.Agent (with_state Runnable) w in
+    let after = grant_quantum p who.Agent (keep_level p who.Agent made) in Wakes colour w (ready_line p Own who.Agent Tail after ∷ []) after
 unfolding Alters
 woken colour p w good awaited =
     let made = edit_task who.Agent (with_state Runnable) w in
     let level = keep_level p who.Agent made in
     let after = grant_quantum p who.Agent level in
     let fresh : Apart colour made = record { tasks = good.tasks; marks = good.marks; attends = tt; drawn = good.drawn; none = good.none } in
-    let first : Spared colour true made [] level = (spares colour true).edits_task who.Agent (λ t. record t { kept_level = level_kept_by p made t (edf_low p t.base) }) made fresh (λ t. refl) (λ t. refl) (λ t. refl) (λ t. refl) (λ t. refl) in
+    let first : Spared colour true made [] level =
+    (spares colour true).edits_task who.Agent (λ t. record t { kept_level = level_kept_by p made t (edf_low p t.base) }) made fresh (λ t. refl) (λ t. refl)
+    (λ t. refl) (λ t. refl) (λ t. refl) in
     let second : Spared colour true level [] after = grant_quantum-alters (spares colour true) p who.Agent level first.apart in
     record {
       apart = second.apart;
@@ -84,21 +88,34 @@ wakes-from colour p w good awaited before =
     let after = grant_quantum p who.Agent (keep_level p who.Agent (edit_task who.Agent (with_state Runnable) w)) in
     (ready_line p Own who.Agent Tail after ∷ [], refl, woken colour p w good awaited)
 
-by_state-from : (colour : Colour) (p : Image) (w : World) (state : State) → w.agent.state ≡ state → Apart colour w → IsAwaited w → From (Wakes colour) w (wake_agent p Own state)
+by_state-from : (colour : Colour) (p : Image) (w : World) (state : State) → w.agent.state ≡ state → Apart colour w → IsAwaited w
+    → From (Wakes colour) w (wake_agent p Own state)
 unfolding wake_agent
 by_state-from colour p w (Blocked waiting) e good awaited = wakes-from colour p w good awaited
 by_state-from colour p w Runnable e good awaited =
     let runs : agent_runs w ≡ true = ap is_runnable_state e in
-    nothing_by (Wakes colour) w (record { apart = good; marks_same = refl; serving_same = refl; calm = tt; runs = runs; called = ap (λ q. q || false) runs; attends = runs ∙ sym awaited })
+    nothing_by (Wakes colour) w
+    (record {
+      apart = good;
+      marks_same = refl;
+      serving_same = refl;
+      calm = tt;
+      runs = runs;
+      called = ap (λ q. q || false) runs;
+      attends = runs ∙ sym awaited;
+    })
 by_state-from colour p w Made e good awaited = elim (subst Attends e good.attends) [ ]
 
 awaited_behind : (h : HandlerOf) (argument : Option ℕ) (w : World) → IsAwaited (add_release h argument w)
-awaited_behind h argument w = ap (λ q. is_some w.serving || not q) (not_empty w.releases (record { number = suc w.drawn.releases; handler = h; argument = argument })) ∙ or_true (is_some w.serving)
+awaited_behind h argument w =
+    ap (λ q. is_some w.serving || not q) (not_empty w.releases (record { number = suc w.drawn.releases; handler = h; argument = argument }))
+    ∙ or_true (is_some w.serving)
 
 apart_behind : (colour : Colour) (h : HandlerOf) (argument : Option ℕ) (w : World) → Apart colour w → Apart colour (add_release h argument w)
 apart_behind colour h argument w a = record { tasks = a.tasks; marks = a.marks; attends = a.attends; drawn = a.drawn; none = a.none }
 
-joined : (colour : Colour) (h : HandlerOf) (argument : Option ℕ) (w v u : World) (xs zs : List Said) → Came h argument w xs v → Wakes colour v zs u → Spared colour true w (xs ++ zs) u
+joined : (colour : Colour) (h : HandlerOf) (argument : Option ℕ) (w v u : World) (xs zs : List Said) → Came h argument w xs v → Wakes colour v zs u
+    → Spared colour true w (xs ++ zs) u
 unfolding Came release_line
 joined colour h argument w v u xs zs came k =
     let wakes : Wakes colour (add_release h argument w) zs u = subst (λ q. Wakes colour q zs u) came.1 k in
@@ -114,10 +131,12 @@ joined colour h argument w v u xs zs came k =
     } in
     subst (λ q. Spared colour true w (q ++ zs) u) (sym came.0) whole
 
-pub release-from : (colour : Colour) (p : Image) (h : HandlerOf) (argument : Option ℕ) (w : World) → Apart colour w → From (Spared colour true) w (release p Own h argument)
+pub release-from : (colour : Colour) (p : Image) (h : HandlerOf) (argument : Option ℕ) (w : World) → Apart colour w
+    → From (Spared colour true) w (release p Own h argument)
 unfolding release Came
 release-from colour p h argument w good =
-    then_by (Came h argument) (Wakes colour) (Spared colour true) (changes (add_release h argument) ▷ says_release Own h) (looks (λ v. wake_agent p Own v.agent.state)) w
+    then_by (Came h argument) (Wakes colour) (Spared colour true) (changes (add_release h argument) ▷ says_release Own h)
+    (looks (λ v. wake_agent p Own v.agent.state)) w
     (λ v u xs zs came k. joined colour h argument w v u xs zs came k)
     (came-from h argument w)
     (λ v xs came. looks_by (Wakes colour) (λ u. wake_agent p Own u.agent.state) v (by_state-from colour p v v.agent.state refl

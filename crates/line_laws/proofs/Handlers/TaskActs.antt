@@ -31,10 +31,12 @@ use Rattle.machine_laws.proofs.Kept.Combinators.{From, Keeps, changes_then-from,
 -- ---- its action
 
 module _ (colour : Colour) where
-  no_release : (n : TaskNo) (f : Frame) (m : ProtectedMark) (w : World) → Apart colour w → top_of w (who.Task n) ≡ Some f → f.mark ≡ InProtected m → m.release ≡ None
+  no_release : (n : TaskNo) (f : Frame) (m : ProtectedMark) (w : World) → Apart colour w → top_of w (who.Task n) ≡ Some f → f.mark ≡ InProtected m
+      → m.release ≡ None
   no_release n f m w good top is =
       let found = has_top (frames_of w (who.Task n)) f top in
-      let free : MarksFree colour w.drawn.regions (natures (f ∷ found.0)) = subst (λ fs. MarksFree colour w.drawn.regions (natures fs)) found.1 (marks-free colour w (who.Task n) tt good) in
+      let free : MarksFree colour w.drawn.regions (natures (f ∷ found.0)) =
+      subst (λ fs. MarksFree colour w.drawn.regions (natures fs)) found.1 (marks-free colour w (who.Task n) tt good) in
       sym (ap release_in is) ∙ free.0
 
   without-keeps : (p : Image) (n : TaskNo) (serving : Option Release) → Keeps (Apart colour) (Spared colour true) (act_without p (who.Task n) serving)
@@ -46,8 +48,11 @@ module _ (colour : Colour) where
   task_act-from p n w good =
       act-from (spares colour true) (spared_openings colour true) (spared_regions colour true) p (who.Task n) w good tt
       (keeps-from (chains (spares colour true)) _ w good (without-keeps p n w.serving))
-      (λ f s top is. keeps-from (chains (spares colour true)) _ w good (act_statement-keeps (spares colour true) (spared_openings colour true) (spared_settings colour true) (spared_releasing colour) p (spared_puts colour true p) (who.Task n) s (form_of p s) tt refl))
-      (λ f m top is. end_in_protected-from (spares colour true) (spared_openings colour true) (spared_ends colour true) (spared-ending colour) stays_anyhow p (who.Task n) m (leaving_of f) tt (no_release n f m w good top is) w good tt)
+      (λ f s top is. keeps-from (chains (spares colour true)) _ w good
+      (act_statement-keeps (spares colour true) (spared_openings colour true) (spared_settings colour true) (spared_releasing colour) p
+      (spared_puts colour true p) (who.Task n) s (form_of p s) tt refl))
+      (λ f m top is. end_in_protected-from (spares colour true) (spared_openings colour true) (spared_ends colour true) (spared-ending colour) stays_anyhow p
+      (who.Task n) m (leaving_of f) tt (no_release n f m w good top is) w good tt)
 
   -- ---- its effect
 
@@ -56,8 +61,10 @@ module _ (colour : Colour) where
   task_effect-from p n w good =
       let moves = spares colour true in
       let begun = edit_task (who.Task n) (with_ticks None) w in
-      let first : Spared colour true w [] begun = moves.edits_task (who.Task n) (with_ticks None) w good (λ t. refl) (λ t. refl) (λ t. refl) (λ t. refl) (λ t. refl) in
+      let first : Spared colour true w [] begun =
+      moves.edits_task (who.Task n) (with_ticks None) w good (λ t. refl) (λ t. refl) (λ t. refl) (λ t. refl) (λ t. refl) in
       let behind = open_if_ready p (who.Task n) ▷ take_terminates p (who.Task n) ▷ unwind_all p (who.Task n) in
       changes_then-from (chains moves) (edit_task (who.Task n) (with_ticks None)) (act p (who.Task n) ▷ behind) w first
       (then-from (chains moves) (act p (who.Task n)) behind begun (task_act-from p n begun first.apart)
-      (then-keeps (chains moves) _ _ (open_if_ready-keeps moves p (who.Task n) tt) (then-keeps (chains moves) _ _ (take_terminates-keeps moves p (who.Task n) tt) (unwind_all-keeps moves p (who.Task n)))))
+      (then-keeps (chains moves) _ _ (open_if_ready-keeps moves p (who.Task n) tt)
+      (then-keeps (chains moves) _ _ (take_terminates-keeps moves p (who.Task n) tt) (unwind_all-keeps moves p (who.Task n)))))

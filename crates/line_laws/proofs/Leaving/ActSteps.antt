@@ -28,7 +28,8 @@ use Rattle.profile_machine.specs.Calls.{call_of, with_call, edit_call, attempt_o
 use Rattle.profile_machine.specs.Inheritance.{lose_running}
 use Rattle.profile_machine.specs.Serving.{not_left}
 use Rattle.profile_machine.specs.Rendezvous.{finish_rendezvous, behind_accept, finished_call, end_in_accept}
-use Rattle.profile_machine.specs.Controlled.{register, registers, end_in_initialize, behind_finalize, is_assignment, end_in_finalize, do_step, step_with, end_in_assign, registered_object}
+use Rattle.profile_machine.specs.Controlled.{register, registers, end_in_initialize, behind_finalize, is_assignment}
+use Rattle.profile_machine.specs.Controlled.{end_in_finalize, do_step, step_with, end_in_assign, registered_object}
 use Rattle.profile_machine.specs.Act.{behind_handled, end_handled, end_top, wait_for_trigger, drop_trigger, below, end_abortable_by, end_in_abortable}
 use Rattle.machine_laws.proofs.Moves.{StepRelation}
 use Rattle.line_laws.proofs.Leaving.FineMoves.{Nature, nature, Free, Awake, top_leaving, is_special, chains}
@@ -63,19 +64,22 @@ pub weak : (a : Who) (X : World → Type 0) (w : World) (f : Step) → From (Mov
 unfolding From
 weak a X w f k said = weak-kept a X w said (f w said) (k said)
 
-joined-kept : (a : Who) (R : StepRelation) (g : Step) (w : World) (said : List Said) (d : Done) → ((v : World) (xs : List Said) → R w xs v → Does a w xs v) → Kept R w said d → ((v : World) (xs : List Said) → R w xs v → From (Does a) v g) → Kept (Does a) w said (goes_on_with g d)
+joined-kept : (a : Who) (R : StepRelation) (g : Step) (w : World) (said : List Said) (d : Done) → ((v : World) (xs : List Said) → R w xs v → Does a w xs v)
+    → Kept R w said d → ((v : World) (xs : List Said) → R w xs v → From (Does a) v g) → Kept (Does a) w said (goes_on_with g d)
 unfolding Kept From
 joined-kept a R g w said (done v ys) base k next = onward (g v ys) (next v k.0 k.2 ys) where
   onward : (d : Done) → Kept (Does a) v ys d → Kept (Does a) w said d
   onward (done u zs) h = (k.0 ++ h.0, h.1 ∙ ap (λ xs. xs ++ h.0) k.1 ∙ append_assoc said k.0 h.0, base-then (acting a) true w v u k.0 h.0 (base v k.0 k.2) h.2)
 
 -- a step of which more is known, and one behind it
-pub joined : (a : Who) (R : StepRelation) (f g : Step) (w : World) → ((v : World) (xs : List Said) → R w xs v → Does a w xs v) → From R w f → ((v : World) (xs : List Said) → R w xs v → From (Does a) v g) → From (Does a) w (f ▷ g)
+pub joined : (a : Who) (R : StepRelation) (f g : Step) (w : World) → ((v : World) (xs : List Said) → R w xs v → Does a w xs v) → From R w f
+    → ((v : World) (xs : List Said) → R w xs v → From (Does a) v g) → From (Does a) w (f ▷ g)
 unfolding From
 joined a R f g w base k next said = joined-kept a R g w said (f w said) base (k said) next
 
 -- a change, with what tells it, and a step behind
-pub told-from : (a : Who) (xs : List Said) (w v : World) (g : Step) → Does a w xs v → From (Does a) v g → (said : List Said) → Kept (Does a) w said (g v (said ++ xs))
+pub told-from : (a : Who) (xs : List Said) (w v : World) (g : Step) → Does a w xs v → From (Does a) v g → (said : List Said)
+    → Kept (Does a) w said (g v (said ++ xs))
 unfolding From Kept
 told-from a xs w v g first next said = onward (g v (said ++ xs)) (next (said ++ xs)) where
   onward : (d : Done) → Kept (Does a) v (said ++ xs) d → Kept (Does a) w said d
@@ -87,28 +91,37 @@ silent-from a w v g first next said = subst (λ xs. Kept (Does a) w said (g v xs
 -- ---- the mark on top ends
 
 -- it is not special: somebody who acts is free below it
-pub plainly-from : (a : Who) (f : Frame) (g : Step) (w : World) → Inv w → Awake a w → top_of w a ≡ Some f → is_special f.mark ≡ false → Keeps (GoodAs (Free a)) (Moved (acting a) true (Free a)) g → From (Does a) w (changes (pop a) ▷ g)
+pub plainly-from : (a : Who) (f : Frame) (g : Step) (w : World) → Inv w → Awake a w → top_of w a ≡ Some f → is_special f.mark ≡ false
+    → Keeps (GoodAs (Free a)) (Moved (acting a) true (Free a)) g → From (Does a) w (changes (pop a) ▷ g)
 unfolding From
 plainly-from a f g w inv awake top plain kept said =
     let out = (none a true).pops a f w (inv, tt) tt awake top plain in
-    silent-from a w (pop a w) g out.core.base (weak a (Free a) (pop a w) g (keeps-from (chains (going a)) g (pop a w) (out.core.base.inv, popped-free a f w inv top plain) kept)) said
+    silent-from a w (pop a w) g out.core.base
+    (weak a (Free a) (pop a w) g (keeps-from (chains (going a)) g (pop a w) (out.core.base.inv, popped-free a f w inv top plain) kept)) said
 
-pub handled-from : (p : Image) (a : Who) (s : StatementNo) (leaving : Leaving) (f : Frame) (w : World) → Inv w → Awake a w → top_of w a ≡ Some f → is_special f.mark ≡ false → From (Does a) w (end_handled p a s leaving)
+pub handled-from : (p : Image) (a : Who) (s : StatementNo) (leaving : Leaving) (f : Frame) (w : World) → Inv w → Awake a w → top_of w a ≡ Some f
+    → is_special f.mark ≡ false → From (Does a) w (end_handled p a s leaving)
 unfolding end_handled
-handled-from p a s leaving f w inv awake top plain = plainly-from a f (behind_handled p a s leaving) w inv awake top plain (behind_handled-keeps (going a) p a s leaving refl)
+handled-from p a s leaving f w inv awake top plain =
+    plainly-from a f (behind_handled p a s leaving) w inv awake top plain (behind_handled-keeps (going a) p a s leaving refl)
 
-pub initialized-from : (p : Image) (a : Who) (l : Located) (leaving : Leaving) (f : Frame) (w : World) → Inv w → Awake a w → top_of w a ≡ Some f → is_special f.mark ≡ false → From (Does a) w (end_in_initialize p a l leaving)
+pub initialized-from : (p : Image) (a : Who) (l : Located) (leaving : Leaving) (f : Frame) (w : World) → Inv w → Awake a w → top_of w a ≡ Some f
+    → is_special f.mark ≡ false → From (Does a) w (end_in_initialize p a l leaving)
 unfolding end_in_initialize
 initialized-from p a l leaving f w inv awake top plain =
     plainly-from a f (cond (registers leaving) (register p a l) (pass_on p a leaving)) w inv awake top plain
-    (cond-keeps (chains (going a)) (registers leaving) (register p a l) (pass_on p a leaving) (register-keeps (going a) p a l refl) (pass_on-keeps (plain_steps (going a)) p a leaving refl))
+    (cond-keeps (chains (going a)) (registers leaving) (register p a l) (pass_on p a leaving) (register-keeps (going a) p a l refl)
+    (pass_on-keeps (plain_steps (going a)) p a leaving refl))
 
 pub finalized-from : (p : Image) (a : Who) (leaving : Leaving) (w : World) → Inv w → Awake a w → From (Does a) w (end_in_finalize p a leaving)
 unfolding end_in_finalize From
 finalized-from p a leaving w inv awake said =
     let out = pop-base (acting a) true a w inv awake (λ s h. popped-tied s a w h) in
     let g = looks (λ v. behind_finalize p a leaving (is_assignment (top_of v a))) in
-    silent-from a w (pop a w) g out (weak a Known (pop a w) g (keeps-from (chains (none a true)) g (pop a w) (out.inv, tt) (looks-keeps (chains (none a true)) _ (λ v. behind_finalize-keeps (none a true) p a leaving (is_assignment (top_of v a)))))) said
+    silent-from a w (pop a w) g out
+    (weak a Known (pop a w) g
+    (keeps-from (chains (none a true)) g (pop a w) (out.inv, tt)
+    (looks-keeps (chains (none a true)) _ (λ v. behind_finalize-keeps (none a true) p a leaving (is_assignment (top_of v a)))))) said
 
 popped-alone : (a : Who) (f : Frame) (w : World) → Inv w → Awake a w → From (Does a) w (changes (pop a))
 unfolding From Kept
@@ -117,30 +130,40 @@ popped-alone a f w inv awake said = ([], sym (append-nil said), pop-base (acting
 free-top : (a : Who) (f : Frame) (w : World) → top_of w a ≡ Some f → being_left_in f.mark ≡ false → Free a w
 free-top a f w top not_left = ap top_leaving top ∙ not_left
 
-do_step-from : (p : Image) (a : Who) (step : AssignStep) (target source : Registered) (f : Frame) (w : World) → Inv w → Awake a w → Free a w → From (Does a) w (do_step p a step target source)
-do_step-from p a assigning.FinalizeTarget target source f w inv awake free = weak a (Free a) w _ (keeps-from (chains (going a)) _ w (inv, free) (do_step-keeps (going a) p a assigning.FinalizeTarget target source refl (λ e. cc)))
-do_step-from p a assigning.CopyComponents target source f w inv awake free = weak a (Free a) w _ (keeps-from (chains (going a)) _ w (inv, free) (do_step-keeps (going a) p a assigning.CopyComponents target source refl (λ e. cc)))
-do_step-from p a assigning.AdjustTarget target source f w inv awake free = weak a (Free a) w _ (keeps-from (chains (going a)) _ w (inv, free) (do_step-keeps (going a) p a assigning.AdjustTarget target source refl (λ e. cc)))
+do_step-from : (p : Image) (a : Who) (step : AssignStep) (target source : Registered) (f : Frame) (w : World) → Inv w → Awake a w → Free a w
+    → From (Does a) w (do_step p a step target source)
+do_step-from p a assigning.FinalizeTarget target source f w inv awake free =
+    weak a (Free a) w _ (keeps-from (chains (going a)) _ w (inv, free) (do_step-keeps (going a) p a assigning.FinalizeTarget target source refl (λ e. cc)))
+do_step-from p a assigning.CopyComponents target source f w inv awake free =
+    weak a (Free a) w _ (keeps-from (chains (going a)) _ w (inv, free) (do_step-keeps (going a) p a assigning.CopyComponents target source refl (λ e. cc)))
+do_step-from p a assigning.AdjustTarget target source f w inv awake free =
+    weak a (Free a) w _ (keeps-from (chains (going a)) _ w (inv, free) (do_step-keeps (going a) p a assigning.AdjustTarget target source refl (λ e. cc)))
 do_step-from p a assigning.Assigned target source f w inv awake free = popped-alone a f w inv awake
 
-step_with-from : (p : Image) (a : Who) (step : AssignStep) (target source : Option Registered) (f : Frame) (w : World) → Inv w → Awake a w → Free a w → From (Does a) w (step_with p a step target source)
+step_with-from : (p : Image) (a : Who) (step : AssignStep) (target source : Option Registered) (f : Frame) (w : World) → Inv w → Awake a w → Free a w
+    → From (Does a) w (step_with p a step target source)
 step_with-from p a step (Some target) (Some source) f w inv awake free = do_step-from p a step target source f w inv awake free
 step_with-from p a step (Some target) None f w inv awake free = popped-alone a f w inv awake
 step_with-from p a step None source f w inv awake free = popped-alone a f w inv awake
 
-pub assigned-from : (p : Image) (a : Who) (m : AssignMark) (leaving : Option Leaving) (f : Frame) (w : World) → Inv w → Awake a w → top_of w a ≡ Some f → is_special f.mark ≡ false → being_left_in f.mark ≡ false → From (Does a) w (end_in_assign p a m leaving)
+pub assigned-from : (p : Image) (a : Who) (m : AssignMark) (leaving : Option Leaving) (f : Frame) (w : World) → Inv w → Awake a w → top_of w a ≡ Some f
+    → is_special f.mark ≡ false → being_left_in f.mark ≡ false → From (Does a) w (end_in_assign p a m leaving)
 unfolding end_in_assign From
-assigned-from p a m (Some (how.Exception e)) f w inv awake top plain not_left said = plainly-from a f (raises Own a exception.Program) w inv awake top plain (raises-keeps (plain_steps (going a)) Own a exception.Program) said
-assigned-from p a m _ f w inv awake top plain not_left said = step_with-from p a m.step (registered_object w m.target) (registered_object w m.source) f w inv awake (free-top a f w top not_left) said
+assigned-from p a m (Some (how.Exception e)) f w inv awake top plain not_left said =
+    plainly-from a f (raises Own a exception.Program) w inv awake top plain (raises-keeps (plain_steps (going a)) Own a exception.Program) said
+assigned-from p a m _ f w inv awake top plain not_left said =
+    step_with-from p a m.step (registered_object w m.target) (registered_object w m.source) f w inv awake (free-top a f w top not_left) said
 
 -- ---- an abortable part
 
 pub top_steady : (a : Who) (f : Frame) (w : World) → Awake a w → top_of w a ≡ Some f → Steady a (nature f.mark) w
 top_steady a f w awake top = record { awake = awake; top = record { frame = f; first = top; is = refl } }
 
-pub steady-then : (a : Who) (n : Nature) (f g : Step) (w : World) → Inv w → Steady a n w → Keeps (GoodAs (Steady a n)) (Moved (acting a) true (Steady a n)) f → ((v : World) (xs : List Said) → Does a w xs v → Inv v → Steady a n v → From (Does a) v g) → From (Does a) w (f ▷ g)
+pub steady-then : (a : Who) (n : Nature) (f g : Step) (w : World) → Inv w → Steady a n w → Keeps (GoodAs (Steady a n)) (Moved (acting a) true (Steady a n)) f
+    → ((v : World) (xs : List Said) → Does a w xs v → Inv v → Steady a n v → From (Does a) v g) → From (Does a) w (f ▷ g)
 steady-then a n f g w inv stays kept next =
-    joined a (Moved (acting a) true (Steady a n)) f g w (λ v xs h. h.core.base) (keeps-from (chains (steady a n)) f w (inv, stays) kept) (λ v xs h. next v xs h.core.base h.core.base.inv h.extra)
+    joined a (Moved (acting a) true (Steady a n)) f g w (λ v xs h. h.core.base) (keeps-from (chains (steady a n)) f w (inv, stays) kept)
+    (λ v xs h. next v xs h.core.base h.core.base.inv h.extra)
 
 end_top-from : (p : Image) (a : Who) (w : World) → Inv w → Awake a w → From (Does a) w (end_top p a)
 unfolding end_top
@@ -149,18 +172,28 @@ end_top-from p a w inv awake = weak a Known w _ (end_found_abortable-from (none 
 pub steady-free : (a : Who) (n : Nature) (w : World) → n.leaving ≡ false → Steady a n w → Free a w
 steady-free a n w not_left s = ap top_leaving s.top.first ∙ ap (λ k. k.leaving) s.top.is ∙ not_left
 
-attempted-from : (p : Image) (a : Who) (leaving : Leaving) (n : Nature) (d : Call) (test : Bool) (w : World) → Inv w → Steady a n w → n.leaving ≡ false → From (Does a) w (elim test as (λ _. Step) [ true ↦ end_top p a | false ↦ wait_for_trigger a d leaving ])
+attempted-from : (p : Image) (a : Who) (leaving : Leaving) (n : Nature) (d : Call) (test : Bool) (w : World) → Inv w → Steady a n w → n.leaving ≡ false
+    → From (Does a) w (elim test as (λ _. Step) [ true ↦ end_top p a | false ↦ wait_for_trigger a d leaving ])
 attempted-from p a leaving n d true w inv stays not_left = end_top-from p a w inv stays.awake
-attempted-from p a leaving n d false w inv stays not_left = weak a (Free a) w _ (keeps-from (chains (going a)) _ w (inv, steady-free a n w not_left stays) (wait_for_trigger-keeps (going a) a d leaving refl))
+attempted-from p a leaving n d false w inv stays not_left =
+    weak a (Free a) w _ (keeps-from (chains (going a)) _ w (inv, steady-free a n w not_left stays) (wait_for_trigger-keeps (going a) a d leaving refl))
 
-by_call-from : (p : Image) (a : Who) (leaving : Leaving) (n : Nature) (found : Option Call) (w : World) → Inv w → Steady a n w → n.leaving ≡ false → From (Does a) w (for_some found (λ d. attempt_with p Own d (end_top p a) (wait_for_trigger a d leaving)))
-by_call-from p a leaving n None w inv stays not_left = weak a Known w nothing (keeps-from (chains (none a true)) nothing w (inv, tt) (nothing-keeps (chains (none a true))))
+by_call-from : (p : Image) (a : Who) (leaving : Leaving) (n : Nature) (found : Option Call) (w : World) → Inv w → Steady a n w → n.leaving ≡ false
+    → From (Does a) w (for_some found (λ d. attempt_with p Own d (end_top p a) (wait_for_trigger a d leaving)))
+by_call-from p a leaving n None w inv stays not_left =
+    weak a Known w nothing (keeps-from (chains (none a true)) nothing w (inv, tt) (nothing-keeps (chains (none a true))))
 by_call-from p a leaving n (Some d) w inv stays not_left =
-    steady-then a n (attempt_on p Own d) (elim (is_cancellable d) as (λ _. Step) [ true ↦ end_top p a | false ↦ wait_for_trigger a d leaving ]) w inv stays (attempt_on-keeps (plain_steps (steady a n)) p Own d)
+    steady-then a n (attempt_on p Own d) (elim (is_cancellable d) as (λ _. Step) [ true ↦ end_top p a | false ↦ wait_for_trigger a d leaving ]) w inv stays
+    (attempt_on-keeps (plain_steps (steady a n)) p Own d)
     (λ v xs h inv_v stays_v. attempted-from p a leaving n d (is_cancellable d) v inv_v stays_v not_left)
 
-by_own-from : (p : Image) (a : Who) (m : AbortableMark) (leaving : Leaving) (n : Nature) (call : Option CallNo) (w : World) → Inv w → Steady a n w → n.leaving ≡ false
-    → From (Does a) w (elim call as (λ _. Step) [ None ↦ looks (λ v. changes (drop_trigger a (below (frames_of v a)))) ▷ end_top p a | Some c ↦ with_call c (λ d. attempt_with p Own d (end_top p a) (wait_for_trigger a d leaving)) ])
+by_own-from : (p : Image) (a : Who) (m : AbortableMark) (leaving : Leaving) (n : Nature) (call : Option CallNo) (w : World) → Inv w → Steady a n w
+    → n.leaving ≡ false
+    → From (Does a) w
+    (elim call as (λ _. Step) [
+      | None ↦ looks (λ v. changes (drop_trigger a (below (frames_of v a)))) ▷ end_top p a
+      | Some c ↦ with_call c (λ d. attempt_with p Own d (end_top p a) (wait_for_trigger a d leaving))
+    ])
 unfolding From
 by_own-from p a m leaving n None w inv stays not_left said =
     steady-then a n (looks (λ v. changes (drop_trigger a (below (frames_of v a))))) (end_top p a) w inv stays
@@ -168,26 +201,35 @@ by_own-from p a m leaving n None w inv stays not_left said =
     (λ v xs h inv_v stays_v. end_top-from p a v inv_v stays_v.awake) said
 by_own-from p a m leaving n (Some c) w inv stays not_left said = by_call-from p a leaving n (call_of w c) w inv stays not_left said
 
-abortable-from : (p : Image) (a : Who) (m : AbortableMark) (leaving : Leaving) (f : Frame) (triggered : Bool) (w : World) → Inv w → Awake a w → top_of w a ≡ Some f → being_left_in f.mark ≡ false → From (Does a) w (cond triggered (end_top p a) (end_abortable_by p a m leaving))
+abortable-from : (p : Image) (a : Who) (m : AbortableMark) (leaving : Leaving) (f : Frame) (triggered : Bool) (w : World) → Inv w → Awake a w
+    → top_of w a ≡ Some f → being_left_in f.mark ≡ false → From (Does a) w (cond triggered (end_top p a) (end_abortable_by p a m leaving))
 unfolding end_abortable_by
 abortable-from p a m leaving f true w inv awake top not_left = end_top-from p a w inv awake
 abortable-from p a m leaving f false w inv awake top not_left = by_own-from p a m leaving (nature f.mark) m.call w inv (top_steady a f w awake top) not_left
 
-pub end_abortable-from : (p : Image) (a : Who) (m : AbortableMark) (leaving : Leaving) (f : Frame) (w : World) → Inv w → Awake a w → top_of w a ≡ Some f → being_left_in f.mark ≡ false → From (Does a) w (end_in_abortable p a m leaving)
+pub end_abortable-from : (p : Image) (a : Who) (m : AbortableMark) (leaving : Leaving) (f : Frame) (w : World) → Inv w → Awake a w → top_of w a ≡ Some f
+    → being_left_in f.mark ≡ false → From (Does a) w (end_in_abortable p a m leaving)
 unfolding end_in_abortable
 end_abortable-from p a m leaving f w inv awake top not_left = abortable-from p a m leaving f m.triggered w inv awake top not_left
 
 -- ---- an accept
 
-pub accepted-from : (p : Image) (a : Who) (m : AcceptMark) (leaving : Leaving) (f : Frame) (w : World) → Inv w → Awake a w → top_of w a ≡ Some f → is_special f.mark ≡ false → From (Does a) w (end_in_accept p a m leaving)
+pub accepted-from : (p : Image) (a : Who) (m : AcceptMark) (leaving : Leaving) (f : Frame) (w : World) → Inv w → Awake a w → top_of w a ≡ Some f
+    → is_special f.mark ≡ false → From (Does a) w (end_in_accept p a m leaving)
 unfolding end_in_accept From
 accepted-from p a m leaving f w inv awake top plain said =
     let G = going a in
-    let g = changes (end_scope m.within) ▷ changes (edit_call m.call (finished_call p (cells_of (scope_in_use w m.within)) leaving)) ▷ with_call m.call (λ c. finish_rendezvous p a c leaving) in
+    let g =
+    changes (end_scope m.within) ▷ changes (edit_call m.call (finished_call p (cells_of (scope_in_use w m.within)) leaving))
+    ▷ with_call m.call (λ c. finish_rendezvous p a c leaving) in
     let rest = lose_running p a (inherited_by.Rendezvous m.call) ▷ behind_accept p a leaving in
     plainly-from a f (g ▷ rest) w inv awake top plain
     (then-keeps (chains G) g rest
     (then-keeps (chains G) (changes (end_scope m.within)) _ (changes-keeps (chains G) _ (end_scope-alters G m.within))
-    (then-keeps (chains G) (changes (edit_call m.call (finished_call p (cells_of (scope_in_use w m.within)) leaving))) _ (changes-keeps (chains G) _ (edit_call-alters (plain_steps G) m.call (finished_call p (cells_of (scope_in_use w m.within)) leaving) (finished_call-number p (cells_of (scope_in_use w m.within)) leaving) (finished_call-caller p (cells_of (scope_in_use w m.within)) leaving)))
+    (then-keeps (chains G) (changes (edit_call m.call (finished_call p (cells_of (scope_in_use w m.within)) leaving))) _
+    (changes-keeps (chains G) _
+    (edit_call-alters (plain_steps G) m.call (finished_call p (cells_of (scope_in_use w m.within)) leaving)
+    (finished_call-number p (cells_of (scope_in_use w m.within)) leaving) (finished_call-caller p (cells_of (scope_in_use w m.within)) leaving)))
     (with_call-keeps (plain_steps G) m.call _ (λ c. finish_rendezvous-keeps G p a c leaving))))
-    (then-keeps (chains G) (lose_running p a (inherited_by.Rendezvous m.call)) (behind_accept p a leaving) (lose_running-keeps G p a (inherited_by.Rendezvous m.call) (acting-self a)) (behind_accept-keeps G p a leaving refl))) said
+    (then-keeps (chains G) (lose_running p a (inherited_by.Rendezvous m.call)) (behind_accept p a leaving)
+    (lose_running-keeps G p a (inherited_by.Rendezvous m.call) (acting-self a)) (behind_accept-keeps G p a leaving refl))) said

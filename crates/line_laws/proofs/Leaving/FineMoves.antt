@@ -209,28 +209,39 @@ pub record FineMoves (G : GoodWorld) (May Acts Pushes : Naming) (Stops : Type 0)
   pub still_free : (name : Who) (a b : World) {xs : List Said} → R a xs b → Free name a → Free name b
   pub still_called : (c : CallNo) (name : Who) (a b : World) {xs : List Said} → R a xs b → Caller c name a → Caller c name b
   -- tasks: an edit of anybody that leaves alone who it is, its marks and its state; one of marks alone
-  pub edits_task : (name : Who) (f : Task → Task) (w : World) → G w → ((t : Task) → (f t).who ≡ t.who) → ((t : Task) → (f t).frames ≡ t.frames) → ((t : Task) → (f t).state ≡ t.state) → R w [] (edit_task name f w)
-  pub edits_frames : (name : Who) (f : List Frame → List Frame) (w : World) → G w → ((fs : List Frame) → Alike (f fs) fs) → R w [] (edit_task name (λ t. with_frames (f t.frames) t) w)
+  pub edits_task : (name : Who) (f : Task → Task) (w : World) → G w → ((t : Task) → (f t).who ≡ t.who) → ((t : Task) → (f t).frames ≡ t.frames)
+      → ((t : Task) → (f t).state ≡ t.state) → R w [] (edit_task name f w)
+  pub edits_frames : (name : Who) (f : List Frame → List Frame) (w : World) → G w → ((fs : List Frame) → Alike (f fs) fs)
+      → R w [] (edit_task name (λ t. with_frames (f t.frames) t) w)
   -- who is free goes on, and opens a mark; others are opened above any; and a mark ends
   pub goes : (name : Who) (onward : Option StatementNo) (w : World) → G w → Free name w → R w [] (gone_on name onward w)
-  pub pushes : (name : Who) (f : Frame) (w : World) → G w → Pushes name → Free name w → region_of_mark f.mark ≡ None → being_left_in f.mark ≡ false → ((c : CallNo) → own_call_of f.mark ≡ Some c → Caller c name w) → R w [] (push name f w)
-  pub pushes_special : (name : Who) (f : Frame) (w : World) → G w → Pushes name → is_special f.mark ≡ true → region_of_mark f.mark ≡ None → being_left_in f.mark ≡ false → own_call_of f.mark ≡ None → R w [] (push name f w)
-  pub opens_scope : (p : Image) (name : Who) (scope : ScopeNo) (b : Beginning) (purpose : Purpose) (w : World) → G w → Pushes name → Free name w → R w [] (open_scope p name scope b purpose w)
-  pub opens_task : (p : Image) (name : Who) (scope : ScopeNo) (b : Beginning) (w : World) → G w → Pushes name → R w [] (open_scope p name scope b opened_for.Task w)
+  pub pushes : (name : Who) (f : Frame) (w : World) → G w → Pushes name → Free name w → region_of_mark f.mark ≡ None → being_left_in f.mark ≡ false
+      → ((c : CallNo) → own_call_of f.mark ≡ Some c → Caller c name w) → R w [] (push name f w)
+  pub pushes_special : (name : Who) (f : Frame) (w : World) → G w → Pushes name → is_special f.mark ≡ true → region_of_mark f.mark ≡ None
+      → being_left_in f.mark ≡ false → own_call_of f.mark ≡ None → R w [] (push name f w)
+  pub opens_scope : (p : Image) (name : Who) (scope : ScopeNo) (b : Beginning) (purpose : Purpose) (w : World) → G w → Pushes name → Free name w
+      → R w [] (open_scope p name scope b purpose w)
+  pub opens_task : (p : Image) (name : Who) (scope : ScopeNo) (b : Beginning) (w : World) → G w → Pushes name
+      → R w [] (open_scope p name scope b opened_for.Task w)
   pub pops : (name : Who) (f : Frame) (w : World) → G w → Pushes name → Awake name w → top_of w name ≡ Some f → is_special f.mark ≡ false → R w [] (pop name w)
   -- a region has been left when none of its objects is registered
-  pub has_left : (name : Who) (f : Frame) (m : ScopeMark) (r : RegionNo) (w : World) → G w → Pushes name → Awake name w → top_of w name ≡ Some f → is_special f.mark ≡ false → f.mark ≡ Scope m → m.region ≡ Some r → m.being_left ≡ true → next_to_finalize w r ≡ None
+  pub has_left : (name : Who) (f : Frame) (m : ScopeMark) (r : RegionNo) (w : World) → G w → Pushes name → Awake name w → top_of w name ≡ Some f
+      → is_special f.mark ≡ false → f.mark ≡ Scope m → m.region ≡ Some r → m.being_left ≡ true → next_to_finalize w r ≡ None
       → R w (own (said.Left name r) ∷ []) (pop name w)
   -- states, and places: who becomes ready is placed, and so is who does not wait, or acts; who blocks for a meeting is free
-  pub becomes_ready : (p : Image) (part : Part) (name : Who) (w : World) → G w → R w (ready_line p part name Tail (ready_world p name w) ∷ []) (ready_world p name w)
+  pub becomes_ready : (p : Image) (part : Part) (name : Who) (w : World) → G w
+      → R w (ready_line p part name Tail (ready_world p name w) ∷ []) (ready_world p name w)
   pub wakes : (name : Who) (w : World) → G w → R w [] (edit_task name (with_state Runnable) w)
   pub blocks : (name : Who) (waiting : Waiting) (w : World) → G w → May name → R w (block_line name waiting ∷ []) (blocked_world name waiting w)
-  pub blocks_apart : (name : Who) (waiting : Waiting) (w : World) → G w → Stops → waits (Some waiting) ≡ false → R w (block_line name waiting ∷ []) (blocked_world name waiting w)
-  pub waits_silently : (name : Who) (accepts : List StatementNo) (delay : Option StatementNo) (w : World) → G w → May name → R w [] (edit_task name (with_state (Blocked (waits_for.Select accepts delay true))) w)
+  pub blocks_apart : (name : Who) (waiting : Waiting) (w : World) → G w → Stops → waits (Some waiting) ≡ false
+      → R w (block_line name waiting ∷ []) (blocked_world name waiting w)
+  pub waits_silently : (name : Who) (accepts : List StatementNo) (delay : Option StatementNo) (w : World) → G w → May name
+      → R w [] (edit_task name (with_state (Blocked (waits_for.Select accepts delay true))) w)
   pub places_awake : (p : Image) (part : Part) (name : Who) (end : QueueEnd) (w : World) → G w → Awake name w → R w (ready_line p part name end w ∷ []) w
   pub places_acting : (p : Image) (name : Who) (end : QueueEnd) (w : World) → G w → Acts name → R w (ready_line p ThePlacing name end w ∷ []) w
   -- a new task has the next number
-  pub adds_task : (t : Task) (w : World) → G w → t.who ≡ who.Task (record { 0 = w.drawn.tasks }) → t.frames ≡ [] → waiting_in t.state ≡ None → R w [] (add_task t w)
+  pub adds_task : (t : Task) (w : World) → G w → t.who ≡ who.Task (record { 0 = w.drawn.tasks }) → t.frames ≡ [] → waiting_in t.state ≡ None
+      → R w [] (add_task t w)
   pub forgets_task : (name : Who) (w : World) → G w → Stops → R w [] (forget_task name w)
   pub sets_quantum : (level ticks : ℕ) (w : World) → G w → R w [] (record w { quanta = edit_at level (λ _. ticks) w.quanta })
   pub ends_environment : (leaving : Leaving) (w : World) → G w → R w [] (end_environment leaving w)
@@ -239,24 +250,31 @@ pub record FineMoves (G : GoodWorld) (May Acts Pushes : Naming) (Stops : Type 0)
   pub edits_cells : (id : ScopeId) (f : List Value → List Value) (w : World) → G w → R w [] (edit_cells id f w)
   pub ends_scope : (id : ScopeId) (w : World) → G w → R w [] (end_scope id w)
   -- calls: no edit changes the number
-  pub edits_call : (c : CallNo) (f : Call → Call) (w : World) → G w → ((d : Call) → (f d).number ≡ d.number) → ((d : Call) → (f d).caller ≡ d.caller) → R w [] (edit_call c f w)
+  pub edits_call : (c : CallNo) (f : Call → Call) (w : World) → G w → ((d : Call) → (f d).number ≡ d.number) → ((d : Call) → (f d).caller ≡ d.caller)
+      → R w [] (edit_call c f w)
   pub adds_call : (c : Call) (w : World) → G w → R w [] (add_call c w)
   pub forgets_call : (c : CallNo) (w : World) → G w → R w [] (forget_call c w)
   -- protected objects: no other edit changes the actions that are open
-  pub edits_object : (o : ObjectNo) (f : Object → Object) (w : World) → G w → ((x : Object) → (f x).number ≡ x.number) → ((x : Object) → (f x).actions ≡ x.actions) → R w [] (edit_object o f w)
-  pub adds_object : (p : Image) (l : Located) (u : ProtectedUnitNo) (w : World) → G w → R w [] (record w { objects = new_object p l u (suc w.drawn.objects) ∷ w.objects; drawn = object_drawn w.drawn })
+  pub edits_object : (o : ObjectNo) (f : Object → Object) (w : World) → G w → ((x : Object) → (f x).number ≡ x.number)
+      → ((x : Object) → (f x).actions ≡ x.actions) → R w [] (edit_object o f w)
+  pub adds_object : (p : Image) (l : Located) (u : ProtectedUnitNo) (w : World) → G w
+      → R w [] (record w { objects = new_object p l u (suc w.drawn.objects) ∷ w.objects; drawn = object_drawn w.drawn })
   -- protected actions: one begins, one ends, one begins and ends at once round other lines and a change, and one may not begin
-  pub enters : (name : Who) (o : ObjectNo) (mode : Mode) (w : World) → G w → LetsIn name o mode w → R w (own (said.Enter name o mode) ∷ []) (open_action name o mode w)
+  pub enters : (name : Who) (o : ObjectNo) (mode : Mode) (w : World) → G w → LetsIn name o mode w
+      → R w (own (said.Enter name o mode) ∷ []) (open_action name o mode w)
   pub closes : (name : Who) (o : ObjectNo) (w : World) → G w → R w (own (said.Exit name o) ∷ []) (close_action name o w)
-  pub visits : (name : Who) (o : ObjectNo) (mode : Mode) (xs : List Said) (w v : World) → G w → LetsIn name o mode w → AreQuiet xs → R w [] v → R w (own (said.Enter name o mode) ∷ xs ++ own (said.Exit name o) ∷ []) v
+  pub visits : (name : Who) (o : ObjectNo) (mode : Mode) (xs : List Said) (w v : World) → G w → LetsIn name o mode w → AreQuiet xs → R w [] v
+      → R w (own (said.Enter name o mode) ∷ xs ++ own (said.Exit name o) ∷ []) v
   pub finds_held : (name : Who) (o : ObjectNo) (mode : Mode) (w : World) → G w → FindsHeld name o mode w → R w (own (said.Held name o mode) ∷ []) w
   -- appointments
   pub appoints : (due : Due) (moment : ℤ) (w : World) → G w → R w [] (appoint due moment w)
   pub drops_appointment : (test : Due → Bool) (w : World) → G w → R w [] (drop_appointment test w)
   -- controlled objects: a new one has the next number; of a region that is being left the newest is finalized; and one that is
   -- registered is assigned to
-  pub registers : (name : Who) (l : Located) (w : World) → G w → Free name w → R w (own (said.Init name (suc w.drawn.controlled) (top_region w name) l.declared) ∷ []) (registered_as (suc w.drawn.controlled) (top_region w name) l w)
-  pub finalizes : (name : Who) (f : Frame) (m : ScopeMark) (r : RegionNo) (x : Registered) (w : World) → G w → top_of w name ≡ Some f → f.mark ≡ Scope m → m.region ≡ Some r → m.being_left ≡ true → next_to_finalize w r ≡ Some x
+  pub registers : (name : Who) (l : Located) (w : World) → G w → Free name w
+      → R w (own (said.Init name (suc w.drawn.controlled) (top_region w name) l.declared) ∷ []) (registered_as (suc w.drawn.controlled) (top_region w name) l w)
+  pub finalizes : (name : Who) (f : Frame) (m : ScopeMark) (r : RegionNo) (x : Registered) (w : World) → G w → top_of w name ≡ Some f → f.mark ≡ Scope m
+      → m.region ≡ Some r → m.being_left ≡ true → next_to_finalize w r ≡ Some x
       → R w (own (said.Final name x.object) ∷ []) (no_longer_registered x.object w)
   pub replaces : (name : Who) (l : Located) (x : Registered) (w : World) → G w → registered_at w l ≡ Some x → R w (own (said.Replace name x.object) ∷ []) w
   -- events, timers and budgets, and releases
@@ -274,7 +292,8 @@ pub record FineMoves (G : GoodWorld) (May Acts Pushes : Naming) (Stops : Type 0)
   pub sets_port : (n : ℕ) (value : ℤ) (w : World) → G w → R w [] (with_port n value w)
   pub masks : (n : ℕ) (flag : Bool) (w : World) → G w → R w [] (with_masked n flag w)
   pub keeps_interrupt : (n : ℕ) (flag : Bool) (w : World) → G w → R w [] (with_kept_interrupt n flag w)
-  pub cuts_script : (x : ℤ × Item) (rest : List (ℤ × Item)) (w : World) → G w → w.script ≡ x ∷ rest → int_le x.0 (pos w.time) ≡ true → R w [] (with_script rest w)
+  pub cuts_script : (x : ℤ × Item) (rest : List (ℤ × Item)) (w : World) → G w → w.script ≡ x ∷ rest → int_le x.0 (pos w.time) ≡ true
+      → R w [] (with_script rest w)
 
 -- steps and moves are put together, a line that tells no change is said, and an effect is over
 module _ {G : GoodWorld} {May Acts Pushes : Naming} {Stops : Type 0} {R : StepRelation} {Q : MoveRelation} (moves : FineMoves G May Acts Pushes Stops R Q) where

@@ -21,7 +21,8 @@ use Rattle.profile_machine.specs.Dispatching.{to_tail}
 use Rattle.profile_machine.specs.Frames.{open_sequence, new_frame}
 use Rattle.profile_image.specs.Program.{scope_of}
 use Rattle.profile_machine.specs.Scopes.{open_scope, plainly, draw_region, begin_scope, new_scope_mark, next_id, region_of_next}
-use Rattle.profile_machine.specs.Instant.{effect, is_over, effect_of_runner, finish_action, script_items, events_due, moments_due, timers_due, budgets_due, quantum_spent, instant}
+use Rattle.profile_machine.specs.Instant.{effect, is_over, effect_of_runner, finish_action, script_items}
+use Rattle.profile_machine.specs.Instant.{events_due, moments_due, timers_due, budgets_due, quantum_spent, instant}
 use Rattle.profile_machine.specs.Run.{opens, opening, blank_world, environment}
 use Rattle.machine_laws.specs.LineKinds.{is_of_tock}
 use Rattle.machine_laws.proofs.Moves.{lines_of}
@@ -48,7 +49,9 @@ use Rattle.machine_laws.proofs.Kept.Combinators.{From, Kept, Leads, changes_then
 
 -- a task that waits behind them and was not placed where it waited before is not placed behind them
 abbrev pub PlacedBy : TaskNo → World → List Event → World → Type 0
-PlacedBy t w lines v = waits (waiting_in (state_in v t)) ≡ true → (places : List Placed) → (waits (waiting_in (state_in w t)) ≡ true → is_placed (who.Task t) places ≡ false) → is_placed (who.Task t) (places_after_all lines places) ≡ false
+PlacedBy t w lines v =
+    waits (waiting_in (state_in v t)) ≡ true → (places : List Placed) → (waits (waiting_in (state_in w t)) ≡ true → is_placed (who.Task t) places ≡ false)
+    → is_placed (who.Task t) (places_after_all lines places) ≡ false
 
 after_all-append : (xs ys : List Event) (places : List Placed) → places_after_all (xs ++ ys) places ≡ places_after_all ys (places_after_all xs places)
 after_all-append [] ys places = refl
@@ -79,7 +82,8 @@ following-then a b c xs ys p q = record {
 abbrev Wakes : (Who → Bool) → World → Type 0
 Wakes acts w = (t : TaskNo) → acts (who.Task t) ≡ true → waits (waiting_in (state_in w t)) ≡ false
 
-settled-placed : (acts : Who → Bool) (p : Image) (w v : World) (xs : List Said) → Base acts false w xs v → Wakes acts w → (t : TaskNo) → PlacedBy t w (lines_of p xs) v
+settled-placed : (acts : Who → Bool) (p : Image) (w v : World) (xs : List Said) → Base acts false w xs v → Wakes acts w → (t : TaskNo)
+    → PlacedBy t w (lines_of p xs) v
 settled-placed acts p w v xs base awake t e places k =
     let n = who.Task t in
     by_test (taken n xs)
@@ -91,7 +95,8 @@ settled-placed acts p w v xs base awake t e places k =
     (λ a. absurd (let never : true ≡ false = sym before ∙ awake t a in cc))
     (λ a. quiet_not_placed p n xs places (c.2 a) (k before)))
 
-pub settled-following : (acts : Who → Bool) (p : Image) (w v : World) (xs : List Said) → Base acts false w xs v → Wakes acts w → Following w (lines_of p xs) (placed_by (lines_of p xs) v)
+pub settled-following : (acts : Who → Bool) (p : Image) (w v : World) (xs : List Said) → Base acts false w xs v → Wakes acts w
+    → Following w (lines_of p xs) (placed_by (lines_of p xs) v)
 settled-following acts p w v xs base awake = record {
   shown = λ s h. let f = settled-tells NotLeaving p w v xs base.tells s h in (f.0, f.1);
   placed = settled-placed acts p w v xs base awake;
@@ -135,12 +140,15 @@ unfolding Kept
 effect-settled p a w (done v ys) awake k =
     subst (λ xs. Following w (lines_of p xs) (placed_by (lines_of p xs) v)) (sym k.1) (settled-following (acting a) p w v k.0 k.2 (effect-wakes a w awake))
 
-effect-following : (p : Image) (a : Who) (test : Bool) (w : World) → Inv w → Awake a w → let e = (elim test as (λ _. Move) [ true ↦ settles p (effect p a) | false ↦ rests ]) w in Following w e.1 e.0
+effect-following : (p : Image) (a : Who) (test : Bool) (w : World) → Inv w → Awake a w →
+    let e = (elim test as (λ _. Move) [ true ↦ settles p (effect p a) | false ↦ rests ]) w in
+    Following w e.1 e.0
 unfolding From
 effect-following p a true w inv awake = effect-settled p a w (effect p a w []) awake (effect-from p a w inv awake [])
 effect-following p a false w inv awake = following-rests w inv
 
-runner-following : (p : Image) (ran : Option Who) (w : World) → Inv w → ((name : Who) → ran ≡ Some name → Awake name w) → Following w (effect_of_runner p ran w).1 (effect_of_runner p ran w).0
+runner-following : (p : Image) (ran : Option Who) (w : World) → Inv w → ((name : Who) → ran ≡ Some name → Awake name w)
+    → Following w (effect_of_runner p ran w).1 (effect_of_runner p ran w).0
 runner-following p None w inv awake = following-rests w inv
 runner-following p (Some name) w inv awake = effect-following p name (is_over (task_of w name).ticks_left) w inv (awake name refl)
 
@@ -170,7 +178,8 @@ tock-tells (written.Final name object) e = absurd cc
 tock-tells (written.Replace name object) e = absurd cc
 tock-tells _ e = refl
 
-said-tock : (s : List Told) (event : Event) (w : World) → told_event event ≡ None → Tied s w → Follows NotLeaving s (event ∷ []) × Tied (behind_all NotLeaving s (event ∷ [])) w
+said-tock : (s : List Told) (event : Event) (w : World) → told_event event ≡ None → Tied s w
+    → Follows NotLeaving s (event ∷ []) × Tied (behind_all NotLeaving s (event ∷ [])) w
 said-tock s event w none h = (subst (λ k. RightEvent NotLeaving s k × Unit {0}) (sym none) (tt, tt), subst (λ k. Tied (behind k s) w) (sym none) h)
 
 pub tock_moves : TockMoves (GoodAs Known) Following
@@ -188,7 +197,8 @@ tock_moves = record {
 pub blank-inv : (p : Image) (script : List (ℤ × Item)) → Inv (blank_world p script)
 blank-inv p script = ((record { sound = tt; free = λ e. absurd cc; own = tt }, tt), record { sound = tt; free = λ e. absurd cc; own = tt })
 
-opened-awake : (p : Image) (script : List (ℤ × Item)) (kept : Bool) → Awake environment (draw_region kept (begin_scope p environment p.environment (plainly None) (blank_world p script)))
+opened-awake : (p : Image) (script : List (ℤ × Item)) (kept : Bool)
+    → Awake environment (draw_region kept (begin_scope p environment p.environment (plainly None) (blank_world p script)))
 opened-awake p script true = refl
 opened-awake p script false = refl
 
@@ -200,12 +210,16 @@ opens-from p script =
     let kept = (scope_of p p.environment).kept in
     let f = new_frame (new_scope_mark (next_id w) (region_of_next kept w) opened_for.Task) (scope_of p p.environment).first in
     let first = resting.opens_task p environment p.environment (plainly None) w (blank-inv p script, tt) tt in
-    let awake : Awake environment v = awake-edited environment environment (λ t. with_frames (f ∷ t.frames) t) (draw_region kept (begin_scope p environment p.environment (plainly None) w)) (λ u. refl) (λ u. refl) (opened-awake p script kept) in
+    let awake : Awake environment v =
+    awake-edited environment environment (λ t. with_frames (f ∷ t.frames) t) (draw_region kept (begin_scope p environment p.environment (plainly None) w))
+    (λ u. refl) (λ u. refl) (opened-awake p script kept) in
     let good = resting.behind w v first in
     let new = line.New (created.Task (record { 0 = 0 })) None p.main.priority in
-    changes_then-from (chains resting) (open_scope p environment p.environment (plainly None) opened_for.Task) (says Own new ▷ to_tail p Own environment ▷ open_sequence p Own environment) w first
+    changes_then-from (chains resting) (open_scope p environment p.environment (plainly None) opened_for.Task)
+    (says Own new ▷ to_tail p Own environment ▷ open_sequence p Own environment) w first
     (said_then-from (chains resting) Own new (to_tail p Own environment ▷ open_sequence p Own environment) v (resting.says Own new v good refl)
-    (then-from (chains resting) (to_tail p Own environment) (open_sequence p Own environment) v (to_tail-from resting p Own environment v good awake) (open_sequence-keeps resting p Own environment tt)))
+    (then-from (chains resting) (to_tail p Own environment) (open_sequence p Own environment) v (to_tail-from resting p Own environment v good awake)
+    (open_sequence-keeps resting p Own environment tt)))
 
 pub opening-following : (p : Image) (script : List (ℤ × Item)) → Following (blank_world p script) (opening p script).1 (opening p script).0
 opening-following p script = settles-from Following p (resting.settles p) (opens p) (blank_world p script) (opens-from p script)

@@ -59,14 +59,17 @@ GoodTasks calls drawn tasks agent = AllGood calls drawn tasks × Good calls draw
 abbrev pub Inv : World → Type 0
 Inv w = GoodTasks w.calls w.drawn.calls w.tasks w.agent
 
-good-found : (calls : List Call) (drawn : ℕ) (test : Task → Bool) (ts : List Task) (t : Task) → AllGood calls drawn ts → find test ts ≡ Some t → Good calls drawn t.who t.frames t.state
+good-found : (calls : List Call) (drawn : ℕ) (test : Task → Bool) (ts : List Task) (t : Task) → AllGood calls drawn ts → find test ts ≡ Some t
+    → Good calls drawn t.who t.frames t.state
 good-found calls drawn test [] t h e = absurd cc
 good-found calls drawn test (z ∷ zs) t h e = step (test z) h.0 e (λ k. good-found calls drawn test zs t h.1 k) where
-  step : (b : Bool) → Good calls drawn z.who z.frames z.state → cond b (Some z) (find test zs) ≡ Some t → (find test zs ≡ Some t → Good calls drawn t.who t.frames t.state) → Good calls drawn t.who t.frames t.state
+  step : (b : Bool) → Good calls drawn z.who z.frames z.state → cond b (Some z) (find test zs) ≡ Some t
+      → (find test zs ≡ Some t → Good calls drawn t.who t.frames t.state) → Good calls drawn t.who t.frames t.state
   step true g e k = let same : z ≡ t = cc in subst (λ (x : Task). Good calls drawn x.who x.frames x.state) same g
   step false g e k = k e
 
-good-set : (calls : List Call) (drawn : ℕ) (test : Task → Bool) (u : Task) (ts : List Task) → Good calls drawn u.who u.frames u.state → AllGood calls drawn ts → AllGood calls drawn (set_where test u ts)
+good-set : (calls : List Call) (drawn : ℕ) (test : Task → Bool) (u : Task) (ts : List Task) → Good calls drawn u.who u.frames u.state → AllGood calls drawn ts
+    → AllGood calls drawn (set_where test u ts)
 good-set calls drawn test u [] g h = tt
 good-set calls drawn test u (z ∷ zs) g h = step (test z) (good-set calls drawn test u zs g h.1) where
   step : (b : Bool) → AllGood calls drawn (set_where test u zs) → AllGood calls drawn (cond b (u ∷ zs) (z ∷ set_where test u zs))
@@ -85,7 +88,9 @@ pub good-nobody : (calls : List Call) (drawn : ℕ) (name : Who) → Good calls 
 good-nobody calls drawn (who.Task n) = record { sound = tt; free = λ e. absurd cc; own = tt }
 good-nobody calls drawn who.Agent = record { sound = tt; free = λ e. absurd cc; own = tt }
 
-good-option : (name : Who) (w : World) (found : Option Task) → Inv w → task_at w name ≡ found → let t = unwrap_or found nobody in Good w.calls w.drawn.calls name t.frames t.state
+good-option : (name : Who) (w : World) (found : Option Task) → Inv w → task_at w name ≡ found →
+    let t = unwrap_or found nobody in
+    Good w.calls w.drawn.calls name t.frames t.state
 good-option name w None h e = good-nobody w.calls w.drawn.calls name
 good-option name w (Some t) h e = good-of name w t h e
 
@@ -94,20 +99,27 @@ good-task name w h = good-option name w (task_at w name) h refl
 
 -- an edit of somebody who is good before
 edited-found : (name : Who) (f : Task → Task) (w : World) (found : Option Task) → task_at w name ≡ found → ((t : Task) → (f t).who ≡ t.who)
-    → ((t : Task) → task_of w name ≡ t → Good w.calls w.drawn.calls name t.frames t.state → Good w.calls w.drawn.calls name (f t).frames (f t).state) → Inv w → Inv (edit_task_found name f w found)
+    → ((t : Task) → task_of w name ≡ t → Good w.calls w.drawn.calls name t.frames t.state → Good w.calls w.drawn.calls name (f t).frames (f t).state) → Inv w
+    → Inv (edit_task_found name f w found)
 edited-found name f w None e same k h = h
 edited-found who.Agent f w (Some t) e same k h = (h.0, k t (ap (λ o. unwrap_or o nobody) e) (good-of who.Agent w t h e))
 edited-found (who.Task n) f w (Some t) e same k h =
     let named : who.Task n ≡ t.who = who_path (who.Task n) t.who (found-holds (is_who (who.Task n)) w.tasks t e) in
-    let made = k t (ap (λ o. unwrap_or o nobody) e) (good-of (who.Task n) w t h e) in
-    (good-set w.calls w.drawn.calls (is_who (who.Task n)) (f t) w.tasks (subst (λ m. Good w.calls w.drawn.calls m (f t).frames (f t).state) (named ∙ sym (same t)) made) h.0, h.1)
+    let made = k t (ap (λ o. unwrap_or o nobody) e) (good-of (who.Task n) w t h e) in (
+      good-set w.calls w.drawn.calls (is_who (who.Task n)) (f t) w.tasks
+          (subst (λ m. Good w.calls w.drawn.calls m (f t).frames (f t).state) (named ∙ sym (same t)) made) h.0,
+      h.1,
+    )
 
 pub edited-inv : (name : Who) (f : Task → Task) (w : World) → ((t : Task) → (f t).who ≡ t.who)
-    → ((t : Task) → task_of w name ≡ t → Good w.calls w.drawn.calls name t.frames t.state → Good w.calls w.drawn.calls name (f t).frames (f t).state) → Inv w → Inv (edit_task name f w)
+    → ((t : Task) → task_of w name ≡ t → Good w.calls w.drawn.calls name t.frames t.state → Good w.calls w.drawn.calls name (f t).frames (f t).state) → Inv w
+    → Inv (edit_task name f w)
 edited-inv name f w same k h = edited-found name f w (task_at w name) refl same k h
 
-pub good-same : (calls : List Call) (drawn : ℕ) (name : Who) (frames more : List Frame) (state next : State) → more ≡ frames → next ≡ state → Good calls drawn name frames state → Good calls drawn name more next
-good-same calls drawn name frames more state next a b h = subst (λ fs. Good calls drawn name fs next) (sym a) (subst (λ s. Good calls drawn name frames s) (sym b) h)
+pub good-same : (calls : List Call) (drawn : ℕ) (name : Who) (frames more : List Frame) (state next : State) → more ≡ frames → next ≡ state
+    → Good calls drawn name frames state → Good calls drawn name more next
+good-same calls drawn name frames more state next a b h =
+    subst (λ fs. Good calls drawn name fs next) (sym a) (subst (λ s. Good calls drawn name frames s) (sym b) h)
 
 -- ---- marks that are edited
 
@@ -121,7 +133,11 @@ pub alike-sound : (gs fs : List Frame) → Alike gs fs → Sound fs → Sound gs
 alike-sound [] [] a h = tt
 alike-sound [] (f ∷ fs) a h = absurd a
 alike-sound (g ∷ gs) [] a h = absurd a
-alike-sound (g ∷ gs) (f ∷ fs) a h = ((λ e. a.1 (h.0 (sym (ap (λ n. n.leaving) a.0) ∙ e))), alike-below f.mark g.mark gs fs a.0 a.2 h.1, alike-sound gs fs a.2 h.2)
+alike-sound (g ∷ gs) (f ∷ fs) a h = (
+  (λ e. a.1 (h.0 (sym (ap (λ n. n.leaving) a.0) ∙ e))),
+  alike-below f.mark g.mark gs fs a.0 a.2 h.1,
+  alike-sound gs fs a.2 h.2,
+)
 
 pub alike-top : (gs fs : List Frame) → Alike gs fs → top_leaving (first_of gs) ≡ top_leaving (first_of fs)
 alike-top [] [] a = refl
@@ -135,8 +151,13 @@ alike-own calls drawn name [] (f ∷ fs) a h = absurd a
 alike-own calls drawn name (g ∷ gs) [] a h = absurd a
 alike-own calls drawn name (g ∷ gs) (f ∷ fs) a h = ((λ c e. h.0 c (sym (ap (λ n. n.own_call) a.0) ∙ e)), alike-own calls drawn name gs fs a.2 h.1)
 
-pub alike-good : (calls : List Call) (drawn : ℕ) (name : Who) (gs fs : List Frame) (state : State) → Alike gs fs → Good calls drawn name fs state → Good calls drawn name gs state
-alike-good calls drawn name gs fs state a h = record { sound = alike-sound gs fs a h.sound; free = λ e. alike-top gs fs a ∙ h.free e; own = alike-own calls drawn name gs fs a h.own }
+pub alike-good : (calls : List Call) (drawn : ℕ) (name : Who) (gs fs : List Frame) (state : State) → Alike gs fs → Good calls drawn name fs state
+    → Good calls drawn name gs state
+alike-good calls drawn name gs fs state a h = record {
+  sound = alike-sound gs fs a h.sound;
+  free = λ e. alike-top gs fs a ∙ h.free e;
+  own = alike-own calls drawn name gs fs a h.own;
+}
 
 -- who is free goes on
 gone-sound : (onward : Option StatementNo) (fs : List Frame) → top_leaving (first_of fs) ≡ false → Sound fs → Sound (edit_first (goes_on onward) fs)
@@ -147,12 +168,18 @@ pub gone-top : (onward : Option StatementNo) (fs : List Frame) → top_leaving (
 gone-top onward [] = refl
 gone-top onward (f ∷ fs) = refl
 
-gone-own : (calls : List Call) (drawn : ℕ) (name : Who) (onward : Option StatementNo) (fs : List Frame) → OwnCalls calls drawn name fs → OwnCalls calls drawn name (edit_first (goes_on onward) fs)
+gone-own : (calls : List Call) (drawn : ℕ) (name : Who) (onward : Option StatementNo) (fs : List Frame) → OwnCalls calls drawn name fs
+    → OwnCalls calls drawn name (edit_first (goes_on onward) fs)
 gone-own calls drawn name onward [] h = tt
 gone-own calls drawn name onward (f ∷ fs) h = h
 
-pub gone-good : (calls : List Call) (drawn : ℕ) (name : Who) (onward : Option StatementNo) (fs : List Frame) (state : State) → top_leaving (first_of fs) ≡ false → Good calls drawn name fs state → Good calls drawn name (edit_first (goes_on onward) fs) state
-gone-good calls drawn name onward fs state free h = record { sound = gone-sound onward fs free h.sound; free = λ e. gone-top onward fs ∙ free; own = gone-own calls drawn name onward fs h.own }
+pub gone-good : (calls : List Call) (drawn : ℕ) (name : Who) (onward : Option StatementNo) (fs : List Frame) (state : State) → top_leaving (first_of fs) ≡ false
+    → Good calls drawn name fs state → Good calls drawn name (edit_first (goes_on onward) fs) state
+gone-good calls drawn name onward fs state free h = record {
+  sound = gone-sound onward fs free h.sound;
+  free = λ e. gone-top onward fs ∙ free;
+  own = gone-own calls drawn name onward fs h.own;
+}
 
 -- a mark is opened above what is free, or is special
 below-free : (mark : Mark) (fs : List Frame) → top_leaving (first_of fs) ≡ false → Below mark fs
@@ -166,8 +193,13 @@ below-special mark (g ∷ gs) special = λ e. absurd (let never : true ≡ false
 abbrev pub Opens : List Call → ℕ → Who → Frame → List Frame → Type 0
 Opens calls drawn name f fs = Below f.mark fs × (being_left_in f.mark ≡ false) × ((c : CallNo) → own_call_of f.mark ≡ Some c → CallerIn calls drawn c name)
 
-pub opened-good : (calls : List Call) (drawn : ℕ) (name : Who) (f : Frame) (fs : List Frame) (state : State) → Opens calls drawn name f fs → Good calls drawn name fs state → Good calls drawn name (f ∷ fs) state
-opened-good calls drawn name f fs state o h = record { sound = ((λ e. absurd (let never : true ≡ false = sym e ∙ o.1 in cc)), o.0, h.sound); free = λ e. o.1; own = (o.2, h.own) }
+pub opened-good : (calls : List Call) (drawn : ℕ) (name : Who) (f : Frame) (fs : List Frame) (state : State) → Opens calls drawn name f fs
+    → Good calls drawn name fs state → Good calls drawn name (f ∷ fs) state
+opened-good calls drawn name f fs state o h = record {
+  sound = ((λ e. absurd (let never : true ≡ false = sym e ∙ o.1 in cc)), o.0, h.sound);
+  free = λ e. o.1;
+  own = (o.2, h.own);
+}
 
 pub free-opens : (mark : Mark) (fs : List Frame) → top_leaving (first_of fs) ≡ false → Below mark fs
 free-opens mark fs free = below-free mark fs free
@@ -176,9 +208,14 @@ pub special-opens : (mark : Mark) (fs : List Frame) → is_special mark ≡ true
 special-opens mark fs special = below-special mark fs special
 
 -- a mark ends, of who does not wait
-pub popped-good : (calls : List Call) (drawn : ℕ) (name : Who) (fs : List Frame) (state : State) → waits_as name state ≡ false → Good calls drawn name fs state → Good calls drawn name (rest_of fs) state
+pub popped-good : (calls : List Call) (drawn : ℕ) (name : Who) (fs : List Frame) (state : State) → waits_as name state ≡ false → Good calls drawn name fs state
+    → Good calls drawn name (rest_of fs) state
 popped-good calls drawn name [] state awake h = h
-popped-good calls drawn name (f ∷ fs) state awake h = record { sound = h.sound.2; free = λ e. absurd (let never : true ≡ false = sym e ∙ awake in cc); own = h.own.1 }
+popped-good calls drawn name (f ∷ fs) state awake h = record {
+  sound = h.sound.2;
+  free = λ e. absurd (let never : true ≡ false = sym e ∙ awake in cc);
+  own = h.own.1;
+}
 
 pub below-top : (f : Frame) (fs : List Frame) → is_special f.mark ≡ false → Sound (f ∷ fs) → top_leaving (first_of fs) ≡ false
 below-top f [] plain h = refl
@@ -189,31 +226,46 @@ pub going-free : (f : Frame) (fs : List Frame) (s : StatementNo) → f.onward �
 going-free f fs s e h = by (being_left_in f.mark) refl where
   by : (b : Bool) → being_left_in f.mark ≡ b → b ≡ false
   by false is = refl
-  by true is = absurd (let none : is_some f.onward ≡ false = h.0 is in let some : is_some f.onward ≡ true = ap is_some e in let never : true ≡ false = sym some ∙ none in cc)
+  by true is =
+      absurd
+      (let none : is_some f.onward ≡ false = h.0 is in let some : is_some f.onward ≡ true = ap is_some e in let never : true ≡ false = sym some ∙ none in cc)
 
 -- who waits, or does not
-pub state-good : (calls : List Call) (drawn : ℕ) (name : Who) (fs : List Frame) (state next : State) → (waits_as name next ≡ true → top_leaving (first_of fs) ≡ false) → Good calls drawn name fs state → Good calls drawn name fs next
+pub state-good : (calls : List Call) (drawn : ℕ) (name : Who) (fs : List Frame) (state next : State)
+    → (waits_as name next ≡ true → top_leaving (first_of fs) ≡ false) → Good calls drawn name fs state → Good calls drawn name fs next
 state-good calls drawn name fs state next k h = record { sound = h.sound; free = k; own = h.own }
 
 -- ---- calls
 
-own-calls : (calls more : List Call) (drawn later : ℕ) (name : Who) (fs : List Frame) → ((c : CallNo) → CallerIn calls drawn c name → CallerIn more later c name) → OwnCalls calls drawn name fs → OwnCalls more later name fs
+own-calls : (calls more : List Call) (drawn later : ℕ) (name : Who) (fs : List Frame)
+    → ((c : CallNo) → CallerIn calls drawn c name → CallerIn more later c name) → OwnCalls calls drawn name fs → OwnCalls more later name fs
 own-calls calls more drawn later name [] k h = tt
 own-calls calls more drawn later name (f ∷ fs) k h = ((λ c e. k c (h.0 c e)), own-calls calls more drawn later name fs k h.1)
 
-good-calls : (calls more : List Call) (drawn later : ℕ) (name : Who) (fs : List Frame) (state : State) → ((c : CallNo) → CallerIn calls drawn c name → CallerIn more later c name) → Good calls drawn name fs state → Good more later name fs state
+good-calls : (calls more : List Call) (drawn later : ℕ) (name : Who) (fs : List Frame) (state : State)
+    → ((c : CallNo) → CallerIn calls drawn c name → CallerIn more later c name) → Good calls drawn name fs state → Good more later name fs state
 good-calls calls more drawn later name fs state k h = record { sound = h.sound; free = h.free; own = own-calls calls more drawn later name fs k h.own }
 
-all-calls : (calls more : List Call) (drawn later : ℕ) (ts : List Task) → ((name : Who) (c : CallNo) → CallerIn calls drawn c name → CallerIn more later c name) → AllGood calls drawn ts → AllGood more later ts
+all-calls : (calls more : List Call) (drawn later : ℕ) (ts : List Task) → ((name : Who) (c : CallNo) → CallerIn calls drawn c name → CallerIn more later c name)
+    → AllGood calls drawn ts → AllGood more later ts
 all-calls calls more drawn later [] k h = tt
-all-calls calls more drawn later (t ∷ ts) k h = (good-calls calls more drawn later t.who t.frames t.state (k t.who) h.0, all-calls calls more drawn later ts k h.1)
+all-calls calls more drawn later (t ∷ ts) k h = (
+  good-calls calls more drawn later t.who t.frames t.state (k t.who) h.0,
+  all-calls calls more drawn later ts k h.1,
+)
 
-pub calls-inv : (calls more : List Call) (drawn later : ℕ) (tasks : List Task) (agent : Task) → ((name : Who) (c : CallNo) → CallerIn calls drawn c name → CallerIn more later c name) → GoodTasks calls drawn tasks agent → GoodTasks more later tasks agent
-calls-inv calls more drawn later tasks agent k h = (all-calls calls more drawn later tasks k h.0, good-calls calls more drawn later who.Agent agent.frames agent.state (k who.Agent) h.1)
+pub calls-inv : (calls more : List Call) (drawn later : ℕ) (tasks : List Task) (agent : Task)
+    → ((name : Who) (c : CallNo) → CallerIn calls drawn c name → CallerIn more later c name) → GoodTasks calls drawn tasks agent
+    → GoodTasks more later tasks agent
+calls-inv calls more drawn later tasks agent k h = (
+  all-calls calls more drawn later tasks k h.0,
+  good-calls calls more drawn later who.Agent agent.frames agent.state (k who.Agent) h.1,
+)
 
 -- ---- tasks that are new or gone
 
-pub added-good : (calls : List Call) (drawn : ℕ) (t : Task) (ts : List Task) → Good calls drawn t.who t.frames t.state → AllGood calls drawn ts → AllGood calls drawn (ts ++ t ∷ [])
+pub added-good : (calls : List Call) (drawn : ℕ) (t : Task) (ts : List Task) → Good calls drawn t.who t.frames t.state → AllGood calls drawn ts
+    → AllGood calls drawn (ts ++ t ∷ [])
 added-good calls drawn t [] g h = (g, tt)
 added-good calls drawn t (z ∷ zs) g h = (h.0, added-good calls drawn t zs g h.1)
 

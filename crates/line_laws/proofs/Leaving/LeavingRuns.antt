@@ -43,12 +43,15 @@ blank-tied p script = record {
 
 -- W is what lines that came rightly keep, and the law follows from it
 module _ (W : List Told → Type 0) (first : W []) (next : (s : List Told) (e : Told) → W s → Right NotLeaving s e → W (e ∷ s))
-    (law : List Event → Event → Bool) (lawful : (past : List Event) (x : Event) → W (tells past) → RightEvent NotLeaving (tells past) (told_event x) → law past x ≡ true) (ending : (past : List Event) (reason : Ended) → law past (written.End reason) ≡ true) where
+    (law : List Event → Event → Bool)
+    (lawful : (past : List Event) (x : Event) → W (tells past) → RightEvent NotLeaving (tells past) (told_event x) → law past x ≡ true)
+    (ending : (past : List Event) (reason : Ended) → law past (written.End reason) ≡ true) where
   next-event : (s : List Told) (e : Option Told) → W s → RightEvent NotLeaving s e → W (behind e s)
   next-event s None w h = w
   next-event s (Some e) w h = next s e w h
 
-  follows-law : (past : List Event) (xs : List Event) → W (tells past) → Follows NotLeaving (tells past) xs → Follow remember law past xs × W (tells (seen_behind remember law past xs))
+  follows-law : (past : List Event) (xs : List Event) → W (tells past) → Follows NotLeaving (tells past) xs
+      → Follow remember law past xs × W (tells (seen_behind remember law past xs))
   follows-law past [] w h = (tt, w)
   follows-law past (x ∷ xs) w h =
       let rest = follows-law (x ∷ past) xs (next-event (tells past) (told_event x) w h.0) h.1 in
@@ -78,7 +81,9 @@ module _ (W : List Told → Type 0) (first : W []) (next : (s : List Told) (e : 
       }
 
   openings-lead_on : (p : Image) (script : List (ℤ × Item)) → Leads_on [] (opening p script).1 (opening p script).0
-  openings-lead_on p script = shown-leads_on [] (opening p script).1 (blank_world p script) (opening p script).0 (blank-tied p script) first (opening-following p script) (opening-unplaced p script)
+  openings-lead_on p script =
+      shown-leads_on [] (opening p script).1 (blank_world p script) (opening p script).0 (blank-tied p script) first (opening-following p script)
+      (opening-unplaced p script)
 
   instants-lead_on : (p : Image) (past : List Event) (w : World) → Shows past w → RanAwake w → Leads_on past (instant p w).1 (instant p w).0
   instants-lead_on p past w h awake =
@@ -96,9 +101,11 @@ module _ (W : List Told → Type 0) (first : W []) (next : (s : List Told) (e : 
   both true b p q = q
   both false b p q = p
 
-  follows-then : (n : ℕ) (s : List Event) (events : List Event) (rest : List TraceLine) → Follow remember law s events → follows_lines remember law (seen_behind remember law s events) rest ≡ true → follows_lines remember law s (at_tick n events ++ rest) ≡ true
+  follows-then : (n : ℕ) (s : List Event) (events : List Event) (rest : List TraceLine) → Follow remember law s events
+      → follows_lines remember law (seen_behind remember law s events) rest ≡ true → follows_lines remember law s (at_tick n events ++ rest) ≡ true
   follows-then n s [] rest a b = b
-  follows-then n s (x ∷ xs) rest a b = both (law s x) (follows_lines remember law (remember s x) (at_tick n xs ++ rest)) a.0 (follows-then n (remember s x) xs rest a.1 b)
+  follows-then n s (x ∷ xs) rest a b =
+      both (law s x) (follows_lines remember law (remember s x) (at_tick n xs ++ rest)) a.0 (follows-then n (remember s x) xs rest a.1 b)
 
   follows-alone : (n : ℕ) (s : List Event) (events : List Event) → Follow remember law s events → follows_lines remember law s (at_tick n events) ≡ true
   follows-alone n s [] a = refl
@@ -108,14 +115,19 @@ module _ (W : List Told → Type 0) (first : W []) (next : (s : List Told) (e : 
   turn now i t rest (Some reason) = stopped now i.1 reason
   turn now i t rest None = then_runs now (i.1 ++ t.1) rest
 
-  turn-follows : (now : ℕ) (s : List Event) (i t : World × List Event) (rest : Ran) (reason : Option Ended) → Follow remember law s i.1 → Follow remember law (seen_behind remember law s i.1) t.1
-      → follows_lines remember law (seen_behind remember law (seen_behind remember law s i.1) t.1) rest.lines ≡ true → follows_lines remember law s (turn now i t rest reason).lines ≡ true
-  turn-follows now s i t rest (Some reason) a b c = follows-alone now s (i.1 ++ written.End reason ∷ []) (Follow-append remember law s i.1 (written.End reason ∷ []) a (ending (seen_behind remember law s i.1) reason, tt))
+  turn-follows : (now : ℕ) (s : List Event) (i t : World × List Event) (rest : Ran) (reason : Option Ended) → Follow remember law s i.1
+      → Follow remember law (seen_behind remember law s i.1) t.1
+      → follows_lines remember law (seen_behind remember law (seen_behind remember law s i.1) t.1) rest.lines ≡ true
+      → follows_lines remember law s (turn now i t rest reason).lines ≡ true
+  turn-follows now s i t rest (Some reason) a b c =
+      follows-alone now s (i.1 ++ written.End reason ∷ [])
+      (Follow-append remember law s i.1 (written.End reason ∷ []) a (ending (seen_behind remember law s i.1) reason, tt))
   turn-follows now s i t rest None a b c =
       follows-then now s (i.1 ++ t.1) rest.lines (Follow-append remember law s i.1 t.1 a b)
       (subst (λ seen. follows_lines remember law seen rest.lines ≡ true) (sym (seen_behind-append remember law s i.1 t.1)) c)
 
-  run_from-follows : (fuel : ℕ) (p : Image) (bound : ℕ) (w : World) (past : List Event) → Shows past w → RanAwake w → follows_lines remember law past (run_from fuel p bound w).lines ≡ true
+  run_from-follows : (fuel : ℕ) (p : Image) (bound : ℕ) (w : World) (past : List Event) → Shows past w → RanAwake w
+      → follows_lines remember law past (run_from fuel p bound w).lines ≡ true
   run_from-follows zero p bound w past h awake = follows-alone w.time past (written.End why.Bound ∷ []) (ending past why.Bound, tt)
   run_from-follows (suc fuel) p bound w past h awake =
       let i = instant p w in
@@ -123,13 +135,15 @@ module _ (W : List Told → Type 0) (first : W []) (next : (s : List Told) (e : 
       let behind_instant = instants-lead_on p past w h awake in
       let later = tocks-lead_on p (seen_behind remember law past i.1) i.0 behind_instant.shows in
       turn-follows w.time past i t (run_from fuel p bound t.0) (stop p bound i.0) behind_instant.follow later.follow
-      (run_from-follows fuel p bound t.0 (seen_behind remember law (seen_behind remember law past i.1) t.1) later.shows (chosen-awake p i.0 later.shows.unplaced))
+      (run_from-follows fuel p bound t.0 (seen_behind remember law (seen_behind remember law past i.1) t.1) later.shows
+      (chosen-awake p i.0 later.shows.unplaced))
 
   run-follows : (p : Image) (script : List (ℤ × Item)) (bound : ℕ) → follows_lines remember law [] (run_of p script bound) ≡ true
   run-follows p script bound =
       let o = opening p script in
       let k = openings-lead_on p script in
-      follows-then 0 [] o.1 (run_from (suc bound) p bound o.0).lines k.follow (run_from-follows (suc bound) p bound o.0 (seen_behind remember law [] o.1) k.shows (opening-awake p script))
+      follows-then 0 [] o.1 (run_from (suc bound) p bound o.0).lines k.follow
+      (run_from-follows (suc bound) p bound o.0 (seen_behind remember law [] o.1) k.shows (opening-awake p script))
 
   pub at_each_line : (p : Image) (script : List (ℤ × Item)) (bound : ℕ) → AtEachLine remember [] (λ past x. IsTrue (law past x)) (run_of p script bound)
   at_each_line p script bound = lines_hold remember law [] (run_of p script bound) (run-follows p script bound)

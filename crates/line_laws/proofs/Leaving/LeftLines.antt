@@ -3,8 +3,10 @@ use Rattle.std.proofs.Common.{◌≡◌, ℕ, Bool, true, cond, not, eqb, ◌&&�
 use Rattle.std.specs.List.{list_all}
 use Rattle.trace_text.specs.declared.events.Event.{Event}
 use Rattle.trace_text.specs.declared.events.Event.TheVariants as line
-use Rattle.trace_text.specs.Laws.{has, is_front_of, is_left_before, is_leaving, inits_of, regions_of, finals_among, is_final_before, is_next_final, is_rightly_left}
-use Rattle.line_laws.proofs.Leaving.RegionLines.{Told, begun, ended, added, finalized, assigned, leaving, left, inits, regions, finals, final, is_next, comes_rightly}
+use Rattle.trace_text.specs.Laws.{has, is_front_of, is_left_before, is_leaving, inits_of, regions_of}
+use Rattle.trace_text.specs.Laws.{finals_among, is_final_before, is_next_final, is_rightly_left}
+use Rattle.line_laws.proofs.Leaving.RegionLines.{Told, begun, ended, added, finalized, assigned, leaving}
+use Rattle.line_laws.proofs.Leaving.RegionLines.{left, inits, regions, finals, final, is_next, comes_rightly}
 
 abbrev pub told_event : Event → Option Told
 told_event (line.Leave name region how) = Some (begun region.0)
@@ -67,7 +69,8 @@ next-same o past r =
     ap (λ b. b && not (is_left_before r past) && is_front_of (finals_among (inits_of r past) past ++ o ∷ []) (inits_of r past)) (tells-leaving r past)
     ∙ ap (λ b. leaving r (tells past) && not b && is_front_of (finals_among (inits_of r past) past ++ o ∷ []) (inits_of r past)) (tells-left r past)
     ∙ ap (λ xs. leaving r (tells past) && not (left r (tells past)) && is_front_of (xs ++ o ∷ []) (inits_of r past)) (objects-of r past)
-    ∙ ap (λ xs. leaving r (tells past) && not (left r (tells past)) && is_front_of (finals (inits r (tells past)) (tells past) ++ o ∷ []) xs) (tells-inits r past)
+    ∙ ap (λ xs. leaving r (tells past) && not (left r (tells past)) && is_front_of (finals (inits r (tells past)) (tells past) ++ o ∷ []) xs)
+    (tells-inits r past)
 
 -- a line that tells none of this may stand anywhere
 abbrev pub told_rightly : List Told → Option Told → Bool
@@ -88,7 +91,8 @@ rightly-same past (line.Init name object region declared) =
     ∙ ap (λ b. not (leaving region.0 (tells past)) && not b) (tells-final object past)
 rightly-same past (line.Final name object) =
     ap (λ rs. not (eqb (length rs) 0) && list_all (is_next_final object past) rs) (tells-regions object past)
-    ∙ ap (λ b. not (eqb (length (regions object (tells past))) 0) && b) (all-same (is_next_final object past) (is_next object (tells past)) (regions object (tells past)) (next-same object past))
+    ∙ ap (λ b. not (eqb (length (regions object (tells past))) 0) && b)
+    (all-same (is_next_final object past) (is_next object (tells past)) (regions object (tells past)) (next-same object past))
 rightly-same past (line.Replace name object) =
     ap (λ rs. not (eqb (length rs) 0) && not (is_final_before object past)) (tells-regions object past)
     ∙ ap (λ b. not (eqb (length (regions object (tells past))) 0) && not b) (tells-final object past)

@@ -15,7 +15,8 @@ use Rattle.profile_machine.specs.Frames.{edit_first, goes_on}
 use Rattle.profile_machine.specs.Tasking.{add_task}
 use Rattle.machine_laws.proofs.Moves.{MoveRelation}
 use Rattle.line_laws.proofs.Leaving.FineMoves.{FineMoves, Nature, nature, Alike, Free, Awake, waits, waiting_now, top_leaving}
-use Rattle.line_laws.proofs.Leaving.TaskLemmas.{of_edited, of_other, of_same, of_added, of_forgotten, who_path, FreeTask, free-edited, awake-edited, awake-same, same_self}
+use Rattle.line_laws.proofs.Leaving.TaskLemmas.{of_edited, of_other, of_same, of_added, of_forgotten, who_path}
+use Rattle.line_laws.proofs.Leaving.TaskLemmas.{FreeTask, free-edited, awake-edited, awake-same, same_self}
 use Rattle.line_laws.proofs.Leaving.FreeWorlds.{gone-top}
 use Rattle.line_laws.proofs.Leaving.CoreMoves.{alike-free, pop-free, state-free}
 use Rattle.line_laws.proofs.Leaving.Moving.{Extra, Known_of, Moved, GoodAs, Ends, fine}
@@ -44,7 +45,8 @@ Known w = Unit {0}
 abbrev pub Behind : (World → Type 0) → MoveRelation
 Behind X w lines v = GoodAs X v
 
-ends-good : (acts : Who → Bool) (loose : Bool) (X : World → Type 0) → ((w v : World) → v.tasks ≡ w.tasks → v.agent ≡ w.agent → X w → X v) → Ends acts loose X (Behind X)
+ends-good : (acts : Who → Bool) (loose : Bool) (X : World → Type 0) → ((w v : World) → v.tasks ≡ w.tasks → v.agent ≡ w.agent → X w → X v)
+    → Ends acts loose X (Behind X)
 ends-good acts loose X same = record {
   moved = λ a b h. h;
   rests = λ w g. g;
@@ -92,7 +94,9 @@ extra-going : (a : Who) → Extra (Is a) Anybody (Unit {0}) (Free a)
 extra-going a = record {
   same = λ w v p q x. subst FreeTask (sym (of_same a w v p q)) x;
   edits = λ name f w same frames state x. alike-free name f w a same frames x;
-  goes = λ name onward w free x. free-edited a name (λ t. with_frames (edit_first (goes_on onward) t.frames) t) w (λ t. refl) (λ t k. gone-top onward t.frames ∙ k) x;
+  goes =
+      λ name onward w free x.
+      free-edited a name (λ t. with_frames (edit_first (goes_on onward) t.frames) t) w (λ t. refl) (λ t k. gone-top onward t.frames ∙ k) x;
   pushes = λ name f w p not_left x. free-edited a name (λ t. with_frames (f ∷ t.frames) t) w (λ t. refl) (λ t k. not_left) x;
   pops = λ name f w p inv top plain x. pop-free name f w a inv top plain x;
   readies = λ name w x. state-free name Runnable w a x;
@@ -133,31 +137,36 @@ Apart a n = n ≡ a → ⊥
 differs : (a name : Who) → Apart a name → same_who a name ≡ false
 differs a name k = by_test (same_who a name) (λ e. absurd (k (sym (who_path a name e)))) (λ f. f)
 
-alike-first : (n : Nature) (gs fs : List Frame) (f : Frame) → Alike gs fs → first_of fs ≡ Some f → nature f.mark ≡ n → (g : Frame) × (first_of gs ≡ Some g) × (nature g.mark ≡ n)
+alike-first : (n : Nature) (gs fs : List Frame) (f : Frame) → Alike gs fs → first_of fs ≡ Some f → nature f.mark ≡ n
+    → (g : Frame) × (first_of gs ≡ Some g) × (nature g.mark ≡ n)
 alike-first n [] [] f a e is = absurd cc
 alike-first n [] (x ∷ xs) f a e is = absurd a
 alike-first n (g ∷ gs) [] f a e is = absurd a
 alike-first n (g ∷ gs) (x ∷ xs) f a e is = let same : x ≡ f = cc in (g, refl, a.0 ∙ ap (λ (y : Frame). nature y.mark) same ∙ is)
 
-gone-first : (n : Nature) (onward : Option StatementNo) (fs : List Frame) (f : Frame) → first_of fs ≡ Some f → nature f.mark ≡ n → (g : Frame) × (first_of (edit_first (goes_on onward) fs) ≡ Some g) × (nature g.mark ≡ n)
+gone-first : (n : Nature) (onward : Option StatementNo) (fs : List Frame) (f : Frame) → first_of fs ≡ Some f → nature f.mark ≡ n
+    → (g : Frame) × (first_of (edit_first (goes_on onward) fs) ≡ Some g) × (nature g.mark ≡ n)
 gone-first n onward [] f e is = absurd cc
 gone-first n onward (x ∷ xs) f e is = let same : x ≡ f = cc in (goes_on onward x, refl, ap (λ (y : Frame). nature y.mark) same ∙ is)
 
-top-edited : (a : Who) (n : Nature) (name : Who) (f : Task → Task) (w : World) → ((u : Task) → (f u).who ≡ u.who) → ((u : Task) → Top n u → Top n (f u)) → Top n (task_of w a) → Top n (task_of (edit_task name f w) a)
+top-edited : (a : Who) (n : Nature) (name : Who) (f : Task → Task) (w : World) → ((u : Task) → (f u).who ≡ u.who) → ((u : Task) → Top n u → Top n (f u))
+    → Top n (task_of w a) → Top n (task_of (edit_task name f w) a)
 top-edited a n name f w same k h = of_edited (Top n) a name f w same k h
 
 -- a task that is found is found with another behind it
 found-added : (test : Task → Bool) (t u : Task) (xs : List Task) → find test xs ≡ Some u → find test (xs ++ t ∷ []) ≡ Some u
 found-added test t u [] e = absurd cc
 found-added test t u (z ∷ zs) e = step (test z) e (λ k. found-added test t u zs k) where
-  step : (b : Bool) → cond b (Some z) (find test zs) ≡ Some u → (find test zs ≡ Some u → find test (zs ++ t ∷ []) ≡ Some u) → cond b (Some z) (find test (zs ++ t ∷ [])) ≡ Some u
+  step : (b : Bool) → cond b (Some z) (find test zs) ≡ Some u → (find test zs ≡ Some u → find test (zs ++ t ∷ []) ≡ Some u)
+      → cond b (Some z) (find test (zs ++ t ∷ [])) ≡ Some u
   step true e k = e
   step false e k = k e
 
 added-top : (a : Who) (n : Nature) (t : Task) (w : World) → Top n (task_of w a) → Top n (task_of (add_task t w) a)
 added-top who.Agent n t w h = h
 added-top (who.Task m) n t w h = by (found_task (who.Task m) w.tasks) refl h where
-  by : (found : Option Task) → found_task (who.Task m) w.tasks ≡ found → Top n (unwrap_or (found_task (who.Task m) w.tasks) nobody) → Top n (unwrap_or (found_task (who.Task m) (w.tasks ++ t ∷ [])) nobody)
+  by : (found : Option Task) → found_task (who.Task m) w.tasks ≡ found → Top n (unwrap_or (found_task (who.Task m) w.tasks) nobody)
+      → Top n (unwrap_or (found_task (who.Task m) (w.tasks ++ t ∷ [])) nobody)
   by None e k = absurd (let q : Top n nobody = subst (λ (o : Option Task). Top n (unwrap_or o nobody)) e k in let none : None ≡ Some q.frame = q.first in cc)
   by (Some u) e k = subst (λ (o : Option Task). Top n (unwrap_or o nobody)) (e ∙ sym (found-added (is_who (who.Task m)) t u w.tasks e)) k
 
@@ -174,11 +183,15 @@ extra-steady a n = record {
   same = λ w v p q x. record { awake = awake-same a w v p q x.awake; top = subst (Top n) (sym (of_same a w v p q)) x.top };
   edits = λ name f w same frames state x. record {
     awake = awake-edited a name f w same state x.awake;
-    top = top-edited a n name f w same (λ u h. let q = alike-first n (f u).frames u.frames h.frame (frames u) h.first h.is in record { frame = q.0; first = q.1; is = q.2 }) x.top;
+    top =
+        top-edited a n name f w same
+        (λ u h. let q = alike-first n (f u).frames u.frames h.frame (frames u) h.first h.is in record { frame = q.0; first = q.1; is = q.2 }) x.top;
   };
   goes = λ name onward w free x. record {
     awake = awake-edited a name (λ t. with_frames (edit_first (goes_on onward) t.frames) t) w (λ u. refl) (λ u. refl) x.awake;
-    top = top-edited a n name (λ t. with_frames (edit_first (goes_on onward) t.frames) t) w (λ u. refl) (λ u h. let q = gone-first n onward u.frames h.frame h.first h.is in record { frame = q.0; first = q.1; is = q.2 }) x.top;
+    top =
+        top-edited a n name (λ t. with_frames (edit_first (goes_on onward) t.frames) t) w (λ u. refl)
+        (λ u h. let q = gone-first n onward u.frames h.frame h.first h.is in record { frame = q.0; first = q.1; is = q.2 }) x.top;
   };
   pushes = λ name f w apart not_left x. record {
     awake = awake-edited a name (λ t. with_frames (f ∷ t.frames) t) w (λ u. refl) (λ u. refl) x.awake;
@@ -206,8 +219,12 @@ known-steady a n = record {
   may_pushes = λ name may. absurd may;
   may_free = λ name w x may. absurd may;
   stops_pushes = λ stops name. absurd stops;
-  waiting_pushes = λ name w x e is. let awake : waiting_now name w ≡ false = subst (λ k. Awake k w) (sym is) x.awake in let never : true ≡ false = sym e ∙ awake in cc;
+  waiting_pushes =
+      λ name w x e is. let awake : waiting_now name w ≡ false = subst (λ k. Awake k w) (sym is) x.awake in let never : true ≡ false = sym e ∙ awake in cc;
 }
 
-pub steady : (a : Who) (n : Nature) → FineMoves (GoodAs (Steady a n)) Nobody (λ k. acting a k ≡ true) (Apart a) ⊥ (Moved (acting a) true (Steady a n)) (Behind (Steady a n))
-steady a n = fine (acting a) true (extra-steady a n) (known-steady a n) (ends-good (acting a) true (Steady a n) (λ w v p q x. record { awake = awake-same a w v p q x.awake; top = subst (Top n) (sym (of_same a w v p q)) x.top }))
+pub steady : (a : Who) (n : Nature)
+    → FineMoves (GoodAs (Steady a n)) Nobody (λ k. acting a k ≡ true) (Apart a) ⊥ (Moved (acting a) true (Steady a n)) (Behind (Steady a n))
+steady a n =
+    fine (acting a) true (extra-steady a n) (known-steady a n)
+    (ends-good (acting a) true (Steady a n) (λ w v p q x. record { awake = awake-same a w v p q x.awake; top = subst (Top n) (sym (of_same a w v p q)) x.top }))

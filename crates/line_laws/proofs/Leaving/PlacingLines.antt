@@ -14,7 +14,8 @@ use Rattle.profile_machine.specs.declared.world.lines.Said.{Said}
 use Rattle.profile_machine.specs.declared.world.tasks.Placed.{Placed}
 use Rattle.profile_image.specs.Words.{same_who}
 use Rattle.profile_machine.specs.Lines.{event_of}
-use Rattle.profile_machine.specs.Steps.{is_part_before, put_in_order, in_order, is_above, put_at, put_at_tail, put_at_head, take_out, places_after, places_after_all}
+use Rattle.profile_machine.specs.Steps.{is_part_before, put_in_order, in_order, is_above, put_at}
+use Rattle.profile_machine.specs.Steps.{put_at_tail, put_at_head, take_out, places_after, places_after_all}
 use Rattle.machine_laws.proofs.Moves.{lines_of}
 use Rattle.line_laws.proofs.Handlers.AgentLines.{or-swap}
 
@@ -146,9 +147,11 @@ put-high : (x : Said) (ls hs : List Said) → is_last_part x.part ≡ true → A
 unfolding AllLow
 put-high x [] hs e a h = put-first x hs h
 put-high x (y ∷ ls) hs e a h =
-    ap (λ t. cond t (y ∷ put_in_order x (ls ++ hs)) (x ∷ y ∷ (ls ++ hs))) (low_before_high y.part x.part a.0 e) ∙ ap (λ rest. y ∷ rest) (put-high x ls hs e a.1 h)
+    ap (λ t. cond t (y ∷ put_in_order x (ls ++ hs)) (x ∷ y ∷ (ls ++ hs))) (low_before_high y.part x.part a.0 e)
+    ∙ ap (λ rest. y ∷ rest) (put-high x ls hs e a.1 h)
 
-put-low-step : (y x : Said) (rest ls hs more : List Said) (b : Bool) → more ≡ rest ++ hs → cond b (y ∷ more) (x ∷ y ∷ (ls ++ hs)) ≡ cond b (y ∷ rest) (x ∷ y ∷ ls) ++ hs
+put-low-step : (y x : Said) (rest ls hs more : List Said) (b : Bool) → more ≡ rest ++ hs
+    → cond b (y ∷ more) (x ∷ y ∷ (ls ++ hs)) ≡ cond b (y ∷ rest) (x ∷ y ∷ ls) ++ hs
 put-low-step y x rest ls hs more true e = ap (λ zs. y ∷ zs) e
 put-low-step y x rest ls hs more false e = refl
 
@@ -169,11 +172,17 @@ record Apart (xs : List Said) : Type 0 where
   high : AllHigh (highs xs)
   shape : in_order xs ≡ in_order (lows xs) ++ highs xs
 
-apart-step : (x : Said) (xs : List Said) (b : Bool) → is_last_part x.part ≡ b → AllLow (in_order (lows xs)) → AllHigh (highs xs) → in_order xs ≡ in_order (lows xs) ++ highs xs
-    → AllLow (in_order (cond b (lows xs) (x ∷ lows xs))) × AllHigh (cond b (x ∷ highs xs) (highs xs)) × (put_in_order x (in_order xs) ≡ in_order (cond b (lows xs) (x ∷ lows xs)) ++ cond b (x ∷ highs xs) (highs xs))
+apart-step : (x : Said) (xs : List Said) (b : Bool) → is_last_part x.part ≡ b → AllLow (in_order (lows xs)) → AllHigh (highs xs)
+    → in_order xs ≡ in_order (lows xs) ++ highs xs
+    → AllLow (in_order (cond b (lows xs) (x ∷ lows xs))) × AllHigh (cond b (x ∷ highs xs) (highs xs))
+    × (put_in_order x (in_order xs) ≡ in_order (cond b (lows xs) (x ∷ lows xs)) ++ cond b (x ∷ highs xs) (highs xs))
 unfolding AllHigh
 apart-step x xs true e low high shape = (low, (e, high), ap (put_in_order x) shape ∙ put-high x (in_order (lows xs)) (highs xs) e low high)
-apart-step x xs false e low high shape = (low-put x (in_order (lows xs)) e low, high, ap (put_in_order x) shape ∙ put-low x (in_order (lows xs)) (highs xs) high)
+apart-step x xs false e low high shape = (
+  low-put x (in_order (lows xs)) e low,
+  high,
+  ap (put_in_order x) shape ∙ put-low x (in_order (lows xs)) (highs xs) high,
+)
 
 apart : (xs : List Said) → Apart xs
 unfolding AllLow AllHigh lows highs
@@ -207,14 +216,16 @@ bit_behind-append n b (x ∷ xs) ys = bit_behind-append n (bit_after n b x.line)
 placed-tail : (n : Who) (x : Placed) (xs : List Placed) → is_placed n (put_at_tail x xs) ≡ (same_who n x.who || is_placed n xs)
 placed-tail n x [] = refl
 placed-tail n x (y ∷ ys) = step (is_above x y) (placed-tail n x ys) where
-  step : (b : Bool) → is_placed n (put_at_tail x ys) ≡ (same_who n x.who || is_placed n ys) → is_placed n (cond b (x ∷ y ∷ ys) (y ∷ put_at_tail x ys)) ≡ (same_who n x.who || (same_who n y.who || is_placed n ys))
+  step : (b : Bool) → is_placed n (put_at_tail x ys) ≡ (same_who n x.who || is_placed n ys)
+      → is_placed n (cond b (x ∷ y ∷ ys) (y ∷ put_at_tail x ys)) ≡ (same_who n x.who || (same_who n y.who || is_placed n ys))
   step true k = refl
   step false k = ap (λ t. same_who n y.who || t) k ∙ or-swap (same_who n y.who) (same_who n x.who) (is_placed n ys)
 
 placed-head : (n : Who) (x : Placed) (xs : List Placed) → is_placed n (put_at_head x xs) ≡ (same_who n x.who || is_placed n xs)
 placed-head n x [] = refl
 placed-head n x (y ∷ ys) = step (is_above y x) (placed-head n x ys) where
-  step : (b : Bool) → is_placed n (put_at_head x ys) ≡ (same_who n x.who || is_placed n ys) → is_placed n (cond b (y ∷ put_at_head x ys) (x ∷ y ∷ ys)) ≡ (same_who n x.who || (same_who n y.who || is_placed n ys))
+  step : (b : Bool) → is_placed n (put_at_head x ys) ≡ (same_who n x.who || is_placed n ys)
+      → is_placed n (cond b (y ∷ put_at_head x ys) (x ∷ y ∷ ys)) ≡ (same_who n x.who || (same_who n y.who || is_placed n ys))
   step true k = ap (λ t. same_who n y.who || t) k ∙ or-swap (same_who n y.who) (same_who n x.who) (is_placed n ys)
   step false k = refl
 
@@ -226,7 +237,8 @@ placed-at n Head x xs = placed-head n x xs
 out-at_most : (n m : Who) (xs : List Placed) → is_placed n xs ≡ false → is_placed n (take_out m xs) ≡ false
 out-at_most n m [] e = refl
 out-at_most n m (y ∷ ys) e = step (same_who m y.who) (same_who n y.who) e (λ k. out-at_most n m ys k) refl where
-  step : (b c : Bool) → (c || is_placed n ys) ≡ false → (is_placed n ys ≡ false → is_placed n (take_out m ys) ≡ false) → same_who n y.who ≡ c → is_placed n (cond (not b) (y ∷ take_out m ys) (take_out m ys)) ≡ false
+  step : (b c : Bool) → (c || is_placed n ys) ≡ false → (is_placed n ys ≡ false → is_placed n (take_out m ys) ≡ false) → same_who n y.who ≡ c
+      → is_placed n (cond (not b) (y ∷ take_out m ys) (take_out m ys)) ≡ false
   step true true e k is = absurd cc
   step true false e k is = k e
   step false true e k is = absurd cc
@@ -246,24 +258,30 @@ out-same n m (y ∷ ys) e = step (same_who m y.who) refl (out-same n m ys e) whe
   step false is k = ap (λ t. t || is_placed n (take_out m ys)) (ap (λ z. same_who z y.who) (same_path n m e) ∙ is) ∙ k
 
 -- where the bit says no, it is not placed
-out-bit : (n m : Who) (b test : Bool) (places : List Placed) → same_who n m ≡ test → (not test && b) ≡ false → (b ≡ false → is_placed n places ≡ false) → is_placed n (take_out m places) ≡ false
+out-bit : (n m : Who) (b test : Bool) (places : List Placed) → same_who n m ≡ test → (not test && b) ≡ false → (b ≡ false → is_placed n places ≡ false)
+    → is_placed n (take_out m places) ≡ false
 out-bit n m b true places is e k = out-same n m places is
 out-bit n m b false places is e k = out-at_most n m places (k e)
 
-ready-bit : (n m : Who) (b test : Bool) (end : QueueEnd) (x : Placed) (places : List Placed) → x.who ≡ m → same_who n m ≡ test → (test || b) ≡ false → (b ≡ false → is_placed n places ≡ false) → is_placed n (put_at end x (take_out m places)) ≡ false
+ready-bit : (n m : Who) (b test : Bool) (end : QueueEnd) (x : Placed) (places : List Placed) → x.who ≡ m → same_who n m ≡ test → (test || b) ≡ false
+    → (b ≡ false → is_placed n places ≡ false) → is_placed n (put_at end x (take_out m places)) ≡ false
 ready-bit n m b true end x places same is e k = absurd cc
 ready-bit n m b false end x places same is e k =
     placed-at n end x (take_out m places) ∙ ap (λ t. t || is_placed n (take_out m places)) (ap (same_who n) same ∙ is) ∙ out-at_most n m places (k e)
 
-place-step : (p : Image) (n : Who) (b : Bool) (places : List Placed) (x : Line) → (b ≡ false → is_placed n places ≡ false) → bit_after n b x ≡ false → is_placed n (places_after (event_of p x) places) ≡ false
-place-step p n b places (said.Ready name level end deadline) k e = ready-bit n name b (same_who n name) end (record { who = name; level = level; deadline = deadline }) places refl refl e k
+place-step : (p : Image) (n : Who) (b : Bool) (places : List Placed) (x : Line) → (b ≡ false → is_placed n places ≡ false) → bit_after n b x ≡ false
+    → is_placed n (places_after (event_of p x) places) ≡ false
+place-step p n b places (said.Ready name level end deadline) k e =
+    ready-bit n name b (same_who n name) end (record { who = name; level = level; deadline = deadline }) places refl refl e k
 place-step p n b places (said.Block name why) k e = out-bit n name b (same_who n name) places refl e k
 place-step p n b places (said.Done task) k e = out-bit n (who.Task task) b (same_who n (who.Task task)) places refl e k
 place-step p n b places _ k e = k e
 
-places-behind : (p : Image) (n : Who) (xs : List Said) (b : Bool) (places : List Placed) → (b ≡ false → is_placed n places ≡ false) → bit_behind n b xs ≡ false → is_placed n (places_after_all (map (λ x. event_of p x.line) xs) places) ≡ false
+places-behind : (p : Image) (n : Who) (xs : List Said) (b : Bool) (places : List Placed) → (b ≡ false → is_placed n places ≡ false) → bit_behind n b xs ≡ false
+    → is_placed n (places_after_all (map (λ x. event_of p x.line) xs) places) ≡ false
 places-behind p n [] b places k e = k e
-places-behind p n (x ∷ xs) b places k e = places-behind p n xs (bit_after n b x.line) (places_after (event_of p x.line) places) (place-step p n b places x.line k) e
+places-behind p n (x ∷ xs) b places k e =
+    places-behind p n xs (bit_after n b x.line) (places_after (event_of p x.line) places) (place-step p n b places x.line k) e
 
 -- ---- what the bit says behind lines in order
 
@@ -295,26 +313,29 @@ quiet-order n [] h = tt
 quiet-order n (x ∷ xs) h = quiet-put n x (in_order xs) h.0 (quiet-order n xs h.1)
 
 -- whoever was not placed, and is placed by none, is not
-pub quiet_not_placed : (p : Image) (n : Who) (xs : List Said) (places : List Placed) → Quiet n xs → is_placed n places ≡ false → is_placed n (places_after_all (lines_of p xs) places) ≡ false
+pub quiet_not_placed : (p : Image) (n : Who) (xs : List Said) (places : List Placed) → Quiet n xs → is_placed n places ≡ false
+    → is_placed n (places_after_all (lines_of p xs) places) ≡ false
 quiet_not_placed p n xs places h e = places-behind p n (in_order xs) false places (λ _. e) (quiet-bit n (in_order xs) (quiet-order n xs h))
 
 -- in the last part the bit follows what is taken
 taken-step : (n : Who) (x : Said) (b t : Bool) → is_last_part x.part ≡ true → (t ≡ true → b ≡ false) → taken_by n t x ≡ true → bit_after n b x.line ≡ false
-taken-step n x b t last k e = line_step n x.line b t k (sym (ap (λ l. cond (l && blocks_it n x.line) true (cond (l && readies n x.line) false t)) last) ∙ e) where
-  line_step : (n : Who) (l : Line) (b t : Bool) → (t ≡ true → b ≡ false) → cond (blocks_it n l) true (cond (readies n l) false t) ≡ true → bit_after n b l ≡ false
-  line_step n (said.Ready name level end deadline) b t k e = ready (same_who n name) e where
-    ready : (same : Bool) → cond same false t ≡ true → (same || b) ≡ false
-    ready true e = absurd cc
-    ready false e = k e
-  line_step n (said.Block name why) b t k e = block (same_who n name) e where
-    block : (same : Bool) → cond same true t ≡ true → (not same && b) ≡ false
-    block true e = refl
-    block false e = k e
-  line_step n (said.Done task) b t k e = done_step (not (same_who n (who.Task task))) (k e) where
-    done_step : (a : Bool) → b ≡ false → (a && b) ≡ false
-    done_step true f = f
-    done_step false f = refl
-  line_step n _ b t k e = k e
+taken-step n x b t last k e =
+    line_step n x.line b t k (sym (ap (λ l. cond (l && blocks_it n x.line) true (cond (l && readies n x.line) false t)) last) ∙ e) where
+      line_step : (n : Who) (l : Line) (b t : Bool) → (t ≡ true → b ≡ false) → cond (blocks_it n l) true (cond (readies n l) false t) ≡ true
+          → bit_after n b l ≡ false
+      line_step n (said.Ready name level end deadline) b t k e = ready (same_who n name) e where
+        ready : (same : Bool) → cond same false t ≡ true → (same || b) ≡ false
+        ready true e = absurd cc
+        ready false e = k e
+      line_step n (said.Block name why) b t k e = block (same_who n name) e where
+        block : (same : Bool) → cond same true t ≡ true → (not same && b) ≡ false
+        block true e = refl
+        block false e = k e
+      line_step n (said.Done task) b t k e = done_step (not (same_who n (who.Task task))) (k e) where
+        done_step : (a : Bool) → b ≡ false → (a && b) ≡ false
+        done_step true f = f
+        done_step false f = refl
+      line_step n _ b t k e = k e
 
 taken-bit : (n : Who) (xs : List Said) (b t : Bool) → AllHigh xs → (t ≡ true → b ≡ false) → taken_from n t xs ≡ true → bit_behind n b xs ≡ false
 unfolding AllHigh
@@ -326,11 +347,13 @@ high-taken : (n : Who) (xs : List Said) (t : Bool) → taken_from n t (highs xs)
 unfolding highs
 high-taken n [] t = refl
 high-taken n (x ∷ xs) t = step (is_last_part x.part) refl (λ c. high-taken n xs c) where
-  step : (b : Bool) → is_last_part x.part ≡ b → ((c : Bool) → taken_from n c (highs xs) ≡ taken_from n c xs) → taken_from n t (cond b (x ∷ highs xs) (highs xs)) ≡ taken_from n (taken_by n t x) xs
+  step : (b : Bool) → is_last_part x.part ≡ b → ((c : Bool) → taken_from n c (highs xs) ≡ taken_from n c xs)
+      → taken_from n t (cond b (x ∷ highs xs) (highs xs)) ≡ taken_from n (taken_by n t x) xs
   step true e k = k (taken_by n t x)
   step false e k = k t ∙ ap (λ c. taken_from n c xs) (sym (ap (λ l. cond (l && blocks_it n x.line) true (cond (l && readies n x.line) false t)) e))
 
-pub taken_not_placed : (p : Image) (n : Who) (xs : List Said) (places : List Placed) → taken n xs ≡ true → is_placed n (places_after_all (lines_of p xs) places) ≡ false
+pub taken_not_placed : (p : Image) (n : Who) (xs : List Said) (places : List Placed) → taken n xs ≡ true
+    → is_placed n (places_after_all (lines_of p xs) places) ≡ false
 taken_not_placed p n xs places e =
     let a = apart xs in
     places-behind p n (in_order xs) true places (λ k. absurd cc)

@@ -1,6 +1,7 @@
 -- The lines of regions and controlled objects alone, the last first: what they say of each region and object, and that lines
 -- which come rightly keep the law of leaving.
-use Rattle.std.proofs.Common.{◌≡◌, ℕ, Bool, true, false, cond, not, eqb, ◌&&◌, ◌||◌, List, [], ◌∷◌, ◌++◌, length, refl, sym, ap, subst, ◌∙◌, eq-eqb, append_assoc, append-nil}
+use Rattle.std.proofs.Common.{◌≡◌, ℕ, Bool, true, false, cond, not, eqb, ◌&&◌, ◌||◌, List, [], ◌∷◌}
+use Rattle.std.proofs.Common.{◌++◌, length, refl, sym, ap, subst, ◌∙◌, eq-eqb, append_assoc, append-nil}
 use Rattle.std.specs.List.{list_all}
 use Rattle.std.proofs.lemmas.Bool.{and_from, eqb-true, not_from_false, or_left, or_parts, or_right}
 use Rattle.trace_text.specs.Laws.{has, is_front_of}
@@ -114,12 +115,15 @@ pub record Well (s : List Told) : Type 0 where
   pub known : Known s (live s)
 
 pub eqb-sym-false : (a b : ℕ) → eqb a b ≡ false → eqb b a ≡ false
-eqb-sym-false a b e = by_test (eqb b a) (λ t. absurd (let same : eqb a a ≡ false = subst (λ n. eqb a n ≡ false) (eqb-true b a t) e in let yes : eqb a a ≡ true = eq-eqb a a refl in cc)) (λ f. f)
+eqb-sym-false a b e =
+    by_test (eqb b a)
+    (λ t. absurd (let same : eqb a a ≡ false = subst (λ n. eqb a n ≡ false) (eqb-true b a t) e in let yes : eqb a a ≡ true = eq-eqb a a refl in cc)) (λ f. f)
 
 -- ---- facts of these lists
 
 -- an object is among those of a region exactly where the region is among its own
-has-step : (o r n q : ℕ) (ns qs : List ℕ) (a b : Bool) → eqb r q ≡ a → eqb o n ≡ b → has o ns ≡ has r qs → has o (cond a (n ∷ ns) ns) ≡ has r (cond b (q ∷ qs) qs)
+has-step : (o r n q : ℕ) (ns qs : List ℕ) (a b : Bool) → eqb r q ≡ a → eqb o n ≡ b → has o ns ≡ has r qs
+    → has o (cond a (n ∷ ns) ns) ≡ has r (cond b (q ∷ qs) qs)
 has-step o r n q ns qs true true e f h = ap (λ t. t || has o ns) f ∙ sym (ap (λ t. t || has r qs) e)
 has-step o r n q ns qs true false e f h = ap (λ t. t || has o ns) f ∙ h
 has-step o r n q ns qs false true e f h = h ∙ sym (ap (λ t. t || has r qs) e)
@@ -161,16 +165,19 @@ others-absent o (x ∷ xs) e =
     let parts = or_parts (eqb o x.0) (is_live o xs) e in
     ap (λ t. cond t (others o xs) (x ∷ others o xs)) parts.0 ∙ ap (λ rest. x ∷ rest) (others-absent o xs parts.1)
 
-absent-step : (n : ℕ) (x : ℕ × ℕ) (left_over : List (ℕ × ℕ)) (b : Bool) → eqb n x.0 ≡ false → is_live n left_over ≡ false → is_live n (cond b left_over (x ∷ left_over)) ≡ false
+absent-step : (n : ℕ) (x : ℕ × ℕ) (left_over : List (ℕ × ℕ)) (b : Bool) → eqb n x.0 ≡ false → is_live n left_over ≡ false
+    → is_live n (cond b left_over (x ∷ left_over)) ≡ false
 absent-step n x left_over true e h = h
 absent-step n x left_over false e h = ap (λ t. t || is_live n left_over) e ∙ h
 
 pub absent-others : (o n : ℕ) (xs : List (ℕ × ℕ)) → is_live n xs ≡ false → is_live n (others o xs) ≡ false
 absent-others o n [] e = refl
-absent-others o n (x ∷ xs) e = let parts = or_parts (eqb n x.0) (is_live n xs) e in absent-step n x (others o xs) (eqb o x.0) parts.0 (absent-others o n xs parts.1)
+absent-others o n (x ∷ xs) e =
+    let parts = or_parts (eqb n x.0) (is_live n xs) e in absent-step n x (others o xs) (eqb o x.0) parts.0 (absent-others o n xs parts.1)
 
 -- the line behind says nothing else of those that are known
-known-step : (o : ℕ) (x : ℕ × ℕ) (s : List Told) (left_over : List (ℕ × ℕ)) (b : Bool) → eqb o x.0 ≡ b → regions x.0 s ≡ x.1 ∷ [] → final x.0 s ≡ false → is_live x.0 left_over ≡ false → Known (finalized o ∷ s) left_over → Known (finalized o ∷ s) (cond b left_over (x ∷ left_over))
+known-step : (o : ℕ) (x : ℕ × ℕ) (s : List Told) (left_over : List (ℕ × ℕ)) (b : Bool) → eqb o x.0 ≡ b → regions x.0 s ≡ x.1 ∷ [] → final x.0 s ≡ false
+    → is_live x.0 left_over ≡ false → Known (finalized o ∷ s) left_over → Known (finalized o ∷ s) (cond b left_over (x ∷ left_over))
 known-step o x s left_over true e a b c h = h
 known-step o x s left_over false e a b c h = (a, ap (λ t. t || final x.0 s) (eqb-sym-false o x.0 e) ∙ b, c, h)
 
@@ -205,10 +212,12 @@ pub record Newest (s : List Told) (o r : ℕ) (xs : List (ℕ × ℕ)) (rest : L
 same_head : (a b : ℕ) (ms ns : List ℕ) → a ∷ ms ≡ b ∷ ns → (a ≡ b) × (ms ≡ ns)
 same_head a b ms ns e = (cc, cc)
 
-newest-here : (s : List Told) (o r : ℕ) (x : ℕ × ℕ) (xs : List (ℕ × ℕ)) (rest : List ℕ) → Known s (x ∷ xs) → eqb r x.1 ≡ true → x.0 ≡ o → live_in r xs ≡ rest → Newest s o r (x ∷ xs) rest
+newest-here : (s : List Told) (o r : ℕ) (x : ℕ × ℕ) (xs : List (ℕ × ℕ)) (rest : List ℕ) → Known s (x ∷ xs) → eqb r x.1 ≡ true → x.0 ≡ o → live_in r xs ≡ rest
+    → Newest s o r (x ∷ xs) rest
 newest-here s o r x xs rest h here is e =
     let same : r ≡ x.1 = eqb-true r x.1 here in
-    let out : others o (x ∷ xs) ≡ xs = ap (λ t. cond t (others o xs) (x ∷ others o xs)) (eq-eqb o x.0 (sym is)) ∙ others-absent o xs (subst (λ n. is_live n xs ≡ false) is h.2) in
+    let out : others o (x ∷ xs) ≡ xs =
+    ap (λ t. cond t (others o xs) (x ∷ others o xs)) (eq-eqb o x.0 (sym is)) ∙ others-absent o xs (subst (λ n. is_live n xs ≡ false) is h.2) in
     record {
       one = subst (λ n. regions n s ≡ r ∷ []) is (h.0 ∙ ap (λ q. q ∷ []) (sym same));
       still = ap (live_in r) out ∙ e;
@@ -216,7 +225,10 @@ newest-here s o r x xs rest h here is e =
     }
 
 behind-live : (s : List Told) (o : ℕ) (x : ℕ × ℕ) (xs : List (ℕ × ℕ)) → is_live x.0 xs ≡ false → is_live o xs ≡ true → eqb o x.0 ≡ false
-behind-live s o x xs e t = by_test (eqb o x.0) (λ y. absurd (let no : is_live o xs ≡ false = subst (λ n. is_live n xs ≡ false) (sym (eqb-true o x.0 y)) e in let never : true ≡ false = sym t ∙ no in cc)) (λ f. f)
+behind-live s o x xs e t =
+    by_test (eqb o x.0)
+    (λ y. absurd (let no : is_live o xs ≡ false = subst (λ n. is_live n xs ≡ false) (sym (eqb-true o x.0 y)) e in let never : true ≡ false = sym t ∙ no in cc))
+    (λ f. f)
 
 pub newest-live : (r o : ℕ) (xs : List (ℕ × ℕ)) (rest : List ℕ) → live_in r xs ≡ o ∷ rest → is_live o xs ≡ true
 newest-live r o [] rest e = absurd cc
@@ -260,7 +272,8 @@ added-parts o r q s w new early true is =
     ap (λ xs. o ∷ xs) (w.parts q ∙ ap (λ xs. xs ++ live_in q (live s)) none) ∙ sym (ap (λ xs. xs ++ o ∷ live_in q (live s)) now)
 added-parts o r q s w new early false is = w.parts q
 
-added-early : (o r q : ℕ) (s : List Told) → Well s → final o s ≡ false → leaving q s ≡ false → (test : Bool) → finals (cond test (o ∷ inits q s) (inits q s)) s ≡ []
+added-early : (o r q : ℕ) (s : List Told) → Well s → final o s ≡ false → leaving q s ≡ false → (test : Bool)
+    → finals (cond test (o ∷ inits q s) (inits q s)) s ≡ []
 added-early o r q s w new early true = finals-new o (inits q s) s new ∙ w.early q early
 added-early o r q s w new early false = w.early q early
 
@@ -283,9 +296,12 @@ finalized-parts o q s f w n false is =
     w.parts q ∙ sym (ap (λ xs. finals (inits q s) s ++ xs) (n.elsewhere q is))
     ∙ sym (ap (λ t. cond t (finals (inits q s) s ++ o ∷ []) (finals (inits q s) s) ++ live_in q (others o (live s))) here)
 
-finalized-early : (o q : ℕ) (s : List Told) (f : Finalizes s o) → Well s → Newest s o f.region (live s) f.rest → leaving q s ≡ false → (test : Bool) → eqb q f.region ≡ test
+finalized-early : (o q : ℕ) (s : List Told) (f : Finalizes s o) → Well s → Newest s o f.region (live s) f.rest → leaving q s ≡ false → (test : Bool)
+    → eqb q f.region ≡ test
     → cond (has o (inits q s)) (finals (inits q s) s ++ o ∷ []) (finals (inits q s) s) ≡ []
-finalized-early o q s f w n e true is = absurd (let no : leaving f.region s ≡ false = subst (λ m. leaving m s ≡ false) (eqb-true q f.region is) e in let never : true ≡ false = sym f.leaving ∙ no in cc)
+finalized-early o q s f w n e true is =
+    absurd
+    (let no : leaving f.region s ≡ false = subst (λ m. leaving m s ≡ false) (eqb-true q f.region is) e in let never : true ≡ false = sym f.leaving ∙ no in cc)
 finalized-early o q s f w n e false is =
     let here : has o (inits q s) ≡ false = has-own o f.region q s n.one ∙ ap (λ t. t || false) is in
     ap (λ t. cond t (finals (inits q s) s ++ o ∷ []) (finals (inits q s) s)) here ∙ w.early q e
@@ -304,7 +320,12 @@ well-next s (ended r) w h = record {
 well-next s (added o r) w h = record {
   parts = λ q. added-parts o r q s w h.1 h.2 (eqb q r) refl;
   early = λ q e. added-early o r q s w h.1 e (eqb q r);
-  known = (ap (λ t. cond t (r ∷ regions o s) (regions o s)) (eq-eqb o o refl) ∙ ap (λ xs. r ∷ xs) h.0, h.1, absent-known o s (live s) h.0 w.known, known-added o r s (live s) (absent-known o s (live s) h.0 w.known) w.known);
+  known = (
+    ap (λ t. cond t (r ∷ regions o s) (regions o s)) (eq-eqb o o refl) ∙ ap (λ xs. r ∷ xs) h.0,
+    h.1,
+    absent-known o s (live s) h.0 w.known,
+    known-added o r s (live s) (absent-known o s (live s) h.0 w.known) w.known,
+  );
 }
 well-next s (finalized o) w h =
     let n = newest-known s o h.region (live s) h.rest w.known h.newest in
@@ -340,7 +361,8 @@ live-one s o (x ∷ xs) h e =
 next-right : (s : List Told) (o : ℕ) (f : Finalizes s o) → Well s → is_next o s f.region ≡ true
 next-right s o f w =
     let q = f.region in
-    let shown : inits q s ≡ (finals (inits q s) s ++ o ∷ []) ++ f.rest = w.parts q ∙ ap (λ xs. finals (inits q s) s ++ xs) f.newest ∙ sym (append_assoc (finals (inits q s) s) (o ∷ []) f.rest) in
+    let shown : inits q s ≡ (finals (inits q s) s ++ o ∷ []) ++ f.rest =
+    w.parts q ∙ ap (λ xs. finals (inits q s) s ++ xs) f.newest ∙ sym (append_assoc (finals (inits q s) s) (o ∷ []) f.rest) in
     and_from (leaving q s && not (left q s)) _ (and_from (leaving q s) (not (left q s)) f.leaving (not_from_false (left q s) f.not_left))
     (subst (λ xs. is_front_of (finals (inits q s) s ++ o ∷ []) xs ≡ true) (sym shown) (front-self (finals (inits q s) s ++ o ∷ []) f.rest))
 

@@ -1,6 +1,7 @@
 -- The marks of a world that have a region: each region has one at most, and of that mark it is known whether its region is being
 -- left.
-use Rattle.std.proofs.Common.{◌≡◌, ℕ, Bool, true, false, cond, eqb, List, [], ◌∷◌, ◌++◌, Option, Some, None, refl, sym, ap, subst, ◌∙◌, append_assoc, append-nil}
+use Rattle.std.proofs.Common.{◌≡◌, ℕ, Bool, true, false, cond, eqb, List, [], ◌∷◌, ◌++◌, Option}
+use Rattle.std.proofs.Common.{Some, None, refl, sym, ap, subst, ◌∙◌, append_assoc, append-nil}
 use Rattle.std.specs.Prelude.{find, filter}
 use Rattle.ann_base.specs.declared.identities.RegionNo.{RegionNo}
 use Rattle.trace_text.specs.declared.events.Who.{Who}
@@ -78,12 +79,14 @@ pub fewer-behind : (first less more : List Bool) → Fewer less more → Fewer (
 unfolding Fewer
 fewer-behind first less more k P before behind h =
     let apart = subst (Single P) (ap (λ xs. before ++ xs) (append_assoc first more behind) ∙ sym (append_assoc before first (more ++ behind))) h in
-    subst (Single P) (append_assoc before first (less ++ behind) ∙ sym (ap (λ xs. before ++ xs) (append_assoc first less behind))) (k P (before ++ first) behind apart)
+    subst (Single P) (append_assoc before first (less ++ behind) ∙ sym (ap (λ xs. before ++ xs) (append_assoc first less behind)))
+    (k P (before ++ first) behind apart)
 
 pub fewer-before : (less more last : List Bool) → Fewer less more → Fewer (less ++ last) (more ++ last)
 unfolding Fewer
 fewer-before less more last k P before behind h =
-    subst (λ xs. Single P (before ++ xs)) (sym (append_assoc less last behind)) (k P before (last ++ behind) (subst (λ xs. Single P (before ++ xs)) (append_assoc more last behind) h))
+    subst (λ xs. Single P (before ++ xs)) (sym (append_assoc less last behind))
+    (k P before (last ++ behind) (subst (λ xs. Single P (before ++ xs)) (append_assoc more last behind) h))
 
 pub fewer-all : (first rest : List Bool) → Fewer rest (first ++ rest)
 unfolding Fewer
@@ -105,7 +108,8 @@ without_flag r (Some q) b bs = dropped (eqb r q.0) b bs where
 pub fewer-natures : (r : ℕ) (n : Nature) (ns : List Nature) → Fewer (flags_in r ns) (flags_in r (n ∷ ns))
 fewer-natures r n ns = without_flag r n.region n.leaving (flags_in r ns)
 
-fewer-task : (r : ℕ) (keep : Bool) (t : Task) (left_over ts : List Task) → Fewer (flags_of r left_over) (flags_of r ts) → Fewer (flags_of r (cond keep (t ∷ left_over) left_over)) (flags_of r (t ∷ ts))
+fewer-task : (r : ℕ) (keep : Bool) (t : Task) (left_over ts : List Task) → Fewer (flags_of r left_over) (flags_of r ts)
+    → Fewer (flags_of r (cond keep (t ∷ left_over) left_over)) (flags_of r (t ∷ ts))
 fewer-task r true t left_over ts k = fewer-behind (flags_in r (natures t.frames)) (flags_of r left_over) (flags_of r ts) k
 fewer-task r false t left_over ts k =
     fewer-then (flags_of r left_over) (flags_of r ts) (flags_of r (t ∷ ts)) k (fewer-all (flags_in r (natures t.frames)) (flags_of r ts))
@@ -123,7 +127,8 @@ pub record Round (r : ℕ) (tasks : List Task) (test : Task → Bool) (t : Task)
   pub whole : flags_of r tasks ≡ before ++ (flags_in r (natures t.frames) ++ behind)
   pub edited : (u : Task) → flags_of r (set_where test u tasks) ≡ before ++ (flags_in r (natures u.frames) ++ behind)
 
-round-step : (r : ℕ) (test : Task → Bool) (b : Bool) (z t : Task) (zs : List Task) → test z ≡ b → cond b (Some z) (find test zs) ≡ Some t → (find test zs ≡ Some t → Round r zs test t) → Round r (z ∷ zs) test t
+round-step : (r : ℕ) (test : Task → Bool) (b : Bool) (z t : Task) (zs : List Task) → test z ≡ b → cond b (Some z) (find test zs) ≡ Some t
+    → (find test zs ≡ Some t → Round r zs test t) → Round r (z ∷ zs) test t
 round-step r test true z t zs is found onward =
     let same : z ≡ t = cc in
     record {
@@ -137,10 +142,13 @@ round-step r test false z t zs is found onward =
     record {
       before = flags_in r (natures z.frames) ++ rest.before;
       behind = rest.behind;
-      whole = ap (λ xs. flags_in r (natures z.frames) ++ xs) rest.whole ∙ sym (append_assoc (flags_in r (natures z.frames)) rest.before (flags_in r (natures t.frames) ++ rest.behind));
+      whole =
+          ap (λ xs. flags_in r (natures z.frames) ++ xs) rest.whole
+          ∙ sym (append_assoc (flags_in r (natures z.frames)) rest.before (flags_in r (natures t.frames) ++ rest.behind));
       edited = λ u.
           ap (λ c. flags_of r (cond c (u ∷ zs) (z ∷ set_where test u zs))) is
-          ∙ ap (λ xs. flags_in r (natures z.frames) ++ xs) (rest.edited u) ∙ sym (append_assoc (flags_in r (natures z.frames)) rest.before (flags_in r (natures u.frames) ++ rest.behind));
+          ∙ ap (λ xs. flags_in r (natures z.frames) ++ xs) (rest.edited u)
+          ∙ sym (append_assoc (flags_in r (natures z.frames)) rest.before (flags_in r (natures u.frames) ++ rest.behind));
     }
 
 round : (r : ℕ) (tasks : List Task) (test : Task → Bool) (t : Task) → find test tasks ≡ Some t → Round r tasks test t
@@ -160,7 +168,9 @@ around r who.Agent w t e =
       before = flags_of r w.tasks;
       behind = [];
       whole = ap (λ xs. flags_of r w.tasks ++ xs) (ap (λ (x : Task). flags_in r (natures x.frames)) same ∙ sym (append-nil (flags_in r (natures t.frames))));
-      edited = λ f. ap (λ xs. flags_of r w.tasks ++ xs) (ap (λ (x : Task). flags_in r (natures (f x).frames)) same ∙ sym (append-nil (flags_in r (natures (f t).frames))));
+      edited =
+          λ f. ap (λ xs. flags_of r w.tasks ++ xs)
+          (ap (λ (x : Task). flags_in r (natures (f x).frames)) same ∙ sym (append-nil (flags_in r (natures (f t).frames))));
     }
 around r (who.Task n) w t e =
     let q = round r w.tasks (is_who (who.Task n)) t e in
@@ -168,14 +178,18 @@ around r (who.Task n) w t e =
     record {
       before = q.before;
       behind = q.behind ++ last;
-      whole = ap (λ xs. xs ++ last) q.whole ∙ append_assoc q.before (flags_in r (natures t.frames) ++ q.behind) last ∙ ap (λ xs. q.before ++ xs) (append_assoc (flags_in r (natures t.frames)) q.behind last);
+      whole =
+          ap (λ xs. xs ++ last) q.whole ∙ append_assoc q.before (flags_in r (natures t.frames) ++ q.behind) last
+          ∙ ap (λ xs. q.before ++ xs) (append_assoc (flags_in r (natures t.frames)) q.behind last);
       edited = λ f.
           ap (λ found. let v = edit_task_found (who.Task n) f w found in flags r v.tasks v.agent) e
-          ∙ ap (λ xs. xs ++ last) (q.edited (f t)) ∙ append_assoc q.before (flags_in r (natures (f t).frames) ++ q.behind) last ∙ ap (λ xs. q.before ++ xs) (append_assoc (flags_in r (natures (f t).frames)) q.behind last);
+          ∙ ap (λ xs. xs ++ last) (q.edited (f t)) ∙ append_assoc q.before (flags_in r (natures (f t).frames) ++ q.behind) last
+          ∙ ap (λ xs. q.before ++ xs) (append_assoc (flags_in r (natures (f t).frames)) q.behind last);
     }
 
 -- an edit that leaves no more marks of a region leaves no more in all
-pub edited-fewer : (r : ℕ) (name : Who) (f : Task → Task) (w : World) (t : Task) → task_at w name ≡ Some t → Fewer (flags_in r (natures (f t).frames)) (flags_in r (natures t.frames))
+pub edited-fewer : (r : ℕ) (name : Who) (f : Task → Task) (w : World) (t : Task) → task_at w name ≡ Some t
+    → Fewer (flags_in r (natures (f t).frames)) (flags_in r (natures t.frames))
     → let v = edit_task name f w in (P : Bool → Type 0) → Single P (flags r w.tasks w.agent) → Single P (flags r v.tasks v.agent)
 unfolding Fewer
 edited-fewer r name f w t e k P h =

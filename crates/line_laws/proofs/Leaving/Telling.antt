@@ -32,7 +32,8 @@ use Rattle.line_laws.proofs.Exclusion.OwnLines.{Told as ToldBy}
 use Rattle.line_laws.proofs.Leaving.FineMoves.{is_of_region, AreQuiet}
 use Rattle.line_laws.proofs.Leaving.RegionLines.{Told, begun, ended, added, finalized, assigned, Right, live, newest-live}
 use Rattle.line_laws.proofs.Leaving.LeftLines.{told_event, behind}
-use Rattle.line_laws.proofs.Leaving.RegionTies.{Tied, region_on_top, top-alone, begun-tied, ended-tied, opened-tied, pushed-tied, registered-tied, registered-new, nothing_registered, finalizes-told, finalized-tied, assigned-tied, registered-live}
+use Rattle.line_laws.proofs.Leaving.RegionTies.{Tied, region_on_top, top-alone, begun-tied, ended-tied, opened-tied, pushed-tied, registered-tied}
+use Rattle.line_laws.proofs.Leaving.RegionTies.{registered-new, nothing_registered, finalizes-told, finalized-tied, assigned-tied, registered-live}
 use Rattle.machine_laws.proofs.FineMoves.{is_placing}
 
 -- what a line of an effect tells
@@ -93,7 +94,9 @@ module _ (Early : List Told → ℕ → Type 0) where
   told-right part None s f h = (tt, h)
   told-right part (Some e) s f h = (h.1, h.2)
 
-  pub told-follow : (p : Image) (xs : List Said) (s t : List Told) → ToldOf xs s t → let lines = map (λ x. event_of p x.line) xs in Follows s lines × (behind_all s lines ≡ t)
+  pub told-follow : (p : Image) (xs : List Said) (s t : List Told) → ToldOf xs s t →
+      let lines = map (λ x. event_of p x.line) xs in
+      Follows s lines × (behind_all s lines ≡ t)
   told-follow p [] s t h = (tt, h)
   told-follow p (x ∷ xs) s t h =
       let e = told-right x.part (told_line x.line) s (λ q. ToldOf xs q t) h in
@@ -134,20 +137,28 @@ module _ (Early : List Told → ℕ → Type 0) where
   other-tells part line w other s h = (s, told-other part line s (λ q. q ≡ s) other refl, h)
 
   -- a line of no region, with a change that leaves the tie alone
-  pub line-tells : (part : Part) (line : Line) (w v : World) → is_of_region line ≡ false → ((s : List Told) → Tied s w → Tied s v) → Tells w (record { part = part; line = line } ∷ []) v
+  pub line-tells : (part : Part) (line : Line) (w v : World) → is_of_region line ≡ false → ((s : List Told) → Tied s w → Tied s v)
+      → Tells w (record { part = part; line = line } ∷ []) v
   line-tells part line w v other k s h = (s, told-other part line s (λ q. q ≡ s) other refl, k s h)
 
   told-others : (xs ys : List Said) (s t : List Told) → AreQuiet xs → ToldOf ys s t → ToldOf (xs ++ ys) s t
   told-others [] ys s t a h = h
   told-others (x ∷ xs) ys s t a h =
-      told-other x.part x.line s (λ q. ToldOf (xs ++ ys) q t) (or-parts (is_told_apart x.line) (is_placing x.line) (is_of_region x.line) a.0) (told-others xs ys s t a.1 h)
+      told-other x.part x.line s (λ q. ToldOf (xs ++ ys) q t) (or-parts (is_told_apart x.line) (is_placing x.line) (is_of_region x.line) a.0)
+      (told-others xs ys s t a.1 h)
 
-  pub round-tells : (name : Who) (first last : Line) (xs : List Said) (w v : World) → is_of_region first ≡ false → is_of_region last ≡ false → AreQuiet xs → Tells w [] v → Tells w (own first ∷ xs ++ own last ∷ []) v
+  pub round-tells : (name : Who) (first last : Line) (xs : List Said) (w v : World) → is_of_region first ≡ false → is_of_region last ≡ false → AreQuiet xs
+      → Tells w [] v → Tells w (own first ∷ xs ++ own last ∷ []) v
   round-tells name first last xs w v a b quiet k s h =
-      let r = k s h in
-      (s, told-other (own first).part first s (λ q. ToldOf (xs ++ own last ∷ []) q s) a (told-others xs (own last ∷ []) s s quiet (told-other (own last).part last s (λ q. q ≡ s) b refl)), subst (λ t. Tied t v) (sym r.1) r.2)
+      let r = k s h in (
+        s,
+        told-other (own first).part first s (λ q. ToldOf (xs ++ own last ∷ []) q s) a
+            (told-others xs (own last ∷ []) s s quiet (told-other (own last).part last s (λ q. q ≡ s) b refl)),
+        subst (λ t. Tied t v) (sym r.1) r.2,
+      )
 
-  pub settled-tells : (p : Image) (a b : World) (xs : List Said) → Tells a xs b → (s : List Told) → Tied s a → Follows s (lines_of p xs) × Tied (behind_all s (lines_of p xs)) b
+  pub settled-tells : (p : Image) (a b : World) (xs : List Said) → Tells a xs b → (s : List Told) → Tied s a
+      → Follows s (lines_of p xs) × Tied (behind_all s (lines_of p xs)) b
   settled-tells p a b xs k s h =
       let f = k s h in
       let lines = told-follow p (in_order xs) s f.0 (Told-in_order told_line (Right Early) put xs s f.0 f.1) in
@@ -155,25 +166,29 @@ module _ (Early : List Told → ℕ → Type 0) where
 
   -- ---- regions and objects
 
-  pub begins_leaving-tells : (name : Who) (f : Frame) (m : ScopeMark) (r : RegionNo) (leaving : Leaving) (w : World) → top_of w name ≡ Some f → f.mark ≡ Scope m → m.region ≡ Some r → m.being_left ≡ false
+  pub begins_leaving-tells : (name : Who) (f : Frame) (m : ScopeMark) (r : RegionNo) (leaving : Leaving) (w : World) → top_of w name ≡ Some f → f.mark ≡ Scope m
+      → m.region ≡ Some r → m.being_left ≡ false
       → Tells w (own (said.Leave name r (leaves_as leaving)) ∷ []) (edit_top name (left_so_frame leaving) (edit_top_scope name being_left_mark w))
   begins_leaving-tells name f m r how w top is region left s h =
       let t = region_on_top name w f m r false top is region left in
       (begun r.0 ∷ s, (refl, (top-alone s name w r false t h).holds.0, refl), begun-tied s name w r how t h)
 
-  pub has_left-tells : (name : Who) (f : Frame) (m : ScopeMark) (r : RegionNo) (w : World) → top_of w name ≡ Some f → f.mark ≡ Scope m → m.region ≡ Some r → m.being_left ≡ true → next_to_finalize w r ≡ None → Tells w (own (said.Left name r) ∷ []) (pop name w)
+  pub has_left-tells : (name : Who) (f : Frame) (m : ScopeMark) (r : RegionNo) (w : World) → top_of w name ≡ Some f → f.mark ≡ Scope m → m.region ≡ Some r
+      → m.being_left ≡ true → next_to_finalize w r ≡ None → Tells w (own (said.Left name r) ∷ []) (pop name w)
   has_left-tells name f m r w top is region left next s h =
       let t = region_on_top name w f m r true top is region left in
       let flag = (top-alone s name w r true t h).holds in
       (ended r.0 ∷ s, (refl, (flag.0, flag.1, nothing_registered s r w h next), refl), ended-tied s name w r t h)
 
   pub registers-tells : (name : Who) (l : Located) (w : World) → ((s : List Told) → Tied s w → Early s (top_region w name).0)
-      → Tells w (own (said.Init name (suc w.drawn.controlled) (top_region w name) l.declared) ∷ []) (registered_as (suc w.drawn.controlled) (top_region w name) l w)
+      → Tells w (own (said.Init name (suc w.drawn.controlled) (top_region w name) l.declared) ∷ [])
+      (registered_as (suc w.drawn.controlled) (top_region w name) l w)
   registers-tells name l w early s h =
       let new = registered-new s w h in
       (added (suc w.drawn.controlled) (top_region w name).0 ∷ s, (refl, (new.0, new.1, early s h), refl), registered-tied s (top_region w name) l w h)
 
-  pub finalizes-tells : (name : Who) (f : Frame) (m : ScopeMark) (r : RegionNo) (x : Registered) (w : World) → top_of w name ≡ Some f → f.mark ≡ Scope m → m.region ≡ Some r → m.being_left ≡ true → next_to_finalize w r ≡ Some x
+  pub finalizes-tells : (name : Who) (f : Frame) (m : ScopeMark) (r : RegionNo) (x : Registered) (w : World) → top_of w name ≡ Some f → f.mark ≡ Scope m
+      → m.region ≡ Some r → m.being_left ≡ true → next_to_finalize w r ≡ Some x
       → Tells w (own (said.Final name x.object) ∷ []) (no_longer_registered x.object w)
   finalizes-tells name f m r x w top is region left next s h =
       let t = region_on_top name w f m r true top is region left in
@@ -185,10 +200,17 @@ module _ (Early : List Told → ℕ → Type 0) where
 
   -- ---- a scope is opened
 
-  opens-kept : (p : Image) (name : Who) (scope : ScopeNo) (b : Beginning) (purpose : Purpose) (kept : Bool) (w : World) → let begun_world = begin_scope p name scope b w in
-      (s : List Told) → Tied s w → Tied s (push name (new_frame (new_scope_mark (next_id w) (region_of_next kept w) purpose) (scope_of p scope).first) (draw_region kept begun_world))
-  opens-kept p name scope b purpose true w s h = opened-tied s name (new_frame (new_scope_mark (next_id w) (region_of_next true w) purpose) (scope_of p scope).first) (begin_scope p name scope b w) refl refl h
-  opens-kept p name scope b purpose false w s h = pushed-tied s name (new_frame (new_scope_mark (next_id w) (region_of_next false w) purpose) (scope_of p scope).first) (begin_scope p name scope b w) refl h
+  opens-kept : (p : Image) (name : Who) (scope : ScopeNo) (b : Beginning) (purpose : Purpose) (kept : Bool) (w : World) → let begun_world =
+      begin_scope p name scope b w in
+      (s : List Told) → Tied s w
+      → Tied s (push name (new_frame (new_scope_mark (next_id w) (region_of_next kept w) purpose) (scope_of p scope).first) (draw_region kept begun_world))
+  opens-kept p name scope b purpose true w s h =
+      opened-tied s name (new_frame (new_scope_mark (next_id w) (region_of_next true w) purpose) (scope_of p scope).first)
+      (begin_scope p name scope b w) refl refl h
+  opens-kept p name scope b purpose false w s h =
+      pushed-tied s name (new_frame (new_scope_mark (next_id w) (region_of_next false w) purpose) (scope_of p scope).first)
+      (begin_scope p name scope b w) refl h
 
-  pub opens-tied : (p : Image) (name : Who) (scope : ScopeNo) (b : Beginning) (purpose : Purpose) (w : World) (s : List Told) → Tied s w → Tied s (open_scope p name scope b purpose w)
+  pub opens-tied : (p : Image) (name : Who) (scope : ScopeNo) (b : Beginning) (purpose : Purpose) (w : World) (s : List Told) → Tied s w
+      → Tied s (open_scope p name scope b purpose w)
   opens-tied p name scope b purpose w s h = opens-kept p name scope b purpose (scope_of p scope).kept w s h

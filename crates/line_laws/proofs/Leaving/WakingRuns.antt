@@ -58,13 +58,15 @@ same_self (who.Task t) = eq-eqb t.0 t.0 refl
 
 pub head-placed : (places : List Placed) (name : Who) → head_of places ≡ Some name → is_placed name places ≡ true
 head-placed [] name e = absurd cc
-head-placed (x ∷ xs) name e = let same : x.who ≡ name = cc in subst (λ n. (same_who n x.who || is_placed n xs) ≡ true) same (ap (λ b. b || is_placed x.who xs) (same_self x.who))
+head-placed (x ∷ xs) name e =
+    let same : x.who ≡ name = cc in subst (λ n. (same_who n x.who || is_placed n xs) ≡ true) same (ap (λ b. b || is_placed x.who xs) (same_self x.who))
 
 pub chosen-awake : (p : Image) (w : World) → NobodyWaits (tock p w).0 → RanAwake (tock p w).0
 chosen-awake p w h (who.Task t) e =
     let v = (tock p w).0 in
     let ran : v.ran ≡ choose w = ap (λ a. a.0.ran) (tock-parts p w) in
-    let first : is_placed (who.Task t) v.places ≡ true = ap (is_placed (who.Task t)) (tocks_place_nobody p w) ∙ head-placed w.places (who.Task t) (sym ran ∙ e) in
+    let first : is_placed (who.Task t) v.places ≡ true =
+    ap (is_placed (who.Task t)) (tocks_place_nobody p w) ∙ head-placed w.places (who.Task t) (sym ran ∙ e) in
     by_test (waits (waiting_in (state_in v t)))
     (λ k. absurd (let never : true ≡ false = sym first ∙ h t k in cc))
     (λ k. k)

@@ -1,5 +1,6 @@
 -- Two runs of one program and script under two bounds, by induction over their ticks.
-use Rattle.std.proofs.Common.{◌≡◌, ℕ, ℤ, zero, suc, ◌+◌, ◌<◌, ◌≤◌, Bool, true, false, cond, eqb, ◌&&◌, List, [], ◌∷◌, ◌++◌, Option, Some, None, refl, sym, ap, subst, ◌∙◌, append_assoc, arith}
+use Rattle.std.proofs.Common.{◌≡◌, ℕ, ℤ, zero, suc, ◌+◌, ◌<◌, ◌≤◌, Bool, true, false, cond, eqb, ◌&&◌, List, []}
+use Rattle.std.proofs.Common.{◌∷◌, ◌++◌, Option, Some, None, refl, sym, ap, subst, ◌∙◌, append_assoc, arith}
 use Rattle.std.specs.Prelude.{◌≢◌, nat_le, if◌then◌else◌}
 use Rattle.std.proofs.lemmas.Bool.{eqb-true}
 use Rattle.ann_base.specs.declared.exceptions.Raised.{Raised}
@@ -42,7 +43,8 @@ by_stuck-other true e = cc
 by_stuck-other false e = cc
 
 -- the same lines stand before what is left of both
-then-goes_on : (bound now : ℕ) (events : List Event) (short long : Ran) → GoesOn bound short long → GoesOn bound (then_runs now events short) (then_runs now events long)
+then-goes_on : (bound now : ℕ) (events : List Event) (short long : Ran) → GoesOn bound short long
+    → GoesOn bound (then_runs now events short) (then_runs now events long)
 then-goes_on bound now events short long h = record {
   ended = λ e. ap (then_runs now events) (h.ended e);
   cut = λ e. let c = h.cut e in record {
@@ -54,12 +56,14 @@ then-goes_on bound now events short long h = record {
   };
 }
 
-cut_end : (bound now : ℕ) (events : List Event) → now ≡ bound → at_tick now (events ++ line.End why.Bound ∷ []) ≡ at_tick now events ++ (bound, line.End why.Bound) ∷ []
+cut_end : (bound now : ℕ) (events : List Event) → now ≡ bound
+    → at_tick now (events ++ line.End why.Bound ∷ []) ≡ at_tick now events ++ (bound, line.End why.Bound) ∷ []
 cut_end bound now events e =
     at_tick-append now events (line.End why.Bound ∷ []) ∙ ap (λ n. at_tick now events ++ (n, line.End why.Bound) ∷ []) e
 
 -- the bound ended the shorter one here
-cut-here : (bound now : ℕ) (i t : World × List Event) (long : Ran) (at_long : Bool) → now ≡ bound → RisesFrom (suc now) long.lines → AreCutAt bound (stopped now i.1 why.Bound).lines (turn now i t long (cond at_long (Some why.Bound) None)).lines
+cut-here : (bound now : ℕ) (i t : World × List Event) (long : Ran) (at_long : Bool) → now ≡ bound → RisesFrom (suc now) long.lines
+    → AreCutAt bound (stopped now i.1 why.Bound).lines (turn now i t long (cond at_long (Some why.Bound) None)).lines
 unfolding turn
 cut-here bound now i t long true e rises = record {
   front = at_tick now i.1;
@@ -79,10 +83,17 @@ cut-here bound now i t long false e rises = record {
 turn-goes_on : (bound now : ℕ) (i t : World × List Event) (short long : Ran) (ended stuck : Option Ended) (at_short at_long : Bool)
     → ended ≢ Some why.Bound → stuck ≢ Some why.Bound → (at_short ≡ true → now ≡ bound) → (at_short ≡ false → at_long ≡ false)
     → RisesFrom (suc now) long.lines → (at_short ≡ false → GoesOn bound short long)
-    → GoesOn bound (turn now i t short (option_or ended (option_or stuck (cond at_short (Some why.Bound) None)))) (turn now i t long (option_or ended (option_or stuck (cond at_long (Some why.Bound) None))))
+    → GoesOn bound (turn now i t short (option_or ended (option_or stuck (cond at_short (Some why.Bound) None))))
+    (turn now i t long (option_or ended (option_or stuck (cond at_long (Some why.Bound) None))))
 unfolding turn
-turn-goes_on bound now i t short long (Some reason) stuck at_short at_long a b reached under rises onward = record { ended = λ e. refl; cut = λ e. absurd (a (ap Some e)) }
-turn-goes_on bound now i t short long None (Some reason) at_short at_long a b reached under rises onward = record { ended = λ e. refl; cut = λ e. absurd (b (ap Some e)) }
+turn-goes_on bound now i t short long (Some reason) stuck at_short at_long a b reached under rises onward = record {
+  ended = λ e. refl;
+  cut = λ e. absurd (a (ap Some e));
+}
+turn-goes_on bound now i t short long None (Some reason) at_short at_long a b reached under rises onward = record {
+  ended = λ e. refl;
+  cut = λ e. absurd (b (ap Some e));
+}
 turn-goes_on bound now i t short long None None true at_long a b reached under rises onward = record {
   ended = λ e. absurd (e refl);
   cut = λ e. cut-here bound now i t long at_long (reached refl) rises;
@@ -98,7 +109,8 @@ below n bound e a = grind arith
 not_at : (n bound more : ℕ) → suc n ≤ bound → eqb n (bound + more) ≡ false
 not_at n bound more a = grind arith
 
-goes_on : (f g : ℕ) (p : Image) (bound more : ℕ) (w : World) → w.time ≤ bound → suc bound ≤ f + w.time → suc (bound + more) ≤ g + w.time → GoesOn bound (run_from f p bound w) (run_from g p (bound + more) w)
+goes_on : (f g : ℕ) (p : Image) (bound more : ℕ) (w : World) → w.time ≤ bound → suc bound ≤ f + w.time → suc (bound + more) ≤ g + w.time
+    → GoesOn bound (run_from f p bound w) (run_from g p (bound + more) w)
 unfolding turn
 goes_on zero g p bound more w a b c = absurd (omega arith)
 goes_on (suc f) zero p bound more w a b c = absurd (omega arith)
@@ -107,7 +119,8 @@ goes_on (suc f) (suc g) p bound more w a b c =
     let t = tock p i.0 in
     let same : i.0.time ≡ w.time = instants_take_no_time p w in
     let later : t.0.time ≡ suc w.time = tocks_take_one_tick p i.0 ∙ ap (λ n. suc n) same in
-    turn-goes_on bound w.time i t (run_from f p bound t.0) (run_from g p (bound + more) t.0) (stop_by_end p i.0.ended) (stop_by_stuck i.0) (eqb i.0.time bound) (eqb i.0.time (bound + more))
+    turn-goes_on bound w.time i t (run_from f p bound t.0) (run_from g p (bound + more) t.0) (stop_by_end p i.0.ended) (stop_by_stuck i.0) (eqb i.0.time bound)
+    (eqb i.0.time (bound + more))
     (by_end-other p i.0.ended)
     (by_stuck-other (is_empty i.0.places && is_empty i.0.appointments && is_empty i.0.script))
     (λ e. sym same ∙ eqb-true i.0.time bound e)
@@ -132,7 +145,8 @@ cut-same : (bound tick : ℕ) (short long : List TraceLine) → tick < bound →
 cut-same bound tick short long a c =
     let at_bound : RisesFrom bound ((bound, line.End why.Bound) ∷ []) = (omega arith, tt) in
     ap (up_to tick) c.long_is ∙ up_to-front tick c.front c.rest (up_to-later tick bound c.rest a c.later)
-    ∙ sym (ap (up_to tick) c.short_is ∙ up_to-front tick c.front ((bound, line.End why.Bound) ∷ []) (up_to-later tick bound ((bound, line.End why.Bound) ∷ []) a at_bound))
+    ∙ sym (ap (up_to tick) c.short_is
+    ∙ up_to-front tick c.front ((bound, line.End why.Bound) ∷ []) (up_to-later tick bound ((bound, line.End why.Bound) ∷ []) a at_bound))
 
 by_reason : {P : Type 0} (reason : Ended) → (reason ≡ why.Bound → P) → (reason ≢ why.Bound → P) → P
 by_reason why.Completed f g = g (λ e. cc)
@@ -140,7 +154,8 @@ by_reason (why.Exception name) f g = g (λ e. cc)
 by_reason why.Stuck f g = g (λ e. cc)
 by_reason why.Bound f g = f refl
 
-pub bounds_change_nothing_before : (p : Image) (script : List (ℤ × Item)) (bound more tick : ℕ) → tick < bound → up_to tick (run_of p script (bound + more)) ≡ up_to tick (run_of p script bound)
+pub bounds_change_nothing_before : (p : Image) (script : List (ℤ × Item)) (bound more tick : ℕ) → tick < bound
+    → up_to tick (run_of p script (bound + more)) ≡ up_to tick (run_of p script bound)
 bounds_change_nothing_before p script bound more tick a =
     let short = run p script bound in
     let long = run p script (bound + more) in
@@ -149,12 +164,14 @@ bounds_change_nothing_before p script bound more tick a =
 
 -- ---- no run counts down to its end
 
-turn-same : (now : ℕ) (i t : World × List Event) (first second : Ran) (reason : Option Ended) → (reason ≡ None → first ≡ second) → turn now i t first reason ≡ turn now i t second reason
+turn-same : (now : ℕ) (i t : World × List Event) (first second : Ran) (reason : Option Ended) → (reason ≡ None → first ≡ second)
+    → turn now i t first reason ≡ turn now i t second reason
 unfolding turn
 turn-same now i t first second (Some reason) h = refl
 turn-same now i t first second None h = ap (then_runs now (i.1 ++ t.1)) (h refl)
 
-same_run : (f g : ℕ) (p : Image) (bound : ℕ) (w : World) → w.time ≤ bound → suc bound ≤ f + w.time → suc bound ≤ g + w.time → run_from f p bound w ≡ run_from g p bound w
+same_run : (f g : ℕ) (p : Image) (bound : ℕ) (w : World) → w.time ≤ bound → suc bound ≤ f + w.time → suc bound ≤ g + w.time
+    → run_from f p bound w ≡ run_from g p bound w
 unfolding turn
 same_run zero g p bound w a b c = absurd (omega arith)
 same_run (suc f) zero p bound w a b c = absurd (omega arith)
@@ -166,7 +183,8 @@ same_run (suc f) (suc g) p bound w a b c =
     turn-same w.time i t (run_from f p bound t.0) (run_from g p bound t.0) (stop p bound i.0)
     (λ e. let room : suc i.0.time ≤ bound = below_bound p bound i.0 e (omega arith) in same_run f g p bound t.0 (omega arith) (omega arith) (omega arith))
 
-pub runs_have_ticks_left : (p : Image) (script : List (ℤ × Item)) (bound more : ℕ) → run_from (suc bound + more) p bound (opening p script).0 ≡ run_from (suc bound) p bound (opening p script).0
+pub runs_have_ticks_left : (p : Image) (script : List (ℤ × Item)) (bound more : ℕ)
+    → run_from (suc bound + more) p bound (opening p script).0 ≡ run_from (suc bound) p bound (opening p script).0
 runs_have_ticks_left p script bound more =
     let o = opening p script in
     let start : o.0.time ≡ 0 = opening_now p script in

@@ -24,12 +24,14 @@ use Rattle.line_laws.specs.Names.{IsShortName, IsShortException, IsNamed, IsPrin
 -- ---- the items of a list
 
 -- an item that the list does not have has the empty name
-named-at : {X : Type 0} (P : List ℕ → Type 0) (name : X → List ℕ) (xs : List X) (n : ℕ) (d : X) → AllByRecursion (λ x. P (name x)) xs → name d ≡ [] → name (slice_index_or xs n d) ≢ [] → P (name (slice_index_or xs n d))
+named-at : {X : Type 0} (P : List ℕ → Type 0) (name : X → List ℕ) (xs : List X) (n : ℕ) (d : X) → AllByRecursion (λ x. P (name x)) xs → name d ≡ []
+    → name (slice_index_or xs n d) ≢ [] → P (name (slice_index_or xs n d))
 named-at P name [] n d a none some = absurd (some none)
 named-at P name (x ∷ xs) zero d a none some = a.0
 named-at P name (x ∷ xs) (suc n) d a none some = named-at P name xs n d a.1 none some
 
-named-of : {X : Type 0} (P : List ℕ → Type 0) (name : X → List ℕ) (xs : List X) (n : ℕ) (d : X) → All (λ x. P (name x)) xs → name d ≡ [] → name (slice_index_or xs n d) ≢ [] → P (name (slice_index_or xs n d))
+named-of : {X : Type 0} (P : List ℕ → Type 0) (name : X → List ℕ) (xs : List X) (n : ℕ) (d : X) → All (λ x. P (name x)) xs → name d ≡ []
+    → name (slice_index_or xs n d) ≢ [] → P (name (slice_index_or xs n d))
 named-of P name xs n d a none some = named-at P name xs n d (recursion_from_All (λ x. P (name x)) xs a) none some
 
 declared-named : (p : Image) → IsNamed p → (d : DeclNo) → (declaration_of p d).name ≢ [] → IsShortName (declaration_of p d).name
@@ -54,7 +56,8 @@ other-beginning : (byte : ℕ) (xs ys : List ℕ) → begins_with byte xs ≡ fa
 other-beginning byte xs ys a b same = let c : begins_with byte xs ≡ begins_with byte ys = ap (begins_with byte) same in cc
 
 -- the name of an exception begins with neither letter of the other ends of a call
-predefined : (name : List ℕ) (size : ℕ) → IsName name → begins_with 111 name ≡ false → begins_with 114 name ≡ false → length name ≡ size → size ≤ 1000 → IsShortException name
+predefined : (name : List ℕ) (size : ℕ) → IsName name → begins_with 111 name ≡ false → begins_with 114 name ≡ false → length name ≡ size → size ≤ 1000
+    → IsShortException name
 unfolding begins_with
 predefined name size is o r same fits = record {
   exception_is = record {

@@ -15,7 +15,9 @@ use Rattle.profile_machine.specs.declared.world.lines.Said.{Said}
 use Rattle.profile_machine.specs.Lines.{event_of}
 use Rattle.profile_machine.specs.Steps.{Step, Move, Done, done, looks, changes, for_some, for_each, in_order, settled, settles, rests, watches, ◌▷◌, ◌▶◌}
 use Rattle.profile_machine.specs.Tasks.{task_of}
-use Rattle.profile_machine.specs.Instant.{effect, is_over, effect_of_runner, finish_action, items_due, script_items, all_due, appointments_due, events_due, moments_due, expire_timer, no_timers_due, timers_due, run_out, no_budget_due, budgets_due, spend_quantum, quantum_spent, instant}
+use Rattle.profile_machine.specs.Instant.{effect, is_over, effect_of_runner, finish_action, items_due, script_items, all_due}
+use Rattle.profile_machine.specs.Instant.{appointments_due, events_due, moments_due, expire_timer, no_timers_due, timers_due}
+use Rattle.profile_machine.specs.Instant.{run_out, no_budget_due, budgets_due, spend_quantum, quantum_spent, instant}
 use Rattle.profile_machine.specs.Run.{opens, opening, blank_world, tock, stop, stop_by_end, stop_by_stuck, stop_by_bound, run_of}
 use Rattle.std.specs.Option.{option_or}
 use Rattle.machine_laws.specs.LineKinds.{is_of_tock, AllAre}
@@ -60,7 +62,9 @@ module _ (p : Image) (n : IsNamed p) where
 
   effect_of_runner-tells : (by : Option Who) → Tells (effect_of_runner p by)
   effect_of_runner-tells None = rests-tells
-  effect_of_runner-tells (Some name) = watches-tells (λ w. elim (is_over (task_of w name).ticks_left) as (λ _. Move) [ true ↦ settles p (effect p name) | false ↦ rests ]) (λ w. if_over-tells (is_over (task_of w name).ticks_left) name)
+  effect_of_runner-tells (Some name) =
+      watches-tells (λ w. elim (is_over (task_of w name).ticks_left) as (λ _. Move) [ true ↦ settles p (effect p name) | false ↦ rests ])
+      (λ w. if_over-tells (is_over (task_of w name).ticks_left) name)
 
   finish_action-tells : Tells (finish_action p)
   finish_action-tells = watches-tells (λ w. effect_of_runner p w.ran) (λ w. effect_of_runner-tells w.ran)

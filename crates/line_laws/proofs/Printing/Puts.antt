@@ -41,7 +41,8 @@ module _ (P : List ℕ → Type 0) where
   EachSaid-append [] ys a b = b
   EachSaid-append (x ∷ xs) ys a b = (a.0, EachSaid-append xs ys a.1 b)
 
-  put_before : (test : Bool) (new x : Said) (xs placed : List Said) → OfPutLine new.line → EachSaid (x ∷ xs) → EachSaid placed → EachSaid (cond test (x ∷ placed) (new ∷ x ∷ xs))
+  put_before : (test : Bool) (new x : Said) (xs placed : List Said) → OfPutLine new.line → EachSaid (x ∷ xs) → EachSaid placed
+      → EachSaid (cond test (x ∷ placed) (new ∷ x ∷ xs))
   put_before true new x xs placed a b c = (b.0, c)
   put_before false new x xs placed a b c = (a, b)
 

@@ -30,13 +30,15 @@ EachEvent-at_tick : (P : Event → Type 0) (now : ℕ) (events : List Event) →
 EachEvent-at_tick P now [] a = tt
 EachEvent-at_tick P now (x ∷ xs) a = (a.0, EachEvent-at_tick P now xs a.1)
 
-EachEvent-then : (P : Event → Type 0) (now : ℕ) (events : List Event) (rest : List (ℕ × Event)) → AllOf P events → EachEvent P rest → EachEvent P (at_tick now events ++ rest)
+EachEvent-then : (P : Event → Type 0) (now : ℕ) (events : List Event) (rest : List (ℕ × Event)) → AllOf P events → EachEvent P rest
+    → EachEvent P (at_tick now events ++ rest)
 EachEvent-then P now [] rest a b = b
 EachEvent-then P now (x ∷ xs) rest a b = (a.0, EachEvent-then P now xs rest a.1 b)
 
 -- one instant, what follows it, and what is left of the run
 
-turn-each : (P : Event → Type 0) (now : ℕ) (i t : World × List Event) (rest : Ran) (reason : Option Ended) → AllOf P i.1 → AllOf P t.1 → OfEnd P reason → EachEvent P rest.lines → EachEvent P (turn now i t rest reason).lines
+turn-each : (P : Event → Type 0) (now : ℕ) (i t : World × List Event) (rest : Ran) (reason : Option Ended) → AllOf P i.1 → AllOf P t.1 → OfEnd P reason
+    → EachEvent P rest.lines → EachEvent P (turn now i t rest reason).lines
 unfolding turn
 turn-each P now i t rest (Some reason) a b e k = EachEvent-at_tick P now (i.1 ++ line.End reason ∷ []) (AllOf-append P i.1 (line.End reason ∷ []) a (e, tt))
 turn-each P now i t rest None a b e k = EachEvent-then P now (i.1 ++ t.1) rest.lines (AllOf-append P i.1 t.1 a b) k
@@ -56,7 +58,8 @@ module _ {P : Event → Type 0} {p : Image} (parts : OfParts P p) where
   run_from-each (suc fuel) bound w =
       let i = instant p w in
       let t = tock p i.0 in
-      turn-each P w.time i t (run_from fuel p bound t.0) (stop p bound i.0) (parts.instants w) (parts.tocks i.0) (parts.stops bound i.0) (run_from-each fuel bound t.0)
+      turn-each P w.time i t (run_from fuel p bound t.0) (stop p bound i.0) (parts.instants w) (parts.tocks i.0) (parts.stops bound i.0)
+      (run_from-each fuel bound t.0)
 
   pub run-each : (script : List (ℤ × Item)) (bound : ℕ) → EachEvent P (run_of p script bound)
   run-each script bound =

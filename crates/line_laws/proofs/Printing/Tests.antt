@@ -54,10 +54,22 @@ names_are_tested p e =
     let c = (and_parts expanded (subprograms && entries) b).1 in
     record {
       main = short_name-told p.main.name ((and_parts (is_short_name p.main.name) (declared && (expanded && (subprograms && entries))) e).0);
-      declarations = All-from_recursion {X = Declaration} (λ d. IsShortName d.name) p.declarations (all-told {X = Declaration} (λ d. is_short_name d.name) (λ d. IsShortName d.name) (λ d k. short_name-told d.name k) p.declarations ((and_parts declared (expanded && (subprograms && entries)) a).0));
-      expanded = All-from_recursion {X = Declaration} (λ d. IsShortException d.expanded) p.declarations (all-told {X = Declaration} (λ d. is_short_exception d.expanded) (λ d. IsShortException d.expanded) (λ d k. short_exception-told d.expanded k) p.declarations ((and_parts expanded (subprograms && entries) b).0));
-      subprograms = All-from_recursion {X = Subprogram} (λ s. IsShortName s.name) p.subprograms (all-told {X = Subprogram} (λ s. is_short_name s.name) (λ s. IsShortName s.name) (λ s k. short_name-told s.name k) p.subprograms ((and_parts subprograms entries c).0));
-      entries = All-from_recursion {X = Entry} (λ x. IsShortName x.name) p.entries (all-told {X = Entry} (λ x. is_short_name x.name) (λ x. IsShortName x.name) (λ x k. short_name-told x.name k) p.entries ((and_parts subprograms entries c).1));
+      declarations =
+          All-from_recursion {X = Declaration} (λ d. IsShortName d.name) p.declarations
+          (all-told {X = Declaration} (λ d. is_short_name d.name) (λ d. IsShortName d.name) (λ d k. short_name-told d.name k) p.declarations
+          ((and_parts declared (expanded && (subprograms && entries)) a).0));
+      expanded =
+          All-from_recursion {X = Declaration} (λ d. IsShortException d.expanded) p.declarations
+          (all-told {X = Declaration} (λ d. is_short_exception d.expanded) (λ d. IsShortException d.expanded)
+          (λ d k. short_exception-told d.expanded k) p.declarations ((and_parts expanded (subprograms && entries) b).0));
+      subprograms =
+          All-from_recursion {X = Subprogram} (λ s. IsShortName s.name) p.subprograms
+          (all-told {X = Subprogram} (λ s. is_short_name s.name) (λ s. IsShortName s.name) (λ s k. short_name-told s.name k) p.subprograms
+          ((and_parts subprograms entries c).0));
+      entries =
+          All-from_recursion {X = Entry} (λ x. IsShortName x.name) p.entries
+          (all-told {X = Entry} (λ x. is_short_name x.name) (λ x. IsShortName x.name) (λ x k. short_name-told x.name k) p.entries
+          ((and_parts subprograms entries c).1));
     }
 
 pub row_is_named : is_named row_24_1_program ≡ true

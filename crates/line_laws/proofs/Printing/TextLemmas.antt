@@ -1,5 +1,6 @@
 -- What the pieces of a Put_Line give, and how long it is.
-use Rattle.std.proofs.Common.{◌≡◌, ℕ, ℤ, zero, suc, pos, negsuc, ◌+◌, ◌%◌, ◌≤◌, ◌<◌, ◌^◌, true, false, cond, leb, List, [], ◌∷◌, ◌++◌, refl, sym, ap, ◌∙◌, arith}
+use Rattle.std.proofs.Common.{◌≡◌, ℕ, ℤ, zero, suc, pos, negsuc, ◌+◌, ◌%◌, ◌≤◌, ◌<◌, ◌^◌, true}
+use Rattle.std.proofs.Common.{false, cond, leb, List, [], ◌∷◌, ◌++◌, refl, sym, ap, ◌∙◌, arith}
 use Rattle.std.proofs.lemmas.Bool.{and_parts, cond_both, leb-false, leb-true}
 use Rattle.std.proofs.lemmas.Bool.Decides.{nat_tests}
 use Rattle.std.specs.Prelude.{Ok, Err, length, slice_index_or, decimal}
@@ -19,7 +20,8 @@ use Rattle.profile_image.specs.Program.{literals_of}
 use Rattle.profile_machine.specs.Operators.{Valued, image_of_whole, text_of_whole, text_of_truth, text_of_literal}
 use Rattle.profile_machine.specs.Values.{Seen, value}
 use Rattle.profile_machine.specs.Statements.{piece_text, text_of_pieces}
-use Rattle.line_laws.specs.Texts.{piece_with, text_with, IsWholeWithin, IsValueWithin, longest, most_bytes, most_bytes_of_all, are_text_bytes, has_text_bytes, IsShortPut}
+use Rattle.line_laws.specs.Texts.{piece_with, text_with, IsWholeWithin, IsValueWithin, longest, most_bytes}
+use Rattle.line_laws.specs.Texts.{most_bytes_of_all, are_text_bytes, has_text_bytes, IsShortPut}
 
 -- ---- the values of pieces
 
@@ -49,7 +51,8 @@ joined (Ok front) (Ok rest) text e = record { front = front; rest = rest; first_
 joined (Ok front) (Err raised) text e = absurd cc
 joined (Err raised) others text e = absurd cc
 
-pub put_values : (q : Seen) (pieces : List Piece) (text : List ℕ) → text_of_pieces q pieces ≡ Ok text → (vs : List Value) × (text ≡ text_with q.program pieces vs)
+pub put_values : (q : Seen) (pieces : List Piece) (text : List ℕ) → text_of_pieces q pieces ≡ Ok text
+    → (vs : List Value) × (text ≡ text_with q.program pieces vs)
 put_values q [] text e = ([], sym (ap text_or_none e))
 put_values q (x ∷ xs) text e =
     let j = joined (piece_text q x) (text_of_pieces q xs) text e in
@@ -66,7 +69,9 @@ decimal-bytes : (n : ℕ) → n < 2 ^ 64 → are_text_bytes (decimal n) ≡ true
 decimal-bytes n fits =
     decimal_by_steps (λ k ds. are_text_bytes ds ≡ true)
     (λ k small. is_text-between (48 + k) (omega arith) (omega arith))
-    (λ k ds more h. let last : are_text_bytes ((48 + k % 10) ∷ []) ≡ true = is_text-between (48 + k % 10) (omega arith) (omega (arith, mod_below k 10 (omega arith))) in rw (list_all-append is_text_byte ds ((48 + k % 10) ∷ []), h, last) refl)
+    (λ k ds more h.
+    let last : are_text_bytes ((48 + k % 10) ∷ []) ≡ true = is_text-between (48 + k % 10) (omega arith) (omega (arith, mod_below k 10 (omega arith))) in
+    rw (list_all-append is_text_byte ds ((48 + k % 10) ∷ []), h, last) refl)
     n fits
 
 -- a text that a line can have, of at most so many bytes
@@ -109,7 +114,8 @@ longer-first a b = cond_both (leb a b) b a (λ x. a ≤ x) (λ e. leb-true a b e
 longer-second : (a b : ℕ) → b ≤ cond (leb a b) b a
 longer-second a b = cond_both (leb a b) b a (λ x. b ≤ x) (λ e. omega arith) (λ e. omega (arith, leb-false a b e))
 
-at-short : (most n : ℕ) (literals : List (List ℕ)) → list_all are_text_bytes literals ≡ true → longest literals ≤ most → IsTextUpTo most (slice_index_or literals n [])
+at-short : (most n : ℕ) (literals : List (List ℕ)) → list_all are_text_bytes literals ≡ true → longest literals ≤ most
+    → IsTextUpTo most (slice_index_or literals n [])
 at-short most n [] a short = record { bytes = refl; short = omega arith }
 at-short most zero (x ∷ xs) a short =
     let within : length x ≤ longest (x ∷ xs) = longer-first (length x) (longest xs) in
@@ -137,7 +143,8 @@ append-short most others xs ys a b =
     let long : length (xs ++ ys) ≡ length xs + length ys = length-append xs ys in
     record { bytes = rw (list_all-append is_text_byte xs ys, a.bytes, b.bytes) refl; short = omega (arith, a.short, b.short) }
 
-text-short : (p : Image) (pieces : List Piece) (vs : List Value) → list_all (has_text_bytes p) pieces ≡ true → AllByRecursion IsValueWithin vs → IsTextUpTo (most_bytes_of_all p pieces) (text_with p pieces vs)
+text-short : (p : Image) (pieces : List Piece) (vs : List Value) → list_all (has_text_bytes p) pieces ≡ true → AllByRecursion IsValueWithin vs
+    → IsTextUpTo (most_bytes_of_all p pieces) (text_with p pieces vs)
 text-short p [] vs a within = record { bytes = refl; short = omega arith }
 text-short p (x ∷ xs) [] a within = record { bytes = refl; short = omega arith }
 text-short p (x ∷ xs) (v ∷ vs) a within =

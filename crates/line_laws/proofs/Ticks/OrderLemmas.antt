@@ -1,5 +1,6 @@
 -- The lines of each tick of every run stand in their order: those of the instant, and behind them those of the tock.
-use Rattle.std.proofs.Common.{◌≡◌, ℕ, ℤ, zero, suc, ◌≤◌, Bool, true, false, not, cond, eqb, ◌&&◌, List, [], ◌∷◌, ◌++◌, Option, Some, None, refl, sym, ap, subst, ◌∙◌, append_assoc, arith}
+use Rattle.std.proofs.Common.{◌≡◌, ℕ, ℤ, zero, suc, ◌≤◌, Bool, true, false, not, cond, eqb, ◌&&◌, List, []}
+use Rattle.std.proofs.Common.{◌∷◌, ◌++◌, Option, Some, None, refl, sym, ap, subst, ◌∙◌, append_assoc, arith}
 use Rattle.std.proofs.lemmas.Bool.{and_from, or_left, or_right}
 use Rattle.trace_text.specs.declared.events.Event.{Event}
 use Rattle.trace_text.specs.declared.events.Event.TheVariants as line
@@ -66,7 +67,8 @@ AtMostServe [] = Unit {0}
 AtMostServe (x ∷ []) = is_serve x ≡ true
 AtMostServe (x ∷ y ∷ rest) = ⊥
 
-serve_if_free-one : (serving : Option Release) (frames : List Frame) (releases : List Release) (w : World) → AtMostServe ((serve_if_free serving frames releases w).1 ++ [])
+serve_if_free-one : (serving : Option Release) (frames : List Frame) (releases : List Release) (w : World)
+    → AtMostServe ((serve_if_free serving frames releases w).1 ++ [])
 unfolding AtMostServe
 serve_if_free-one None [] [] w = tt
 serve_if_free-one None [] (x ∷ rest) w = refl
@@ -78,13 +80,15 @@ unfolding AtMostServe
 serve-one (who.Task t) w = tt
 serve-one who.Agent w = serve_if_free-one w.serving w.agent.frames w.releases w
 
-serve-ordered : (n : ℕ) (lines : List Event) (rest : List TraceLine) → AtMostServe lines → RisesFrom (suc n) rest → Ordered rest → Ordered (at_tick n lines ++ rest)
+serve-ordered : (n : ℕ) (lines : List Event) (rest : List TraceLine) → AtMostServe lines → RisesFrom (suc n) rest → Ordered rest
+    → Ordered (at_tick n lines ++ rest)
 unfolding AtMostServe
 serve-ordered n [] rest a r h = h
 serve-ordered n (x ∷ []) rest a r h = later-ordered n x rest r h
 serve-ordered n (x ∷ y ∷ more) rest a r h = absurd a
 
-run-ordered : (same : Bool) (name : Who) (w : World) (n : ℕ) (lines : List Event) (rest : List TraceLine) → AtMostServe lines → RisesFrom (suc n) rest → Ordered rest → Ordered (at_tick n ((cond same rests (say (line.Run name)) w).1 ++ lines) ++ rest)
+run-ordered : (same : Bool) (name : Who) (w : World) (n : ℕ) (lines : List Event) (rest : List TraceLine) → AtMostServe lines → RisesFrom (suc n) rest
+    → Ordered rest → Ordered (at_tick n ((cond same rests (say (line.Run name)) w).1 ++ lines) ++ rest)
 unfolding AtMostServe
 run-ordered true name w n lines rest a r h = serve-ordered n lines rest a r h
 run-ordered false name w n [] rest a r h = later-ordered n (line.Run name) rest r h
@@ -92,22 +96,26 @@ run-ordered false name w n (x ∷ []) rest a r h =
     pair-ordered (n, line.Run name) (n, x) rest (or_right (not (eqb n n)) (is_serve x) a) (later-ordered n x rest r h)
 run-ordered false name w n (x ∷ y ∷ more) rest a r h = absurd a
 
-idle-ordered : (ran : Option Who) (w : World) (n : ℕ) (rest : List TraceLine) → RisesFrom (suc n) rest → Ordered rest → Ordered (at_tick n (says_idle ran w).1 ++ rest)
+idle-ordered : (ran : Option Who) (w : World) (n : ℕ) (rest : List TraceLine) → RisesFrom (suc n) rest → Ordered rest
+    → Ordered (at_tick n (says_idle ran w).1 ++ rest)
 idle-ordered None w n rest r h = h
 idle-ordered (Some name) w n rest r h = later-ordered n line.Idle rest r h
 
-before_tick-ordered : (p : Image) (chosen : Option Who) (w : World) (n : ℕ) (rest : List TraceLine) → RisesFrom (suc n) rest → Ordered rest → Ordered (at_tick n (before_tick p chosen w).1 ++ rest)
+before_tick-ordered : (p : Image) (chosen : Option Who) (w : World) (n : ℕ) (rest : List TraceLine) → RisesFrom (suc n) rest → Ordered rest
+    → Ordered (at_tick n (before_tick p chosen w).1 ++ rest)
 before_tick-ordered p None w n rest r h = idle-ordered w.ran w n rest r h
 before_tick-ordered p (Some name) w n rest r h =
     let first = says_run name w.ran w in
     run-ordered (same_option same_who w.ran (Some name)) name w n ((serve name first.0).1 ++ []) rest (serve-one name first.0) r h
 
 tock-ordered : (p : Image) (w : World) (n : ℕ) (rest : List TraceLine) → RisesFrom (suc n) rest → Ordered rest → Ordered (at_tick n (tock p w).1 ++ rest)
-tock-ordered p w n rest r h = subst (λ (a : World × List Event). Ordered (at_tick n a.1 ++ rest)) (sym (tock-parts p w)) (before_tick-ordered p (choose w) w n rest r h)
+tock-ordered p w n rest r h =
+    subst (λ (a : World × List Event). Ordered (at_tick n a.1 ++ rest)) (sym (tock-parts p w)) (before_tick-ordered p (choose w) w n rest r h)
 
 -- ---- what is left of a run
 
-turn-ordered : (now : ℕ) (i t : World × List Event) (rest : Ran) (reason : Option Ended) → AllAre is_of_effect i.1 → Ordered (at_tick now t.1 ++ rest.lines) → Ordered (turn now i t rest reason).lines
+turn-ordered : (now : ℕ) (i t : World × List Event) (rest : Ran) (reason : Option Ended) → AllAre is_of_effect i.1 → Ordered (at_tick now t.1 ++ rest.lines)
+    → Ordered (turn now i t rest reason).lines
 unfolding turn
 turn-ordered now i t rest (Some reason) a h =
     subst Ordered (sym (at_tick-append now i.1 (line.End reason ∷ []))) (effects-ordered now i.1 ((now, line.End reason) ∷ []) a (end-ordered now reason))

@@ -1,6 +1,7 @@
 -- Every run keeps the law of releases: each that comes has the next number, and those that are pending follow the last that
 -- was taken up.
-use Rattle.std.proofs.Common.{◌≡◌, ℕ, ℤ, suc, ◌≤◌, Bool, true, false, cond, eqb, leb, List, [], ◌∷◌, ◌++◌, map, Option, Some, None, refl, sym, ap, subst, ◌∙◌, eq-eqb, arith}
+use Rattle.std.proofs.Common.{◌≡◌, ℕ, ℤ, suc, ◌≤◌, Bool, true, false, cond, eqb, leb, List, [], ◌∷◌}
+use Rattle.std.proofs.Common.{◌++◌, map, Option, Some, None, refl, sym, ap, subst, ◌∙◌, eq-eqb, arith}
 use Rattle.std.specs.Prelude.{unwrap_or}
 use Rattle.std.proofs.lemmas.Bool.{and_from, false≢true, le-leb}
 use Rattle.trace_text.specs.declared.events.Event.{Event}
@@ -26,7 +27,8 @@ use Rattle.profile_machine.specs.Dispatching.{choose}
 use Rattle.profile_machine.specs.Cost.{cost}
 use Rattle.profile_machine.specs.Handlers.{charge}
 use Rattle.profile_machine.specs.Instant.{instant}
-use Rattle.profile_machine.specs.Run.{opens, opening, blank_world, say, says_run, serve_if_free, serve, says_idle, one_tick_less, begin_action, spend_tick, tock, run_of}
+use Rattle.profile_machine.specs.Run.{opens, opening, blank_world, say, says_run, serve_if_free, serve}
+use Rattle.profile_machine.specs.Run.{says_idle, one_tick_less, begin_action, spend_tick, tock, run_of}
 use Rattle.machine_laws.proofs.FinestMoves.{all_of, effect-leads}
 use Rattle.machine_laws.proofs.Moves.{Moves, AreOthers, own, is_told_apart}
 use Rattle.machine_laws.proofs.Kept.Handlers.{charge-alters}
@@ -43,7 +45,8 @@ abbrev pub Pending : ℕ → ℕ → List Release → Type 0
 Pending begun last [] = begun ≡ last
 Pending begun last (r ∷ rest) = (r.number ≡ suc begun) × Pending (suc begun) last rest
 
-pub Pending-behind : (begun last : ℕ) (releases : List Release) (r : Release) → r.number ≡ suc last → Pending begun last releases → Pending begun (suc last) (releases ++ r ∷ [])
+pub Pending-behind : (begun last : ℕ) (releases : List Release) (r : Release) → r.number ≡ suc last → Pending begun last releases
+    → Pending begun (suc last) (releases ++ r ∷ [])
 Pending-behind begun last [] r e h = (e ∙ ap (λ n. suc n) (sym h), ap (λ n. suc n) h)
 Pending-behind begun last (x ∷ xs) r e h = (h.0, Pending-behind (suc begun) last xs r e h.1)
 
@@ -80,12 +83,14 @@ both_own p q e f h =
     let own : is_part_before Own p ≡ true = subst (λ x. is_part_before x p ≡ true) f h in
     false≢true (subst (λ x. is_part_before Own x ≡ true) e own)
 
-told-swap : (p q : Part) (m n : Option ℕ) (count : ℕ) (f : ℕ → Type 0) → is_part_before q p ≡ true → told p m count (λ k. told q n k f) → told q n count (λ k. told p m k f)
+told-swap : (p q : Part) (m n : Option ℕ) (count : ℕ) (f : ℕ → Type 0) → is_part_before q p ≡ true → told p m count (λ k. told q n k f)
+    → told q n count (λ k. told p m k f)
 told-swap p q None n count f before h = h
 told-swap p q (Some m) None count f before h = h
 told-swap p q (Some m) (Some n) count f before h = absurd (both_own p q h.0 h.2.0 before)
 
-put-test : (x y : Said) (ys placed : List Said) (a c : ℕ) (test : Bool) → is_part_before y.part x.part ≡ test → ((n : ℕ) → Told (x ∷ ys) n c → Told placed n c) → Told (x ∷ y ∷ ys) a c → Told (cond test (y ∷ placed) (x ∷ y ∷ ys)) a c
+put-test : (x y : Said) (ys placed : List Said) (a c : ℕ) (test : Bool) → is_part_before y.part x.part ≡ test → ((n : ℕ) → Told (x ∷ ys) n c → Told placed n c)
+    → Told (x ∷ y ∷ ys) a c → Told (cond test (y ∷ placed) (x ∷ y ∷ ys)) a c
 put-test x y ys placed a c false is onward h = h
 put-test x y ys placed a c true is onward h =
     told-also y.part (release_of y.line) a (λ n. Told (x ∷ ys) n c) (λ n. Told placed n c) onward
@@ -148,7 +153,8 @@ abbrev TellsReleases : World → List Said → World → Type 0
 TellsReleases before said after = Told said before.drawn.releases after.drawn.releases × StayPending before after
 
 abbrev ShowsReleases : World → List Event → World → Type 0
-ShowsReleases before lines after = ((begun : ℕ) → LeadTo (counts before.drawn.releases begun) lines (counts after.drawn.releases begun)) × StayPending before after
+ShowsReleases before lines after =
+    ((begun : ℕ) → LeadTo (counts before.drawn.releases begun) lines (counts after.drawn.releases begun)) × StayPending before after
 
 unmoved : (w : World) → TellsReleases w [] w
 unmoved w = (refl, λ begun h. h)
@@ -182,7 +188,10 @@ tells_releases = record {
   goes_on = λ a b c {xs} {ys} p q. (Told-append xs ys a.drawn.releases b.drawn.releases c.drawn.releases p.0 q.0, λ n h. q.1 n (p.1 n h));
   says = λ part line w other. (said-other part line w.drawn.releases other, λ n h. h);
   rests = λ w. (λ n. (tt, refl), λ n h. h);
-  leads_on = λ a b c {xs} {ys} p q. (λ n. LeadTo-append (counts a.drawn.releases n) (counts b.drawn.releases n) (counts c.drawn.releases n) xs ys (p.0 n) (q.0 n), λ n h. q.1 n (p.1 n h));
+  leads_on = λ a b c {xs} {ys} p q. (
+    λ n. LeadTo-append (counts a.drawn.releases n) (counts b.drawn.releases n) (counts c.drawn.releases n) xs ys (p.0 n) (q.0 n),
+    λ n h. q.1 n (p.1 n h),
+  );
   settles = λ p a b xs k. (λ n. told-lead p (in_order xs) a.drawn.releases n b.drawn.releases (Told-in_order xs a.drawn.releases b.drawn.releases k.0), k.1);
   silently = λ a b k. (λ n. (tt, ap (λ m. counts m n) k.0), k.1);
   edits_task = λ name f w k. edit_task-unmoved name f w;
@@ -201,7 +210,10 @@ tells_releases = record {
   adds_object = λ p l u w. unmoved w;
   enters = λ name o mode w h. unmoved w;
   exits = λ name o w. unmoved w;
-  visits = λ name o mode xs w v h others k. (Told-append xs (own (said.Exit name o) ∷ []) w.drawn.releases w.drawn.releases v.drawn.releases (others-told xs w.drawn.releases others) k.0, k.1);
+  visits = λ name o mode xs w v h others k. (
+    Told-append xs (own (said.Exit name o) ∷ []) w.drawn.releases w.drawn.releases v.drawn.releases (others-told xs w.drawn.releases others) k.0,
+    k.1,
+  );
   finds_held = λ name o mode w h. unmoved w;
   appoints = λ due moment w later. unmoved w;
   drops_appointment = λ test w. unmoved w;
@@ -215,7 +227,10 @@ tells_releases = record {
   adds_budget = λ w. unmoved w;
   edits_budget = λ b f w. unmoved w;
   sets_budget_due = λ budget w. unmoved w;
-  releases = λ handler argument w. ((refl, refl, refl), λ n h. Pending-behind n w.drawn.releases w.releases (record { number = suc w.drawn.releases; handler = handler; argument = argument }) refl h);
+  releases = λ handler argument w. (
+    (refl, refl, refl),
+    λ n h. Pending-behind n w.drawn.releases w.releases (record { number = suc w.drawn.releases; handler = handler; argument = argument }) refl h,
+  );
   has_served = λ r w is. unmoved w;
   sets_port = λ n value w. unmoved w;
   masks = λ n flag w. unmoved w;
@@ -235,7 +250,8 @@ LeadsOn = Leads_on counts_after is_next_release ShowsCounts
 shows-unmoved : (c : Counts) (w v : World) → ShowsCounts c w → TellsReleases w [] v → ShowsCounts c v
 shows-unmoved c w v h u = record { released = sym u.0 ∙ h.released; pending = u.1 c.begun h.pending }
 
-moves-lead_on : (c : Counts) (before : World) (lines : List Event) (after : World) → ShowsReleases before lines after → ShowsCounts c before → LeadsOn c lines after
+moves-lead_on : (c : Counts) (before : World) (lines : List Event) (after : World) → ShowsReleases before lines after → ShowsCounts c before
+    → LeadsOn c lines after
 moves-lead_on c before lines after m h =
     let same : counts before.drawn.releases c.begun ≡ c = ap (λ n. counts n c.begun) h.released in
     let lead : LeadTo c lines (counts after.drawn.releases c.begun) = subst (λ q. LeadTo q lines (counts after.drawn.releases c.begun)) same (m.0 c.begun) in
@@ -247,16 +263,20 @@ moves-lead_on c before lines after m h =
 openings-lead_on : (p : Image) (script : List (ℤ × Item)) → LeadsOn no_counts (opening p script).1 (opening p script).0
 unfolding Leads
 openings-lead_on p script =
-    moves-lead_on no_counts (blank_world p script) (opening p script).1 (opening p script).0 (effect-leads (all_of tells_releases).fine p (opens p) (opens-keeps (all_of tells_releases) p) (blank_world p script) tt) (record { released = refl; pending = refl })
+    moves-lead_on no_counts (blank_world p script) (opening p script).1 (opening p script).0
+    (effect-leads (all_of tells_releases).fine p (opens p) (opens-keeps (all_of tells_releases) p) (blank_world p script) tt)
+    (record { released = refl; pending = refl })
 
 instants-lead_on : (p : Image) (c : Counts) (w : World) → ShowsCounts c w → LeadsOn c (instant p w).1 (instant p w).0
 unfolding Leads
 instants-lead_on p c w h =
-    moves-lead_on c w (instant p w).1 (instant p w).0 (instant-leads (all_of tells_releases) p (record { puts = λ name s pieces text v x good is e. unmoved x }) w tt) h
+    moves-lead_on c w (instant p w).1 (instant p w).0
+    (instant-leads (all_of tells_releases) p (record { puts = λ name s pieces text v x good is e. unmoved x }) w tt) h
 
 -- ---- a tock takes up the first
 
-run-lead_on : (same : Bool) (name : Who) (w v : World) (c : Counts) (lines : List Event) → LeadsOn c lines v → LeadsOn c ((cond same rests (say (line.Run name)) w).1 ++ lines) v
+run-lead_on : (same : Bool) (name : Who) (w v : World) (c : Counts) (lines : List Event) → LeadsOn c lines v
+    → LeadsOn c ((cond same rests (say (line.Run name)) w).1 ++ lines) v
 run-lead_on true name w v c lines h = h
 run-lead_on false name w v c lines h = record { follow = (refl, h.follow); shows = h.shows }
 
@@ -264,13 +284,20 @@ idle-lead_on : (ran : Option Who) (w : World) (c : Counts) → ShowsCounts c w �
 idle-lead_on None w c h = record { follow = tt; shows = h }
 idle-lead_on (Some name) w c h = record { follow = (refl, tt); shows = h }
 
-first-lead_on : (c : Counts) (w : World) (r : Release) (rest : List Release) → w.releases ≡ r ∷ rest → ShowsCounts c w → (is_next_release c (line.Serve r.number) ≡ true) × Pending (suc c.begun) w.drawn.releases rest
+first-lead_on : (c : Counts) (w : World) (r : Release) (rest : List Release) → w.releases ≡ r ∷ rest → ShowsCounts c w
+    → (is_next_release c (line.Serve r.number) ≡ true) × Pending (suc c.begun) w.drawn.releases rest
 first-lead_on c w r rest e h =
     let first : Pending c.begun w.drawn.releases (r ∷ rest) = subst (Pending c.begun w.drawn.releases) e h.pending in
-    let within : suc c.begun ≤ w.drawn.releases = Pending-within (suc c.begun) w.drawn.releases rest first.1 in
-    (and_from (eqb r.number (suc c.begun)) (leb r.number c.released) (eq-eqb r.number (suc c.begun) first.0) (le-leb r.number c.released (omega (arith, first.0, h.released))), first.1)
+    let within : suc c.begun ≤ w.drawn.releases = Pending-within (suc c.begun) w.drawn.releases rest first.1 in (
+      and_from (eqb r.number (suc c.begun)) (leb r.number c.released) (eq-eqb r.number (suc c.begun) first.0)
+          (le-leb r.number c.released (omega (arith, first.0, h.released))),
+      first.1,
+    )
 
-serve_if_free-lead_on : (serving : Option Release) (frames : List Frame) (releases : List Release) (w : World) (c : Counts) → w.releases ≡ releases → ShowsCounts c w → let done = serve_if_free serving frames releases w in LeadsOn c (done.1 ++ []) done.0
+serve_if_free-lead_on : (serving : Option Release) (frames : List Frame) (releases : List Release) (w : World) (c : Counts) → w.releases ≡ releases
+    → ShowsCounts c w →
+    let done = serve_if_free serving frames releases w in
+    LeadsOn c (done.1 ++ []) done.0
 serve_if_free-lead_on None [] [] w c e h = record { follow = tt; shows = h }
 serve_if_free-lead_on None [] (r ∷ rest) w c e h =
     let first = first-lead_on c w r rest e h in
@@ -292,23 +319,29 @@ charged-unmoved p name w =
     let begun = begin_action p name w in
     let paid = charge p name begun in
     unmoved-then w begun (charged p name w) (edit_task-unmoved name (with_ticks (Some (unwrap_or (task_of w name).ticks_left (cost p w name)))) w)
-    (unmoved-then begun paid (charged p name w) (charge-alters (all_of tells_releases).fine (all_of tells_releases).settings p name begun tt) (edit_task-unmoved name (λ t. with_ticks (one_tick_less t.ticks_left) t) paid))
+    (unmoved-then begun paid (charged p name w) (charge-alters (all_of tells_releases).fine (all_of tells_releases).settings p name begun tt)
+    (edit_task-unmoved name (λ t. with_ticks (one_tick_less t.ticks_left) t) paid))
 
 charged-lead_on : (p : Image) (name : Who) (c : Counts) (lines : List Event) (w : World) → LeadsOn c lines w → LeadsOn c lines (charged p name w)
-charged-lead_on p name c lines w h = record { follow = h.follow; shows = shows-unmoved (counts_behind c lines) w (charged p name w) h.shows (charged-unmoved p name w) }
+charged-lead_on p name c lines w h = record {
+  follow = h.follow;
+  shows = shows-unmoved (counts_behind c lines) w (charged p name w) h.shows (charged-unmoved p name w);
+}
 
 says_run-world : (same : Bool) (name : Who) (w : World) → (cond same rests (say (line.Run name)) w).0 ≡ w
 says_run-world true name w = refl
 says_run-world false name w = refl
 
-before_tick-lead_on : (p : Image) (chosen : Option Who) (w : World) (c : Counts) → ShowsCounts c w → LeadsOn c (before_tick p chosen w).1 (before_tick p chosen w).0
+before_tick-lead_on : (p : Image) (chosen : Option Who) (w : World) (c : Counts) → ShowsCounts c w
+    → LeadsOn c (before_tick p chosen w).1 (before_tick p chosen w).0
 before_tick-lead_on p None w c h = idle-lead_on w.ran w c h
 before_tick-lead_on p (Some name) w c h =
     let same = same_option same_who w.ran (Some name) in
     let first = says_run name w.ran w in
     let shown : ShowsCounts c first.0 = subst (λ v. ShowsCounts c v) (sym (says_run-world same name w)) h in
     let served = serve name first.0 in
-    run-lead_on same name w (charged p name served.0) c (served.1 ++ []) (charged-lead_on p name c (served.1 ++ []) served.0 (serve-lead_on name first.0 c shown))
+    run-lead_on same name w (charged p name served.0) c (served.1 ++ [])
+    (charged-lead_on p name c (served.1 ++ []) served.0 (serve-lead_on name first.0 c shown))
 
 tocks-lead_on : (p : Image) (c : Counts) (w : World) → ShowsCounts c w → LeadsOn c (tock p w).1 (tock p w).0
 tocks-lead_on p c w h =

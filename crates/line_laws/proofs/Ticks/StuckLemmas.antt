@@ -43,19 +43,22 @@ tock-stuck : (queue : List Entry) (event : Event) → is_of_tock event ≡ true 
 tock-stuck queue (line.End reason) e = cc
 tock-stuck queue _ e = refl
 
-effects-lead_on : (queue : List Entry) (events : List Event) (w : World) → AllAre is_of_effect events → w.places ≡ places_after_all events (lined queue) → Leads_on queue_after is_rightly_stuck ShowsQueue queue events w
+effects-lead_on : (queue : List Entry) (events : List Event) (w : World) → AllAre is_of_effect events → w.places ≡ places_after_all events (lined queue)
+    → Leads_on queue_after is_rightly_stuck ShowsQueue queue events w
 unfolding ShowsQueue
 effects-lead_on queue events w a e = record {
   follow = Follow-all queue_after is_rightly_stuck is_of_effect effect-stuck queue events a;
   shows = e ∙ sym (queue_behind-lined queue events);
 }
 
-instants-lead_on : (p : Image) (queue : List Entry) (w : World) → ShowsQueue queue w → Leads_on queue_after is_rightly_stuck ShowsQueue queue (instant p w).1 (instant p w).0
+instants-lead_on : (p : Image) (queue : List Entry) (w : World) → ShowsQueue queue w
+    → Leads_on queue_after is_rightly_stuck ShowsQueue queue (instant p w).1 (instant p w).0
 unfolding ShowsQueue
 instants-lead_on p queue w h =
     effects-lead_on queue (instant p w).1 (instant p w).0 (instants_say_effects p w) (instants_place_by_lines p w ∙ ap (places_after_all (instant p w).1) h)
 
-tocks-lead_on : (p : Image) (queue : List Entry) (w : World) → ShowsQueue queue w → Leads_on queue_after is_rightly_stuck ShowsQueue queue (tock p w).1 (tock p w).0
+tocks-lead_on : (p : Image) (queue : List Entry) (w : World) → ShowsQueue queue w
+    → Leads_on queue_after is_rightly_stuck ShowsQueue queue (tock p w).1 (tock p w).0
 unfolding ShowsQueue
 tocks-lead_on p queue w h =
     let said = tocks_say_ticks p w in
@@ -70,7 +73,8 @@ pub first_of_three : (a b c : Bool) → (a && b && c) ≡ true → a ≡ true
 first_of_three true b c e = refl
 first_of_three false b c e = cc
 
-stuck-test : (p : Image) (ended : Option (Option Raised)) (b at_bound : Bool) → option_or (stop_by_end p ended) (option_or (cond b (Some why.Stuck) None) (cond at_bound (Some why.Bound) None)) ≡ Some why.Stuck → b ≡ true
+stuck-test : (p : Image) (ended : Option (Option Raised)) (b at_bound : Bool)
+    → option_or (stop_by_end p ended) (option_or (cond b (Some why.Stuck) None) (cond at_bound (Some why.Bound) None)) ≡ Some why.Stuck → b ≡ true
 stuck-test p None true at_bound e = refl
 stuck-test p None false true e = cc
 stuck-test p None false false e = cc
@@ -90,13 +94,16 @@ lined-nobody : (queue : List Entry) → is_empty (lined queue) ≡ true → is_e
 lined-nobody [] e = refl
 lined-nobody (x ∷ queue) e = let somebody : is_empty (lined (x ∷ queue)) ≡ false = head-somebody (as_placed x) (lined queue) in cc
 
-ends-rightly : (p : Image) (bound : ℕ) (queue : List Entry) (w : World) (reason : Ended) → ShowsQueue queue w → stop p bound w ≡ Some reason → is_rightly_stuck queue (line.End reason) ≡ true
+ends-rightly : (p : Image) (bound : ℕ) (queue : List Entry) (w : World) (reason : Ended) → ShowsQueue queue w → stop p bound w ≡ Some reason
+    → is_rightly_stuck queue (line.End reason) ≡ true
 unfolding ShowsQueue
 ends-rightly p bound queue w why.Completed h e = refl
 ends-rightly p bound queue w (why.Exception name) h e = refl
 ends-rightly p bound queue w why.Bound h e = refl
 ends-rightly p bound queue w why.Stuck h e =
-    let nobody : is_empty w.places ≡ true = first_of_three (is_empty w.places) (is_empty w.appointments) (is_empty w.script) (stuck-test p w.ended (is_empty w.places && is_empty w.appointments && is_empty w.script) (eqb w.time bound) e) in
+    let nobody : is_empty w.places ≡ true =
+    first_of_three (is_empty w.places) (is_empty w.appointments) (is_empty w.script)
+    (stuck-test p w.ended (is_empty w.places && is_empty w.appointments && is_empty w.script) (eqb w.time bound) e) in
     lined-nobody queue (ap is_empty (sym h) ∙ nobody)
 
 -- ---- every run

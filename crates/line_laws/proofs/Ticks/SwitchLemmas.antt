@@ -49,7 +49,8 @@ effects-switch r (x ∷ xs) a =
     let onward = effects-switch r xs a.1 in
     ((effect-switch r x a.0, subst (λ q. Switch q xs) (sym same) onward.0), ap (λ q. runner_behind q xs) same ∙ onward.1)
 
-effects-lead_on : (r : Option Who) (events : List Event) (w : World) → AllAre is_of_effect events → w.ran ≡ r → Leads_on runner_after is_switch ShowsRunner r events w
+effects-lead_on : (r : Option Who) (events : List Event) (w : World) → AllAre is_of_effect events → w.ran ≡ r
+    → Leads_on runner_after is_switch ShowsRunner r events w
 unfolding ShowsRunner
 effects-lead_on r events w a e = let h = effects-switch r events a in record { follow = h.0; shows = e ∙ sym h.1 }
 
@@ -74,11 +75,13 @@ Passes-append r next last xs ys a b = (
   seen_behind-append runner_after is_switch r xs ys ∙ ap (λ q. runner_behind q ys) a.1 ∙ b.1,
 )
 
-run-passes : (same : Bool) (ran : Option Who) (name : Who) (w : World) → same_option same_who ran (Some name) ≡ same → Passes ran (cond same rests (say (line.Run name)) w).1 (Some name)
+run-passes : (same : Bool) (ran : Option Who) (name : Who) (w : World) → same_option same_who ran (Some name) ≡ same
+    → Passes ran (cond same rests (say (line.Run name)) w).1 (Some name)
 run-passes true ran name w e = (tt, ran-path ran name e)
 run-passes false ran name w e = ((ap not (somebody_eq-is ran (Some name) ∙ e), tt), refl)
 
-serve_if_free-passes : (serving : Option Release) (frames : List Frame) (releases : List Release) (w : World) → Passes (Some who.Agent) ((serve_if_free serving frames releases w).1 ++ []) (Some who.Agent)
+serve_if_free-passes : (serving : Option Release) (frames : List Frame) (releases : List Release) (w : World)
+    → Passes (Some who.Agent) ((serve_if_free serving frames releases w).1 ++ []) (Some who.Agent)
 serve_if_free-passes None [] [] w = (tt, refl)
 serve_if_free-passes None [] (x ∷ rest) w = ((refl, tt), refl)
 serve_if_free-passes None (f ∷ fs) releases w = (tt, refl)

@@ -3,7 +3,8 @@ use Rattle.std.proofs.Common.{List, [], None}
 use Rattle.std.specs.Prelude.{◌↔◌, IsTrue}
 use Rattle.trace_text.specs.Queue.{TraceLine, queue_after, runner_after}
 use Rattle.trace_text.proofs.LawsFollowed.{tells_lines}
-use Rattle.line_laws.specs.TickLaws.{is_switch, SwitchesOk, follows_switches, no_counts, counts_after, is_next_release, ReleasesInOrder, follows_releases, is_rightly_stuck, StuckOk, follows_stuck}
+use Rattle.line_laws.specs.TickLaws.{is_switch, SwitchesOk, follows_switches, no_counts, counts_after, is_next_release}
+use Rattle.line_laws.specs.TickLaws.{ReleasesInOrder, follows_releases, is_rightly_stuck, StuckOk, follows_stuck}
 
 pub switches_told : (lines : List TraceLine) → IsTrue (follows_switches lines) ↔ SwitchesOk lines
 switches_told lines = tells_lines runner_after is_switch None lines

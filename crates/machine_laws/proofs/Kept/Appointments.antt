@@ -18,7 +18,8 @@ pub is_later : (now : ℕ) (moment : ℤ) → int_le moment (pos now) ≡ false 
 is_later now moment h = grind (arith, ints)
 
 module _ {G : GoodWorld} {May Other : Naming} {R : StepRelation} {Q : MoveRelation} (moves : FinestMoves G May Other R Q) where
-  pub appoint-from : (due : Due) (moment : ℤ) (w : World) → G w → is_an_event due ≡ false → int_lt (pos w.time) moment ≡ true → From R w (changes (appoint due moment))
+  pub appoint-from : (due : Due) (moment : ℤ) (w : World) → G w → is_an_event due ≡ false → int_lt (pos w.time) moment ≡ true
+      → From R w (changes (appoint due moment))
   appoint-from due moment w good other later = changes-from (chains moves) (appoint due moment) w (moves.appoints due moment w good other later)
 
   pub drop_appointment-alters : (test : Due → Bool) → SparesEvents test → Alters G R (drop_appointment test)

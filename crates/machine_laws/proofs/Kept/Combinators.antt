@@ -9,7 +9,8 @@ use Rattle.profile_machine.specs.declared.world.tasks.Task.{Task}
 use Rattle.profile_machine.specs.declared.world.lines.Line.{Line}
 use Rattle.profile_machine.specs.declared.world.lines.Part.{Part}
 use Rattle.profile_machine.specs.declared.world.lines.Said.{Said}
-use Rattle.profile_machine.specs.Steps.{Step, Move, Done, done, goes_on_with, nothing, changes, says, looks, when, for_some, for_each, placed_by, settled, settles, watches, ◌▷◌, ◌▶◌}
+use Rattle.profile_machine.specs.Steps.{Step, Move, Done, done, goes_on_with, nothing, changes, says, looks}
+use Rattle.profile_machine.specs.Steps.{when, for_some, for_each, placed_by, settled, settles, watches, ◌▷◌, ◌▶◌}
 use Rattle.profile_machine.specs.Operators.{Valued}
 use Rattle.profile_machine.specs.Values.{Seen, seen_by}
 use Rattle.profile_machine.specs.Statements.{sees}
@@ -111,7 +112,8 @@ module _ {G : GoodWorld} {R : StepRelation} (chains : Chains G R) where
   cond-keeps true f g a b = a
   cond-keeps false f g a b = b
 
-  pub option-keeps : {X : Type 0} (x : Option X) (f : Step) (g : X → Step) → Keeps G R f → ((y : X) → Keeps G R (g y)) → Keeps G R (elim x as (λ _. Step) [ None ↦ f | Some y ↦ g y ])
+  pub option-keeps : {X : Type 0} (x : Option X) (f : Step) (g : X → Step) → Keeps G R f → ((y : X) → Keeps G R (g y))
+      → Keeps G R (elim x as (λ _. Step) [ None ↦ f | Some y ↦ g y ])
   option-keeps None f g a b = a
   option-keeps (Some y) f g a b = b y
 
@@ -179,20 +181,23 @@ module _ {G : GoodWorld} {R : StepRelation} (chains : Chains G R) where
   unfolding From
   then-from f g w a b said = goes_on_with-kept g w said (f w said) (a said) b
 
-  pub said_then-from : (part : Part) (line : Line) (g : Step) (w : World) → R w (record { part = part; line = line } ∷ []) w → From R w g → From R w (says part line ▷ g)
+  pub said_then-from : (part : Part) (line : Line) (g : Step) (w : World) → R w (record { part = part; line = line } ∷ []) w → From R w g
+      → From R w (says part line ▷ g)
   unfolding From
   said_then-from part line g w a b said =
       let more = said ++ record { part = part; line = line } ∷ [] in
       then-kept w w said more (g w more) (said-from part line w a said) (b more)
 
   -- a line that tells one change, or two, and a step behind
-  pub told_change-from : (part : Part) (line : Line) (f : World → World) (g : Step) (w : World) → R w (record { part = part; line = line } ∷ []) (f w) → Keeps G R g → From R w (says part line ▷ changes f ▷ g)
+  pub told_change-from : (part : Part) (line : Line) (f : World → World) (g : Step) (w : World) → R w (record { part = part; line = line } ∷ []) (f w)
+      → Keeps G R g → From R w (says part line ▷ changes f ▷ g)
   unfolding From Kept Keeps
   told_change-from part line f g w a b said =
       let more = said ++ record { part = part; line = line } ∷ [] in
       then-kept w (f w) said more (g (f w) more) (record { part = part; line = line } ∷ [], refl, a) (b (f w) (chains.behind w (f w) a) more)
 
-  pub changes_told-from : (f g : World → World) (part : Part) (line : Line) (h : Step) (w : World) → R w (record { part = part; line = line } ∷ []) (g (f w)) → Keeps G R h → From R w (changes f ▷ changes g ▷ says part line ▷ h)
+  pub changes_told-from : (f g : World → World) (part : Part) (line : Line) (h : Step) (w : World) → R w (record { part = part; line = line } ∷ []) (g (f w))
+      → Keeps G R h → From R w (changes f ▷ changes g ▷ says part line ▷ h)
   unfolding From Kept Keeps
   changes_told-from f g part line h w a b said =
       let more = said ++ record { part = part; line = line } ∷ [] in
@@ -203,7 +208,8 @@ module _ {G : GoodWorld} {R : StepRelation} (chains : Chains G R) where
   unfolding From
   changes_then-from f g w a b said = then-kept w (f w) said said (g (f w) said) (silent-kept w (f w) said a) (b said)
 
-  after-kept : (g : Step) (w : World) (said : List Said) (d : Done) → Kept R w said d → ((v : World) (xs : List Said) → R w xs v → From R v g) → Kept R w said (goes_on_with g d)
+  after-kept : (g : Step) (w : World) (said : List Said) (d : Done) → Kept R w said d → ((v : World) (xs : List Said) → R w xs v → From R v g)
+      → Kept R w said (goes_on_with g d)
   unfolding From Kept
   after-kept g w said (done v ys) a b = then-kept w v said ys (g v ys) a (b v a.0 a.2 ys)
 
@@ -224,7 +230,8 @@ module _ {G : GoodWorld} {R : StepRelation} (chains : Chains G R) where
   next-gives (Err e) f w a b = tt
 
   -- of tasks that have names of others
-  pub for_each_task-keeps : (Other : Naming) (ts : List Task) (f : Task → Step) → EachIs Other ts → ((t : Task) → Other t.who → Keeps G R (f t)) → Keeps G R (for_each ts f)
+  pub for_each_task-keeps : (Other : Naming) (ts : List Task) (f : Task → Step) → EachIs Other ts → ((t : Task) → Other t.who → Keeps G R (f t))
+      → Keeps G R (for_each ts f)
   for_each_task-keeps Other [] f each a = nothing-keeps
   for_each_task-keeps Other (t ∷ ts) f each a = then-keeps (f t) (for_each ts f) (a t each.0) (for_each_task-keeps Other ts f each.1 a)
 
@@ -238,9 +245,13 @@ module _ (Other : Naming) where
   some_of-others test (t ∷ ts) each = filtered (test t) t (filter test ts) each.0 (some_of-others test ts each.1)
 
 -- of those of a good world, where all of them have such names
-pub listed-keeps : {G : GoodWorld} {R : StepRelation} (chains : Chains G R) (Other : Naming) → ((w : World) → G w → EachIs Other w.tasks) → (test : World → Task → Bool) (f : World → Task → Step) → ((w : World) (t : Task) → Other t.who → Keeps G R (f w t))
+pub listed-keeps : {G : GoodWorld} {R : StepRelation} (chains : Chains G R) (Other : Naming) → ((w : World) → G w → EachIs Other w.tasks)
+    → (test : World → Task → Bool) (f : World → Task → Step) → ((w : World) (t : Task) → Other t.who → Keeps G R (f w t))
     → Keeps G R (looks (λ w. for_each (filter (test w) w.tasks) (f w)))
-listed-keeps chains Other listed test f a = looks-from chains _ (λ w good. keeps-from chains _ w good (for_each_task-keeps chains Other (filter (test w) w.tasks) (f w) (some_of-others Other (test w) w.tasks (listed w good)) (a w)))
+listed-keeps chains Other listed test f a =
+    looks-from chains _
+    (λ w good.
+    keeps-from chains _ w good (for_each_task-keeps chains Other (filter (test w) w.tasks) (f w) (some_of-others Other (test w) w.tasks (listed w good)) (a w)))
 
 -- ---- moves
 

@@ -32,16 +32,22 @@ held-tests false true c e = absurd cc
 held-tests false false true e = refl
 held-tests false false false e = absurd cc
 
-inside-found : (p : Image) (w : World) (name : Who) (o : ObjectNo) (mode : Mode) (found : Option Object) → object_of w o ≡ found → entering_option p w name found mode ≡ entering_is.Inside → LetsIn name o mode w
+inside-found : (p : Image) (w : World) (name : Who) (o : ObjectNo) (mode : Mode) (found : Option Object) → object_of w o ≡ found
+    → entering_option p w name found mode ≡ entering_is.Inside → LetsIn name o mode w
 inside-found p w name o mode None is e = absurd cc
 inside-found p w name o mode (Some x) is e =
     let t = inside-tests (has_open name x.actions) (is_above_ceiling p w name x.ceiling) (excludes mode (without (is_action_of name) x.actions)) e in
     record { object = x; found = is; outside = t.0; free = t.1 }
 
-held-found : (p : Image) (w : World) (name : Who) (o : ObjectNo) (mode : Mode) (found : Option Object) → object_of w o ≡ found → entering_option p w name found mode ≡ entering_is.Held → FindsHeld name o mode w
+held-found : (p : Image) (w : World) (name : Who) (o : ObjectNo) (mode : Mode) (found : Option Object) → object_of w o ≡ found
+    → entering_option p w name found mode ≡ entering_is.Held → FindsHeld name o mode w
 held-found p w name o mode None is e = absurd cc
 held-found p w name o mode (Some x) is e =
-    record { object = x; found = is; held = held-tests (has_open name x.actions) (is_above_ceiling p w name x.ceiling) (excludes mode (without (is_action_of name) x.actions)) e }
+    record {
+      object = x;
+      found = is;
+      held = held-tests (has_open name x.actions) (is_above_ceiling p w name x.ceiling) (excludes mode (without (is_action_of name) x.actions)) e;
+    }
 
 pub entering-inside : (p : Image) (w : World) (name : Who) (o : ObjectNo) (mode : Mode) → entering p w name o mode ≡ entering_is.Inside → LetsIn name o mode w
 entering-inside p w name o mode e = inside-found p w name o mode (object_of w o) refl e

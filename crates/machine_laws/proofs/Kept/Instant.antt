@@ -20,7 +20,10 @@ use Rattle.profile_machine.specs.Steps.{Step, Move, changes, nothing, settles, �
 use Rattle.profile_machine.specs.Tasks.{task_of, edit_task, with_ticks}
 use Rattle.profile_machine.specs.Act.{act}
 use Rattle.profile_machine.specs.Appointments.{first_due, is_an_event, drop_appointment}
-use Rattle.profile_machine.specs.Instant.{effect, is_over, effect_of_runner, finish_action, with_port, with_masked, with_kept_interrupt, interrupt_comes, deliver_kept_interrupt, script_item, with_script, take_item, items_due, script_items, take_delay, end_delay, time_out, come_due, take_due, all_due, appointments_due, events_due, moments_due, expire, expire_timer, no_timers_due, timers_due, run_out, no_budget_due, budgets_due, spend_quantum, quantum_spent, instant, is_the_same_due}
+use Rattle.profile_machine.specs.Instant.{effect, is_over, effect_of_runner, finish_action, with_port, with_masked, with_kept_interrupt, interrupt_comes}
+use Rattle.profile_machine.specs.Instant.{deliver_kept_interrupt, script_item, with_script, take_item, items_due, script_items, take_delay, end_delay, time_out}
+use Rattle.profile_machine.specs.Instant.{come_due, take_due, all_due, appointments_due, events_due, moments_due, expire, expire_timer, no_timers_due}
+use Rattle.profile_machine.specs.Instant.{timers_due, run_out, no_budget_due, budgets_due, spend_quantum, quantum_spent, instant, is_the_same_due}
 use Rattle.machine_laws.proofs.Moves.{StepRelation, MoveRelation, Puts}
 use Rattle.machine_laws.proofs.FineMoves.{GoodWorld, Naming}
 use Rattle.machine_laws.proofs.FinestMoves.{FinestMoves, SettingMoves, SparesEvents, AllMoves, Holding, Anyhow, chains, move_chains, says-keeps, effect-leads}
@@ -36,7 +39,9 @@ use Rattle.machine_laws.proofs.Kept.Act.{Acting, Acts, acts_anyhow, any_act-from
 use Rattle.machine_laws.proofs.Kept.Serving.{Stays, stays_anyhow}
 use Rattle.profile_machine.specs.Values.{budget_of}
 use Rattle.profile_machine.specs.Handlers.{clear_timer}
-use Rattle.machine_laws.proofs.Kept.Combinators.{Alters, From, Keeps, Leads, changes-from, changes-keeps, changes_then-from, for_each-keeps, for_some-keeps, keeps-from, looks-from, looks-keeps, nothing-keeps, settles-from, then-from, then-keeps, then-leads, when-keeps}
+use Rattle.machine_laws.proofs.Kept.Combinators.{Alters, From, Keeps, Leads, changes-from, changes-keeps, changes_then-from}
+use Rattle.machine_laws.proofs.Kept.Combinators.{for_each-keeps, for_some-keeps, keeps-from, looks-from, looks-keeps}
+use Rattle.machine_laws.proofs.Kept.Combinators.{nothing-keeps, settles-from, then-from, then-keeps, then-leads, when-keeps}
 use Rattle.machine_laws.proofs.Plain.Calls.{with_call-keeps, unqueued-alters}
 
 abbrev pub is_there : {X : Type 0} → Option X → Bool
@@ -65,7 +70,8 @@ module _ {G : GoodWorld} {May Other : Naming} {R : StepRelation} {Q : MoveRelati
   unfolding spend_quantum
   spend_quantum-keeps p None = search (nothing-keeps, chains)
   spend_quantum-keeps p (Some who.Agent) = search (nothing-keeps, chains)
-  spend_quantum-keeps p (Some (who.Task t)) = search (looks-keeps, when-keeps, says-keeps, then-keeps, to_tail-keeps, moves.other_may, moves.task_other, chains) depth 8
+  spend_quantum-keeps p (Some (who.Task t)) =
+      search (looks-keeps, when-keeps, says-keeps, then-keeps, to_tail-keeps, moves.other_may, moves.task_other, chains) depth 8
 
   pub quantum_spent-leads : (p : Image) → Leads G Q (quantum_spent p)
   quantum_spent-leads p = search (effect-leads, looks-keeps, spend_quantum-keeps, chains)
@@ -86,22 +92,27 @@ module _ {G : GoodWorld} {May Other : Naming} {R : StepRelation} {Q : MoveRelati
 
   take_moment-keeps : (p : Image) (again : Step) (a : Appointment) → is_an_event a.due ≡ false → Keeps G R again → Keeps G R (take_due p again (Some a))
   take_moment-keeps p again a other kept =
-      then-keeps (chains moves) (changes (drop_appointment (is_the_same_due a.due))) _ (changes-keeps (chains moves) _ (drop_appointment-alters moves (is_the_same_due a.due) (spares-events a.due other)))
+      then-keeps (chains moves) (changes (drop_appointment (is_the_same_due a.due))) _
+      (changes-keeps (chains moves) _ (drop_appointment-alters moves (is_the_same_due a.due) (spares-events a.due other)))
       (then-keeps (chains moves) (come_due p a.due) again (moment_due-keeps p a.due other) kept)
 
   -- what is found is no event
-  found_other : (due event : Bool) (a b : Appointment) (rest : Option Appointment) → event ≡ is_an_event a.due → cond (due && same_bool event false) (Some a) rest ≡ Some b → (rest ≡ Some b → is_an_event b.due ≡ false) → is_an_event b.due ≡ false
+  found_other : (due event : Bool) (a b : Appointment) (rest : Option Appointment) → event ≡ is_an_event a.due
+      → cond (due && same_bool event false) (Some a) rest ≡ Some b → (rest ≡ Some b → is_an_event b.due ≡ false) → is_an_event b.due ≡ false
   found_other true false a b rest e h others = ap (λ x. is_an_event (or_that a x).due) (sym h) ∙ sym e
   found_other true true a b rest e h others = others h
   found_other false event a b rest e h others = others h
 
   first_due-other : (time : ℕ) (xs : List Appointment) (a : Appointment) → first_due false time xs ≡ Some a → is_an_event a.due ≡ false
   first_due-other time [] a h = absurd (false≢true (ap is_there h))
-  first_due-other time (x ∷ xs) a h = found_other (int_le x.moment (pos time)) (is_an_event x.due) x a (first_due false time xs) refl h (first_due-other time xs a)
+  first_due-other time (x ∷ xs) a h =
+      found_other (int_le x.moment (pos time)) (is_an_event x.due) x a (first_due false time xs) refl h (first_due-other time xs a)
 
-  taken-from : (p : Image) (again : Step) (w : World) (found : Option Appointment) → G w → first_due false w.time w.appointments ≡ found → Keeps G R again → From R w (take_due p again found)
+  taken-from : (p : Image) (again : Step) (w : World) (found : Option Appointment) → G w → first_due false w.time w.appointments ≡ found → Keeps G R again
+      → From R w (take_due p again found)
   taken-from p again w None good is kept = keeps-from (chains moves) nothing w good (nothing-keeps (chains moves))
-  taken-from p again w (Some a) good is kept = keeps-from (chains moves) _ w good (take_moment-keeps p again a (first_due-other w.time w.appointments a is) kept)
+  taken-from p again w (Some a) good is kept =
+      keeps-from (chains moves) _ w good (take_moment-keeps p again a (first_due-other w.time w.appointments a is) kept)
 
   all_moments-keeps : (fuel : ℕ) (p : Image) → Keeps G R (all_due fuel p false)
   unfolding all_due
@@ -114,7 +125,8 @@ module _ {G : GoodWorld} {May Other : Naming} {R : StepRelation} {Q : MoveRelati
 
 -- ---- what is due, and may release
 
-module _ {G : GoodWorld} {May Other : Naming} {R : StepRelation} {Q : MoveRelation} (moves : FinestMoves G May Other R Q) (settings : SettingMoves G R) (releasing : Releasing G R) where
+module _ {G : GoodWorld} {May Other : Naming} {R : StepRelation} {Q : MoveRelation} (moves : FinestMoves G May Other R Q) (settings : SettingMoves G R)
+    (releasing : Releasing G R) where
   with_port-alters : (n : ℕ) (value : ℤ) → Alters G R (with_port n value)
   unfolding Alters
   with_port-alters n value w good = settings.sets_port n value w good
@@ -142,15 +154,20 @@ module _ {G : GoodWorld} {May Other : Naming} {R : StepRelation} {Q : MoveRelati
   script_item-keeps p (item.Interrupt n) = search (looks-keeps, interrupt_comes-keeps, chains)
   script_item-keeps p (item.Port n value) = search (changes-keeps, with_port-alters, then-keeps, says-keeps, chains)
   script_item-keeps p (item.Mask n) = search (changes-keeps, with_masked-alters, then-keeps, says-keeps, chains)
-  script_item-keeps p (item.Unmask n) = search (changes-keeps, with_masked-alters, then-keeps, says-keeps, looks-keeps, deliver_kept_interrupt-keeps, chains) depth 8
+  script_item-keeps p (item.Unmask n) =
+      search (changes-keeps, with_masked-alters, then-keeps, says-keeps, looks-keeps, deliver_kept_interrupt-keeps, chains) depth 8
 
-  take_item_if-from : (p : Image) (again : Step) (x : ℤ × Item) (xs : List (ℤ × Item)) (w : World) (test : Bool) → G w → w.script ≡ x ∷ xs → int_le x.0 (pos w.time) ≡ test → Keeps G R again → From R w (elim test as (λ _. Step) [ true ↦ changes (with_script xs) ▷ script_item p x.1 ▷ again | false ↦ nothing ])
+  take_item_if-from : (p : Image) (again : Step) (x : ℤ × Item) (xs : List (ℤ × Item)) (w : World) (test : Bool) → G w → w.script ≡ x ∷ xs
+      → int_le x.0 (pos w.time) ≡ test → Keeps G R again
+      → From R w (elim test as (λ _. Step) [ true ↦ changes (with_script xs) ▷ script_item p x.1 ▷ again | false ↦ nothing ])
   take_item_if-from p again x xs w true good is due kept =
-      then-from (chains moves) (changes (with_script xs)) (script_item p x.1 ▷ again) w (changes-from (chains moves) (with_script xs) w (settings.cuts_script x xs w good is due))
+      then-from (chains moves) (changes (with_script xs)) (script_item p x.1 ▷ again) w
+      (changes-from (chains moves) (with_script xs) w (settings.cuts_script x xs w good is due))
       (then-keeps (chains moves) (script_item p x.1) again (script_item-keeps p x.1) kept)
   take_item_if-from p again x xs w false good is due kept = keeps-from (chains moves) nothing w good (nothing-keeps (chains moves))
 
-  take_item-from : (p : Image) (again : Step) (w : World) (script : List (ℤ × Item)) → G w → w.script ≡ script → Keeps G R again → From R w (take_item p w.time again script)
+  take_item-from : (p : Image) (again : Step) (w : World) (script : List (ℤ × Item)) → G w → w.script ≡ script → Keeps G R again
+      → From R w (take_item p w.time again script)
   take_item-from p again w [] good is kept = keeps-from (chains moves) nothing w good (nothing-keeps (chains moves))
   take_item-from p again w (x ∷ xs) good is kept = take_item_if-from p again x xs w (int_le x.0 (pos w.time)) good is refl kept
 
@@ -193,7 +210,8 @@ module _ {G : GoodWorld} {May Other : Naming} {R : StepRelation} {Q : MoveRelati
   pub expire-keeps : (p : Image) (k : ℕ) (setting : Option TimerSetting) → Keeps G R (expire p k setting)
   unfolding expire
   expire-keeps p k None = search (nothing-keeps, chains)
-  expire-keeps p k (Some s) = then-keeps (chains moves) (changes (clear_timer k)) _ (search (changes-keeps, clear_timer-alters, chains)) (releasing.releases p s.handler (Some k))
+  expire-keeps p k (Some s) =
+      then-keeps (chains moves) (changes (clear_timer k)) _ (search (changes-keeps, clear_timer-alters, chains)) (releasing.releases p s.handler (Some k))
 
   pub expire_timer-keeps : (p : Image) (k : ℕ) → Keeps G R (expire_timer p k)
   unfolding expire_timer
@@ -219,31 +237,41 @@ module _ {G : GoodWorld} {May Other : Naming} {R : StepRelation} {Q : MoveRelati
 
   -- all of an instant but the effect of the action that ended
   pub behind_action-leads : (p : Image) → Leads G Q (script_items p ▶ events_due p ▶ moments_due p ▶ timers_due p ▶ budgets_due p ▶ quantum_spent p)
-  behind_action-leads p = search (then-leads, script_items-leads, events_due-leads, moments_due-leads, timers_due-leads, budgets_due-leads, quantum_spent-leads, move_chains) depth 9
+  behind_action-leads p =
+      search
+      (then-leads, script_items-leads, events_due-leads, moments_due-leads, timers_due-leads, budgets_due-leads, quantum_spent-leads, move_chains) depth 9
 
 -- ---- where anybody may be changed
 
-module _ {G : GoodWorld} {Act : Acting} {Holds : Holding} {R : StepRelation} {Q : MoveRelation} (moves : AllMoves G Holds R Q) (stays : Stays Holds) (acts : Acts Act Holds) (p : Image) (puts : Puts G R p) where
+module _ {G : GoodWorld} {Act : Acting} {Holds : Holding} {R : StepRelation} {Q : MoveRelation} (moves : AllMoves G Holds R Q) (stays : Stays Holds)
+    (acts : Acts Act Holds) (p : Image) (puts : Puts G R p) where
   effect-from : (name : Who) (w : World) → G w → Act name w → From R w (effect p name)
   unfolding effect Alters
   effect-from name w good acting =
       let v = edit_task name (with_ticks None) w in
       let first = edit_task-alters moves.fine name (with_ticks None) (λ t. refl) (λ t. refl) (λ t. refl) (λ t. refl) (λ t. refl) w good in
       changes_then-from (chains moves.fine) (edit_task name (with_ticks None)) _ w first
-      (then-from (chains moves.fine) (act p name) _ v (any_act-from moves stays acts p puts name v (moves.fine.behind w v first) (acts.without_ticks name w acting))
+      (then-from (chains moves.fine) (act p name) _ v
+      (any_act-from moves stays acts p puts name v (moves.fine.behind w v first) (acts.without_ticks name w acting))
       (then-keeps (chains moves.fine) _ _ (open_if_ready-keeps moves.fine p name tt)
       (then-keeps (chains moves.fine) _ _ (take_terminates-keeps moves.fine p name tt) (unwind_all-keeps moves.fine p name))))
 
-  over-leads : (name : Who) (w : World) (test : Bool) → G w → (test ≡ true → Act name w) → let d = (elim test as (λ _. Move) [ true ↦ settles p (effect p name) | false ↦ rests ]) w in Q w d.1 d.0
+  over-leads : (name : Who) (w : World) (test : Bool) → G w → (test ≡ true → Act name w) →
+      let d = (elim test as (λ _. Move) [ true ↦ settles p (effect p name) | false ↦ rests ]) w in
+      Q w d.1 d.0
   over-leads name w true good acting = settles-from Q p (moves.fine.settles p) (effect p name) w (effect-from name w good (acting refl))
   over-leads name w false good acting = moves.fine.rests w good
 
-  runner-leads : (by : Option Who) (w : World) → G w → ((name : Who) → by ≡ Some name → is_over (task_of w name).ticks_left ≡ true → Act name w) → let d = effect_of_runner p by w in Q w d.1 d.0
+  runner-leads : (by : Option Who) (w : World) → G w → ((name : Who) → by ≡ Some name → is_over (task_of w name).ticks_left ≡ true → Act name w) →
+      let d = effect_of_runner p by w in
+      Q w d.1 d.0
   runner-leads None w good acting = moves.fine.rests w good
   runner-leads (Some name) w good acting = over-leads name w (is_over (task_of w name).ticks_left) good (acting name refl)
 
   -- an instant, where of who acts is known what is
-  pub instant-from : (w : World) → G w → ((name : Who) → w.ran ≡ Some name → is_over (task_of w name).ticks_left ≡ true → Act name w) → let d = instant p w in Q w d.1 d.0
+  pub instant-from : (w : World) → G w → ((name : Who) → w.ran ≡ Some name → is_over (task_of w name).ticks_left ≡ true → Act name w) →
+      let d = instant p w in
+      Q w d.1 d.0
   unfolding Leads
   instant-from w good acting =
       let rest : Move = script_items p ▶ events_due p ▶ moments_due p ▶ timers_due p ▶ budgets_due p ▶ quantum_spent p in

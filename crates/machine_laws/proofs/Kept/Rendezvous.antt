@@ -31,7 +31,11 @@ use Rattle.profile_machine.specs.Frames.{new_frame, edit_top, goes_on, pop, top_
 use Rattle.profile_machine.specs.Scopes.{begin_scope, next_id, plainly, innermost, end_scope, cells_of, scope_in_use}
 use Rattle.profile_machine.specs.Appointments.{drop_delay}
 use Rattle.profile_machine.specs.Calls.{parameters_of, edit_call, with_call, next_call, place_of_entry}
-use Rattle.profile_machine.specs.Rendezvous.{accept_scope, open_accept, has_room_for_accept, begin_accept, finish_without_room, accept_with_room, accept_call, meet_with_room, meet_without_room, meet, accept_or_wait, accept, accept_chosen, wait_at_select, appoint_delay, select_delay, select_wait, select_otherwise, select_by_call, select_open, selective_accept, gone_sent, meet_sent, arrive_at, arrive, finish_accept, finish_rendezvous, behind_accept, finished_call, end_in_accept, own_queue, open_alternatives, open_delays}
+use Rattle.profile_machine.specs.Rendezvous.{accept_scope, open_accept, has_room_for_accept, begin_accept, finish_without_room, accept_with_room}
+use Rattle.profile_machine.specs.Rendezvous.{accept_call, meet_with_room, meet_without_room, meet, accept_or_wait, accept, accept_chosen}
+use Rattle.profile_machine.specs.Rendezvous.{wait_at_select, appoint_delay, select_delay, select_wait, select_otherwise, select_by_call, select_open}
+use Rattle.profile_machine.specs.Rendezvous.{selective_accept, gone_sent, meet_sent, arrive_at, arrive, finish_accept, finish_rendezvous}
+use Rattle.profile_machine.specs.Rendezvous.{behind_accept, finished_call, end_in_accept, own_queue, open_alternatives, open_delays}
 use Rattle.std.proofs.Common.{◌≡◌, refl}
 use Rattle.machine_laws.proofs.Moves.{StepRelation, MoveRelation}
 use Rattle.machine_laws.proofs.FineMoves.{GoodWorld, Naming}
@@ -49,7 +53,8 @@ use Rattle.profile_machine.specs.Values.{seen_by}
 use Rattle.profile_machine.specs.Inheritance.{lose_running}
 use Rattle.profile_machine.specs.declared.world.marks.Frame.{Frame}
 use Rattle.profile_machine.specs.declared.world.lines.Part.TheVariants.{Own}
-use Rattle.machine_laws.proofs.Kept.Combinators.{Alters, From, Keeps, branch-keeps, changes-keeps, changes_then-from, for_some-keeps, keeps-from, looks-from, looks-keeps, looks_at-from, nothing-keeps, then-from, then-keeps, unchanged-alters}
+use Rattle.machine_laws.proofs.Kept.Combinators.{Alters, From, Keeps, branch-keeps, changes-keeps, changes_then-from, for_some-keeps, keeps-from}
+use Rattle.machine_laws.proofs.Kept.Combinators.{looks-from, looks-keeps, looks_at-from, nothing-keeps, then-from, then-keeps, unchanged-alters}
 use Rattle.machine_laws.proofs.Plain.Frames.{raises-keeps, pass_on-keeps, raise_if-keeps, given-from, raise_if-from}
 use Rattle.machine_laws.proofs.Plain.Calls.{edit_call-alters, with_call-keeps, enqueue-keeps}
 use Rattle.machine_laws.proofs.Plain.PlainSteps.{anybody}
@@ -64,7 +69,8 @@ module _ {G : GoodWorld} {May Other : Naming} {R : StepRelation} {Q : MoveRelati
       let begun = begin_scope p name scope b w in
       let mark : Mark = InAccept (record { call = c.number; accept = s; within = next_id w; handles = None }) in
       let first = moves.begins_scope p name scope b w good in
-      moves.goes_on w begun (open_accept p name s c w) first (moves.opens_abortable name (new_frame mark (scope_of p scope).first) begun (moves.behind w begun first) other refl refl refl)
+      moves.goes_on w begun (open_accept p name s c w) first
+      (moves.opens_abortable name (new_frame mark (scope_of p scope).first) begun (moves.behind w begun first) other refl refl refl)
 
   begin_accept-keeps : (p : Image) (part : Part) (name : Who) (s : StatementNo) (c : Call) → Keeps G R (begin_accept p part name s c)
   unfolding begin_accept
@@ -74,23 +80,35 @@ module _ {G : GoodWorld} {May Other : Naming} {R : StepRelation} {Q : MoveRelati
   unfolding finish_without_room
   finish_without_room-keeps part name c = search (says-keeps)
 
-  accept_with_room-keeps : (p : Image) (name : Who) (s : StatementNo) (c : Call) (has_room : Bool) → Other name → Keeps G R (accept_with_room p name s c has_room)
+  accept_with_room-keeps : (p : Image) (name : Who) (s : StatementNo) (c : Call) (has_room : Bool) → Other name
+      → Keeps G R (accept_with_room p name s c has_room)
   unfolding accept_with_room
   accept_with_room-keeps p name s c true other = search (changes-keeps, open_accept-alters, then-keeps, inherit_running-keeps, moves.other_may, chains)
   accept_with_room-keeps p name s c false other = search (finish_without_room-keeps, then-keeps, deliver-keeps, raises-keeps, chains, plain_steps)
 
   pub accept_call-keeps : (p : Image) (name : Who) (s : StatementNo) (c : CallNo) → Other name → Keeps G R (accept_call p name s c)
   unfolding accept_call
-  accept_call-keeps p name s c other = search (with_call-keeps, begin_accept-keeps, then-keeps, looks-keeps, accept_with_room-keeps, chains, plain_steps) depth 8
+  accept_call-keeps p name s c other =
+      search (with_call-keeps, begin_accept-keeps, then-keeps, looks-keeps, accept_with_room-keeps, chains, plain_steps) depth 8
 
-  pub meet_with_room-keeps : (p : Image) (part : Part) (name : Who) (s : StatementNo) (c : Call) (then_ : Step) → Other name → Keeps G R then_ → Keeps G R (meet_with_room p part name s c then_)
-  meet_with_room-keeps p part name s c then_ other kept = search (begin_accept-keeps, changes-keeps, open_accept-alters, inherit-alters, then-keeps, ready-keeps, open_sequence-keeps, moves.other_may, chains) depth 10
+  pub meet_with_room-keeps : (p : Image) (part : Part) (name : Who) (s : StatementNo) (c : Call) (then_ : Step) → Other name → Keeps G R then_
+      → Keeps G R (meet_with_room p part name s c then_)
+  meet_with_room-keeps p part name s c then_ other kept =
+      search
+      (begin_accept-keeps, changes-keeps, open_accept-alters, inherit-alters, then-keeps, ready-keeps, open_sequence-keeps, moves.other_may, chains) depth 10
 
-  pub meet_without_room-keeps : (p : Image) (part : Part) (name : Who) (s : StatementNo) (c : Call) (otherwise : Step) → Other name → Keeps G R otherwise → Keeps G R (meet_without_room p part name s c otherwise)
-  meet_without_room-keeps p part name s c otherwise other kept = search (begin_accept-keeps, then-keeps, finish_without_room-keeps, ready-keeps, raises-keeps, chains, plain_steps) depth 10
+  pub meet_without_room-keeps : (p : Image) (part : Part) (name : Who) (s : StatementNo) (c : Call) (otherwise : Step) → Other name → Keeps G R otherwise
+      → Keeps G R (meet_without_room p part name s c otherwise)
+  meet_without_room-keeps p part name s c otherwise other kept =
+      search (begin_accept-keeps, then-keeps, finish_without_room-keeps, ready-keeps, raises-keeps, chains, plain_steps) depth 10
 
-  pub meet-keeps : (p : Image) (part : Part) (name : Who) (s : StatementNo) (c : Call) (then_ otherwise : Step) → Other name → Keeps G R then_ → Keeps G R otherwise → Keeps G R (meet p part name s c then_ otherwise)
-  meet-keeps p part name s c then_ otherwise other kept also_kept = then-keeps (chains moves) (changes (drop_delay name)) _ (search (changes-keeps, drop_delay-alters, chains)) (looks-keeps (chains moves) _ (λ w. branch-keeps (chains moves) (has_room_for_accept p w name s) (meet_with_room p part name s c then_) (meet_without_room p part name s c otherwise) (search (meet_with_room-keeps)) (search (meet_without_room-keeps))))
+  pub meet-keeps : (p : Image) (part : Part) (name : Who) (s : StatementNo) (c : Call) (then_ otherwise : Step) → Other name → Keeps G R then_
+      → Keeps G R otherwise → Keeps G R (meet p part name s c then_ otherwise)
+  meet-keeps p part name s c then_ otherwise other kept also_kept =
+      then-keeps (chains moves) (changes (drop_delay name)) _ (search (changes-keeps, drop_delay-alters, chains))
+      (looks-keeps (chains moves) _
+      (λ w. branch-keeps (chains moves) (has_room_for_accept p w name s) (meet_with_room p part name s c then_) (meet_without_room p part name s c otherwise)
+      (search (meet_with_room-keeps)) (search (meet_without_room-keeps))))
 
   pub accept_or_wait-keeps : (p : Image) (name : Who) (s : StatementNo) (c : Option CallNo) → Other name → Keeps G R (accept_or_wait p name s c)
   unfolding accept_or_wait
@@ -101,40 +119,52 @@ module _ {G : GoodWorld} {May Other : Naming} {R : StepRelation} {Q : MoveRelati
   unfolding accept_chosen
   accept_chosen-keeps p name accepts c other = search (with_call-keeps, for_some-keeps, accept_call-keeps, chains, plain_steps)
 
-  pub wait_at_select-keeps : (name : Who) (accepts : List StatementNo) (delay : Option StatementNo) (test : Bool) → Other name → Keeps G R (wait_at_select name accepts delay test)
+  pub wait_at_select-keeps : (name : Who) (accepts : List StatementNo) (delay : Option StatementNo) (test : Bool) → Other name
+      → Keeps G R (wait_at_select name accepts delay test)
   unfolding wait_at_select
   wait_at_select-keeps name accepts delay true other = blocked-keeps moves name (waits_for.Select accepts delay true) other
   wait_at_select-keeps name accepts delay false other = search (block-keeps)
 
   appoint_delay-from : (name : Who) (m : ℤ) (w : World) → G w → int_lt (pos w.time) m ≡ true → From R w (changes (appoint_delay name m))
   appoint_delay-from (who.Task t) m w good later = appoint-from moves (due_for.Delay t) m w good refl later
-  appoint_delay-from who.Agent m w good later = keeps-from (chains moves) (changes (λ v. v)) w good (changes-keeps (chains moves) (λ v. v) (unchanged-alters (chains moves)))
+  appoint_delay-from who.Agent m w good later =
+      keeps-from (chains moves) (changes (λ v. v)) w good (changes-keeps (chains moves) (λ v. v) (unchanged-alters (chains moves)))
 
-  select_delay-from : (p : Image) (name : Who) (s : StatementNo) (accepts : List StatementNo) (m : DelayMoment) (terminate test : Bool) (w : World) → G w → Other name → int_le m.at (pos w.time) ≡ test → From R w (select_delay p name s accepts m terminate test)
+  select_delay-from : (p : Image) (name : Who) (s : StatementNo) (accepts : List StatementNo) (m : DelayMoment) (terminate test : Bool) (w : World) → G w
+      → Other name → int_le m.at (pos w.time) ≡ test → From R w (select_delay p name s accepts m terminate test)
   unfolding select_delay
   select_delay-from p name s accepts m terminate true w good other is = keeps-from (chains moves) _ w good (search (goes-keeps))
   select_delay-from p name s accepts m terminate false w good other is =
       goes_then-from moves name (next_of p s) _ w good (λ good_onward.
       then-from (chains moves) (changes (appoint_delay name m.at)) _ _
-      (appoint_delay-from name m.at _ good_onward (later_behind (edit_top name (goes_on (next_of p s))) w m.at (edit_top-alters finely_at_once name (goes_on (next_of p s)) (λ x. refl)) (is_later w.time m.at is)))
+      (appoint_delay-from name m.at _ good_onward
+      (later_behind (edit_top name (goes_on (next_of p s))) w m.at (edit_top-alters finely_at_once name (goes_on (next_of p s)) (λ x. refl))
+      (is_later w.time m.at is)))
       (wait_at_select-keeps name accepts (Some m.delay) terminate other))
 
-  pub select_wait-keeps : (p : Image) (name : Who) (s : StatementNo) (accepts : List StatementNo) (terminate : Bool) (moment : Option DelayMoment) → Other name → Keeps G R (select_wait p name s accepts terminate moment)
+  pub select_wait-keeps : (p : Image) (name : Who) (s : StatementNo) (accepts : List StatementNo) (terminate : Bool) (moment : Option DelayMoment) → Other name
+      → Keeps G R (select_wait p name s accepts terminate moment)
   unfolding select_wait
   select_wait-keeps p name s accepts terminate None other = search (goes-keeps, then-keeps, wait_at_select-keeps, chains)
-  select_wait-keeps p name s accepts terminate (Some m) other = looks-from (chains moves) _ (λ w good. select_delay-from p name s accepts m terminate (int_le m.at (pos w.time)) w good other refl)
+  select_wait-keeps p name s accepts terminate (Some m) other =
+      looks-from (chains moves) _ (λ w good. select_delay-from p name s accepts m terminate (int_le m.at (pos w.time)) w good other refl)
 
-  pub select_otherwise-keeps : (p : Image) (name : Who) (s : StatementNo) (kinds : List SelectKind) (m : Option DelayMoment) (next : Option StatementNo) → Other name → Keeps G R (select_otherwise p name s kinds m next)
+  pub select_otherwise-keeps : (p : Image) (name : Who) (s : StatementNo) (kinds : List SelectKind) (m : Option DelayMoment) (next : Option StatementNo)
+      → Other name → Keeps G R (select_otherwise p name s kinds m next)
   unfolding select_otherwise
   select_otherwise-keeps p name s kinds m (Some otherwise) other = search (goes-keeps)
   select_otherwise-keeps p name s kinds m None other = search (select_wait-keeps)
 
-  pub select_by_call-keeps : (p : Image) (name : Who) (s : StatementNo) (kinds : List SelectKind) (m : Option DelayMoment) (otherwise : Option StatementNo) (c : Option CallNo) → Other name → Keeps G R (select_by_call p name s kinds m otherwise c)
+  pub select_by_call-keeps : (p : Image) (name : Who) (s : StatementNo) (kinds : List SelectKind) (m : Option DelayMoment) (otherwise : Option StatementNo)
+      (c : Option CallNo)
+      → Other name
+      → Keeps G R (select_by_call p name s kinds m otherwise c)
   unfolding select_by_call
   select_by_call-keeps p name s kinds m otherwise (Some c) other = search (accept_chosen-keeps)
   select_by_call-keeps p name s kinds m otherwise None other = search (select_otherwise-keeps)
 
-  pub select_open-keeps : (p : Image) (name : Who) (s : StatementNo) (otherwise : Option StatementNo) (kinds : List SelectKind) (moments : List DelayMoment) → Other name → Keeps G R (select_open p name s otherwise kinds moments)
+  pub select_open-keeps : (p : Image) (name : Who) (s : StatementNo) (otherwise : Option StatementNo) (kinds : List SelectKind) (moments : List DelayMoment)
+      → Other name → Keeps G R (select_open p name s otherwise kinds moments)
   unfolding select_open
   select_open-keeps p name s otherwise kinds moments other = search (raise_if-keeps, looks-keeps, select_by_call-keeps, chains, plain_steps)
 
@@ -181,25 +211,53 @@ module _ {G : GoodWorld} {May Other : Naming} {R : StepRelation} {Q : MoveRelati
   behind_accept-keeps p name how.Terminate = search (pass_on-keeps, plain_steps, anybody)
 
   -- the accept on top finishes its call
-  accept_ends-from : (p : Image) (name : Who) (m : AcceptMark) (leaving : Leaving) (f : Frame) (w : World) → G w → May name → top_of w name ≡ Some f → is_protected f.mark ≡ false → From R w (looks (λ v. changes (pop name) ▷ changes (end_scope m.within) ▷ changes (edit_call m.call (finished_call p (cells_of (scope_in_use v m.within)) leaving)) ▷ with_call m.call (λ c. finish_rendezvous p name c leaving)))
+  accept_ends-from : (p : Image) (name : Who) (m : AcceptMark) (leaving : Leaving) (f : Frame) (w : World) → G w → May name → top_of w name ≡ Some f
+      → is_protected f.mark ≡ false
+      → From R w (looks
+      (λ v. changes (pop name) ▷ changes (end_scope m.within) ▷ changes (edit_call m.call (finished_call p (cells_of (scope_in_use v m.within)) leaving))
+      ▷ with_call m.call (λ c. finish_rendezvous p name c leaving)))
   accept_ends-from p name m leaving f w good may top free =
       let out = popped moves name f w good may top free in
-      looks_at-from (chains moves) (λ v. changes (pop name) ▷ changes (end_scope m.within) ▷ changes (edit_call m.call (finished_call p (cells_of (scope_in_use v m.within)) leaving)) ▷ with_call m.call (λ c. finish_rendezvous p name c leaving)) w (changes_then-from (chains moves) (pop name) _ w out (keeps-from (chains moves) (changes (end_scope m.within) ▷ changes (edit_call m.call (finished_call p (cells_of (scope_in_use w m.within)) leaving)) ▷ with_call m.call (λ c. finish_rendezvous p name c leaving)) (pop name w) (moves.behind w (pop name w) out)
-      (search (changes-keeps, then-keeps, end_scope-alters, edit_call-alters, with_call-keeps, finish_rendezvous-keeps, finished_call-number, finished_call-caller, chains, plain_steps) depth 10)))
+      looks_at-from (chains moves)
+      (λ v. changes (pop name) ▷ changes (end_scope m.within) ▷ changes (edit_call m.call (finished_call p (cells_of (scope_in_use v m.within)) leaving))
+      ▷ with_call m.call (λ c. finish_rendezvous p name c leaving)) w
+      (changes_then-from (chains moves) (pop name) _ w out
+      (keeps-from (chains moves)
+      (changes (end_scope m.within) ▷ changes (edit_call m.call (finished_call p (cells_of (scope_in_use w m.within)) leaving))
+      ▷ with_call m.call (λ c. finish_rendezvous p name c leaving))
+      (pop name w)
+      (moves.behind w (pop name w) out)
+      (search (
+        changes-keeps,
+        then-keeps,
+        end_scope-alters,
+        edit_call-alters,
+        with_call-keeps,
+        finish_rendezvous-keeps,
+        finished_call-number,
+        finished_call-caller,
+        chains,
+        plain_steps,
+      ) depth 10)))
 
-  pub end_in_accept-from : (p : Image) (name : Who) (m : AcceptMark) (leaving : Leaving) (f : Frame) (w : World) → G w → May name → top_of w name ≡ Some f → is_protected f.mark ≡ false → From R w (end_in_accept p name m leaving)
+  pub end_in_accept-from : (p : Image) (name : Who) (m : AcceptMark) (leaving : Leaving) (f : Frame) (w : World) → G w → May name → top_of w name ≡ Some f
+      → is_protected f.mark ≡ false → From R w (end_in_accept p name m leaving)
   unfolding end_in_accept
   end_in_accept-from p name m leaving f w good may top free =
-      then-from (chains moves) _ (lose_running p name (inherited_by.Rendezvous m.call) ▷ behind_accept p name leaving) w (accept_ends-from p name m leaving f w good may top free) (search (lose_running-keeps, then-keeps, behind_accept-keeps, chains))
+      then-from (chains moves) _ (lose_running p name (inherited_by.Rendezvous m.call) ▷ behind_accept p name leaving) w
+      (accept_ends-from p name m leaving f w good may top free) (search (lose_running-keeps, then-keeps, behind_accept-keeps, chains))
 
-module _ {G : GoodWorld} {May Other : Naming} {R : StepRelation} {Q : MoveRelation} (moves : FinestMoves G May Other R Q) (openings : MarkOpenings G May Other R) where
+module _ {G : GoodWorld} {May Other : Naming} {R : StepRelation} {Q : MoveRelation} (moves : FinestMoves G May Other R Q)
+    (openings : MarkOpenings G May Other R) where
   pub accept-keeps : (p : Image) (name : Who) (s : StatementNo) (e : EntryNo) → May name → Keeps G R (accept p name s e)
   unfolding accept
   accept-keeps p name s e may =
       looks-from (chains moves) _ (λ w good. raise_if-from (plain_steps moves) name (in_protected w name) exception.Program _ w good
-      (λ free. keeps-from (chains moves) _ w good (accept_or_wait-keeps moves p name s (next_call p w (own_queue w name (place_of_entry p e) ∷ [])) (openings.outside name w good may free))))
+      (λ free. keeps-from (chains moves) _ w good
+      (accept_or_wait-keeps moves p name s (next_call p w (own_queue w name (place_of_entry p e) ∷ [])) (openings.outside name w good may free))))
 
-  pub selective_accept-keeps : (p : Image) (name : Who) (s : StatementNo) (alternatives : List SelectAlternative) (otherwise : Option StatementNo) → May name → Keeps G R (selective_accept p name s alternatives otherwise)
+  pub selective_accept-keeps : (p : Image) (name : Who) (s : StatementNo) (alternatives : List SelectAlternative) (otherwise : Option StatementNo) → May name
+      → Keeps G R (selective_accept p name s alternatives otherwise)
   unfolding selective_accept
   selective_accept-keeps p name s alternatives otherwise may =
       looks-from (chains moves) _ (λ w good. raise_if-from (plain_steps moves) name (in_protected w name) exception.Program _ w good

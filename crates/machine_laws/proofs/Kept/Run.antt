@@ -20,7 +20,8 @@ use Rattle.profile_machine.specs.Dispatching.{choose}
 use Rattle.profile_machine.specs.Tasks.{task_of, with_ticks}
 use Rattle.profile_machine.specs.Cost.{cost}
 use Rattle.profile_machine.specs.Handlers.{charge}
-use Rattle.profile_machine.specs.Run.{opens, say, silently, says_run, with_serving, serve_if_free, serve, begin_action, one_tick_less, spend_tick, next_tick, says_idle, tock_of, tock, environment}
+use Rattle.profile_machine.specs.Run.{opens, say, silently, says_run, with_serving, serve_if_free, serve, begin_action}
+use Rattle.profile_machine.specs.Run.{one_tick_less, spend_tick, next_tick, says_idle, tock_of, tock, environment}
 use Rattle.machine_laws.proofs.Moves.{StepRelation, MoveRelation}
 use Rattle.machine_laws.specs.LineKinds.{is_of_tock}
 use Rattle.machine_laws.proofs.Kept.Dispatching.{to_tail-keeps}
@@ -41,11 +42,15 @@ before_tick p (Some name) =
     watches (λ w. says_run name w.ran) ▶ serve name ▶ silently (begin_action p name) ▶ silently (charge p name) ▶ silently (spend_tick name)
 
 -- then the tick passes
-after_idle : (w : World) (ran : Option Who) → let before = says_idle ran w in ((watches (λ v. says_idle ran) ▶ silently (next_tick None)) w) ≡ (next_tick None before.0, before.1)
+after_idle : (w : World) (ran : Option Who) →
+    let before = says_idle ran w in
+    ((watches (λ v. says_idle ran) ▶ silently (next_tick None)) w) ≡ (next_tick None before.0, before.1)
 after_idle w None = refl
 after_idle w (Some name) = refl
 
-tock_of-parts : (p : Image) (chosen : Option Who) (w : World) → let before = before_tick p chosen w in tock_of p chosen w ≡ (next_tick chosen before.0, before.1)
+tock_of-parts : (p : Image) (chosen : Option Who) (w : World) →
+    let before = before_tick p chosen w in
+    tock_of p chosen w ≡ (next_tick chosen before.0, before.1)
 tock_of-parts p None w = after_idle w w.ran
 tock_of-parts p (Some name) w = refl
 
@@ -56,17 +61,21 @@ module _ {G : GoodWorld} {Holds : Holding} {R : StepRelation} {Q : MoveRelation}
   pub opens-keeps : (p : Image) → Keeps G R (opens p)
   unfolding opens
   opens-keeps p =
-      then-keeps (chains moves.fine) _ _ (changes-keeps (chains moves.fine) _ (open_scope-alters moves.openings p environment p.environment (plainly None) opened_for.Task tt))
+      then-keeps (chains moves.fine) _ _
+      (changes-keeps (chains moves.fine) _ (open_scope-alters moves.openings p environment p.environment (plainly None) opened_for.Task tt))
       (then-keeps (chains moves.fine) _ _ (says-keeps moves.fine Own (line_said.New (created.Task (record { 0 = 0 })) None p.main.priority) refl)
       (then-keeps (chains moves.fine) _ _ (to_tail-keeps moves.fine p Own environment tt) (open_sequence-keeps moves.fine p Own environment tt)))
 
   begin_action-alters : (p : Image) (name : Who) → Alters G R (begin_action p name)
   unfolding Alters
-  begin_action-alters p name w good = moves.fine.edits_task name (with_ticks (Some (unwrap_or (task_of w name).ticks_left (cost p w name)))) w good (λ t. refl) (λ t. refl) (λ t. refl) (λ t. refl) (λ t. refl)
+  begin_action-alters p name w good =
+      moves.fine.edits_task name (with_ticks (Some (unwrap_or (task_of w name).ticks_left (cost p w name)))) w good (λ t. refl) (λ t. refl) (λ t. refl)
+      (λ t. refl) (λ t. refl)
 
   spend_tick-alters : (name : Who) → Alters G R (spend_tick name)
   unfolding Alters
-  spend_tick-alters name w good = moves.fine.edits_task name (λ t. with_ticks (one_tick_less t.ticks_left) t) w good (λ t. refl) (λ t. refl) (λ t. refl) (λ t. refl) (λ t. refl)
+  spend_tick-alters name w good =
+      moves.fine.edits_task name (λ t. with_ticks (one_tick_less t.ticks_left) t) w good (λ t. refl) (λ t. refl) (λ t. refl) (λ t. refl) (λ t. refl)
 
   silently-leads : (f : World → World) → Alters G R f → Leads G Q (silently f)
   unfolding Leads Alters
@@ -90,9 +99,14 @@ module _ {G : GoodWorld} {Holds : Holding} {R : StepRelation} {Q : MoveRelation}
     says_idle-leads None w good = moves.fine.rests w good
     says_idle-leads (Some name) w good = say-leads line.Idle refl w good
 
-    serve_if_free-leads : (serving : Option Release) (frames : List Frame) (releases : List Release) (w : World) → G w → w.releases ≡ releases → let done = serve_if_free serving frames releases w in Q w done.1 done.0
+    serve_if_free-leads : (serving : Option Release) (frames : List Frame) (releases : List Release) (w : World) → G w → w.releases ≡ releases →
+        let done = serve_if_free serving frames releases w in
+        Q w done.1 done.0
     serve_if_free-leads None [] [] w good a = moves.fine.rests w good
-    serve_if_free-leads None [] (r ∷ rest) w good a = let first = tocks.serves r rest w good a in moves.fine.leads_on w (with_serving r rest w) (with_serving r rest w) {xs = []} {ys = line.Serve r.number ∷ []} first (tocks.tells (line.Serve r.number) (with_serving r rest w) (moves.fine.moved w (with_serving r rest w) first) refl)
+    serve_if_free-leads None [] (r ∷ rest) w good a =
+        let first = tocks.serves r rest w good a in
+        moves.fine.leads_on w (with_serving r rest w) (with_serving r rest w) {xs = []} {ys = line.Serve r.number ∷ []} first
+        (tocks.tells (line.Serve r.number) (with_serving r rest w) (moves.fine.moved w (with_serving r rest w) first) refl)
     serve_if_free-leads None (f ∷ fs) releases w good a = moves.fine.rests w good
     serve_if_free-leads (Some r) frames releases w good a = moves.fine.rests w good
 
@@ -107,4 +121,5 @@ module _ {G : GoodWorld} {Holds : Holding} {R : StepRelation} {Q : MoveRelation}
         then-leads (move_chains moves.fine) _ _ (watches-leads (move_chains moves.fine) _ (λ w. says_run-leads name w.ran))
         (then-leads (move_chains moves.fine) _ _ (serve-leads name)
         (then-leads (move_chains moves.fine) _ _ (silently-leads (begin_action p name) (begin_action-alters p name))
-        (then-leads (move_chains moves.fine) _ _ (silently-leads (charge p name) (charge-alters moves.fine moves.settings p name)) (silently-leads (spend_tick name) (spend_tick-alters name)))))
+        (then-leads (move_chains moves.fine) _ _ (silently-leads (charge p name) (charge-alters moves.fine moves.settings p name))
+        (silently-leads (spend_tick name) (spend_tick-alters name)))))

@@ -28,7 +28,13 @@ use Rattle.profile_machine.specs.Frames.{has_room, pass_on, in_protected, is_def
 use Rattle.profile_machine.specs.Scopes.{home, end_scope, cells_of, scope_in_use}
 use Rattle.profile_machine.specs.Controlled.{next_to_finalize, finalize, top_region, edit_top_scope}
 use Rattle.profile_machine.specs.Declarations.{set_thing}
-use Rattle.profile_machine.specs.Tasking.{unit_of_declaration, optional_span, created_task, add_task, says_created, create_task, create, fall_from, unit_of_task, begin_task, says_done, fail_to_begin, activate_one, await_group, activate_group, activate, end_own_activation, end_made, complete_if_task, wait_for_dependents, leave_region, end_environment, end_task, is_normal, end_body, behind_scope, says_left, end_of_scope, go_on_leaving, end_scope_mark_of, end_scope_mark, says_abort, abort_one, unwind_by, unwind_one, abort_all, abort_statement, block_at_terminate, take_terminates, unwind_all, no_failure, is_to_activate, top_region_of_scope, is_to_abort, left_by, abnormal_task, named_tasks, raises_behind, is_made_in, leaves_as, being_left_mark, left_so_frame}
+use Rattle.profile_machine.specs.Tasking.{unit_of_declaration, optional_span, created_task, add_task, says_created, create_task, create, fall_from}
+use Rattle.profile_machine.specs.Tasking.{unit_of_task, begin_task, says_done, fail_to_begin, activate_one, await_group, activate_group, activate}
+use Rattle.profile_machine.specs.Tasking.{end_own_activation, end_made, complete_if_task, wait_for_dependents, leave_region, end_environment, end_task}
+use Rattle.profile_machine.specs.Tasking.{is_normal, end_body, behind_scope, says_left, end_of_scope, go_on_leaving, end_scope_mark_of, end_scope_mark}
+use Rattle.profile_machine.specs.Tasking.{says_abort, abort_one, unwind_by, unwind_one, abort_all, abort_statement, block_at_terminate}
+use Rattle.profile_machine.specs.Tasking.{take_terminates, unwind_all, no_failure, is_to_activate, top_region_of_scope, is_to_abort, left_by}
+use Rattle.profile_machine.specs.Tasking.{abnormal_task, named_tasks, raises_behind, is_made_in, leaves_as, being_left_mark, left_so_frame}
 use Rattle.std.proofs.Common.{◌≡◌, refl, sym, ap, ◌∙◌}
 use Rattle.profile_machine.specs.Values.{seen_by}
 use Rattle.machine_laws.proofs.Moves.{StepRelation, MoveRelation, own}
@@ -50,7 +56,9 @@ use Rattle.profile_machine.specs.Tasks.{edit_task, task_of, waiting_of}
 use Rattle.profile_machine.specs.Dispatching.{active_of}
 use Rattle.profile_machine.specs.Unwinding.{any_struck}
 use Rattle.profile_machine.specs.Masters.{region_of_mark, has_dependents, may_terminate, leave_by_terminate, has_activating}
-use Rattle.machine_laws.proofs.Kept.Combinators.{Alters, From, Keeps, branch-keeps, changes-keeps, changes_then-from, changes_told-from, cond-keeps, for_each-keeps, for_each_task-keeps, for_some-keeps, keeps-from, listed-keeps, looks-from, looks-keeps, looks_at-from, nothing-keeps, sees-keeps, some_of-others, then-keeps, when-keeps, when-keeps-if}
+use Rattle.machine_laws.proofs.Kept.Combinators.{Alters, From, Keeps, branch-keeps, changes-keeps, changes_then-from, changes_told-from, cond-keeps}
+use Rattle.machine_laws.proofs.Kept.Combinators.{for_each-keeps, for_each_task-keeps, for_some-keeps, keeps-from, listed-keeps, looks-from, looks-keeps}
+use Rattle.machine_laws.proofs.Kept.Combinators.{looks_at-from, nothing-keeps, sees-keeps, some_of-others, then-keeps, when-keeps, when-keeps-if}
 use Rattle.machine_laws.proofs.Plain.Frames.{raise_if-from, given-from, raises-keeps, pass_on-keeps, given-keeps, raise_if-keeps}
 use Rattle.machine_laws.proofs.Plain.Subprograms.{end_subprogram-keeps}
 use Rattle.machine_laws.proofs.Plain.Declarations.{set_thing-alters}
@@ -66,23 +74,28 @@ no_region q region a b = absurd (let one : None ≡ Some q = sym a ∙ b in cc)
 module _ {G : GoodWorld} {May Other : Naming} {R : StepRelation} {Q : MoveRelation} (moves : FinestMoves G May Other R Q) where
   says_created-keeps : (d : DeclNo) (t : world.Task) → Keeps G R (says_created d t)
   unfolding says_created
-  says_created-keeps d t = looks-keeps (chains moves) _ (λ w. says-keeps moves Own (line.New (created.Task (record { 0 = w.drawn.tasks - 1 })) (Some d) t.base) refl)
+  says_created-keeps d t =
+      looks-keeps (chains moves) _ (λ w. says-keeps moves Own (line.New (created.Task (record { 0 = w.drawn.tasks - 1 })) (Some d) t.base) refl)
 
   -- the object's cell gets the task's number
   abbrev name_task : Image → DeclNo → ScopeId → Step
   name_task p d within = looks (λ w. changes (set_thing p (record { within = within; declared = d }) (value_of.Task (Some (record { 0 = w.drawn.tasks - 1 })))))
 
   -- a step behind the new task
-  added_then-from : (name : Who) (onward : Option StatementNo) (t : world.Task) (g : Step) (w : World) → R w [] (add_task t (edit_top name (goes_on onward) w)) → Keeps G R g → From R w (goes name onward ▷ changes (add_task t) ▷ g)
+  added_then-from : (name : Who) (onward : Option StatementNo) (t : world.Task) (g : Step) (w : World) → R w [] (add_task t (edit_top name (goes_on onward) w))
+      → Keeps G R g → From R w (goes name onward ▷ changes (add_task t) ▷ g)
   unfolding goes From
   added_then-from name onward t g w a kept said =
       let added = add_task t (edit_top name (goes_on onward) w) in
       changes_then-from (chains moves) (λ v. added) g w a (keeps-from (chains moves) g added (moves.behind w added a) kept) said
 
-  create_task-from : (p : Image) (name : Who) (s : StatementNo) (d : DeclNo) (id : Option ScopeId) (t : world.Task) (w : World) → G w → Other name → t.who ≡ who.Task (record { 0 = w.drawn.tasks }) → t.frames ≡ [] → t.master ≡ Some (top_region w name) → t.cpu_ticks ≡ 0 → From R w (create_task p name s d id t)
+  create_task-from : (p : Image) (name : Who) (s : StatementNo) (d : DeclNo) (id : Option ScopeId) (t : world.Task) (w : World) → G w → Other name
+      → t.who ≡ who.Task (record { 0 = w.drawn.tasks }) → t.frames ≡ [] → t.master ≡ Some (top_region w name) → t.cpu_ticks ≡ 0
+      → From R w (create_task p name s d id t)
   unfolding create_task
   create_task-from p name s d id t w good other same_who none master clock =
-      added_then-from name (next_of p s) t (for_some id (name_task p d) ▷ says_created d t) w (moves.adds_task name (next_of p s) t w good other same_who none master clock)
+      added_then-from name (next_of p s) t (for_some id (name_task p d) ▷ says_created d t) w
+      (moves.adds_task name (next_of p s) t w good other same_who none master clock)
       (search (then-keeps, for_some-keeps, looks-keeps, changes-keeps, set_thing-alters, says_created-keeps, chains, plain_steps) depth 10)
 
   pub fall_from-keeps : (p : Image) (name : Who) (before : World) → May name → Keeps G R (fall_from p name before)
@@ -122,12 +135,16 @@ module _ {G : GoodWorld} {May Other : Naming} {R : StepRelation} {Q : MoveRelati
 
   pub end_task-keeps : (p : Image) (name : Who) (leaving : Leaving) → Keeps G R (end_task p name leaving)
   unfolding end_task
-  end_task-keeps p name leaving = search (says_done-keeps, then-keeps, looks-keeps, end_activation-keeps, terminate-keeps, when-keeps, changes-keeps, end_environment-alters, chains) depth 9
+  end_task-keeps p name leaving =
+      search
+      (says_done-keeps, then-keeps, looks-keeps, end_activation-keeps, terminate-keeps, when-keeps, changes-keeps, end_environment-alters, chains) depth 9
 
   pub end_body-keeps : (p : Image) (name : Who) (leaving : Leaving) (normally : Step) → Keeps G R normally → Keeps G R (end_body p name leaving normally)
-  end_body-keeps p name leaving normally kept = branch-keeps (chains moves) (is_normal leaving) normally (pass_on p name leaving) (search) (search (pass_on-keeps, plain_steps, anybody))
+  end_body-keeps p name leaving normally kept =
+      branch-keeps (chains moves) (is_normal leaving) normally (pass_on p name leaving) (search) (search (pass_on-keeps, plain_steps, anybody))
 
-  pub behind_scope-keeps : (p : Image) (name : Who) (purpose : Purpose) (cells : List Value) (leaving : Leaving) → Keeps G R (behind_scope p name purpose cells leaving)
+  pub behind_scope-keeps : (p : Image) (name : Who) (purpose : Purpose) (cells : List Value) (leaving : Leaving)
+      → Keeps G R (behind_scope p name purpose cells leaving)
   unfolding behind_scope
   behind_scope-keeps p name (opened_for.Block s) cells leaving = search (pass_on-keeps, plain_steps, anybody)
   behind_scope-keeps p name (opened_for.Subprogram back to) cells leaving = search (end_body-keeps, end_subprogram-keeps, plain_steps)
@@ -139,25 +156,35 @@ module _ {G : GoodWorld} {May Other : Naming} {R : StepRelation} {Q : MoveRelati
   raised_behind-keeps name test = search (when-keeps, says-keeps, chains)
 
   -- the scope is no longer there
-  ended : (name : Who) (id : ScopeId) (r : RegionNo) (w : World) → R w (own (line.Left name r) ∷ []) (pop name w) → R w (own (line.Left name r) ∷ []) (end_scope id (pop name w))
+  ended : (name : Who) (id : ScopeId) (r : RegionNo) (w : World) → R w (own (line.Left name r) ∷ []) (pop name w)
+      → R w (own (line.Left name r) ∷ []) (end_scope id (pop name w))
   unfolding Alters
-  ended name id r w first = moves.goes_on w (pop name w) (end_scope id (pop name w)) {xs = own (line.Left name r) ∷ []} {ys = []} first (end_scope-alters moves id (pop name w) (moves.behind w (pop name w) first))
+  ended name id r w first =
+      moves.goes_on w (pop name w) (end_scope id (pop name w)) {xs = own (line.Left name r) ∷ []} {ys = []} first
+      (end_scope-alters moves id (pop name w) (moves.behind w (pop name w) first))
 
   -- a scope's mark ends, with what tells it where it had a region
-  left-from : (name : Who) (id : ScopeId) (region : Option RegionNo) (raised : Bool) (g : Step) (w : World) → R w [] (pop name w) → ((r : RegionNo) → region ≡ Some r → R w (own (line.Left name r) ∷ []) (pop name w)) → Keeps G R g
-      → From R w (changes (pop name) ▷ changes (end_scope id) ▷ (for_some region (λ r. says Own (line.Left name r)) ▷ when raised (says Own (line.Raise name exception.Program))) ▷ g)
+  left-from : (name : Who) (id : ScopeId) (region : Option RegionNo) (raised : Bool) (g : Step) (w : World) → R w [] (pop name w)
+      → ((r : RegionNo) → region ≡ Some r → R w (own (line.Left name r) ∷ []) (pop name w)) → Keeps G R g
+      → From R w (changes (pop name) ▷ changes (end_scope id)
+      ▷ (for_some region (λ r. says Own (line.Left name r)) ▷ when raised (says Own (line.Raise name exception.Program))) ▷ g)
   left-from name id None raised g w out told kept =
       changes_then-from (chains moves) (pop name) _ w out (keeps-from (chains moves) _ (pop name w) (moves.behind w (pop name w) out)
-      (then-keeps (chains moves) (changes (end_scope id)) _ (search (changes-keeps, end_scope-alters, chains)) (then-keeps (chains moves) _ g (then-keeps (chains moves) nothing _ (nothing-keeps (chains moves)) (raised_behind-keeps name raised)) kept)))
+      (then-keeps (chains moves) (changes (end_scope id)) _ (search (changes-keeps, end_scope-alters, chains))
+      (then-keeps (chains moves) _ g (then-keeps (chains moves) nothing _ (nothing-keeps (chains moves)) (raised_behind-keeps name raised)) kept)))
   left-from name id (Some r) raised g w out told kept =
       changes_told-from (chains moves) (pop name) (end_scope id) Own (line.Left name r) (when raised (says Own (line.Raise name exception.Program)) ▷ g) w
       (ended name id r w (told r refl)) (then-keeps (chains moves) _ g (raised_behind-keeps name raised) kept)
 
-  pub end_of_scope-from : (p : Image) (name : Who) (m : ScopeMark) (leaving : Leaving) (w : World) → R w [] (pop name w) → ((r : RegionNo) → m.region ≡ Some r → R w (own (line.Left name r) ∷ []) (pop name w)) → From R w (end_of_scope p name m leaving)
+  pub end_of_scope-from : (p : Image) (name : Who) (m : ScopeMark) (leaving : Leaving) (w : World) → R w [] (pop name w)
+      → ((r : RegionNo) → m.region ≡ Some r → R w (own (line.Left name r) ∷ []) (pop name w)) → From R w (end_of_scope p name m leaving)
   unfolding end_of_scope says_left
   end_of_scope-from p name m leaving w out told =
-      looks_at-from (chains moves) (λ v. changes (pop name) ▷ changes (end_scope m.within) ▷ says_left name m leaving ▷ behind_scope p name m.purpose (cells_of (scope_in_use v m.within)) (left_by m leaving)) w
-      (left-from name m.within m.region (raises_behind m leaving) (behind_scope p name m.purpose (cells_of (scope_in_use w m.within)) (left_by m leaving)) w out told (search (behind_scope-keeps)))
+      looks_at-from (chains moves)
+      (λ v. changes (pop name) ▷ changes (end_scope m.within) ▷ says_left name m leaving
+      ▷ behind_scope p name m.purpose (cells_of (scope_in_use v m.within)) (left_by m leaving)) w
+      (left-from name m.within m.region (raises_behind m leaving)
+      (behind_scope p name m.purpose (cells_of (scope_in_use w m.within)) (left_by m leaving)) w out told (search (behind_scope-keeps)))
 
   pub says_abort-keeps : (actor name : Who) → Keeps G R (says_abort actor name)
   unfolding says_abort
@@ -181,17 +208,23 @@ module _ {G : GoodWorld} {May Other : Naming} {R : StepRelation} {Q : MoveRelati
   pub abort_all-keeps : (p : Image) (actor : Who) (tasks : List world.Task) → EachIs Other tasks → Keeps G R (abort_all p actor tasks)
   unfolding abort_all
   abort_all-keeps p actor tasks others =
-      then-keeps (chains moves) (for_each tasks (λ t. changes (edit_task t.who abnormal_task))) _ (search (for_each-keeps, changes-keeps, edit_task-alters, chains))
-      (then-keeps (chains moves) (for_each tasks (abort_one p actor)) _ (search (for_each-keeps, abort_one-keeps, chains)) (for_each_task-keeps (chains moves) Other tasks (unwind_one p actor) others (λ t other. unwind_one-keeps p actor t other)))
+      then-keeps (chains moves) (for_each tasks (λ t. changes (edit_task t.who abnormal_task))) _
+      (search (for_each-keeps, changes-keeps, edit_task-alters, chains))
+      (then-keeps (chains moves) (for_each tasks (abort_one p actor)) _ (search (for_each-keeps, abort_one-keeps, chains))
+      (for_each_task-keeps (chains moves) Other tasks (unwind_one p actor) others (λ t other. unwind_one-keeps p actor t other)))
 
   abort_named-keeps : (p : Image) (name : Who) (aborted : List TaskNo) → Keeps G R (looks (λ w. abort_all p name (filter (is_to_abort w aborted) w.tasks)))
   abort_named-keeps p name aborted =
-      looks-from (chains moves) _ (λ w good. keeps-from (chains moves) _ w good (abort_all-keeps p name (filter (is_to_abort w aborted) w.tasks) (some_of-others Other (is_to_abort w aborted) w.tasks (moves.listed w good))))
+      looks-from (chains moves) _
+      (λ w good. keeps-from (chains moves) _ w good
+      (abort_all-keeps p name (filter (is_to_abort w aborted) w.tasks) (some_of-others Other (is_to_abort w aborted) w.tasks (moves.listed w good))))
 
   pub abort_statement-keeps : (p : Image) (name : Who) (s : StatementNo) (tasks : List DeclNo) → Keeps G R (abort_statement p name s tasks)
   unfolding abort_statement
   abort_statement-keeps p name s tasks =
-      sees-keeps (chains moves) p name _ (λ q. raise_if-keeps (plain_steps moves) name (in_protected q.world name) exception.Program _ (given-keeps (plain_steps moves) Own name (named_tasks q tasks) _ (λ aborted.
+      sees-keeps (chains moves) p name _
+      (λ q. raise_if-keeps (plain_steps moves) name (in_protected q.world name) exception.Program _
+      (given-keeps (plain_steps moves) Own name (named_tasks q tasks) _ (λ aborted.
       then-keeps (chains moves) (goes name (next_of p s)) _ (goes-keeps moves name (next_of p s)) (abort_named-keeps p name aborted))))
 
   pub block_at_terminate-keeps : (name : Who) (waiting : Option Waiting) → Other name → Keeps G R (block_at_terminate name waiting)
@@ -200,17 +233,23 @@ module _ {G : GoodWorld} {May Other : Naming} {R : StepRelation} {Q : MoveRelati
   block_at_terminate-keeps name (Some waiting) other = search (when-keeps, says_block-keeps, chains)
 
   pub all_terminate-keeps : (p : Image) (actor : Who) → Keeps G R (looks (λ w. for_each (filter (may_terminate w) w.tasks) (leave_by_terminate p actor)))
-  all_terminate-keeps p actor = listed-keeps (chains moves) Other moves.listed may_terminate (λ w. leave_by_terminate p actor) (λ w t other. leave_by_terminate-keeps moves p actor t other)
+  all_terminate-keeps p actor =
+      listed-keeps (chains moves) Other moves.listed may_terminate (λ w. leave_by_terminate p actor)
+      (λ w t other. leave_by_terminate-keeps moves p actor t other)
 
   pub take_terminates-keeps : (p : Image) (actor : Who) → Other actor → Keeps G R (take_terminates p actor)
   unfolding take_terminates
-  take_terminates-keeps p actor other = then-keeps (chains moves) _ (looks (λ w. block_at_terminate actor (waiting_of w actor))) (all_terminate-keeps p actor) (search (looks-keeps, block_at_terminate-keeps, chains))
+  take_terminates-keeps p actor other =
+      then-keeps (chains moves) _ (looks (λ w. block_at_terminate actor (waiting_of w actor))) (all_terminate-keeps p actor)
+      (search (looks-keeps, block_at_terminate-keeps, chains))
 
   pub unwind_all-keeps : (p : Image) (actor : Who) → Keeps G R (unwind_all p actor)
   unfolding unwind_all
-  unwind_all-keeps p actor = listed-keeps (chains moves) Other moves.listed (λ w t. any_struck t.frames) (λ w. unwind_one p actor) (λ w t other. unwind_one-keeps p actor t other)
+  unwind_all-keeps p actor =
+      listed-keeps (chains moves) Other moves.listed (λ w t. any_struck t.frames) (λ w. unwind_one p actor) (λ w t other. unwind_one-keeps p actor t other)
 
-module _ {G : GoodWorld} {May Other : Naming} {R : StepRelation} {Q : MoveRelation} (moves : FinestMoves G May Other R Q) (openings : MarkOpenings G May Other R) where
+module _ {G : GoodWorld} {May Other : Naming} {R : StepRelation} {Q : MoveRelation} (moves : FinestMoves G May Other R Q)
+    (openings : MarkOpenings G May Other R) where
   pub create-keeps : (p : Image) (name : Who) (s : StatementNo) (d : DeclNo) (part : ℕ) → May name → Keeps G R (create p name s d part)
   unfolding create
   create-keeps p name s d part may =
@@ -218,74 +257,108 @@ module _ {G : GoodWorld} {May Other : Naming} {R : StepRelation} {Q : MoveRelati
       raise_if-from (plain_steps moves) name (in_protected w name || is_deferred w name) exception.Program _ w good (λ allowed.
       raise_if-from (plain_steps moves) name (leb 256 (length w.tasks)) exception.Storage _ w good (λ few.
       given-from (plain_steps moves) Own name (optional_span q (task_unit_of p (unit_of_declaration p d)).relative_deadline) _ w good (λ span.
-      create_task-from moves p name s d (home w (declaration_of p d).scope q.within) (created_task q d (unit_of_declaration p d) part span w.drawn.tasks) w good (openings.outside name w good may (first_is_false (in_protected w name) (is_deferred w name) allowed)) refl refl refl refl))))
+      create_task-from moves p name s d (home w (declaration_of p d).scope q.within) (created_task q d (unit_of_declaration p d) part span w.drawn.tasks) w good
+      (openings.outside name w good may (first_is_false (in_protected w name) (is_deferred w name) allowed)) refl refl refl refl))))
 
   pub begin_task-keeps : (p : Image) (activator : Who) (level : ℕ) (t : world.Task) → Other t.who → Keeps G R (begin_task p activator level t)
   unfolding begin_task
-  begin_task-keeps p activator level t other = search (looks-keeps, changes-keeps, open_scope-alters, then-keeps, edit_task-alters, inherit-alters, ready-keeps, moves.other_may, chains) depth 11
+  begin_task-keeps p activator level t other =
+      search (looks-keeps, changes-keeps, open_scope-alters, then-keeps, edit_task-alters, inherit-alters, ready-keeps, moves.other_may, chains) depth 11
 
   pub activate_one-keeps : (p : Image) (activator : Who) (level : ℕ) (t : world.Task) → Other t.who → Keeps G R (activate_one p activator level t)
   unfolding activate_one
-  activate_one-keeps p activator level t other = looks-keeps (chains moves) _ (λ w. branch-keeps (chains moves) (has_room w t.who 1 (scope_of p (unit_of_task p t).scope).size) (begin_task p activator level t) (fail_to_begin p activator t) (search (begin_task-keeps)) (search (fail_to_begin-keeps)))
+  activate_one-keeps p activator level t other =
+      looks-keeps (chains moves) _
+      (λ w. branch-keeps (chains moves) (has_room w t.who 1 (scope_of p (unit_of_task p t).scope).size) (begin_task p activator level t)
+      (fail_to_begin p activator t) (search (begin_task-keeps)) (search (fail_to_begin-keeps)))
 
   -- the tasks of the group, in order
-  begin_group-keeps : (p : Image) (name : Who) (s : StatementNo) (part : ℕ) → Keeps G R (looks (λ w. goes name (next_of p s) ▷ changes (edit_task name no_failure) ▷ for_each (filter (is_to_activate (top_region_of_scope w name) part) w.tasks) (activate_one p name (active_of p w name))))
+  begin_group-keeps : (p : Image) (name : Who) (s : StatementNo) (part : ℕ)
+      → Keeps G R (looks
+      (λ w. goes name (next_of p s) ▷ changes (edit_task name no_failure)
+      ▷ for_each (filter (is_to_activate (top_region_of_scope w name) part) w.tasks) (activate_one p name (active_of p w name))))
   begin_group-keeps p name s part =
       looks-from (chains moves) _ (λ w good. keeps-from (chains moves) _ w good
       (then-keeps (chains moves) (goes name (next_of p s)) _ (search (goes-keeps))
       (then-keeps (chains moves) (changes (edit_task name no_failure)) _ (search (changes-keeps, edit_task-alters, chains))
-      (for_each_task-keeps (chains moves) Other (filter (is_to_activate (top_region_of_scope w name) part) w.tasks) (activate_one p name (active_of p w name)) (some_of-others Other (is_to_activate (top_region_of_scope w name) part) w.tasks (moves.listed w good))
+      (for_each_task-keeps (chains moves) Other (filter (is_to_activate (top_region_of_scope w name) part) w.tasks) (activate_one p name (active_of p w name))
+      (some_of-others Other (is_to_activate (top_region_of_scope w name) part) w.tasks (moves.listed w good))
       (λ t other. activate_one-keeps p name (active_of p w name) t other)))))
 
   activate_group-keeps : (p : Image) (name : Who) (s : StatementNo) (part : ℕ) → Other name → Keeps G R (activate_group p name s part)
   unfolding activate_group
   activate_group-keeps p name s part other =
-      then-keeps (chains moves) _ (looks (λ w. await_group name (has_activating w name) (task_of w name).group_failed)) (begin_group-keeps p name s part) (search (looks-keeps, await_group-keeps, chains))
+      then-keeps (chains moves) _ (looks (λ w. await_group name (has_activating w name) (task_of w name).group_failed)) (begin_group-keeps p name s part)
+      (search (looks-keeps, await_group-keeps, chains))
 
   pub activate-keeps : (p : Image) (name : Who) (s : StatementNo) (part : ℕ) → May name → Keeps G R (activate p name s part)
   unfolding activate
   activate-keeps p name s part may =
       looks-from (chains moves) _ (λ w good. raise_if-from (plain_steps moves) name (in_protected w name || is_deferred w name) exception.Program _ w good
-      (λ allowed. keeps-from (chains moves) _ w good (activate_group-keeps p name s part (openings.outside name w good may (first_is_false (in_protected w name) (is_deferred w name) allowed)))))
+      (λ allowed. keeps-from (chains moves) _ w good
+      (activate_group-keeps p name s part (openings.outside name w good may (first_is_false (in_protected w name) (is_deferred w name) allowed)))))
 
-  pub leave_region-from : (p : Image) (name : Who) (f : Frame) (m : ScopeMark) (leaving : Leaving) (r : RegionNo) (w : World) → G w → May name → top_of w name ≡ Some f → f.mark ≡ Scope m → m.region ≡ Some r → m.being_left ≡ false → Keeps G R (wait_for_dependents name r) → From R w (leave_region p name m leaving r)
+  pub leave_region-from : (p : Image) (name : Who) (f : Frame) (m : ScopeMark) (leaving : Leaving) (r : RegionNo) (w : World) → G w → May name
+      → top_of w name ≡ Some f → f.mark ≡ Scope m → m.region ≡ Some r → m.being_left ≡ false → Keeps G R (wait_for_dependents name r)
+      → From R w (leave_region p name m leaving r)
   unfolding leave_region
   leave_region-from p name f m leaving r w good may top is region left waits =
-      changes_told-from (chains moves) (edit_top_scope name being_left_mark) (edit_top name (left_so_frame leaving)) Own (line.Leave name r (leaves_as leaving)) (looks (λ v. for_each (filter (is_made_in r) v.tasks) (end_made p name)) ▷ complete_if_task p name m.purpose ▷ wait_for_dependents name r) w
+      changes_told-from (chains moves) (edit_top_scope name being_left_mark) (edit_top name (left_so_frame leaving)) Own (line.Leave name r (leaves_as leaving))
+      (looks (λ v. for_each (filter (is_made_in r) v.tasks) (end_made p name)) ▷ complete_if_task p name m.purpose ▷ wait_for_dependents name r) w
       (moves.begins_leaving name f m r leaving w good may top is region left)
       (search (then-keeps, looks-keeps, for_each-keeps, end_made-keeps, complete_if_task-keeps, waits, chains) depth 9)
 
   -- an object of the region is finalized, or the scope has ended
-  next_finalized-from : (p : Image) (name : Who) (f : Frame) (m : ScopeMark) (leaving : Leaving) (r : RegionNo) (found : Option Registered) (w : World) → G w → May name → top_of w name ≡ Some f → f.mark ≡ Scope m → m.region ≡ Some r → m.being_left ≡ true → next_to_finalize w r ≡ found
+  next_finalized-from : (p : Image) (name : Who) (f : Frame) (m : ScopeMark) (leaving : Leaving) (r : RegionNo) (found : Option Registered) (w : World) → G w
+      → May name → top_of w name ≡ Some f → f.mark ≡ Scope m → m.region ≡ Some r → m.being_left ≡ true → next_to_finalize w r ≡ found
       → From R w (elim found as (λ _. Step) [ None ↦ end_of_scope p name m leaving | Some x ↦ finalize p name x ])
   next_finalized-from p name f m leaving r None w good may top is region left next =
-      end_of_scope-from moves p name m leaving w (popped moves name f w good may top (ap is_protected is)) (λ q region_is. moves.has_left name f m q w good may top is region_is left (ap (next_to_finalize w) (same_region_in r q m.region region region_is) ∙ next))
-  next_finalized-from p name f m leaving r (Some x) w good may top is region left next = finalize-from moves openings p name f m r x w good may top is region left next
+      end_of_scope-from moves p name m leaving w (popped moves name f w good may top (ap is_protected is))
+      (λ q region_is.
+      moves.has_left name f m q w good may top is region_is left (ap (next_to_finalize w) (same_region_in r q m.region region region_is) ∙ next))
+  next_finalized-from p name f m leaving r (Some x) w good may top is region left next =
+      finalize-from moves openings p name f m r x w good may top is region left next
 
   -- a scope's mark ends, where what is known of its region lets it be left
-  go_on_leaving-from : (p : Image) (name : Who) (f : Frame) (m : ScopeMark) (leaving : Leaving) (r : RegionNo) (test : Bool) (w : World) → G w → May name → top_of w name ≡ Some f → f.mark ≡ Scope m → m.region ≡ Some r → m.being_left ≡ test → (test ≡ false → From R w (leave_region p name m leaving r)) → From R w (go_on_leaving p name m leaving r test)
+  go_on_leaving-from : (p : Image) (name : Who) (f : Frame) (m : ScopeMark) (leaving : Leaving) (r : RegionNo) (test : Bool) (w : World) → G w → May name
+      → top_of w name ≡ Some f → f.mark ≡ Scope m → m.region ≡ Some r → m.being_left ≡ test → (test ≡ false → From R w (leave_region p name m leaving r))
+      → From R w (go_on_leaving p name m leaving r test)
   unfolding go_on_leaving
   go_on_leaving-from p name f m leaving r false w good may top is region left leaves = leaves refl
-  go_on_leaving-from p name f m leaving r true w good may top is region left leaves = looks_at-from (chains moves) (λ v. elim (next_to_finalize v r) as (λ _. Step) [ None ↦ end_of_scope p name m leaving | Some x ↦ finalize p name x ]) w (next_finalized-from p name f m leaving r (next_to_finalize w r) w good may top is region left refl)
+  go_on_leaving-from p name f m leaving r true w good may top is region left leaves =
+      looks_at-from (chains moves) (λ v. elim (next_to_finalize v r) as (λ _. Step) [ None ↦ end_of_scope p name m leaving | Some x ↦ finalize p name x ]) w
+      (next_finalized-from p name f m leaving r (next_to_finalize w r) w good may top is region left refl)
 
-  end_scope_mark_of-from : (p : Image) (name : Who) (m : ScopeMark) (leaving : Leaving) (r : Option RegionNo) (f : Frame) (w : World) → G w → May name → top_of w name ≡ Some f → f.mark ≡ Scope m → m.region ≡ r → ((q : RegionNo) → m.region ≡ Some q → m.being_left ≡ false → From R w (leave_region p name m leaving q)) → From R w (end_scope_mark_of p name m leaving r)
+  end_scope_mark_of-from : (p : Image) (name : Who) (m : ScopeMark) (leaving : Leaving) (r : Option RegionNo) (f : Frame) (w : World) → G w → May name
+      → top_of w name ≡ Some f → f.mark ≡ Scope m → m.region ≡ r
+      → ((q : RegionNo) → m.region ≡ Some q → m.being_left ≡ false → From R w (leave_region p name m leaving q))
+      → From R w (end_scope_mark_of p name m leaving r)
   unfolding end_scope_mark_of
-  end_scope_mark_of-from p name m leaving None f w good may top is region leaves = end_of_scope-from moves p name m leaving w (popped moves name f w good may top (ap is_protected is)) (λ q region_is. no_region q m.region region region_is)
-  end_scope_mark_of-from p name m leaving (Some r) f w good may top is region leaves = go_on_leaving-from p name f m leaving r m.being_left w good may top is region refl (λ left. leaves r region left)
+  end_scope_mark_of-from p name m leaving None f w good may top is region leaves =
+      end_of_scope-from moves p name m leaving w (popped moves name f w good may top (ap is_protected is))
+      (λ q region_is. no_region q m.region region region_is)
+  end_scope_mark_of-from p name m leaving (Some r) f w good may top is region leaves =
+      go_on_leaving-from p name f m leaving r m.being_left w good may top is region refl (λ left. leaves r region left)
 
-  pub end_scope_mark-from : (p : Image) (name : Who) (m : ScopeMark) (leaving : Leaving) (f : Frame) (w : World) → G w → May name → top_of w name ≡ Some f → f.mark ≡ Scope m → ((r : RegionNo) → m.region ≡ Some r → m.being_left ≡ false → From R w (leave_region p name m leaving r)) → From R w (end_scope_mark p name m leaving)
+  pub end_scope_mark-from : (p : Image) (name : Who) (m : ScopeMark) (leaving : Leaving) (f : Frame) (w : World) → G w → May name → top_of w name ≡ Some f
+      → f.mark ≡ Scope m → ((r : RegionNo) → m.region ≡ Some r → m.being_left ≡ false → From R w (leave_region p name m leaving r))
+      → From R w (end_scope_mark p name m leaving)
   unfolding end_scope_mark
   end_scope_mark-from p name m leaving f w good may top is leaves = end_scope_mark_of-from p name m leaving m.region f w good may top is refl leaves
 
 -- ---- a kept scope is left
 
-module _ {G : GoodWorld} {May Other : Naming} {Owns : Who → RegionNo → Type 0} {R : StepRelation} {Q : MoveRelation} (moves : FinestMoves G May Other R Q) (openings : MarkOpenings G May Other R) (regions : OwnRegions G May Other Owns) where
+module _ {G : GoodWorld} {May Other : Naming} {Owns : Who → RegionNo → Type 0} {R : StepRelation} {Q : MoveRelation} (moves : FinestMoves G May Other R Q)
+    (openings : MarkOpenings G May Other R) (regions : OwnRegions G May Other Owns) where
   pub wait_for_dependents-keeps : (name : Who) (r : RegionNo) → May name → Owns name r → Keeps G R (wait_for_dependents name r)
   unfolding wait_for_dependents
   wait_for_dependents-keeps name r may owns =
       looks-from (chains moves) _ (λ w good. keeps-from (chains moves) _ w good
-      (when-keeps-if (chains moves) (has_dependents w r) _ (λ is. block-keeps moves TheBlock name (waits_for.Dependents r) (regions.awaits_dependents name r w good may owns is))))
+      (when-keeps-if (chains moves) (has_dependents w r) _
+      (λ is. block-keeps moves TheBlock name (waits_for.Dependents r) (regions.awaits_dependents name r w good may owns is))))
 
-  pub own_region-from : (p : Image) (name : Who) (f : Frame) (m : ScopeMark) (leaving : Leaving) (r : RegionNo) (w : World) → G w → May name → top_of w name ≡ Some f → f.mark ≡ Scope m → m.region ≡ Some r → m.being_left ≡ false → From R w (leave_region p name m leaving r)
+  pub own_region-from : (p : Image) (name : Who) (f : Frame) (m : ScopeMark) (leaving : Leaving) (r : RegionNo) (w : World) → G w → May name
+      → top_of w name ≡ Some f → f.mark ≡ Scope m → m.region ≡ Some r → m.being_left ≡ false → From R w (leave_region p name m leaving r)
   own_region-from p name f m leaving r w good may top is region left =
-      leave_region-from moves openings p name f m leaving r w good may top is region left (wait_for_dependents-keeps name r may (regions.owned name f r w good may top (ap region_of_mark is ∙ region)))
+      leave_region-from moves openings p name f m leaving r w good may top is region left
+      (wait_for_dependents-keeps name r may (regions.owned name f r w good may top (ap region_of_mark is ∙ region)))

@@ -13,13 +13,15 @@ use Rattle.profile_machine.specs.declared.world.calls.Owner.{Owner}
 use Rattle.profile_machine.specs.declared.world.calls.Owner.TheVariants as owned_by
 use Rattle.profile_machine.specs.declared.world.lines.Part.{Part}
 use Rattle.profile_machine.specs.Steps.{Step, says, changes, ◌▷◌}
-use Rattle.profile_machine.specs.Calls.{edit_call, forget_call, with_call, says_call, edit_object, edit_queue, place_of_entry, put_call, take_call, enqueued, enqueue, unqueued, is_cancellable, attempt_on, attempt_with, attempt}
+use Rattle.profile_machine.specs.Calls.{edit_call, forget_call, with_call, says_call, edit_object, edit_queue, place_of_entry, put_call}
+use Rattle.profile_machine.specs.Calls.{take_call, enqueued, enqueue, unqueued, is_cancellable, attempt_on, attempt_with, attempt}
 use Rattle.machine_laws.proofs.Kept.Combinators.{Alters, Keeps, branch-keeps, changes-keeps, for_some-keeps, looks-keeps, then-keeps}
 use Rattle.machine_laws.proofs.Plain.PlainSteps.{PlainSteps}
 use Rattle.machine_laws.proofs.Plain.Tasks.{edit_task-alters}
 
 module _ {G : GoodWorld} {Goes : Naming} {R : StepRelation} (plain : PlainSteps G Goes R) where
-  pub edit_call-alters : (c : CallNo) (f : Call → Call) → ((d : Call) → (f d).number ≡ d.number) → ((d : Call) → (f d).caller ≡ d.caller) → Alters G R (edit_call c f)
+  pub edit_call-alters : (c : CallNo) (f : Call → Call) → ((d : Call) → (f d).number ≡ d.number) → ((d : Call) → (f d).caller ≡ d.caller)
+      → Alters G R (edit_call c f)
   unfolding Alters
   edit_call-alters c f a b w good = plain.edits_call c f w good a b
 
@@ -34,7 +36,8 @@ module _ {G : GoodWorld} {Goes : Naming} {R : StepRelation} (plain : PlainSteps 
   unfolding says_call
   says_call-keeps part c = search (plain.says_call)
 
-  pub edit_object-alters : (o : ObjectNo) (f : Object → Object) → ((x : Object) → (f x).number ≡ x.number) → ((x : Object) → (f x).actions ≡ x.actions) → ((x : Object) → (f x).ceiling ≡ x.ceiling) → Alters G R (edit_object o f)
+  pub edit_object-alters : (o : ObjectNo) (f : Object → Object) → ((x : Object) → (f x).number ≡ x.number) → ((x : Object) → (f x).actions ≡ x.actions)
+      → ((x : Object) → (f x).ceiling ≡ x.ceiling) → Alters G R (edit_object o f)
   unfolding Alters
   edit_object-alters o f a b e w good = plain.edits_object o f w good a b e
 
@@ -47,7 +50,9 @@ module _ {G : GoodWorld} {Goes : Naming} {R : StepRelation} (plain : PlainSteps 
   enqueued-alters p c w good =
       let unbegun = edit_call c.number (λ d. record d { begun = false }) w in
       let first = plain.edits_call c.number (λ d. record d { begun = false }) w good (λ d. refl) (λ d. refl) in
-      plain.chains.goes_on w unbegun (enqueued p c w) first (edit_queue-alters c.owner (place_of_entry p c.entry) (put_call p.policies.queuing w c.number c.priority) unbegun (plain.chains.behind w unbegun first))
+      plain.chains.goes_on w unbegun (enqueued p c w) first
+      (edit_queue-alters c.owner (place_of_entry p c.entry) (put_call p.policies.queuing w c.number c.priority) unbegun
+      (plain.chains.behind w unbegun first))
 
   pub enqueue-keeps : (p : Image) (c : CallNo) → Keeps G R (enqueue p c)
   unfolding enqueue
@@ -62,10 +67,16 @@ module _ {G : GoodWorld} {Goes : Naming} {R : StepRelation} (plain : PlainSteps 
 
   pub attempt_on-keeps : (p : Image) (part : Part) (c : Call) → Keeps G R (attempt_on p part c)
   unfolding attempt_on
-  attempt_on-keeps p part c = branch-keeps plain.chains (is_cancellable c) (changes (unqueued p c) ▷ says part (line.Cancel c.caller c.number)) (changes (edit_call c.number (λ d. record d { attempted = true }))) (search (changes-keeps, unqueued-alters, then-keeps, plain.says_cancel, plain.chains)) (search (changes-keeps, edit_call-alters, plain.chains))
+  attempt_on-keeps p part c =
+      branch-keeps plain.chains (is_cancellable c) (changes (unqueued p c) ▷ says part (line.Cancel c.caller c.number))
+      (changes (edit_call c.number (λ d. record d { attempted = true }))) (search (changes-keeps, unqueued-alters, then-keeps, plain.says_cancel, plain.chains))
+      (search (changes-keeps, edit_call-alters, plain.chains))
 
-  pub attempt_with-keeps : (p : Image) (part : Part) (c : Call) (cancels stays : Step) → Keeps G R cancels → Keeps G R stays → Keeps G R (attempt_with p part c cancels stays)
-  attempt_with-keeps p part c cancels stays kept also_kept = then-keeps plain.chains (attempt_on p part c) _ (search (attempt_on-keeps)) (branch-keeps plain.chains (is_cancellable c) cancels stays (search) (search))
+  pub attempt_with-keeps : (p : Image) (part : Part) (c : Call) (cancels stays : Step) → Keeps G R cancels → Keeps G R stays
+      → Keeps G R (attempt_with p part c cancels stays)
+  attempt_with-keeps p part c cancels stays kept also_kept =
+      then-keeps plain.chains (attempt_on p part c) _ (search (attempt_on-keeps)) (branch-keeps plain.chains (is_cancellable c) cancels stays (search) (search))
 
-  pub attempt-keeps : (p : Image) (part : Part) (c : CallNo) (cancels stays : Step) → Keeps G R cancels → Keeps G R stays → Keeps G R (attempt p part c cancels stays)
+  pub attempt-keeps : (p : Image) (part : Part) (c : CallNo) (cancels stays : Step) → Keeps G R cancels → Keeps G R stays
+      → Keeps G R (attempt p part c cancels stays)
   attempt-keeps p part c cancels stays kept also_kept = search (with_call-keeps, attempt_with-keeps)

@@ -25,8 +25,11 @@ module _ {G : GoodWorld} {Goes : Naming} {R : StepRelation} (plain : PlainSteps 
   write_cell-alters id place value = search (edit_cells-alters)
 
   pub store-gives : (p : Image) (v : Variable) (value : Value) (w : World) → G w → Gives R w (store p v value w)
-  store-gives p v value w good = bind-gives plain.chains (checked (declaration_of p v.declared).constraint value) (λ x. Ok (write_cell v.within v.place x w)) w (λ x. ok-gives plain.chains w (write_cell v.within v.place x w) (plain.edits_cells v.within (λ cells. slice_set cells v.place x) w good))
+  store-gives p v value w good =
+      bind-gives plain.chains (checked (declaration_of p v.declared).constraint value) (λ x. Ok (write_cell v.within v.place x w)) w
+      (λ x. ok-gives plain.chains w (write_cell v.within v.place x w) (plain.edits_cells v.within (λ cells. slice_set cells v.place x) w good))
 
   pub copy_cells-alters : (p : Image) (target source : Variable) → Alters G R (copy_cells p target source)
   unfolding Alters
-  copy_cells-alters p target source w good = plain.edits_cells target.within (put_cells target.place (cells_from w source (declaration_of p source.declared).cells)) w good
+  copy_cells-alters p target source w good =
+      plain.edits_cells target.within (put_cells target.place (cells_from w source (declaration_of p source.declared).cells)) w good

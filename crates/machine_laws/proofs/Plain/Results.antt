@@ -53,7 +53,8 @@ finished_call-caller p cells leaving c = keeps_sending-caller leaving (with_valu
 
 module _ {G : GoodWorld} {Goes : Naming} {R : StepRelation} (plain : PlainSteps G Goes R) where
   -- the world behind the results that are copied back
-  or_stored-world : (result : Valued World) (again : World → World × Bool) (w : World) → G w → Gives R w result → ((v : World) → G v → R v [] (again v).0) → R w [] (or_stored w result again).0
+  or_stored-world : (result : Valued World) (again : World → World × Bool) (w : World) → G w → Gives R w result → ((v : World) → G v → R v [] (again v).0)
+      → R w [] (or_stored w result again).0
   unfolding Gives
   or_stored-world (Ok next) again w good a b = plain.chains.goes_on w next (again next).0 a (b next (plain.chains.behind w next a))
   or_stored-world (Err e) again w good a b = plain.chains.stays w good
@@ -63,7 +64,8 @@ module _ {G : GoodWorld} {Goes : Naming} {R : StepRelation} (plain : PlainSteps 
   copy_back-world p (None ∷ results) [] w good = plain.chains.stays w good
   copy_back-world p (None ∷ results) (v ∷ values) w good = copy_back-world p results values w good
   copy_back-world p (Some target ∷ results) [] w good = plain.chains.stays w good
-  copy_back-world p (Some target ∷ results) (v ∷ values) w good = or_stored-world (store p target v w) (copy_back p results values) w good (store-gives plain p target v w good) (copy_back-world p results values)
+  copy_back-world p (Some target ∷ results) (v ∷ values) w good =
+      or_stored-world (store p target v w) (copy_back p results values) w good (store-gives plain p target v w good) (copy_back-world p results values)
 
   pub with_results-world : (p : Image) (c : Call) (outcome : Outcome) (w : World) → G w → R w [] (with_results p c outcome w).0
   with_results-world p c call_ended.Finished w good = copy_back-world p c.results c.values w good
@@ -71,7 +73,8 @@ module _ {G : GoodWorld} {Goes : Naming} {R : StepRelation} (plain : PlainSteps 
   with_results-world p c (call_ended.ToRaise e) w good = plain.chains.stays w good
   with_results-world p c (call_ended.WasRaised e) w good = plain.chains.stays w good
 
-  pub go_by_outcome-keeps : (p : Image) (part : Part) (name : Who) (s : StatementNo) (outcome : Outcome) → Goes name → Keeps G R (go_by_outcome p part name s outcome)
+  pub go_by_outcome-keeps : (p : Image) (part : Part) (name : Who) (s : StatementNo) (outcome : Outcome) → Goes name
+      → Keeps G R (go_by_outcome p part name s outcome)
   unfolding go_by_outcome
   go_by_outcome-keeps p part name s call_ended.Finished may = search (plain.goes)
   go_by_outcome-keeps p part name s call_ended.Cancelled may = search (plain.goes)
@@ -88,4 +91,5 @@ module _ {G : GoodWorld} {Goes : Naming} {R : StepRelation} (plain : PlainSteps 
 
   pub end_body_of_entry-keeps : (p : Image) (c : CallNo) (cells : List Value) (leaving : Leaving) → Keeps G R (end_body_of_entry p c cells leaving)
   unfolding end_body_of_entry
-  end_body_of_entry-keeps p c cells leaving = search (changes-keeps, edit_call-alters, then-keeps, keep_values-keeps, keeps_sending-number, keeps_sending-caller, plain.chains)
+  end_body_of_entry-keeps p c cells leaving =
+      search (changes-keeps, edit_call-alters, then-keeps, keep_values-keeps, keeps_sending-number, keeps_sending-caller, plain.chains)

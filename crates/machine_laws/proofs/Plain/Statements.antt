@@ -19,7 +19,9 @@ use Rattle.profile_machine.specs.Frames.{goes}
 use Rattle.profile_machine.specs.Operators.{Valued}
 use Rattle.profile_machine.specs.Values.{Seen, seen_by, value, variable, object_cell}
 use Rattle.profile_machine.specs.CallEnds.{store}
-use Rattle.profile_machine.specs.Statements.{null, assign, copy_cells, array_copied, assign_array, if_statement, go_to_alternative, case_statement, while_turn, loop_cell, put, first_bound, last_bound, bounds_set, for_bounds, first_turn, advance, later_turn, exit_where, exit_statement, raise_again}
+use Rattle.profile_machine.specs.Statements.{null, assign, copy_cells, array_copied, assign_array, if_statement, go_to_alternative}
+use Rattle.profile_machine.specs.Statements.{case_statement, while_turn, loop_cell, put, first_bound, last_bound, bounds_set}
+use Rattle.profile_machine.specs.Statements.{for_bounds, first_turn, advance, later_turn, exit_where, exit_statement, raise_again}
 use Rattle.machine_laws.proofs.Moves.{StepRelation}
 use Rattle.machine_laws.proofs.FineMoves.{GoodWorld, Naming}
 use Rattle.machine_laws.proofs.Kept.Combinators.{Alters, Gives, Keeps, bind-gives, changes-keeps, looks-from, ok-gives, sees-keeps, then-keeps}
@@ -37,7 +39,8 @@ module _ {G : GoodWorld} {Goes : Naming} {R : StepRelation} (plain : PlainSteps 
   assign-keeps p name s target e may =
       looks-from plain.chains _ (λ w good. let q = seen_by p w name in
       given_world-from plain Own name (variable q target >>= λ v. value q e >>= λ x. store p v x w) (λ _. goes name (next_of p s)) w good
-      (bind-gives plain.chains (variable q target) (λ v. value q e >>= λ x. store p v x w) w (λ v. bind-gives plain.chains (value q e) (λ x. store p v x w) w (λ x. store-gives plain p v x w good)))
+      (bind-gives plain.chains (variable q target) (λ v. value q e >>= λ x. store p v x w) w
+      (λ v. bind-gives plain.chains (value q e) (λ x. store p v x w) w (λ x. store-gives plain p v x w good)))
       (λ _. plain.goes name (next_of p s) may))
 
   array_copied-gives : (p : Image) (q : Seen) (target source : ObjectName) → G q.world → Gives R q.world (array_copied p q target source)
@@ -54,7 +57,8 @@ module _ {G : GoodWorld} {Goes : Naming} {R : StepRelation} (plain : PlainSteps 
       given_world-from plain Own name (array_copied p (seen_by p w name) target source) (λ _. goes name (next_of p s)) w good
       (array_copied-gives p (seen_by p w name) target source good) (λ _. plain.goes name (next_of p s) may))
 
-  pub if_statement-keeps : (p : Image) (name : Who) (e : ExprNo) (first : StatementNo) (otherwise : Option StatementNo) → Goes name → Keeps G R (if_statement p name e first otherwise)
+  pub if_statement-keeps : (p : Image) (name : Who) (e : ExprNo) (first : StatementNo) (otherwise : Option StatementNo) → Goes name
+      → Keeps G R (if_statement p name e first otherwise)
   unfolding if_statement
   if_statement-keeps p name e first otherwise may = search (sees-keeps, given-keeps, plain.goes, plain.chains) depth 7
 
@@ -63,7 +67,8 @@ module _ {G : GoodWorld} {Goes : Naming} {R : StepRelation} (plain : PlainSteps 
   go_to_alternative-keeps name None may = search (raises-keeps)
   go_to_alternative-keeps name (Some s) may = search (plain.goes)
 
-  pub case_statement-keeps : (p : Image) (name : Who) (e : ExprNo) (alternatives : List CaseAlternative) → Goes name → Keeps G R (case_statement p name e alternatives)
+  pub case_statement-keeps : (p : Image) (name : Who) (e : ExprNo) (alternatives : List CaseAlternative) → Goes name
+      → Keeps G R (case_statement p name e alternatives)
   unfolding case_statement
   case_statement-keeps p name e alternatives may = search (sees-keeps, given-keeps, go_to_alternative-keeps, plain.chains) depth 7
 
@@ -83,7 +88,8 @@ module _ {G : GoodWorld} {Goes : Naming} {R : StepRelation} (plain : PlainSteps 
       let first = put x (first_bound reverse l h) q.world in
       let begun = put-alters x (first_bound reverse l h) q.world good in
       ok-gives plain.chains q.world (put y (last_bound reverse l h) first)
-      (plain.chains.goes_on q.world first (put y (last_bound reverse l h) first) begun (put-alters y (last_bound reverse l h) first (plain.chains.behind q.world first begun)))
+      (plain.chains.goes_on q.world first (put y (last_bound reverse l h) first) begun
+      (put-alters y (last_bound reverse l h) first (plain.chains.behind q.world first begun)))
 
   bounds_set-gives : (q : Seen) (d : DeclNo) (reverse : Bool) (low high : ExprNo) → G q.world → Gives R q.world (bounds_set q d reverse low high)
   unfolding bounds_put
@@ -93,23 +99,27 @@ module _ {G : GoodWorld} {Goes : Naming} {R : StepRelation} (plain : PlainSteps 
       bind-gives plain.chains (loop_cell q d 0) (λ x. loop_cell q d 1 >>= bounds_put q reverse l h x) q.world (λ x.
       bind-gives plain.chains (loop_cell q d 1) (bounds_put q reverse l h x) q.world (λ y. bounds_put-gives q reverse l h x y good))))
 
-  pub for_bounds-keeps : (p : Image) (name : Who) (d : DeclNo) (reverse : Bool) (low high : ExprNo) (turn : StatementNo) → Goes name → Keeps G R (for_bounds p name d reverse low high turn)
+  pub for_bounds-keeps : (p : Image) (name : Who) (d : DeclNo) (reverse : Bool) (low high : ExprNo) (turn : StatementNo) → Goes name
+      → Keeps G R (for_bounds p name d reverse low high turn)
   unfolding for_bounds
   for_bounds-keeps p name d reverse low high turn may =
       looks-from plain.chains _ (λ w good.
       given_world-from plain Own name (bounds_set (seen_by p w name) d reverse low high) (λ _. goes name (Some turn)) w good
       (bounds_set-gives (seen_by p w name) d reverse low high good) (λ _. plain.goes name (Some turn) may))
 
-  pub first_turn-keeps : (p : Image) (name : Who) (s : StatementNo) (d : DeclNo) (reverse : Bool) (body : StatementNo) → Goes name → Keeps G R (first_turn p name s d reverse body)
+  pub first_turn-keeps : (p : Image) (name : Who) (s : StatementNo) (d : DeclNo) (reverse : Bool) (body : StatementNo) → Goes name
+      → Keeps G R (first_turn p name s d reverse body)
   unfolding first_turn
   first_turn-keeps p name s d reverse body may = search (sees-keeps, given-keeps, plain.goes, plain.chains) depth 7
 
-  pub advance-keeps : (name : Who) (x : Variable) (reverse : Bool) (v : Value) (body : StatementNo) (past : Option StatementNo) (test : Bool) → Goes name → Keeps G R (advance name x reverse v body past test)
+  pub advance-keeps : (name : Who) (x : Variable) (reverse : Bool) (v : Value) (body : StatementNo) (past : Option StatementNo) (test : Bool) → Goes name
+      → Keeps G R (advance name x reverse v body past test)
   unfolding advance
   advance-keeps name x reverse v body past true may = search (plain.goes)
   advance-keeps name x reverse v body past false may = search (changes-keeps, put-alters, then-keeps, plain.goes, plain.chains)
 
-  pub later_turn-keeps : (p : Image) (name : Who) (s : StatementNo) (d : DeclNo) (reverse : Bool) (body : StatementNo) → Goes name → Keeps G R (later_turn p name s d reverse body)
+  pub later_turn-keeps : (p : Image) (name : Who) (s : StatementNo) (d : DeclNo) (reverse : Bool) (body : StatementNo) → Goes name
+      → Keeps G R (later_turn p name s d reverse body)
   unfolding later_turn
   later_turn-keeps p name s d reverse body may = search (sees-keeps, given-keeps, advance-keeps, plain.chains) depth 7
 

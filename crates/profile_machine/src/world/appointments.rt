@@ -1,5 +1,5 @@
-//! What comes at a moment, and handlers: appointments, timers, budgets, controlled objects and releases (7.6.1, 9.6,
-//! C.3, D.14, D.15).
+//! What comes at a moment, and handlers: appointments, timers, budgets, controlled objects and
+//! releases (7.6.1, 9.6, C.3, D.14, D.15).
 use crate::world::scopes::Located;
 use ann_base::{CallNo, Moment, ObjectNo, RegionNo, TaskNo};
 use profile_image::SubprogramNo;

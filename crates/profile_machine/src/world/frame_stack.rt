@@ -1,12 +1,14 @@
 //! The open constructs of a task, the top one first.
-ghost use Rattle.std.specs.Prelude.{◌≡◌, ◌==◌, ◌∷◌, [], true, length, IfErr, OnOk, OnErr, slice_get, option_copied};
+ghost use Rattle.std.specs.Prelude.{◌≡◌, ◌==◌, ◌∷◌, [], true, length, IfErr};
+ghost use Rattle.std.specs.Prelude.{OnOk, OnErr, slice_get, option_copied};
 ghost use Rattle.std.specs.Option.{option_copied_mut};
 ghost use Rattle.std.specs.Borrow.{sem};
 ghost use Rattle.std.specs.Iterator.Runs.{YieldsRefsInOrder};
 ghost use Rattle.std.specs.VecDeque.Iter.{deque_iter_rest, deque_iter_steps};
 ghost use Rattle.world_tables.specs.Lists.{first_of, rest_of};
 ghost use Rattle.profile_machine.specs.Lends.{lends_frame};
-ghost use Rattle.profile_machine.specs.FrameCounts.{with_frame, counts_of, HasRoom, Includes, AreOfRest};
+ghost use Rattle.profile_machine.specs.FrameCounts.{with_frame, counts_of};
+ghost use Rattle.profile_machine.specs.FrameCounts.{HasRoom, Includes, AreOfRest};
 ghost use Rattle.profile_machine.specs.Frames.{defers, any_defers, is_protected, any_protected};
 ghost use Rattle.profile_machine.specs.Unwinding.{any_struck};
 
@@ -16,8 +18,8 @@ use std::collections::VecDeque;
 use std::collections::vec_deque::Iter;
 use std::marker::Model;
 
-/// Whether a mark defers abort: a scope while it is being left, a protected action, and the operations of controlled
-/// objects (9.8).
+/// Whether a mark defers abort: a scope while it is being left, a protected action, and the
+/// operations of controlled objects (9.8).
 pub fn defers(mark: &Mark) -> bool
     ensures { result ≡ defers mark.now }
 {
@@ -125,7 +127,8 @@ fn count_pushed(frames: &VecDeque<Frame>, before: FrameCounts, counted: bool) ->
     }
 }
 
-// The counts of all frames but the top one, from those before one on top of it was popped, if they are known.
+// The counts of all frames but the top one, from those before one on top of it was popped, if they
+// are known.
 fn count_popped(frames: &VecDeque<Frame>, before: FrameCounts, counted: bool) -> FrameCounts
     requires { counted ≡ true → before ≡ counts_of frames.now.items }
     ensures { result ≡ counts_of (rest_of frames.now.items) }
@@ -159,13 +162,15 @@ fn is_any_protected(frames: &VecDeque<Frame>) -> bool
 
 /// The open constructs of a task, or of the agent; contracts see the list, the top one first.
 ///
-/// Each effect asks whether any of them is struck, defers abort or is a protected action, and there may be very many.
-/// So those below the top one are counted. The top one is not: it is lent for writing at each step.
+/// Each effect asks whether any of them is struck, defers abort or is a protected action, and there
+/// may be very many. So those below the top one are counted. The top one is not: it is lent for
+/// writing at each step.
 #[derive(Drop)]
 pub struct FrameStack {
     frames: VecDeque<Frame>,
     below: FrameCounts,
-    // Whether the counts are known. They are not once one below the top was lent for writing, which is rare.
+    // Whether the counts are known. They are not once one below the top was lent for writing, which
+    // is rare.
     counted: bool,
 }
 

@@ -151,8 +151,9 @@ pub enum Line {
     },
 }
 
-/// The parts of an effect's lines, in their order (own): the call that is made; a call that ended, with its caller's
-/// lines; the action's own lines; those of other tasks by number; the placing of who acts; its block.
+/// The parts of an effect's lines, in their order (own): the call that is made; a call that ended,
+/// with its caller's lines; the action's own lines; those of other tasks by number; the placing of
+/// who acts; its block.
 #[derive(Clone, Copy)]
 pub enum Part {
     TheCall,

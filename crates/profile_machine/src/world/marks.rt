@@ -122,8 +122,9 @@ pub enum Mark {
     InAssign(AssignMark),
 }
 
-/// An open construct with what is still to be done above it: the action with which it goes on, or none where it
-/// is its own turn to end. The rest of a task is the list of its frames, the top one first.
+/// An open construct with what is still to be done above it: the action with which it goes on, or
+/// none where it is its own turn to end. The rest of a task is the list of its frames, the top one
+/// first.
 pub struct Frame {
     pub mark: Mark,
     pub onward: Option<StatementNo>,

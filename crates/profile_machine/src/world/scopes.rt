@@ -6,7 +6,8 @@ use rosters::Numbered;
 use trace_text::Who;
 use world_tables::List;
 
-/// A scope in use, by number: scopes are numbered from 0, the environment's, in the order in which they begin.
+/// A scope in use, by number: scopes are numbered from 0, the environment's, in the order in which
+/// they begin.
 #[derive(Clone, Copy)]
 pub struct ScopeId(pub u32);
 
@@ -17,7 +18,8 @@ pub struct Located {
     pub declared: DeclNo,
 }
 
-/// A variable: the scope in use and the place of its cell there; its range is that of the declaration.
+/// A variable: the scope in use and the place of its cell there; its range is that of the
+/// declaration.
 #[derive(Clone, Copy)]
 pub struct Variable {
     pub within: ScopeId,
@@ -77,8 +79,8 @@ impl Numbered for ScopeInUse {
     }
 }
 
-/// How a scope begins in a run: what stands round it in the text, the object or the controlled object that it
-/// works on, and what its first cells hold.
+/// How a scope begins in a run: what stands round it in the text, the object or the controlled
+/// object that it works on, and what its first cells hold.
 pub struct Beginning {
     pub outer: Option<ScopeId>,
     pub object: Option<ObjectNo>,
@@ -98,8 +100,8 @@ impl Drop for Beginning {
     }
 }
 
-/// What a call hands over: the values of the parameters, what is copied back, and the object that stands for
-/// itself (6.4.1).
+/// What a call hands over: the values of the parameters, what is copied back, and the object that
+/// stands for itself (6.4.1).
 #[derive(Drop)]
 pub struct Handed {
     pub values: List<Value>,

@@ -24,7 +24,8 @@ pub enum Waiting {
     EndOfCall(CallNo),
     /// A call that the accept takes (9.5.2).
     Accept(StatementNo),
-    /// The open accepts of a selective accept, the delay that is to be taken, and whether terminate is open (9.7.1).
+    /// The open accepts of a selective accept, the delay that is to be taken, and whether terminate
+    /// is open (9.7.1).
     Select(List<StatementNo>, Option<StatementNo>, bool),
     /// The tasks that depend on the region (9.3).
     Dependents(RegionNo),
@@ -176,7 +177,8 @@ impl Numbered for Task {
     }
 }
 
-/// An entry of the ready queues: the level at which it was placed, and on an EDF level the deadline.
+/// An entry of the ready queues: the level at which it was placed, and on an EDF level the
+/// deadline.
 #[derive(Clone, Copy)]
 pub struct Placed {
     pub who: Who,
@@ -184,7 +186,8 @@ pub struct Placed {
     pub deadline: Option<Moment>,
 }
 
-/// A level with a deadline: of somebody inside an object of that ceiling, or of a ready task (D.2.6).
+/// A level with a deadline: of somebody inside an object of that ceiling, or of a ready task
+/// (D.2.6).
 #[derive(Clone, Copy)]
 pub struct Rival {
     pub level: Level,

@@ -56,15 +56,18 @@ use Rattle.profile_machine.specs.Steps.{says}
 
 pub record FineMoves (G : GoodWorld) (F : Naming) : Type 0 where
   -- tasks: an edit of anybody that leaves alone who it is, its marks, its state, its master and what it inherits; one of marks alone
-  pub edits_task : (name : Who) (f : Task → Task) (w : World) → G w → ((t : Task) → (f t).who ≡ t.who) → ((t : Task) → (f t).frames ≡ t.frames) → ((t : Task) → (f t).state ≡ t.state) → ((t : Task) → (f t).master ≡ t.master) → ((t : Task) → (f t).inherited ≡ t.inherited)
+  pub edits_task : (name : Who) (f : Task → Task) (w : World) → G w → ((t : Task) → (f t).who ≡ t.who) → ((t : Task) → (f t).frames ≡ t.frames)
+      → ((t : Task) → (f t).state ≡ t.state) → ((t : Task) → (f t).master ≡ t.master) → ((t : Task) → (f t).inherited ≡ t.inherited)
       → G (edit_task name f w)
-  pub edits_frames : (name : Who) (f : List Frame → List Frame) (w : World) → G w → ((fs : List Frame) → natures (f fs) ≡ natures fs) → G (edit_task name (λ t. with_frames (f t.frames) t) w)
+  pub edits_frames : (name : Who) (f : List Frame → List Frame) (w : World) → G w → ((fs : List Frame) → natures (f fs) ≡ natures fs)
+      → G (edit_task name (λ t. with_frames (f t.frames) t) w)
   pub inherits : (name : Who) (cause : Cause) (level : ℕ) (w : World) → G w → G (inherit name cause level w)
   pub loses : (name : Who) (cause : Cause) (w : World) → G w → is_ceiling cause ≡ false → G (lose name cause w)
   -- a mark is opened; an abortable part, and the scope of a task, by who has no action open; and one that is no action ends
   pub pushes : (name : Who) (f : Frame) (w : World) → G w → nature f.mark ≡ plain → G (push name f w)
   pub opens_abortable : (name : Who) (f : Frame) (w : World) → G w → F name → nature f.mark ≡ bare true → G (push name f w)
-  pub opens_scope : (p : Image) (name : Who) (scope : ScopeNo) (b : Beginning) (purpose : Purpose) (w : World) → G w → (is_task_scope purpose ≡ true → F name) → G (open_scope p name scope b purpose w)
+  pub opens_scope : (p : Image) (name : Who) (scope : ScopeNo) (b : Beginning) (purpose : Purpose) (w : World) → G w → (is_task_scope purpose ≡ true → F name)
+      → G (open_scope p name scope b purpose w)
   pub pops : (name : Who) (f : Frame) (w : World) → G w → top_of w name ≡ Some f → is_protected f.mark ≡ false → G (pop name w)
   -- states: who has no action open may block
   pub readies : (name : Who) (w : World) → G w → G (edit_task name (with_state Runnable) w)
@@ -78,12 +81,15 @@ pub record FineMoves (G : GoodWorld) (F : Naming) : Type 0 where
   pub edits_cells : (id : ScopeId) (f : List Value → List Value) (w : World) → G w → G (edit_cells id f w)
   pub ends_scope : (id : ScopeId) (w : World) → G w → G (end_scope id w)
   -- calls: no edit changes the number, or who calls
-  pub edits_call : (c : CallNo) (f : Call → Call) (w : World) → G w → ((d : Call) → (f d).number ≡ d.number) → ((d : Call) → (f d).caller ≡ d.caller) → G (edit_call c f w)
+  pub edits_call : (c : CallNo) (f : Call → Call) (w : World) → G w → ((d : Call) → (f d).number ≡ d.number) → ((d : Call) → (f d).caller ≡ d.caller)
+      → G (edit_call c f w)
   pub adds_call : (c : Call) (w : World) → G w → G (add_call c w)
   pub forgets_call : (c : CallNo) (w : World) → G w → G (forget_call c w)
   -- protected objects: no other edit changes the actions that are open, or the ceiling
-  pub edits_object : (o : ObjectNo) (f : Object → Object) (w : World) → G w → ((x : Object) → (f x).number ≡ x.number) → ((x : Object) → (f x).actions ≡ x.actions) → ((x : Object) → (f x).ceiling ≡ x.ceiling) → G (edit_object o f w)
-  pub adds_object : (p : Image) (l : Located) (u : ProtectedUnitNo) (w : World) → G w → G (record w { objects = new_object p l u (suc w.drawn.objects) ∷ w.objects; drawn = object_drawn w.drawn })
+  pub edits_object : (o : ObjectNo) (f : Object → Object) (w : World) → G w → ((x : Object) → (f x).number ≡ x.number)
+      → ((x : Object) → (f x).actions ≡ x.actions) → ((x : Object) → (f x).ceiling ≡ x.ceiling) → G (edit_object o f w)
+  pub adds_object : (p : Image) (l : Located) (u : ProtectedUnitNo) (w : World) → G w
+      → G (record w { objects = new_object p l u (suc w.drawn.objects) ∷ w.objects; drawn = object_drawn w.drawn })
   -- appointments, releases and controlled objects
   pub appoints : (due : Due) (moment : ℤ) (w : World) → G w → G (appoint due moment w)
   pub drops_appointment : (test : Due → Bool) (w : World) → G w → G (drop_appointment test w)

@@ -23,7 +23,8 @@ use Rattle.world_laws.proofs.Actions.Natures.{Nature, nature, natures, guards, a
 use Rattle.world_laws.proofs.Actions.Sound.{Clean, MarksSound, marks_of, Sound, Free, Good}
 use Rattle.world_laws.proofs.Actions.SoundEdits.{others-edited, steady-good, same-good, same-sure, same-marks}
 use Rattle.world_laws.proofs.Actions.SoundMarks.{push-good, open_scope-good, first_action, pop-good}
-use Rattle.world_laws.proofs.Actions.SoundWorlds.{top-clean, add_task-good, forget_task-good, end_scope-good, edit_object-good, add_object-good, edit_call-good, forget_call-good, add_call-good}
+use Rattle.world_laws.proofs.Actions.SoundWorlds.{top-clean, add_task-good, forget_task-good, end_scope-good, edit_object-good}
+use Rattle.world_laws.proofs.Actions.SoundWorlds.{add_object-good, edit_call-good, forget_call-good, add_call-good}
 use Rattle.world_laws.proofs.Actions.SoundActions.{inherit-good, lose-good}
 use Rattle.world_laws.proofs.Actions.FineMoves.{FineMoves}
 use Rattle.machine_laws.proofs.FineMoves.{Naming, gone_on}
@@ -59,7 +60,8 @@ free-waiting name waiting w h e = free-asleep name w h (waits-asleep (task_of w 
 abbrev pub Awake : Who → World → Type 0
 Awake name w = is_runnable_state (one_of w.tasks w.agent name).state ≡ true
 
-pub awake-edited : (name n : Who) (f : Task → Task) (w : World) → ((t : Task) → (f t).who ≡ t.who) → ((t : Task) → (f t).state ≡ t.state) → Awake name w → Awake name (edit_task n f w)
+pub awake-edited : (name n : Who) (f : Task → Task) (w : World) → ((t : Task) → (f t).who ≡ t.who) → ((t : Task) → (f t).state ≡ t.state) → Awake name w
+    → Awake name (edit_task n f w)
 awake-edited name n f w named state h = edited (λ t. is_runnable_state t.state ≡ true) name n f w named (λ same t g. ap is_runnable_state (state t) ∙ g) h
 
 -- who has such a mark on top
@@ -85,7 +87,8 @@ module _ (name : Who) (f : Frame) (w : World) (h : Sound w) (top : top_of w name
   pub free-region : (r : RegionNo) → (nature f.mark).region ≡ Some r → has_dependents w r ≡ true → Free name w
   free-region r region d =
       let clean = subst (Clean r) marks-here ((h.5 name).3 r d) in
-      low-top f (marks_of w.tasks w.agent name) (natures parts.0) (no_action f.mark plain) (clean.0 (ap (λ q. is_the same_region q r) region ∙ eq-eqb r.0 r.0 refl)) marks-here
+      low-top f (marks_of w.tasks w.agent name) (natures parts.0) (no_action f.mark plain)
+      (clean.0 (ap (λ q. is_the same_region q r) region ∙ eq-eqb r.0 r.0 refl)) marks-here
 
   pub no-action-on_top : first_action (marks_of w.tasks w.agent name) ≡ None
   no-action-on_top = ap first_action marks-here ∙ no_action f.mark plain
@@ -94,14 +97,16 @@ module _ (name : Who) (f : Frame) (w : World) (h : Sound w) (top : top_of w name
 
 -- ---- a task that is added has the next number and the region of its creator, who goes on first and has no action open
 
-pub add_task-made : (F : Naming) (name : Who) (onward : Option StatementNo) (t : Task) (w : World) → Good F w → Free name w → t.who ≡ who.Task (record { 0 = w.drawn.tasks }) → t.frames ≡ [] → t.master ≡ Some (top_region w name) → Good F (add_task t (gone_on name onward w))
+pub add_task-made : (F : Naming) (name : Who) (onward : Option StatementNo) (t : Task) (w : World) → Good F w → Free name w
+    → t.who ≡ who.Task (record { 0 = w.drawn.tasks }) → t.frames ≡ [] → t.master ≡ Some (top_region w name) → Good F (add_task t (gone_on name onward w))
 add_task-made F name onward t w good free named none master =
     let f = λ (u : Task). with_frames (edit_first (goes_on onward) u.frames) u in
     let framed : (u : Task) → natures (f u).frames ≡ natures u.frames = λ u. first-natures (goes_on onward) u.frames (λ x. refl) in
     let gone = same-good F name f w (λ u. refl) (λ u. refl) framed (λ u. refl) (λ u. refl) good in
     let clean = top-clean w name good.0 free in
     let same = same-marks F name f w (λ u. refl) (λ u. refl) framed in
-    add_task-good t (gone_on name onward w) (top_region w name) (others-edited (λ d c o. t.who ≡ who.Task (record { 0 = d.tasks })) name f w named) none master F
+    add_task-good t (gone_on name onward w) (top_region w name)
+    (others-edited (λ d c o. t.who ≡ who.Task (record { 0 = d.tasks })) name f w named) none master F
     (others-edited (λ d c o. (top_region w name).0 ≤ d.regions) name f w clean.0) (λ n. subst (Clean (top_region w name)) (sym (same n)) (clean.1 n)) gone
 
 -- ---- the changes
@@ -109,17 +114,23 @@ add_task-made F name onward t w good free named none master =
 pub good_moves : (F : Naming) → FineMoves (Good F) F
 good_moves F = record {
   edits_task = λ name f w good named framed state master inherited. same-good F name f w named master (λ t. ap natures (framed t)) state inherited good;
-  edits_frames = λ name f w good same. same-good F name (λ t. with_frames (f t.frames) t) w (λ t. refl) (λ t. refl) (λ t. same t.frames) (λ t. refl) (λ t. refl) good;
+  edits_frames =
+      λ name f w good same. same-good F name (λ t. with_frames (f t.frames) t) w (λ t. refl) (λ t. refl) (λ t. same t.frames) (λ t. refl) (λ t. refl) good;
   inherits = λ name cause level w good. inherit-good F name cause level w good;
   loses = λ name cause w good other. lose-good F name cause w other good;
   pushes = λ name f w good is. push-good F name f false w is (λ e. absurd (false≢true e)) good;
   opens_abortable = λ name f w good free is. push-good F name f true w is (λ e. free) good;
   opens_scope = λ p name scope b purpose w good free. open_scope-good F p name scope b purpose w free good;
   pops = λ name f w good top plain. pop-good F name w (no-action-on_top name f w good.0 top plain) good;
-  readies = λ name w good. steady-good F name (with_state Runnable) w (λ t. refl) (λ t. refl) (λ t. refl) (λ n same t g k. same-sure w.drawn w.calls w.objects w.tasks n t (with_state Runnable t) refl (λ e r. refl) refl k) good;
+  readies =
+      λ name w good. steady-good F name (with_state Runnable) w (λ t. refl) (λ t. refl) (λ t. refl)
+      (λ n same t g k. same-sure w.drawn w.calls w.objects w.tasks n t (with_state Runnable t) refl (λ e r. refl) refl k) good;
   blocks = λ name waiting w good free. steady-good F name (with_state (Blocked waiting)) w (λ t. refl) (λ t. refl) (λ t. refl)
       (λ n same t g k. same-sure w.drawn w.calls w.objects w.tasks n t (with_state (Blocked waiting) t) refl
-      (λ e r. absurd (false≢true (sym (ap (λ (u : Task). guards (natures u.frames)) g ∙ ap (λ i. guards (marks_of w.tasks w.agent i)) (same_who-path n name same) ∙ good.1 name free) ∙ e))) refl k) good;
+      (λ e r. absurd
+      (false≢true
+      (sym (ap (λ (u : Task). guards (natures u.frames)) g ∙ ap (λ i. guards (marks_of w.tasks w.agent i)) (same_who-path n name same) ∙ good.1 name free)
+      ∙ e))) refl k) good;
   forgets_task = λ name w good free. forget_task-good F name w free good;
   sets_quantum = λ level ticks w good. good;
   ends_environment = λ leaving w good. good;

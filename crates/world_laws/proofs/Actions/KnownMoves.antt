@@ -37,7 +37,10 @@ module _ (name : Who) (c : CallNo) where
     loses = λ n cause w g is. (m.loses n cause w g.0 is, known-edited n _ w g.1);
     pushes = λ n f w g is. (m.pushes n f w g.0 is, known-edited n _ w g.1);
     opens_abortable = λ n f w g free is. (m.opens_abortable n f w g.0 free is, known-edited n _ w g.1);
-    opens_scope = λ p n scope b purpose w g free. (m.opens_scope p n scope b purpose w g.0 free, known-edited n _ (draw_region (scope_of p scope).kept (begin_scope p n scope b w)) (known-drawn (scope_of p scope).kept (begin_scope p n scope b w) g.1));
+    opens_scope = λ p n scope b purpose w g free. (
+      m.opens_scope p n scope b purpose w g.0 free,
+      known-edited n _ (draw_region (scope_of p scope).kept (begin_scope p n scope b w)) (known-drawn (scope_of p scope).kept (begin_scope p n scope b w) g.1),
+    );
     pops = λ n f w g top is. (m.pops n f w g.0 top is, known-edited n _ w g.1);
     readies = λ n w g. (m.readies n w g.0, known-edited n _ w g.1);
     blocks = λ n waiting w g free. (m.blocks n waiting w g.0 free, known-edited n _ w g.1);

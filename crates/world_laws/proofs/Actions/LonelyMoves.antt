@@ -24,7 +24,8 @@ abbrev pub GoodLonely : Naming → RegionNo → GoodWorld
 GoodLonely F r w = Good F w × Lonely r w
 
 module _ (r : RegionNo) where
-  lonely-edited : (n : Who) (f : Task → Task) (w : World) → ((t : Task) → (f t).who ≡ t.who) → ((t : Task) → (f t).master ≡ t.master) → Lonely r w → Lonely r (edit_task n f w)
+  lonely-edited : (n : Who) (f : Task → Task) (w : World) → ((t : Task) → (f t).who ≡ t.who) → ((t : Task) → (f t).master ≡ t.master) → Lonely r w
+      → Lonely r (edit_task n f w)
   lonely-edited n f w named mastered k = dependents-edited f named mastered n w r ∙ k
 
   lonely-drawn : (kept : Bool) (w : World) → Lonely r w → Lonely r (draw_region kept w)
@@ -33,17 +34,27 @@ module _ (r : RegionNo) where
 
   pub lonely_moves : (F : Naming) → FineMoves (GoodLonely F r) F
   lonely_moves F = let m = good_moves F in record {
-    edits_task = λ n f w g named framed state master inherited. (m.edits_task n f w g.0 named framed state master inherited, lonely-edited n f w named master g.1);
+    edits_task = λ n f w g named framed state master inherited. (
+      m.edits_task n f w g.0 named framed state master inherited,
+      lonely-edited n f w named master g.1,
+    );
     edits_frames = λ n f w g same. (m.edits_frames n f w g.0 same, lonely-edited n _ w (λ t. refl) (λ t. refl) g.1);
     inherits = λ n cause level w g. (m.inherits n cause level w g.0, lonely-edited n _ w (λ t. refl) (λ t. refl) g.1);
     loses = λ n cause w g is. (m.loses n cause w g.0 is, lonely-edited n _ w (λ t. refl) (λ t. refl) g.1);
     pushes = λ n f w g is. (m.pushes n f w g.0 is, lonely-edited n _ w (λ t. refl) (λ t. refl) g.1);
     opens_abortable = λ n f w g free is. (m.opens_abortable n f w g.0 free is, lonely-edited n _ w (λ t. refl) (λ t. refl) g.1);
-    opens_scope = λ p n scope b purpose w g free. (m.opens_scope p n scope b purpose w g.0 free, lonely-edited n _ (draw_region (scope_of p scope).kept (begin_scope p n scope b w)) (λ t. refl) (λ t. refl) (lonely-drawn (scope_of p scope).kept (begin_scope p n scope b w) g.1));
+    opens_scope = λ p n scope b purpose w g free. (
+      m.opens_scope p n scope b purpose w g.0 free,
+      lonely-edited n _ (draw_region (scope_of p scope).kept (begin_scope p n scope b w)) (λ t. refl) (λ t. refl)
+          (lonely-drawn (scope_of p scope).kept (begin_scope p n scope b w) g.1),
+    );
     pops = λ n f w g top is. (m.pops n f w g.0 top is, lonely-edited n _ w (λ t. refl) (λ t. refl) g.1);
     readies = λ n w g. (m.readies n w g.0, lonely-edited n _ w (λ t. refl) (λ t. refl) g.1);
     blocks = λ n waiting w g free. (m.blocks n waiting w g.0 free, lonely-edited n _ w (λ t. refl) (λ t. refl) g.1);
-    forgets_task = λ n w g free. (m.forgets_task n w g.0 free, by_test (dependents (forget_task n w).tasks r) (λ e. absurd (false≢true (sym g.1 ∙ dependents-without n r w.tasks e))) (λ e. e));
+    forgets_task = λ n w g free. (
+      m.forgets_task n w g.0 free,
+      by_test (dependents (forget_task n w).tasks r) (λ e. absurd (false≢true (sym g.1 ∙ dependents-without n r w.tasks e))) (λ e. e),
+    );
     sets_quantum = λ level ticks w g. g;
     ends_environment = λ leaving w g. g;
     begins_scope = λ p n scope b w g. g;

@@ -28,7 +28,13 @@ plain = record { region = None; action = None; release = None; own = None; floor
 abbrev pub nature : Mark → Nature
 nature (Scope m) = record { region = m.region; action = None; release = None; own = None; floor = is_task_scope m.purpose }
 nature (Handled s) = plain
-nature (InProtected m) = record { region = None; action = Some m.object; release = m.release; own = m.own_call; floor = is_some m.own_call || is_some m.release }
+nature (InProtected m) = record {
+  region = None;
+  action = Some m.object;
+  release = m.release;
+  own = m.own_call;
+  floor = is_some m.own_call || is_some m.release;
+}
 nature (InAccept m) = plain
 nature (Abortable m) = record { region = None; action = None; release = None; own = None; floor = true }
 nature (InInitialize l) = plain
@@ -96,7 +102,8 @@ is_mark_of-is o (InAssign m) = refl
 
 pub action_mark-is : (o : ObjectNo) (fs : List Frame) → list_any (λ f. is_mark_of o f.mark) fs ≡ marks o (natures fs)
 action_mark-is o [] = refl
-action_mark-is o (f ∷ fs) = ap (λ b. b || list_any (λ g. is_mark_of o g.mark) fs) (is_mark_of-is o f.mark) ∙ ap (λ b. is_on o (nature f.mark).action || b) (action_mark-is o fs)
+action_mark-is o (f ∷ fs) =
+    ap (λ b. b || list_any (λ g. is_mark_of o g.mark) fs) (is_mark_of-is o f.mark) ∙ ap (λ b. is_on o (nature f.mark).action || b) (action_mark-is o fs)
 
 -- ---- where none is open
 

@@ -87,7 +87,8 @@ module _ (a : Who) where
 abbrev pub Present : Who → World → Type 0
 Present name w = (u : Task) × (task_at w name ≡ Some u)
 
-edited-present : (name : Who) (f : Task → Task) (w : World) (found : Option Task) → task_at w name ≡ found → ((t : Task) → (f t).who ≡ t.who) → ((u : Task) → found ≡ Some u → Present name (edit_task_found name f w found))
+edited-present : (name : Who) (f : Task → Task) (w : World) (found : Option Task) → task_at w name ≡ found → ((t : Task) → (f t).who ≡ t.who)
+    → ((u : Task) → found ≡ Some u → Present name (edit_task_found name f w found))
 edited-present name f w None is same u e = absurd (let never : None ≡ Some u = e in cc)
 edited-present who.Agent f w (Some t) is same u e = (f t, refl)
 edited-present (who.Task n) f w (Some t) is same u e =
@@ -98,16 +99,23 @@ present-edited name f w same h = edited-present name f w (task_at w name) refl s
 
 -- ---- the end of a delay is appointed, and the task blocks for it
 
-module _ (t : TaskNo) (m : ℤ) (waiting : Waiting) (w : World) (good : Good w) (here : Present (who.Task t) w) (waits : waits_for_delay (Some waiting) ≡ true) where
+module _ (t : TaskNo) (m : ℤ) (waiting : Waiting) (w : World) (good : Good w) (here : Present (who.Task t) w)
+    (waits : waits_for_delay (Some waiting) ≡ true) where
   own_state : waiting_of (edit_task (who.Task t) (with_state (Blocked waiting)) (appoint (due_for.Delay t) m w)) (who.Task t) ≡ Some waiting
-  own_state = ap (λ (u : Task). waiting_in u.state) (of_self (who.Task t) (with_state (Blocked waiting)) (appoint (due_for.Delay t) m w) here.0 here.1 (λ u. refl))
+  own_state =
+      ap (λ (u : Task). waiting_in u.state) (of_self (who.Task t) (with_state (Blocked waiting)) (appoint (due_for.Delay t) m w) here.0 here.1 (λ u. refl))
 
-  other_delay : (k : TaskNo) → same_who (who.Task k) (who.Task t) ≡ false → delayed k (edit_task (who.Task t) (with_state (Blocked waiting)) (appoint (due_for.Delay t) m w)) ≡ true → delayed k w ≡ true
+  other_delay : (k : TaskNo) → same_who (who.Task k) (who.Task t) ≡ false
+      → delayed k (edit_task (who.Task t) (with_state (Blocked waiting)) (appoint (due_for.Delay t) m w)) ≡ true → delayed k w ≡ true
   other_delay k apart d =
-      sym (put-any (λ x. is_delay_of k x.due) (record { due = due_for.Delay t; moment = m }) w.appointments apart) ∙ sym (edited-delayed (who.Task t) (with_state (Blocked waiting)) (appoint (due_for.Delay t) m w) k) ∙ d
+      sym (put-any (λ x. is_delay_of k x.due) (record { due = due_for.Delay t; moment = m }) w.appointments apart)
+      ∙ sym (edited-delayed (who.Task t) (with_state (Blocked waiting)) (appoint (due_for.Delay t) m w) k) ∙ d
 
-  other_state : (k : TaskNo) → same_who (who.Task k) (who.Task t) ≡ false → waiting_of (edit_task (who.Task t) (with_state (Blocked waiting)) (appoint (due_for.Delay t) m w)) (who.Task k) ≡ waiting_of w (who.Task k)
-  other_state k apart = ap (λ (u : Task). waiting_in u.state) (of_other (who.Task k) (who.Task t) (with_state (Blocked waiting)) (appoint (due_for.Delay t) m w) (λ u. refl) apart)
+  other_state : (k : TaskNo) → same_who (who.Task k) (who.Task t) ≡ false
+      → waiting_of (edit_task (who.Task t) (with_state (Blocked waiting)) (appoint (due_for.Delay t) m w)) (who.Task k) ≡ waiting_of w (who.Task k)
+  other_state k apart =
+      ap (λ (u : Task). waiting_in u.state)
+      (of_other (who.Task k) (who.Task t) (with_state (Blocked waiting)) (appoint (due_for.Delay t) m w) (λ u. refl) apart)
 
   same_number : (k : TaskNo) → same_who (who.Task k) (who.Task t) ≡ true → k ≡ t
   same_number k e = let one : who.Task k ≡ who.Task t = who_path (who.Task k) (who.Task t) e in cc
@@ -115,7 +123,9 @@ module _ (t : TaskNo) (m : ℤ) (waiting : Waiting) (w : World) (good : Good w) 
   blocked_awaited : Awaited (edit_task (who.Task t) (with_state (Blocked waiting)) (appoint (due_for.Delay t) m w))
   blocked_awaited k d =
       by_test (same_who (who.Task k) (who.Task t))
-      (λ e. subst (λ n. waits_for_delay (waiting_of (edit_task (who.Task t) (with_state (Blocked waiting)) (appoint (due_for.Delay t) m w)) (who.Task n)) ≡ true) (sym (same_number k e)) (ap waits_for_delay own_state ∙ waits))
+      (λ e. subst
+      (λ n. waits_for_delay (waiting_of (edit_task (who.Task t) (with_state (Blocked waiting)) (appoint (due_for.Delay t) m w)) (who.Task n)) ≡ true)
+      (sym (same_number k e)) (ap waits_for_delay own_state ∙ waits))
       (λ e. ap waits_for_delay (other_state k e) ∙ good.awaited k (other_delay k e d))
 
   blocked_good : Good (edit_task (who.Task t) (with_state (Blocked waiting)) (appoint (due_for.Delay t) m w))
@@ -126,22 +136,34 @@ module _ (t : TaskNo) (m : ℤ) (waiting : Waiting) (w : World) (good : Good w) 
   }
 
   -- without a word, where that is excused
-  silent_led : waits_at_terminate (Some waiting) ≡ true → Led nobody_excused (excused (who.Task t)) w [] (edit_task (who.Task t) (with_state (Blocked waiting)) (appoint (due_for.Delay t) m w))
+  silent_led : waits_at_terminate (Some waiting) ≡ true
+      → Led nobody_excused (excused (who.Task t)) w [] (edit_task (who.Task t) (with_state (Blocked waiting)) (appoint (due_for.Delay t) m w))
   silent_led terminates = record {
     good = blocked_good;
     follows = λ k d x.
         by_test (same_who (who.Task k) (who.Task t))
-        (λ e. absurd (let state : waiting_of (edit_task (who.Task t) (with_state (Blocked waiting)) (appoint (due_for.Delay t) m w)) (who.Task k) ≡ Some waiting = subst (λ n. waiting_of (edit_task (who.Task t) (with_state (Blocked waiting)) (appoint (due_for.Delay t) m w)) (who.Task n) ≡ Some waiting) (sym (same_number k e)) own_state in
-        let excuse : (same_who (who.Task k) (who.Task t) && waits_at_terminate (waiting_of (edit_task (who.Task t) (with_state (Blocked waiting)) (appoint (due_for.Delay t) m w)) (who.Task k))) ≡ true = and_from (same_who (who.Task k) (who.Task t)) (waits_at_terminate (waiting_of (edit_task (who.Task t) (with_state (Blocked waiting)) (appoint (due_for.Delay t) m w)) (who.Task k))) e (ap waits_at_terminate state ∙ terminates) in
+        (λ e.
+        absurd (let state : waiting_of (edit_task (who.Task t) (with_state (Blocked waiting)) (appoint (due_for.Delay t) m w)) (who.Task k) ≡ Some waiting =
+        subst (λ n. waiting_of (edit_task (who.Task t) (with_state (Blocked waiting)) (appoint (due_for.Delay t) m w)) (who.Task n) ≡ Some waiting)
+        (sym (same_number k e)) own_state in
+        let excuse : (same_who (who.Task k) (who.Task t)
+        && waits_at_terminate (waiting_of (edit_task (who.Task t) (with_state (Blocked waiting)) (appoint (due_for.Delay t) m w)) (who.Task k)))
+        ≡ true =
+        and_from (same_who (who.Task k) (who.Task t))
+        (waits_at_terminate (waiting_of (edit_task (who.Task t) (with_state (Blocked waiting)) (appoint (due_for.Delay t) m w)) (who.Task k))) e
+        (ap waits_at_terminate state ∙ terminates) in
         let never : true ≡ false = sym excuse ∙ x in cc))
         (λ e. inl (other_delay k e d, refl, tt));
   }
 
   -- and with its line
-  told_led : Led nobody_excused (excused (who.Task t)) w (record { part = TheBlock; line = said.Block (who.Task t) (word_of waiting) } ∷ []) (edit_task (who.Task t) without_kept_level (edit_task (who.Task t) (with_state (Blocked waiting)) (appoint (due_for.Delay t) m w)))
+  told_led : Led nobody_excused (excused (who.Task t)) w (record { part = TheBlock; line = said.Block (who.Task t) (word_of waiting) } ∷ [])
+      (edit_task (who.Task t) without_kept_level (edit_task (who.Task t) (with_state (Blocked waiting)) (appoint (due_for.Delay t) m w)))
   told_led =
       let v = edit_task (who.Task t) (with_state (Blocked waiting)) (appoint (due_for.Delay t) m w) in
-      let k = (fine nobody_excused {E = AnyWorld} any_lasting Nobody (λ name u e may. absurd may)).edits_task (who.Task t) without_kept_level v (blocked_good, tt) (λ u. refl) (λ u. refl) (λ u. refl) in
+      let k =
+      (fine nobody_excused {E = AnyWorld} any_lasting Nobody (λ name u e may. absurd may)).edits_task (who.Task t) without_kept_level v (blocked_good, tt)
+      (λ u. refl) (λ u. refl) (λ u. refl) in
       record {
         good = k.good;
         follows = λ n d x.
@@ -150,11 +172,25 @@ module _ (t : TaskNo) (m : ℤ) (waiting : Waiting) (w : World) (good : Good w) 
             (λ e. inl (other_delay n e (k.later.delays n d), refl, (refl, tt)));
       }
 
-pub wait_until-ends : (t : TaskNo) (m : ℤ) (w : World) → Good w → Present (who.Task t) w → Ends (who.Task t) w (changes (appoint (due_for.Delay t) m) ▷ block TheBlock (who.Task t) waits_for.Moment)
+pub wait_until-ends : (t : TaskNo) (m : ℤ) (w : World) → Good w → Present (who.Task t) w
+    → Ends (who.Task t) w (changes (appoint (due_for.Delay t) m) ▷ block TheBlock (who.Task t) waits_for.Moment)
 unfolding From Kept block says_block
-wait_until-ends t m w good here said_before = (record { part = TheBlock; line = said.Block (who.Task t) (word_of waits_for.Moment) } ∷ [], refl, told_led t m waits_for.Moment w good here refl)
+wait_until-ends t m w good here said_before = (
+  record { part = TheBlock; line = said.Block (who.Task t) (word_of waits_for.Moment) } ∷ [],
+  refl,
+  told_led t m waits_for.Moment w good here refl,
+)
 
-pub select_waits-ends : (t : TaskNo) (m : ℤ) (accepts : List StatementNo) (delay : StatementNo) (terminate : Bool) (w : World) → Good w → Present (who.Task t) w → Ends (who.Task t) w (changes (appoint (due_for.Delay t) m) ▷ wait_at_select (who.Task t) accepts (Some delay) terminate)
+pub select_waits-ends : (t : TaskNo) (m : ℤ) (accepts : List StatementNo) (delay : StatementNo) (terminate : Bool) (w : World) → Good w → Present (who.Task t) w
+    → Ends (who.Task t) w (changes (appoint (due_for.Delay t) m) ▷ wait_at_select (who.Task t) accepts (Some delay) terminate)
 unfolding From Kept block says_block wait_at_select
-select_waits-ends t m accepts delay true w good here said_before = ([], sym (append-nil said_before), silent_led t m (waits_for.Select accepts (Some delay) true) w good here refl refl)
-select_waits-ends t m accepts delay false w good here said_before = (record { part = TheBlock; line = said.Block (who.Task t) (word_of (waits_for.Select accepts (Some delay) false)) } ∷ [], refl, told_led t m (waits_for.Select accepts (Some delay) false) w good here refl)
+select_waits-ends t m accepts delay true w good here said_before = (
+  [],
+  sym (append-nil said_before),
+  silent_led t m (waits_for.Select accepts (Some delay) true) w good here refl refl,
+)
+select_waits-ends t m accepts delay false w good here said_before = (
+  record { part = TheBlock; line = said.Block (who.Task t) (word_of (waits_for.Select accepts (Some delay) false)) } ∷ [],
+  refl,
+  told_led t m (waits_for.Select accepts (Some delay) false) w good here refl,
+)

@@ -21,9 +21,11 @@ use Rattle.profile_machine.specs.Cost.{cost}
 use Rattle.profile_machine.specs.Dispatching.{word_of, without_kept_level, says_block, choose}
 use Rattle.profile_machine.specs.Frames.{open_if_ready}
 use Rattle.profile_machine.specs.Handlers.{charge}
-use Rattle.profile_machine.specs.Instant.{timers_due, script_items, quantum_spent, moments_due, is_over, instant, finish_action, events_due, effect_of_runner, effect, budgets_due}
+use Rattle.profile_machine.specs.Instant.{timers_due, script_items, quantum_spent, moments_due, is_over, instant}
+use Rattle.profile_machine.specs.Instant.{finish_action, events_due, effect_of_runner, effect, budgets_due}
 use Rattle.profile_machine.specs.Masters.{waits_at_terminate, may_terminate, leave_by_terminate}
-use Rattle.profile_machine.specs.Run.{with_serving, tock, spend_tick, serve_if_free, serve, says_run, says_idle, say, opens, opening, one_tick_less, next_tick, environment_task, environment, blank_world, begin_action}
+use Rattle.profile_machine.specs.Run.{with_serving, tock, spend_tick, serve_if_free, serve, says_run, says_idle, say, opens}
+use Rattle.profile_machine.specs.Run.{opening, one_tick_less, next_tick, environment_task, environment, blank_world, begin_action}
 use Rattle.profile_machine.specs.Scopes.{plainly}
 use Rattle.profile_machine.specs.Steps.{◌▶◌, when, settles, settled, rests, placed_by, nothing, looks, for_each, changes, Move, Done, done}
 use Rattle.profile_machine.specs.Tasking.{unwind_all, take_terminates, block_at_terminate}
@@ -69,7 +71,8 @@ module _ (a : Who) where
   none_excused : (w : World) → waits_at_terminate (waiting_of w a) ≡ false → (t : TaskNo) → excused a t (waiting_of w (who.Task t)) ≡ false
   none_excused w none t =
       by_test (same_who (who.Task t) a)
-      (λ e. let state : waiting_of w (who.Task t) ≡ waiting_of w a = ap (waiting_of w) (who_path (who.Task t) a e) in and_no (same_who (who.Task t) a) (ap waits_at_terminate state ∙ none))
+      (λ e. let state : waiting_of w (who.Task t) ≡ waiting_of w a = ap (waiting_of w) (who_path (who.Task t) a e) in
+      and_no (same_who (who.Task t) a) (ap waits_at_terminate state ∙ none))
       (λ e. ap (λ b. b && waits_at_terminate (waiting_of w (who.Task t))) e) where
         and_no : (b : Bool) {c : Bool} → c ≡ false → (b && c) ≡ false
         and_no true e = e
@@ -94,11 +97,13 @@ module _ (a : Who) where
         },
       )
 
-  where-led : (w : World) (waiting : Waiting) (test : Bool) → Good w → waiting_of w a ≡ Some waiting → waits_at_terminate (Some waiting) ≡ test → From (Led (excused a) nobody_excused) w (when test (says_block TheBlock a waiting))
+  where-led : (w : World) (waiting : Waiting) (test : Bool) → Good w → waiting_of w a ≡ Some waiting → waits_at_terminate (Some waiting) ≡ test
+      → From (Led (excused a) nobody_excused) w (when test (says_block TheBlock a waiting))
   where-led w waiting true good is e = blocks-led w waiting good
   where-led w waiting false good is e = nothing-led w good (ap waits_at_terminate is ∙ e)
 
-  block_at-led : (w : World) (waiting : Option Waiting) → Good w → waiting_of w a ≡ waiting → From (Led (excused a) nobody_excused) w (block_at_terminate a waiting)
+  block_at-led : (w : World) (waiting : Option Waiting) → Good w → waiting_of w a ≡ waiting
+      → From (Led (excused a) nobody_excused) w (block_at_terminate a waiting)
   unfolding block_at_terminate
   block_at-led w None good is = nothing-led w good (ap waits_at_terminate is)
   block_at-led w (Some waiting) good is = where-led w waiting (waits_at_terminate (Some waiting)) good is refl
@@ -119,10 +124,12 @@ module _ (a : Who) where
   unfolding effect
   effect-led p w good idle =
       then_to-from (Moved nobody_excused (Idle a)) (Whole) (Whole) (changes (edit_task a (with_ticks None))) _ w
-      (moved-from nobody_excused (Idle a) (changes (edit_task a (with_ticks None))) w (good, idle) (changes-keeps (chains (acting a)) _ (edit_task-alters (acting a) a (with_ticks None) (λ u. refl) (λ u. refl) (λ u. refl))))
+      (moved-from nobody_excused (Idle a) (changes (edit_task a (with_ticks None))) w (good, idle)
+      (changes-keeps (chains (acting a)) _ (edit_task-alters (acting a) a (with_ticks None) (λ u. refl) (λ u. refl) (λ u. refl))))
       (λ v xs k.
       led_then-from nobody_excused (excused a) nobody_excused (act p a) _ v (act-ends p a v (k.good, k.extra)) (λ u good_u.
-      led_then-from (excused a) (excused a) nobody_excused (open_if_ready p a) _ u (moved-led (excused a) AnyWorld (open_if_ready p a) u (good_u, tt) (open_if_ready-keeps choosing p a)) (λ x good_x.
+      led_then-from (excused a) (excused a) nobody_excused (open_if_ready p a) _ u
+      (moved-led (excused a) AnyWorld (open_if_ready p a) u (good_u, tt) (open_if_ready-keeps choosing p a)) (λ x good_x.
       led_then-from (excused a) nobody_excused nobody_excused (take_terminates p a) (unwind_all p a) x (terminates-led p x good_x) (λ y good_y.
       moved-led nobody_excused AnyWorld (unwind_all p a) y (good_y, tt) (unwind_all-keeps resting p a)))))
       (λ v u xs zs m n. record { good = n.good; follows = follows_then nobody_excused nobody_excused nobody_excused w v u xs zs m.follows n.follows })
@@ -147,14 +154,18 @@ settled-good lines w h = record { awaited = h.awaited; numbered = h.numbered; ow
 settled-came : (p : Image) (w : World) (d : Done) → Kept (Led nobody_excused nobody_excused) w [] d → Came w (settled p d).1 (settled p d).0
 unfolding Kept
 settled-came p w (done v ys) k =
-    subst (λ xs. Came w (lines_of p xs) (placed_by (lines_of p xs) v)) (sym k.1) (record { good = settled-good (lines_of p k.0) v k.2.good; unplaces = settled-unplaces nobody_excused nobody_excused p w v k.0 k.2.follows })
+    subst (λ xs. Came w (lines_of p xs) (placed_by (lines_of p xs) v)) (sym k.1)
+    (record { good = settled-good (lines_of p k.0) v k.2.good; unplaces = settled-unplaces nobody_excused nobody_excused p w v k.0 k.2.follows })
 
-effect-came : (p : Image) (a : Who) (test : Bool) (w : World) → Good w → Idle a w → let e = (elim test as (λ _. Move) [ true ↦ settles p (effect p a) | false ↦ rests ]) w in Came w e.1 e.0
+effect-came : (p : Image) (a : Who) (test : Bool) (w : World) → Good w → Idle a w →
+    let e = (elim test as (λ _. Move) [ true ↦ settles p (effect p a) | false ↦ rests ]) w in
+    Came w e.1 e.0
 unfolding From
 effect-came p a true w good idle = settled-came p w (effect p a w []) (effect-led a p w good idle [])
 effect-came p a false w good idle = came-rests w good
 
-runner-came : (p : Image) (ran : Option Who) (w : World) → Good w → ((name : Who) → ran ≡ Some name → Idle name w) → Came w (effect_of_runner p ran w).1 (effect_of_runner p ran w).0
+runner-came : (p : Image) (ran : Option Who) (w : World) → Good w → ((name : Who) → ran ≡ Some name → Idle name w)
+    → Came w (effect_of_runner p ran w).1 (effect_of_runner p ran w).0
 runner-came p None w good idle = came-rests w good
 runner-came p (Some name) w good idle = effect-came p name (is_over (task_of w name).ticks_left) w good (idle name refl)
 
@@ -177,11 +188,17 @@ Stays w v = Moved nobody_excused AnyWorld w [] v
 stays_then : (a b c : World) → Stays a b → Stays b c → Stays a c
 stays_then a b c p q = resting.goes_on a b c p q
 
-serving-stays : (serving : Option Release) (frames : List Frame) (releases : List Release) (w : World) → Good w → Stays w (serve_if_free serving frames releases w).0
+serving-stays : (serving : Option Release) (frames : List Frame) (releases : List Release) (w : World) → Good w
+    → Stays w (serve_if_free serving frames releases w).0
 serving-stays None [] [] w good = resting.stays w (good, tt)
 serving-stays None [] (r ∷ rest) w good = takes_up r rest w good where
   takes_up : (r : Release) (rest : List Release) (w : World) → Good w → Stays w (with_serving r rest w)
-  takes_up r rest w good = record { good = record { awaited = good.awaited; numbered = good.numbered; owned = good.owned }; extra = tt; later = record { delays = λ t d. d; callers = λ c n h. h }; follows = λ t d x. inl (d, refl, tt) }
+  takes_up r rest w good = record {
+    good = record { awaited = good.awaited; numbered = good.numbered; owned = good.owned };
+    extra = tt;
+    later = record { delays = λ t d. d; callers = λ c n h. h };
+    follows = λ t d x. inl (d, refl, tt);
+  }
 serving-stays None (f ∷ fs) releases w good = resting.stays w (good, tt)
 serving-stays (Some r) frames releases w good = resting.stays w (good, tt)
 
@@ -201,11 +218,13 @@ charged-stays : (p : Image) (name : Who) (w : World) → Good w → Stays w (spe
 unfolding Alters
 charged-stays p name w good =
     let begun = begin_action p name w in
-    let first = resting.edits_task name (with_ticks (Some (unwrap_or (task_of w name).ticks_left (cost p w name)))) w (good, tt) (λ t. refl) (λ t. refl) (λ t. refl) in
+    let first =
+    resting.edits_task name (with_ticks (Some (unwrap_or (task_of w name).ticks_left (cost p w name)))) w (good, tt) (λ t. refl) (λ t. refl) (λ t. refl) in
     let charged = charge p name begun in
     let second = charge-alters resting p name begun (first.good, tt) in
     stays_then w begun (spend_tick name charged) first
-    (stays_then begun charged (spend_tick name charged) second (resting.edits_task name (λ t. with_ticks (one_tick_less t.ticks_left) t) charged (second.good, tt) (λ t. refl) (λ t. refl) (λ t. refl)))
+    (stays_then begun charged (spend_tick name charged) second
+    (resting.edits_task name (λ t. with_ticks (one_tick_less t.ticks_left) t) charged (second.good, tt) (λ t. refl) (λ t. refl) (λ t. refl)))
 
 before_tick-stays : (p : Image) (chosen : Option Who) (w : World) → Good w → Stays w (before_tick p chosen w).0
 before_tick-stays p None w good = says_idle-stays w.ran w good
@@ -244,7 +263,9 @@ tock-between p w good unplaced =
     let is : (tock p w).0 ≡ v = ap (λ (x : World × List Event). x.0) (tock-parts p w) in
     subst Between (sym is) (record {
       good = record { awaited = k.good.awaited; numbered = k.good.numbered; owned = k.good.owned };
-      unplaced = λ t d. ap (λ (u : World). is_placed (who.Task t) u.places) (sym is) ∙ ap (is_placed (who.Task t)) (tocks_place_nobody p w) ∙ unplaced t (k.later.delays t d);
+      unplaced =
+          λ t d.
+          ap (λ (u : World). is_placed (who.Task t) u.places) (sym is) ∙ ap (is_placed (who.Task t)) (tocks_place_nobody p w) ∙ unplaced t (k.later.delays t d);
       idle = λ name e. idle-ticked name v w (λ t d. k.later.delays t d) (chosen-idle name w unplaced e);
     }) where
       idle-ticked : (name : Who) (v w : World) → ((t : TaskNo) → delayed t v ≡ true → delayed t w ≡ true) → Idle name w → Idle name v
@@ -274,9 +295,11 @@ opens-keeps p =
     (then-keeps (chains moves) _ _ (says-keeps moves Own (said.New (created.Task (record { 0 = 0 })) None p.main.priority) refl)
     (then-keeps (chains moves) _ _ (to_tail-keeps moves p Own environment refl) (open_sequence-keeps moves p Own environment)))
 
-opening-moved : (p : Image) (script : List (ℤ × Item)) → MovedOn nobody_excused (Idle environment) (blank_world p script) (opening p script).1 (opening p script).0
+opening-moved : (p : Image) (script : List (ℤ × Item))
+    → MovedOn nobody_excused (Idle environment) (blank_world p script) (opening p script).1 (opening p script).0
 unfolding Leads
-opening-moved p script = effect-leads (acting environment) p (opens p) (opens-keeps p) (blank_world p script) (blank-good p script, blank-idle p script environment)
+opening-moved p script =
+    effect-leads (acting environment) p (opens p) (opens-keeps p) (blank_world p script) (blank-good p script, blank-idle p script environment)
 
 opening-between : (p : Image) (script : List (ℤ × Item)) → Between (opening p script).0
 opening-between p script =

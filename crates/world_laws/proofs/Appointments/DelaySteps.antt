@@ -28,14 +28,17 @@ use Rattle.profile_machine.specs.Frames.{top_of, raise_if, in_protected, goes_on
 use Rattle.profile_machine.specs.Operators.{held_moment, Valued}
 use Rattle.profile_machine.specs.Priorities.{says_deadline, delay_with_deadline, delay_and_set_deadline}
 use Rattle.profile_image.specs.Program.{next_of, form_of}
-use Rattle.profile_machine.specs.Rendezvous.{wait_at_select, selective_accept, select_wait, select_otherwise, select_open, select_delay, select_by_call, queues_of_accepts, open_delays, open_alternatives, open_accepts, least_delay, is_closed, has_terminate, appoint_delay}
+use Rattle.profile_machine.specs.Rendezvous.{wait_at_select, selective_accept, select_wait, select_otherwise, select_open}
+use Rattle.profile_machine.specs.Rendezvous.{select_delay, select_by_call, queues_of_accepts, open_delays, open_alternatives}
+use Rattle.profile_machine.specs.Rendezvous.{open_accepts, least_delay, is_closed, has_terminate, appoint_delay}
 use Rattle.profile_machine.specs.Statements.{wait_until, relative_moment, delay_until, delay_to}
 use Rattle.profile_machine.specs.Steps.{changes, ◌▷◌, says, nothing, Step}
 use Rattle.profile_machine.specs.Tasks.{with_frames, task_at, nobody, edit_task}
 use Rattle.profile_machine.specs.Values.{moment, seen_by}
 use Rattle.world_tables.specs.Lists.{first_of}
 use Rattle.machine_laws.proofs.Moves.{StepRelation}
-use Rattle.world_laws.proofs.Appointments.ActingEnds.{wait_until-ends, select_waits-ends, raise_if-ends, present-edited, plain, looks_at-ends, given-ends, excused, acting, Present, IsActor, Ends, Acting}
+use Rattle.world_laws.proofs.Appointments.ActingEnds.{wait_until-ends, select_waits-ends, raise_if-ends, present-edited, plain}
+use Rattle.world_laws.proofs.Appointments.ActingEnds.{looks_at-ends, given-ends, excused, acting, Present, IsActor, Ends, Acting}
 use Rattle.world_laws.proofs.Appointments.DelayMoves.{nobody_excused, follows_then, fine, MovedOn, Moved, Lasting, GoodAs}
 use Rattle.world_laws.proofs.Appointments.Delays.{natures, nature, idle-later, OwnIn, Idle, Good}
 use Rattle.ceiling_laws.proofs.Fine.Cores.{CallerIn, Caller}
@@ -58,19 +61,25 @@ module _ (a : Who) where
       then_to-from (Here) (Led nobody_excused (excused a)) (Led nobody_excused (excused a)) f g w k (λ v xs h. next v (h.0.good, h.0.extra) h.1)
       (λ v u xs zs h n. record { good = n.good; follows = follows_then nobody_excused nobody_excused (excused a) w v u xs zs h.0.follows n.follows })
 
-  edit-here : (f : Task → Task) (w : World) → ((t : Task) → (f t).who ≡ t.who) → Present a w → Moved nobody_excused (Idle a) w [] (edit_task a f w) → From Here w (changes (edit_task a f))
+  edit-here : (f : Task → Task) (w : World) → ((t : Task) → (f t).who ≡ t.who) → Present a w → Moved nobody_excused (Idle a) w [] (edit_task a f w)
+      → From Here w (changes (edit_task a f))
   unfolding From Kept
   edit-here f w same here k said_before = ([], sym (append-nil said_before), (k, present-edited a f w same here))
 
   goes-here : (onward : Option StatementNo) (w : World) → Acting a w → Present a w → From Here w (goes a onward)
   unfolding goes Alters
-  goes-here onward w good here = edit-here (λ t. with_frames (edit_first (goes_on onward) t.frames) t) w (λ t. refl) here (edit_top-alters (acting a) a (goes_on onward) (λ x. refl) w good)
+  goes-here onward w good here =
+      edit-here (λ t. with_frames (edit_first (goes_on onward) t.frames) t) w (λ t. refl) here
+      (edit_top-alters (acting a) a (goes_on onward) (λ x. refl) w good)
 
-  goes_then : (onward : Option StatementNo) (g : Step) (w : World) → Acting a w → Present a w → ((v : World) → Acting a v → Present a v → Ends a v g) → Ends a w (goes a onward ▷ g)
+  goes_then : (onward : Option StatementNo) (g : Step) (w : World) → Acting a w → Present a w → ((v : World) → Acting a v → Present a v → Ends a v g)
+      → Ends a w (goes a onward ▷ g)
   goes_then onward g w good here k = here_then (goes a onward) g w (goes-here onward w good here) k
 
   deadline-here : (d : ℤ) (w : World) → Acting a w → Present a w → From Here w (changes (edit_task a (λ t. record t { deadline = d })))
-  deadline-here d w good here = edit-here (λ t. record t { deadline = d }) w (λ t. refl) here ((acting a).edits_task a (λ t. record t { deadline = d }) w good (λ t. refl) (λ t. refl) (λ t. refl))
+  deadline-here d w good here =
+      edit-here (λ t. record t { deadline = d }) w (λ t. refl) here
+      ((acting a).edits_task a (λ t. record t { deadline = d }) w good (λ t. refl) (λ t. refl) (λ t. refl))
 
   says-here : (part : Part) (line : Line) (w : World) → is_apart line ≡ false → Acting a w → Present a w → From Here w (says part line)
   unfolding From Kept
@@ -90,19 +99,22 @@ says_deadline-here who.Agent part d w good here = silent-here who.Agent w good h
 wait-ends : (p : Image) (a : Who) (until : ℤ) (test : Bool) (w : World) → Acting a w → Present a w → Ends a w (wait_until p a until test)
 unfolding wait_until
 wait-ends p (who.Task t) until true w good here = wait_until-ends t until w good.0 here
-wait-ends p (who.Task t) until false w good here = plain (who.Task t) (to_tail p ThePlacing (who.Task t)) w good (to_tail-keeps (acting (who.Task t)) p ThePlacing (who.Task t) refl)
+wait-ends p (who.Task t) until false w good here =
+    plain (who.Task t) (to_tail p ThePlacing (who.Task t)) w good (to_tail-keeps (acting (who.Task t)) p ThePlacing (who.Task t) refl)
 wait-ends p who.Agent until test w good here = plain who.Agent nothing w good (nothing-keeps (chains (acting who.Agent)))
 
 module _ (p : Image) (a : Who) where
   delay_to-ends : (until : ℤ) (w : World) → Acting a w → Present a w → Ends a w (delay_to p a until)
   unfolding delay_to
-  delay_to-ends until w good here = looks_at-ends a (λ v. wait_until p a until (int_lt (pos v.time) until)) w (wait-ends p a until (int_lt (pos w.time) until) w good here)
+  delay_to-ends until w good here =
+      looks_at-ends a (λ v. wait_until p a until (int_lt (pos v.time) until)) w (wait-ends p a until (int_lt (pos w.time) until) w good here)
 
   delay_until-ends : (s : StatementNo) (until : Valued ℤ) (w : World) → Acting a w → Present a w → Ends a w (delay_until p a s until)
   unfolding delay_until
   delay_until-ends s until w good here =
       looks_at-ends a (λ v. raise_if a (in_protected v a) exception.Program (given Own a until (λ m. goes a (next_of p s) ▷ delay_to p a m))) w
-      (raise_if-ends a (in_protected w a) exception.Program _ w good (given-ends a until _ w good (λ m. goes_then a (next_of p s) (delay_to p a m) w good here (λ v good_v here_v. delay_to-ends m v good_v here_v))))
+      (raise_if-ends a (in_protected w a) exception.Program _ w good
+      (given-ends a until _ w good (λ m. goes_then a (next_of p s) (delay_to p a m) w good here (λ v good_v here_v. delay_to-ends m v good_v here_v))))
 
   delay_with_deadline-ends : (s : StatementNo) (until offset : ℤ) (w : World) → Acting a w → Present a w → Ends a w (delay_with_deadline p a s until offset)
   unfolding delay_with_deadline
@@ -110,66 +122,97 @@ module _ (p : Image) (a : Who) where
       let d = held_moment (until +ℤ offset) in
       goes_then a (next_of p s) _ w good here (λ v good_v here_v.
       here_then a (changes (edit_task a (λ t. record t { deadline = d }))) _ v (deadline-here a d v good_v here_v) (λ u good_u here_u.
-      here_then a (says_deadline Own a d) (delay_to p a until) u (says_deadline-here a Own d u good_u here_u) (λ x good_x here_x. delay_to-ends until x good_x here_x)))
+      here_then a (says_deadline Own a d) (delay_to p a until) u (says_deadline-here a Own d u good_u here_u)
+      (λ x good_x here_x. delay_to-ends until x good_x here_x)))
 
-  delay_and_set_deadline-ends : (s : StatementNo) (until offset : ExprNo) (w : World) → Acting a w → Present a w → Ends a w (delay_and_set_deadline p a s until offset)
+  delay_and_set_deadline-ends : (s : StatementNo) (until offset : ExprNo) (w : World) → Acting a w → Present a w
+      → Ends a w (delay_and_set_deadline p a s until offset)
   unfolding delay_and_set_deadline
   delay_and_set_deadline-ends s until offset w good here =
-      looks_at-ends a (λ v. raise_if a (in_protected v a) exception.Program (given Own a (moment (seen_by p v a) until) (λ m. given Own a (moment (seen_by p v a) offset) (λ o. delay_with_deadline p a s m o)))) w
-      (raise_if-ends a (in_protected w a) exception.Program _ w good (given-ends a (moment (seen_by p w a) until) _ w good (λ m. given-ends a (moment (seen_by p w a) offset) _ w good (λ o. delay_with_deadline-ends s m o w good here))))
+      looks_at-ends a
+      (λ v. raise_if a (in_protected v a) exception.Program
+      (given Own a (moment (seen_by p v a) until) (λ m. given Own a (moment (seen_by p v a) offset) (λ o. delay_with_deadline p a s m o)))) w
+      (raise_if-ends a (in_protected w a) exception.Program _ w good
+      (given-ends a (moment (seen_by p w a) until) _ w good
+      (λ m. given-ends a (moment (seen_by p w a) offset) _ w good (λ o. delay_with_deadline-ends s m o w good here))))
 
 -- ---- selects
 
-waits_for-ends : (a : Who) (m : ℤ) (accepts : List StatementNo) (delay : StatementNo) (terminate : Bool) (w : World) → Acting a w → Present a w → Ends a w (changes (appoint_delay a m) ▷ wait_at_select a accepts (Some delay) terminate)
+waits_for-ends : (a : Who) (m : ℤ) (accepts : List StatementNo) (delay : StatementNo) (terminate : Bool) (w : World) → Acting a w → Present a w
+    → Ends a w (changes (appoint_delay a m) ▷ wait_at_select a accepts (Some delay) terminate)
 waits_for-ends (who.Task t) m accepts delay terminate w good here = select_waits-ends t m accepts delay terminate w good.0 here
 waits_for-ends who.Agent m accepts delay terminate w good here =
-    plain who.Agent _ w good (then-keeps (chains (acting who.Agent)) (changes (λ v. v)) _ (changes-keeps (chains (acting who.Agent)) (λ v. v) (unchanged-alters (chains (acting who.Agent)))) (wait_at_select-keeps (acting who.Agent) who.Agent accepts (Some delay) terminate refl))
+    plain who.Agent _ w good
+    (then-keeps (chains (acting who.Agent)) (changes (λ v. v)) _
+    (changes-keeps (chains (acting who.Agent)) (λ v. v) (unchanged-alters (chains (acting who.Agent))))
+    (wait_at_select-keeps (acting who.Agent) who.Agent accepts (Some delay) terminate refl))
 
 module _ (p : Image) (a : Who) where
-  select_delay-ends : (s : StatementNo) (accepts : List StatementNo) (m : DelayMoment) (terminate test : Bool) (w : World) → Acting a w → Present a w → Ends a w (select_delay p a s accepts m terminate test)
+  select_delay-ends : (s : StatementNo) (accepts : List StatementNo) (m : DelayMoment) (terminate test : Bool) (w : World) → Acting a w → Present a w
+      → Ends a w (select_delay p a s accepts m terminate test)
   unfolding select_delay
   select_delay-ends s accepts m terminate true w good here = plain a (goes a (next_of p m.delay)) w good (goes-keeps (acting a) a (next_of p m.delay))
-  select_delay-ends s accepts m terminate false w good here = goes_then a (next_of p s) _ w good here (λ v good_v here_v. waits_for-ends a m.at accepts m.delay terminate v good_v here_v)
+  select_delay-ends s accepts m terminate false w good here =
+      goes_then a (next_of p s) _ w good here (λ v good_v here_v. waits_for-ends a m.at accepts m.delay terminate v good_v here_v)
 
-  select_wait-ends : (s : StatementNo) (accepts : List StatementNo) (terminate : Bool) (moment : Option DelayMoment) (w : World) → Acting a w → Present a w → Ends a w (select_wait p a s accepts terminate moment)
+  select_wait-ends : (s : StatementNo) (accepts : List StatementNo) (terminate : Bool) (moment : Option DelayMoment) (w : World) → Acting a w → Present a w
+      → Ends a w (select_wait p a s accepts terminate moment)
   unfolding select_wait
-  select_wait-ends s accepts terminate None w good here = plain a _ w good (then-keeps (chains (acting a)) (goes a (next_of p s)) _ (goes-keeps (acting a) a (next_of p s)) (wait_at_select-keeps (acting a) a accepts None terminate refl))
-  select_wait-ends s accepts terminate (Some m) w good here = looks_at-ends a (λ v. select_delay p a s accepts m terminate (int_le m.at (pos v.time))) w (select_delay-ends s accepts m terminate (int_le m.at (pos w.time)) w good here)
+  select_wait-ends s accepts terminate None w good here =
+      plain a _ w good
+      (then-keeps (chains (acting a)) (goes a (next_of p s)) _ (goes-keeps (acting a) a (next_of p s))
+      (wait_at_select-keeps (acting a) a accepts None terminate refl))
+  select_wait-ends s accepts terminate (Some m) w good here =
+      looks_at-ends a (λ v. select_delay p a s accepts m terminate (int_le m.at (pos v.time))) w
+      (select_delay-ends s accepts m terminate (int_le m.at (pos w.time)) w good here)
 
-  select_otherwise-ends : (s : StatementNo) (kinds : List SelectKind) (m : Option DelayMoment) (next : Option StatementNo) (w : World) → Acting a w → Present a w → Ends a w (select_otherwise p a s kinds m next)
+  select_otherwise-ends : (s : StatementNo) (kinds : List SelectKind) (m : Option DelayMoment) (next : Option StatementNo) (w : World) → Acting a w
+      → Present a w → Ends a w (select_otherwise p a s kinds m next)
   unfolding select_otherwise
   select_otherwise-ends s kinds m (Some otherwise) w good here = plain a (goes a (Some otherwise)) w good (goes-keeps (acting a) a (Some otherwise))
   select_otherwise-ends s kinds m None w good here = select_wait-ends s (open_accepts kinds) (has_terminate kinds) m w good here
 
-  select_by_call-ends : (s : StatementNo) (kinds : List SelectKind) (m : Option DelayMoment) (otherwise : Option StatementNo) (c : Option CallNo) (w : World) → Acting a w → Present a w → Ends a w (select_by_call p a s kinds m otherwise c)
+  select_by_call-ends : (s : StatementNo) (kinds : List SelectKind) (m : Option DelayMoment) (otherwise : Option StatementNo) (c : Option CallNo) (w : World)
+      → Acting a w → Present a w → Ends a w (select_by_call p a s kinds m otherwise c)
   unfolding select_by_call
   select_by_call-ends s kinds m otherwise (Some c) w good here = plain a _ w good (accept_chosen-keeps (acting a) p a (open_accepts kinds) c refl)
   select_by_call-ends s kinds m otherwise None w good here = select_otherwise-ends s kinds m otherwise w good here
 
-  select_open-ends : (s : StatementNo) (otherwise : Option StatementNo) (kinds : List SelectKind) (moments : List DelayMoment) (w : World) → Acting a w → Present a w → Ends a w (select_open p a s otherwise kinds moments)
+  select_open-ends : (s : StatementNo) (otherwise : Option StatementNo) (kinds : List SelectKind) (moments : List DelayMoment) (w : World) → Acting a w
+      → Present a w → Ends a w (select_open p a s otherwise kinds moments)
   unfolding select_open
   select_open-ends s otherwise kinds moments w good here =
       raise_if-ends a (is_closed kinds otherwise) exception.Program _ w good
       (looks_at-ends a (λ v. select_by_call p a s kinds (least_delay moments) otherwise (next_call p v (queues_of_accepts p v a (open_accepts kinds)))) w
       (select_by_call-ends s kinds (least_delay moments) otherwise (next_call p w (queues_of_accepts p w a (open_accepts kinds))) w good here))
 
-  selective_accept-ends : (s : StatementNo) (alternatives : List SelectAlternative) (otherwise : Option StatementNo) (w : World) → Acting a w → Present a w → Ends a w (selective_accept p a s alternatives otherwise)
+  selective_accept-ends : (s : StatementNo) (alternatives : List SelectAlternative) (otherwise : Option StatementNo) (w : World) → Acting a w → Present a w
+      → Ends a w (selective_accept p a s alternatives otherwise)
   unfolding selective_accept
   selective_accept-ends s alternatives otherwise w good here =
-      looks_at-ends a (λ v. raise_if a (in_protected v a) exception.Program (given Own a (open_alternatives (seen_by p v a) alternatives) (λ kinds. given Own a (open_delays (seen_by p v a) kinds) (select_open p a s otherwise kinds)))) w
-      (raise_if-ends a (in_protected w a) exception.Program _ w good (given-ends a (open_alternatives (seen_by p w a) alternatives) _ w good (λ kinds. given-ends a (open_delays (seen_by p w a) kinds) _ w good (λ moments. select_open-ends s otherwise kinds moments w good here))))
+      looks_at-ends a
+      (λ v. raise_if a (in_protected v a) exception.Program
+      (given Own a (open_alternatives (seen_by p v a) alternatives)
+      (λ kinds. given Own a (open_delays (seen_by p v a) kinds) (select_open p a s otherwise kinds)))) w
+      (raise_if-ends a (in_protected w a) exception.Program _ w good
+      (given-ends a (open_alternatives (seen_by p w a) alternatives) _ w good
+      (λ kinds. given-ends a (open_delays (seen_by p w a) kinds) _ w good (λ moments. select_open-ends s otherwise kinds moments w good here))))
 
   -- ---- an action
 
-  delay_form-ends : (s : StatementNo) (form : StatementForm) (w : World) → is_delay_form form ≡ true → Acting a w → Present a w → Ends a w (act_statement p a s form)
+  delay_form-ends : (s : StatementNo) (form : StatementForm) (w : World) → is_delay_form form ≡ true → Acting a w → Present a w
+      → Ends a w (act_statement p a s form)
   unfolding act_statement
-  delay_form-ends s (form.Delay e) w is good here = looks_at-ends a (λ v. delay_until p a s (relative_moment (seen_by p v a) e)) w (delay_until-ends p a s (relative_moment (seen_by p w a) e) w good here)
-  delay_form-ends s (form.DelayUntil e) w is good here = looks_at-ends a (λ v. delay_until p a s (moment (seen_by p v a) e)) w (delay_until-ends p a s (moment (seen_by p w a) e) w good here)
+  delay_form-ends s (form.Delay e) w is good here =
+      looks_at-ends a (λ v. delay_until p a s (relative_moment (seen_by p v a) e)) w (delay_until-ends p a s (relative_moment (seen_by p w a) e) w good here)
+  delay_form-ends s (form.DelayUntil e) w is good here =
+      looks_at-ends a (λ v. delay_until p a s (moment (seen_by p v a) e)) w (delay_until-ends p a s (moment (seen_by p w a) e) w good here)
   delay_form-ends s (form.SelectiveAccept alternatives otherwise) w is good here = selective_accept-ends s alternatives otherwise w good here
   delay_form-ends s (form.DelayUntilAndSetDeadline until offset) w is good here = delay_and_set_deadline-ends p a s until offset w good here
   delay_form-ends s _ w is good here = absurd (true≢false (sym is))
 
-  statement-ends : (s : StatementNo) (form : StatementForm) (test : Bool) (w : World) → is_delay_form form ≡ test → Acting a w → Present a w → Ends a w (act_statement p a s form)
+  statement-ends : (s : StatementNo) (form : StatementForm) (test : Bool) (w : World) → is_delay_form form ≡ test → Acting a w → Present a w
+      → Ends a w (act_statement p a s form)
   statement-ends s form true w is good here = delay_form-ends s form w is good here
   statement-ends s form false w is good here = plain a _ w good (act_plain-keeps (acting a) p a s form refl is)
 
@@ -183,7 +226,8 @@ module _ (p : Image) (a : Who) where
 
   top-owned : (w : World) (f : Frame) → Good w → top_of w a ≡ Some f → (c : CallNo) → nature f.mark ≡ Some c → Caller c a w
   top-owned w f good e c is = first_owned (frames_of w a) f (good.owned a) e c is where
-    first_owned : (fs : List Frame) (g : Frame) → OwnIn w.calls w.drawn.calls a (natures fs) → first_of fs ≡ Some g → (k : CallNo) → nature g.mark ≡ Some k → CallerIn w.calls w.drawn.calls k a
+    first_owned : (fs : List Frame) (g : Frame) → OwnIn w.calls w.drawn.calls a (natures fs) → first_of fs ≡ Some g → (k : CallNo) → nature g.mark ≡ Some k
+        → CallerIn w.calls w.drawn.calls k a
     first_owned [] g h e k is = absurd cc
     first_owned (x ∷ fs) g h e k is = let same : x ≡ g = cc in h.0 k (ap (λ (y : Frame). nature y.mark) same ∙ is)
 
@@ -200,7 +244,8 @@ module _ (p : Image) (a : Who) where
   mark-ends : (f : Frame) (w : World) → Acting a w → top_of w a ≡ Some f → Ends a w (end_mark p a f f.mark)
   mark-ends f w good top =
       to-from (Moved nobody_excused (Knows f)) (Led nobody_excused (excused a)) (end_mark p a f f.mark) w
-      (moved-from nobody_excused (Knows f) (end_mark p a f f.mark) w (good.0, (good.1, top-owned w f good.0 top)) (end_mark-keeps (knowing f) p a f f.mark refl (λ v h c e. h.1.1 c e)))
+      (moved-from nobody_excused (Knows f) (end_mark p a f f.mark) w (good.0, (good.1, top-owned w f good.0 top))
+      (end_mark-keeps (knowing f) p a f f.mark refl (λ v h c e. h.1.1 c e)))
       (λ v xs k. record { good = k.good; follows = λ t d x. k.follows t d refl })
 
   frame-ends : (f : Frame) (next : Option StatementNo) (w : World) → Acting a w → top_of w a ≡ Some f → Ends a w (act_frame p a f next)

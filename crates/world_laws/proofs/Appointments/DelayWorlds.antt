@@ -15,13 +15,16 @@ use Rattle.world_laws.specs.AppointmentWorlds.{delay_is_awaited, ReachedDelaysAr
 
 -- what is appointed for a task among others is appointed for it
 
-due-awaited : (p : Image) (w : World) (due : Due) → Awaited w → ((t : TaskNo) → is_delay_of t due ≡ true → list_any (λ a. is_delay_of t a.due) w.appointments ≡ true) → delay_is_awaited p w due ≡ true
+due-awaited : (p : Image) (w : World) (due : Due) → Awaited w
+    → ((t : TaskNo) → is_delay_of t due ≡ true → list_any (λ a. is_delay_of t a.due) w.appointments ≡ true) → delay_is_awaited p w due ≡ true
 due-awaited p w (due_for.Event n h) awaited among = refl
 due-awaited p w (due_for.Delay t) awaited among = awaited t (among t (eq-eqb t.0 t.0 refl))
 due-awaited p w (due_for.Timeout c) awaited among = refl
 due-awaited p w (due_for.Trigger t depth) awaited among = refl
 
-all-awaited : (p : Image) (w : World) (xs : List Appointment) → Awaited w → ((t : TaskNo) → list_any (λ a. is_delay_of t a.due) xs ≡ true → list_any (λ a. is_delay_of t a.due) w.appointments ≡ true) → list_all (λ a. delay_is_awaited p w a.due) xs ≡ true
+all-awaited : (p : Image) (w : World) (xs : List Appointment) → Awaited w
+    → ((t : TaskNo) → list_any (λ a. is_delay_of t a.due) xs ≡ true → list_any (λ a. is_delay_of t a.due) w.appointments ≡ true)
+    → list_all (λ a. delay_is_awaited p w a.due) xs ≡ true
 all-awaited p w [] awaited among = refl
 all-awaited p w (x ∷ xs) awaited among =
     and_from (delay_is_awaited p w x.due) (list_all (λ a. delay_is_awaited p w a.due) xs)

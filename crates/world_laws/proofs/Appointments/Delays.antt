@@ -75,7 +75,8 @@ pub record Later (w v : World) : Type 0 where
 pub later_then : (a b c : World) → Later a b → Later b c → Later a c
 later_then a b c h k = record { delays = λ t d. h.delays t (k.delays t d); callers = λ n name m. k.callers n name (h.callers n name m) }
 
-pub own-on : (calls later : List Call) (last newest : ℕ) (name : Who) (ms : List (Option CallNo)) → ((c : CallNo) → CallerIn calls last c name → CallerIn later newest c name) → OwnIn calls last name ms → OwnIn later newest name ms
+pub own-on : (calls later : List Call) (last newest : ℕ) (name : Who) (ms : List (Option CallNo))
+    → ((c : CallNo) → CallerIn calls last c name → CallerIn later newest c name) → OwnIn calls last name ms → OwnIn later newest name ms
 own-on calls later last newest name [] k h = tt
 own-on calls later last newest name (m ∷ ms) k h = (λ c e. k c (h.0 c e), own-on calls later last newest name ms k h.1)
 

@@ -83,8 +83,10 @@ pub record FineMoves (G : GoodWorld) (May : Naming) (R : StepRelation) (Q : Move
   pub idle_on : (name : Who) (a b : World) {xs : List Said} → R a xs b → Idle name a → Idle name b
   pub called_on : (c : CallNo) (name : Who) (a b : World) {xs : List Said} → R a xs b → Caller c name a → Caller c name b
   -- tasks: an edit of anybody that leaves alone who it is, its marks and its state; one of marks alone
-  pub edits_task : (name : Who) (f : Task → Task) (w : World) → G w → ((t : Task) → (f t).who ≡ t.who) → ((t : Task) → (f t).frames ≡ t.frames) → ((t : Task) → (f t).state ≡ t.state) → R w [] (edit_task name f w)
-  pub edits_frames : (name : Who) (f : List Frame → List Frame) (w : World) → G w → ((fs : List Frame) → natures (f fs) ≡ natures fs) → R w [] (edit_task name (λ t. with_frames (f t.frames) t) w)
+  pub edits_task : (name : Who) (f : Task → Task) (w : World) → G w → ((t : Task) → (f t).who ≡ t.who) → ((t : Task) → (f t).frames ≡ t.frames)
+      → ((t : Task) → (f t).state ≡ t.state) → R w [] (edit_task name f w)
+  pub edits_frames : (name : Who) (f : List Frame → List Frame) (w : World) → G w → ((fs : List Frame) → natures (f fs) ≡ natures fs)
+      → R w [] (edit_task name (λ t. with_frames (f t.frames) t) w)
   -- a mark is opened, with a call of its own or without one; and one ends
   pub pushes : (name : Who) (f : Frame) (w : World) → G w → ((c : CallNo) → nature f.mark ≡ Some c → Caller c name w) → R w [] (push name f w)
   pub pops : (name : Who) (w : World) → G w → R w [] (pop name w)
@@ -92,7 +94,8 @@ pub record FineMoves (G : GoodWorld) (May : Naming) (R : StepRelation) (Q : Move
   pub readies : (name : Who) (w : World) → G w → Idle name w → R w [] (edit_task name (with_state Runnable) w)
   pub blocks : (name : Who) (waiting : Waiting) (w : World) → G w → Idle name w → R w [] (edit_task name (with_state (Blocked waiting)) w)
   pub places : (p : Image) (part : Part) (name : Who) (end : QueueEnd) (w : World) → G w → Idle name w → R w (ready_line p part name end w ∷ []) w
-  pub says_blocked : (part : Part) (name : Who) (waiting : Waiting) (w : World) → G w → R w (record { part = part; line = said.Block name (word_of waiting) } ∷ []) w
+  pub says_blocked : (part : Part) (name : Who) (waiting : Waiting) (w : World) → G w
+      → R w (record { part = part; line = said.Block name (word_of waiting) } ∷ []) w
   -- a new task has the next number, and one for whom nothing is appointed is gone
   pub adds_task : (t : Task) (w : World) → G w → t.who ≡ who.Task (record { 0 = w.drawn.tasks }) → t.frames ≡ [] → R w [] (add_task t w)
   pub forgets_task : (name : Who) (w : World) → G w → Idle name w → R w [] (forget_task name w)
@@ -104,12 +107,15 @@ pub record FineMoves (G : GoodWorld) (May : Naming) (R : StepRelation) (Q : Move
   pub edits_cells : (id : ScopeId) (f : List Value → List Value) (w : World) → G w → R w [] (edit_cells id f w)
   pub ends_scope : (id : ScopeId) (w : World) → G w → R w [] (end_scope id w)
   -- calls: no edit changes the number or the caller
-  pub edits_call : (c : CallNo) (f : Call → Call) (w : World) → G w → ((d : Call) → (f d).number ≡ d.number) → ((d : Call) → (f d).caller ≡ d.caller) → R w [] (edit_call c f w)
+  pub edits_call : (c : CallNo) (f : Call → Call) (w : World) → G w → ((d : Call) → (f d).number ≡ d.number) → ((d : Call) → (f d).caller ≡ d.caller)
+      → R w [] (edit_call c f w)
   pub adds_call : (c : Call) (w : World) → G w → R w [] (add_call c w)
   pub forgets_call : (c : CallNo) (w : World) → G w → R w [] (forget_call c w)
   -- protected objects: no other edit changes the actions that are open
-  pub edits_object : (o : ObjectNo) (f : Object → Object) (w : World) → G w → ((x : Object) → (f x).number ≡ x.number) → ((x : Object) → (f x).actions ≡ x.actions) → R w [] (edit_object o f w)
-  pub adds_object : (p : Image) (l : Located) (u : ProtectedUnitNo) (w : World) → G w → R w [] (record w { objects = new_object p l u (suc w.drawn.objects) ∷ w.objects; drawn = object_drawn w.drawn })
+  pub edits_object : (o : ObjectNo) (f : Object → Object) (w : World) → G w → ((x : Object) → (f x).number ≡ x.number)
+      → ((x : Object) → (f x).actions ≡ x.actions) → R w [] (edit_object o f w)
+  pub adds_object : (p : Image) (l : Located) (u : ProtectedUnitNo) (w : World) → G w
+      → R w [] (record w { objects = new_object p l u (suc w.drawn.objects) ∷ w.objects; drawn = object_drawn w.drawn })
   -- protected actions, and releases
   pub enters : (name : Who) (o : ObjectNo) (mode : Mode) (w : World) → G w → R w [] (open_action name o mode w)
   pub closes : (name : Who) (o : ObjectNo) (w : World) → G w → R w [] (close_action name o w)

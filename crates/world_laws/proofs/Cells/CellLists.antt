@@ -1,6 +1,7 @@
 -- How many cells a list of them has: a scope begins with as many as its text says, and none of the edits of cells changes how many
 -- there are. And what all items of a list have, they have behind an edit of one that keeps it, and without some.
-use Rattle.std.proofs.Common.{◌≡◌, ℕ, zero, suc, ◌+◌, ◌≤◌, Bool, true, false, cond, not, List, [], ◌∷◌, ◌++◌, Option, Some, None, length, slice_set, refl, ap, subst, ◌∙◌, arith}
+use Rattle.std.proofs.Common.{◌≡◌, ℕ, zero, suc, ◌+◌, ◌≤◌, Bool, true, false, cond, not, List, [], ◌∷◌}
+use Rattle.std.proofs.Common.{◌++◌, Option, Some, None, length, slice_set, refl, ap, subst, ◌∙◌, arith}
 use Rattle.std.specs.Prelude.{filter, find, take, drop, replicate, pos}
 use Rattle.std.specs.List.{list_all}
 use Rattle.std.proofs.lemmas.Bool.{and_from, and_parts}
@@ -74,7 +75,8 @@ module _ {X : Type 0} (holds : X → Bool) where
   pub without-all : (test : X → Bool) (xs : List X) → list_all holds xs ≡ true → list_all holds (without test xs) ≡ true
   without-all test xs h = filter-all (λ x. not (test x)) xs h
 
-  set_here-all : (x y : X) (xs ys : List X) (here : Bool) → holds x ≡ true → holds y ≡ true → list_all holds xs ≡ true → list_all holds ys ≡ true → list_all holds (cond here (x ∷ xs) (y ∷ ys)) ≡ true
+  set_here-all : (x y : X) (xs ys : List X) (here : Bool) → holds x ≡ true → holds y ≡ true → list_all holds xs ≡ true → list_all holds ys ≡ true
+      → list_all holds (cond here (x ∷ xs) (y ∷ ys)) ≡ true
   set_here-all x y xs ys true a b c d = and_from (holds x) (list_all holds xs) a c
   set_here-all x y xs ys false a b c d = and_from (holds y) (list_all holds ys) b d
 
@@ -85,7 +87,8 @@ module _ {X : Type 0} (holds : X → Bool) where
       set_here-all x y ys (set_where test x ys) (test y) a parts.0 parts.1 (set_where-all test x ys a parts.1)
 
   -- what is found has it too
-  found_here-all : (x : X) (later : Option X) (here : Bool) (y : X) → holds x ≡ true → ((z : X) → later ≡ Some z → holds z ≡ true) → cond here (Some x) later ≡ Some y → holds y ≡ true
+  found_here-all : (x : X) (later : Option X) (here : Bool) (y : X) → holds x ≡ true → ((z : X) → later ≡ Some z → holds z ≡ true)
+      → cond here (Some x) later ≡ Some y → holds y ≡ true
   found_here-all x later true y a b e = subst (λ (z : Option X). elim z as (λ _. Bool) [ None ↦ true | Some u ↦ holds u ] ≡ true) e a
   found_here-all x later false y a b e = b y e
 
@@ -95,9 +98,11 @@ module _ {X : Type 0} (holds : X → Bool) where
       let parts = and_parts (holds x) (list_all holds xs) h in
       found_here-all x (find test xs) (test x) y parts.0 (λ z. found-all test xs z parts.1) e
 
-  edit_found-all : (test : X → Bool) (f : X → X) (xs : List X) (found : Option X) → find test xs ≡ found → ((x : X) → holds x ≡ true → holds (f x) ≡ true) → list_all holds xs ≡ true → list_all holds (edit_found test f xs found) ≡ true
+  edit_found-all : (test : X → Bool) (f : X → X) (xs : List X) (found : Option X) → find test xs ≡ found → ((x : X) → holds x ≡ true → holds (f x) ≡ true)
+      → list_all holds xs ≡ true → list_all holds (edit_found test f xs found) ≡ true
   edit_found-all test f xs None is kept h = h
   edit_found-all test f xs (Some x) is kept h = set_where-all test (f x) xs (kept x (found-all test xs x h is)) h
 
-  pub edit_where-all : (test : X → Bool) (f : X → X) (xs : List X) → ((x : X) → holds x ≡ true → holds (f x) ≡ true) → list_all holds xs ≡ true → list_all holds (edit_where test f xs) ≡ true
+  pub edit_where-all : (test : X → Bool) (f : X → X) (xs : List X) → ((x : X) → holds x ≡ true → holds (f x) ≡ true) → list_all holds xs ≡ true
+      → list_all holds (edit_where test f xs) ≡ true
   edit_where-all test f xs kept h = edit_found-all test f xs (find test xs) refl kept h

@@ -17,10 +17,12 @@ use Rattle.profile_machine.specs.Dispatching.{choose}
 use Rattle.profile_machine.specs.Handlers.{charge}
 use Rattle.profile_machine.specs.Cost.{cost}
 use Rattle.profile_machine.specs.Instant.{instant}
-use Rattle.profile_machine.specs.Run.{begin_action, blank_world, idle_tick, next_tick, one_tick_less, opening, opens, say, says_idle, says_run, serve, serve_first, serve_if_free, silently, spend_tick, tick_of, tock, tock_of, with_serving}
+use Rattle.profile_machine.specs.Run.{begin_action, blank_world, idle_tick, next_tick, one_tick_less, opening, opens, say, says_idle}
+use Rattle.profile_machine.specs.Run.{says_run, serve, serve_first, serve_if_free, silently, spend_tick, tick_of, tock, tock_of, with_serving}
 use Rattle.machine_laws.specs.Reached.{Comes, opened, ticked, Reached, before, behind}
 use Rattle.world_laws.specs.CellWorlds.{ReachedCellsAreRight}
-use Rattle.world_laws.proofs.Cells.RightCells.{Alters, Keeps, Leads, Right, changes-keeps, cond-leads, rests-leads, says-keeps, settles-leads, then-keeps, then-leads, watches-leads}
+use Rattle.world_laws.proofs.Cells.RightCells.{Alters, Keeps, Leads, Right, changes-keeps, cond-leads, rests-leads}
+use Rattle.world_laws.proofs.Cells.RightCells.{says-keeps, settles-leads, then-keeps, then-leads, watches-leads}
 use Rattle.world_laws.proofs.Cells.Kept.Tasks.{edit_task-alters}
 use Rattle.world_laws.proofs.Cells.Kept.Dispatching.{to_tail-keeps}
 use Rattle.world_laws.proofs.Cells.Kept.Frames.{open_sequence-keeps}
@@ -58,7 +60,9 @@ unfolding Right
 next_tick-alters ran = record { at = λ w right. right }
 
 begin_action-alters : (p : Image) (name : Who) → Alters p (begin_action p name)
-begin_action-alters p name = record { at = λ w right. (edit_task-alters name (with_ticks (Some (unwrap_or (task_of w name).ticks_left (cost p w name))))).at w right }
+begin_action-alters p name = record {
+  at = λ w right. (edit_task-alters name (with_ticks (Some (unwrap_or (task_of w name).ticks_left (cost p w name))))).at w right;
+}
 
 spend_tick-alters : {p : Image} (name : Who) → Alters p (spend_tick name)
 spend_tick-alters name = edit_task-alters name (λ t. with_ticks (one_tick_less t.ticks_left) t)
@@ -68,7 +72,9 @@ says_run-leads name ran = cond-leads (same_option same_who ran (Some name)) rest
 
 serve_first-leads : {p : Image} (releases : List Release) → Leads p (serve_first releases)
 serve_first-leads [] = rests-leads
-serve_first-leads (r ∷ rest) = then-leads (silently (with_serving r rest)) (say (written.Serve r.number)) (silently-leads (with_serving r rest) (with_serving-alters r rest)) (say-leads (written.Serve r.number))
+serve_first-leads (r ∷ rest) =
+    then-leads (silently (with_serving r rest)) (say (written.Serve r.number)) (silently-leads (with_serving r rest) (with_serving-alters r rest))
+    (say-leads (written.Serve r.number))
 
 serve_if_free-leads : {p : Image} (serving : Option Release) (frames : List Frame) (releases : List Release) → Leads p (serve_if_free serving frames releases)
 serve_if_free-leads None [] releases = serve_first-leads releases
@@ -85,14 +91,16 @@ tick_of-leads p name =
     (then-leads (serve name) _ (serve-leads name)
     (then-leads (silently (begin_action p name)) _ (silently-leads (begin_action p name) (begin_action-alters p name))
     (then-leads (silently (charge p name)) _ (silently-leads (charge p name) (charge-alters p name))
-    (then-leads (silently (spend_tick name)) _ (silently-leads (spend_tick name) (spend_tick-alters name)) (silently-leads (next_tick (Some name)) (next_tick-alters (Some name)))))))
+    (then-leads (silently (spend_tick name)) _ (silently-leads (spend_tick name) (spend_tick-alters name))
+    (silently-leads (next_tick (Some name)) (next_tick-alters (Some name)))))))
 
 says_idle-leads : {p : Image} (ran : Option Who) → Leads p (says_idle ran)
 says_idle-leads None = rests-leads
 says_idle-leads (Some name) = say-leads written.Idle
 
 idle_tick-leads : {p : Image} → Leads p idle_tick
-idle_tick-leads = then-leads (watches (λ w. says_idle w.ran)) _ (watches-leads _ (λ w. says_idle-leads w.ran)) (silently-leads (next_tick None) (next_tick-alters None))
+idle_tick-leads =
+    then-leads (watches (λ w. says_idle w.ran)) _ (watches-leads _ (λ w. says_idle-leads w.ran)) (silently-leads (next_tick None) (next_tick-alters None))
 
 tock_of-leads : (p : Image) (chosen : Option Who) → Leads p (tock_of p chosen)
 tock_of-leads p None = idle_tick-leads

@@ -10,7 +10,8 @@ use Rattle.profile_machine.specs.declared.world.World.{World}
 use Rattle.profile_machine.specs.declared.world.lines.Line.{Line}
 use Rattle.profile_machine.specs.declared.world.lines.Part.{Part}
 use Rattle.profile_machine.specs.declared.world.lines.Said.{Said}
-use Rattle.profile_machine.specs.Steps.{Step, Move, Done, done, goes_on_with, nothing, changes, says, looks, when, for_some, for_each, settled, settles, rests, watches, ◌▷◌, ◌▶◌}
+use Rattle.profile_machine.specs.Steps.{Step, Move, Done, done, goes_on_with, nothing, changes, says, looks}
+use Rattle.profile_machine.specs.Steps.{when, for_some, for_each, settled, settles, rests, watches, ◌▷◌, ◌▶◌}
 use Rattle.profile_machine.specs.Operators.{Valued}
 use Rattle.profile_machine.specs.Values.{Seen, seen_by}
 use Rattle.profile_machine.specs.Statements.{sees}
@@ -80,7 +81,8 @@ pub cond-keeps : {p : Image} (b : Bool) (f g : Step) → Keeps p f → Keeps p g
 cond-keeps true f g kept also_kept = kept
 cond-keeps false f g kept also_kept = also_kept
 
-pub option-keeps : {X : Type 0} {p : Image} (x : Option X) (f : Step) (g : X → Step) → Keeps p f → ((y : X) → Keeps p (g y)) → Keeps p (elim x as (λ _. Step) [ None ↦ f | Some y ↦ g y ])
+pub option-keeps : {X : Type 0} {p : Image} (x : Option X) (f : Step) (g : X → Step) → Keeps p f → ((y : X) → Keeps p (g y))
+    → Keeps p (elim x as (λ _. Step) [ None ↦ f | Some y ↦ g y ])
 option-keeps None f g kept also_kept = kept
 option-keeps (Some y) f g kept also_kept = also_kept y
 

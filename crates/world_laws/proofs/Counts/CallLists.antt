@@ -1,5 +1,6 @@
 -- Lists of calls, counted by their numbers; and the queues of an object.
-use Rattle.std.proofs.Common.{◌≡◌, ℕ, zero, suc, ◌≤◌, ◌<◌, Bool, true, false, cond, not, eqb, length, List, [], ◌∷◌, Option, Some, None, refl, sym, ap, subst, ◌∙◌, arith}
+use Rattle.std.proofs.Common.{◌≡◌, ℕ, zero, suc, ◌≤◌, ◌<◌, Bool, true, false, cond, not, eqb, length}
+use Rattle.std.proofs.Common.{List, [], ◌∷◌, Option, Some, None, refl, sym, ap, subst, ◌∙◌, arith}
 use Rattle.std.specs.Prelude.{find}
 use Rattle.std.proofs.lemmas.Bool.{eqb-true, or_left, or_right, true≢false}
 use Rattle.ann_base.specs.declared.identities.CallNo.{CallNo}
@@ -46,11 +47,13 @@ still-less true false few most h k = absurd (true≢false (sym (h refl)))
 still-less false true few most h k = omega (arith, k)
 still-less false false few most h k = k
 
-less-step : (few most : CallNo → Bool) (c : CallNo) (z : Call) (zs : List Call) (b : Bool) → eqb c.0 z.number.0 ≡ b → ((x : CallNo) → few x ≡ true → most x ≡ true) → few c ≡ false → most c ≡ true
+less-step : (few most : CallNo → Bool) (c : CallNo) (z : Call) (zs : List Call) (b : Bool) → eqb c.0 z.number.0 ≡ b
+    → ((x : CallNo) → few x ≡ true → most x ≡ true) → few c ≡ false → most c ≡ true
     → (b ≡ false → counted few zs < counted most zs) → counted few (z ∷ zs) < counted most (z ∷ zs)
 less-step few most c z zs true is h out in_before onward =
     let one : c ≡ z.number = ap (λ (n : ℕ). record { 0 = n }) (eqb-true c.0 z.number.0 is) in
-    one-less (few z.number) (most z.number) (counted few zs) (counted most zs) (subst (λ x. few x ≡ false) one out) (subst (λ x. most x ≡ true) one in_before) (counted-fewer few most h zs)
+    one-less (few z.number) (most z.number) (counted few zs) (counted most zs) (subst (λ x. few x ≡ false) one out) (subst (λ x. most x ≡ true) one in_before)
+    (counted-fewer few most h zs)
 less-step few most c z zs false is h out in_before onward =
     still-less (few z.number) (most z.number) (counted few zs) (counted most zs) (h z.number) (onward refl)
 
@@ -58,31 +61,40 @@ past-first : {X : Type 0} (b : Bool) (z x : X) (rest : Option X) → b ≡ false
 past-first true z x rest p e = absurd (true≢false p)
 past-first false z x rest p e = e
 
-pub counted-less : (few most : CallNo → Bool) (c : CallNo) (d : Call) → ((x : CallNo) → few x ≡ true → most x ≡ true) → few c ≡ false → most c ≡ true → (ds : List Call) → find (is_call c) ds ≡ Some d → counted few ds < counted most ds
+pub counted-less : (few most : CallNo → Bool) (c : CallNo) (d : Call) → ((x : CallNo) → few x ≡ true → most x ≡ true) → few c ≡ false → most c ≡ true
+    → (ds : List Call) → find (is_call c) ds ≡ Some d → counted few ds < counted most ds
 counted-less few most c d h out in_before [] e = absurd cc
 counted-less few most c d h out in_before (z ∷ zs) e =
-    less-step few most c z zs (eqb c.0 z.number.0) refl h out in_before (λ past. counted-less few most c d h out in_before zs (past-first (eqb c.0 z.number.0) z d (find (is_call c) zs) past e))
+    less-step few most c z zs (eqb c.0 z.number.0) refl h out in_before
+    (λ past. counted-less few most c d h out in_before zs (past-first (eqb c.0 z.number.0) z d (find (is_call c) zs) past e))
 
 -- an edit that keeps numbers keeps the count, and calls that are taken out leave no more
-counted-set_step : (test : CallNo → Bool) (m : ℕ) (f : Call → Call) (x z : Call) (zs others : List Call) (b : Bool) → (f x).number ≡ x.number → cond b (Some z) (find (by call_number m) zs) ≡ Some x
+counted-set_step : (test : CallNo → Bool) (m : ℕ) (f : Call → Call) (x z : Call) (zs others : List Call) (b : Bool) → (f x).number ≡ x.number
+    → cond b (Some z) (find (by call_number m) zs) ≡ Some x
     → (find (by call_number m) zs ≡ Some x → counted test others ≡ counted test zs) → counted test (cond b (f x ∷ zs) (z ∷ others)) ≡ counted test (z ∷ zs)
 counted-set_step test m f x z zs others true same e onward =
     let alike : z ≡ x = cc in ap (λ n. cond (test n) (suc (counted test zs)) (counted test zs)) (same ∙ ap (λ y. y.number) (sym alike))
 counted-set_step test m f x z zs others false same e onward = ap (λ n. cond (test z.number) (suc n) n) (onward e)
 
-counted-set : (test : CallNo → Bool) (m : ℕ) (f : Call → Call) (x : Call) (xs : List Call) → (f x).number ≡ x.number → find (by call_number m) xs ≡ Some x → counted test (set_where (by call_number m) (f x) xs) ≡ counted test xs
+counted-set : (test : CallNo → Bool) (m : ℕ) (f : Call → Call) (x : Call) (xs : List Call) → (f x).number ≡ x.number → find (by call_number m) xs ≡ Some x
+    → counted test (set_where (by call_number m) (f x) xs) ≡ counted test xs
 counted-set test m f x [] same e = refl
-counted-set test m f x (z ∷ zs) same e = counted-set_step test m f x z zs (set_where (by call_number m) (f x) zs) (by call_number m z) same e (λ k. counted-set test m f x zs same k)
+counted-set test m f x (z ∷ zs) same e =
+    counted-set_step test m f x z zs (set_where (by call_number m) (f x) zs) (by call_number m z) same e (λ k. counted-set test m f x zs same k)
 
-counted-from : (test : CallNo → Bool) (m : ℕ) (f : Call → Call) (xs : List Call) (found : Option Call) → ((d : Call) → (f d).number ≡ d.number) → find (by call_number m) xs ≡ found → counted test (edit_found (by call_number m) f xs found) ≡ counted test xs
+counted-from : (test : CallNo → Bool) (m : ℕ) (f : Call → Call) (xs : List Call) (found : Option Call) → ((d : Call) → (f d).number ≡ d.number)
+    → find (by call_number m) xs ≡ found → counted test (edit_found (by call_number m) f xs found) ≡ counted test xs
 counted-from test m f xs None same is = refl
 counted-from test m f xs (Some x) same is = counted-set test m f x xs (same x) is
 
-pub counted-edited : (test : CallNo → Bool) (m : ℕ) (f : Call → Call) (xs : List Call) → ((d : Call) → (f d).number ≡ d.number) → counted test (edit_where (by call_number m) f xs) ≡ counted test xs
+pub counted-edited : (test : CallNo → Bool) (m : ℕ) (f : Call → Call) (xs : List Call) → ((d : Call) → (f d).number ≡ d.number)
+    → counted test (edit_where (by call_number m) f xs) ≡ counted test xs
 counted-edited test m f xs same = counted-from test m f xs (find (by call_number m) xs) same refl
 
-kept-or-not : (b c : Bool) (test : CallNo → Bool) (z : Call) (zs left : List Call) → test z.number ≡ c → counted test left ≤ counted test zs → counted test (cond b (z ∷ left) left) ≤ cond c (suc (counted test zs)) (counted test zs)
-kept-or-not true true test z zs left is h = subst (λ t. cond t (suc (counted test left)) (counted test left) ≤ suc (counted test zs)) (sym is) (omega (arith, h))
+kept-or-not : (b c : Bool) (test : CallNo → Bool) (z : Call) (zs left : List Call) → test z.number ≡ c → counted test left ≤ counted test zs
+    → counted test (cond b (z ∷ left) left) ≤ cond c (suc (counted test zs)) (counted test zs)
+kept-or-not true true test z zs left is h =
+    subst (λ t. cond t (suc (counted test left)) (counted test left) ≤ suc (counted test zs)) (sym is) (omega (arith, h))
 kept-or-not true false test z zs left is h = subst (λ t. cond t (suc (counted test left)) (counted test left) ≤ counted test zs) (sym is) h
 kept-or-not false true test z zs left is h = omega (arith, h)
 kept-or-not false false test z zs left is h = h

@@ -47,15 +47,21 @@ use Rattle.profile_machine.specs.Operators.{Valued, checked}
 use Rattle.profile_machine.specs.Steps.{Step, Done, done, goes_on_with, nothing, changes, says, looks, when, for_some, ◌▷◌}
 use Rattle.profile_machine.specs.Tasks.{task_at, task_of, edit_task_found, edit_task, waiting_of, with_ticks, with_state}
 use Rattle.profile_machine.specs.Dispatching.{keep_level, grant_quantum, says_ready, to_tail, ready}
-use Rattle.profile_machine.specs.Frames.{frames_of, top_of, goes, leaves, leaving_of, raises, has_room, open_handled, open_at, onward_of, open_sequence, stands_in, exit_loop, pass_on}
+use Rattle.profile_machine.specs.Frames.{frames_of, top_of, goes, leaves, leaving_of, raises, has_room, open_handled}
+use Rattle.profile_machine.specs.Frames.{open_at, onward_of, open_sequence, stands_in, exit_loop, pass_on}
 use Rattle.profile_machine.specs.Scopes.{write_cell}
 use Rattle.profile_machine.specs.Appointments.{drop_delay, appoint}
 use Rattle.profile_machine.specs.Values.{is_object, queue_at, queues_of}
-use Rattle.profile_machine.specs.Calls.{is_call, call_of, edit_call, forget_call, with_call, edit_object, edit_queue, take_call, place_of_entry, unqueued, is_cancellable, attempt_on, attempt_with}
+use Rattle.profile_machine.specs.Calls.{is_call, call_of, edit_call, forget_call, with_call, edit_object, edit_queue}
+use Rattle.profile_machine.specs.Calls.{take_call, place_of_entry, unqueued, is_cancellable, attempt_on, attempt_with}
 use Rattle.profile_machine.specs.Unwinding.{may_unwind, leave_by_abort, stop_waiting, wake_and_leave, unwind_blocked, unwind_in, unwind}
-use Rattle.profile_machine.specs.CallEnds.{go_by_outcome, onward_when_done, onward_when_cancelled, resume, store, or_stored, copy_back, with_results, abortable_depth, trigger_at, trigger_outcome, forget_trigger, run_triggered, ended_by_itself, behind_abortable, end_abortable, end_abortable_in, end_top_abortable, end_wait, waits_for_call, waits_for_end, end_for_abortable, end_for_caller, end_for, with_outcome, end_with, end_call, deliver}
+use Rattle.profile_machine.specs.CallEnds.{go_by_outcome, onward_when_done, onward_when_cancelled, resume, store, or_stored, copy_back, with_results}
+use Rattle.profile_machine.specs.CallEnds.{abortable_depth, trigger_at, trigger_outcome, forget_trigger, run_triggered, ended_by_itself}
+use Rattle.profile_machine.specs.CallEnds.{behind_abortable, end_abortable, end_abortable_in, end_top_abortable, end_wait, waits_for_call}
+use Rattle.profile_machine.specs.CallEnds.{waits_for_end, end_for_abortable, end_for_caller, end_for, with_outcome, end_with, end_call, deliver}
 use Rattle.profile_machine.specs.declared.world.appointments.Due.TheVariants as due_for
-use Rattle.profile_machine.specs.Sending.{appoint_timeout, cancel_sent, may_begin_abortable, begin_abortable, is_to_be_cancelled, sent_not_begun_by, sent_not_begun, may_time_out}
+use Rattle.profile_machine.specs.Sending.{appoint_timeout, cancel_sent, may_begin_abortable, begin_abortable}
+use Rattle.profile_machine.specs.Sending.{is_to_be_cancelled, sent_not_begun_by, sent_not_begun, may_time_out}
 use Rattle.machine_laws.proofs.Kept.Combinators.{world_behind}
 use Rattle.machine_laws.proofs.Kept.Entering.{edit_found-objects}
 use Rattle.world_laws.proofs.Counts.NumberedLists.{edited, left-found}
@@ -98,7 +104,9 @@ module _ (o : ObjectNo) where
   fewer-then a b c p q = record {
     queued = λ k x h. p.queued k x (q.queued k x h);
     directs = λ x at h. p.directs x at (q.directs x at h);
-    counts = λ test. let first : counted test b.calls ≤ counted test a.calls = p.counts test in let second : counted test c.calls ≤ counted test b.calls = q.counts test in omega (arith, first, second);
+    counts =
+        λ test. let first : counted test b.calls ≤ counted test a.calls = p.counts test in
+        let second : counted test c.calls ≤ counted test b.calls = q.counts test in omega (arith, first, second);
   }
 
   pub fewer-same : (w v : World) → v.calls ≡ w.calls → v.objects ≡ w.objects → Fewer o w v
@@ -108,7 +116,9 @@ module _ (o : ObjectNo) where
     counts = λ test. subst (λ xs. counted test v.calls ≤ counted test xs) calls (omega arith);
   }
 
-  pub fewer-calls : (w v : World) → v.objects ≡ w.objects → ((c : CallNo) (at : Owner × EntryNo) → directed_in v.calls c ≡ Some at → directed_in w.calls c ≡ Some at) → ((test : CallNo → Bool) → counted test v.calls ≤ counted test w.calls) → Fewer o w v
+  pub fewer-calls : (w v : World) → v.objects ≡ w.objects
+      → ((c : CallNo) (at : Owner × EntryNo) → directed_in v.calls c ≡ Some at → directed_in w.calls c ≡ Some at)
+      → ((test : CallNo → Bool) → counted test v.calls ≤ counted test w.calls) → Fewer o w v
   fewer-calls w v objects directs counts = record {
     queued = λ k c h. subst (λ xs. has same_call (queue_in o xs k) c ≡ true) objects h;
     directs = directs;
@@ -142,25 +152,29 @@ module _ (o : ObjectNo) where
 
   appoint_timeout-reduces : (p : Image) (c : CallNo) (moment : Option ℤ) → Reduces o (appoint_timeout p c moment)
   appoint_timeout-reduces p c None = same-reduces _ (λ w. refl) (λ w. refl)
-  appoint_timeout-reduces p c (Some moment) = same-reduces _ (λ w. calls w (may_time_out p w (call_of w c))) (λ w. objects w (may_time_out p w (call_of w c))) where
-    calls : (w : World) (may : Bool) → (cond may (appoint (due_for.Timeout c) moment w) w).calls ≡ w.calls
-    calls w true = refl
-    calls w false = refl
+  appoint_timeout-reduces p c (Some moment) =
+      same-reduces _ (λ w. calls w (may_time_out p w (call_of w c))) (λ w. objects w (may_time_out p w (call_of w c))) where
+        calls : (w : World) (may : Bool) → (cond may (appoint (due_for.Timeout c) moment w) w).calls ≡ w.calls
+        calls w true = refl
+        calls w false = refl
 
-    objects : (w : World) (may : Bool) → (cond may (appoint (due_for.Timeout c) moment w) w).objects ≡ w.objects
-    objects w true = refl
-    objects w false = refl
+        objects : (w : World) (may : Bool) → (cond may (appoint (due_for.Timeout c) moment w) w).objects ≡ w.objects
+        objects w true = refl
+        objects w false = refl
 
   -- an edit that leaves alone the number of a call and where it is directed
-  pub edit_call-reduces : (c : CallNo) (f : Call → Call) → ((d : Call) → (f d).number ≡ d.number) → ((d : Call) → directed (f d) ≡ directed d) → Reduces o (edit_call c f)
+  pub edit_call-reduces : (c : CallNo) (f : Call → Call) → ((d : Call) → (f d).number ≡ d.number) → ((d : Call) → directed (f d) ≡ directed d)
+      → Reduces o (edit_call c f)
   unfolding Reduces
   edit_call-reduces c f number same w =
       fewer-calls w (edit_call c f w) refl
-      (λ x at h. edited call_number x.0 c.0 f (λ d. ap (λ n. n.0) (number d)) (λ y. option_map directed y ≡ Some at → directed_in w.calls x ≡ Some at) w.calls (λ k. k)
+      (λ x at h.
+      edited call_number x.0 c.0 f (λ d. ap (λ n. n.0) (number d)) (λ y. option_map directed y ≡ Some at → directed_in w.calls x ≡ Some at) w.calls (λ k. k)
       (λ d is k. ap (option_map directed) is ∙ ap Some (sym (same d)) ∙ k) h)
       (λ test. subst (λ n. n ≤ counted test w.calls) (sym (counted-edited test c.0 f w.calls number)) (omega arith))
 
-  left-directed : (c out : CallNo) (calls : List Call) (left : Option Call) (at : Owner × EntryNo) → find (is_call c) (without (is_call out) calls) ≡ left → option_map directed left ≡ Some at → directed_in calls c ≡ Some at
+  left-directed : (c out : CallNo) (calls : List Call) (left : Option Call) (at : Owner × EntryNo) → find (is_call c) (without (is_call out) calls) ≡ left
+      → option_map directed left ≡ Some at → directed_in calls c ≡ Some at
   left-directed c out calls None at is h = absurd cc
   left-directed c out calls (Some d) at is h = ap (option_map directed) (left-found call_number c.0 out.0 calls d is) ∙ h
 
@@ -172,7 +186,8 @@ module _ (o : ObjectNo) where
       (λ test. counted-without test (is_call c) w.calls)
 
   -- a call is taken out of a queue of an object
-  pub take-reduces : (owner : ObjectNo) (place : ℕ) (c : CallNo) (w : World) → Fewer o w (edit_object owner (λ u. record u { queues = edit_at place (take_call c) u.queues }) w)
+  pub take-reduces : (owner : ObjectNo) (place : ℕ) (c : CallNo) (w : World)
+      → Fewer o w (edit_object owner (λ u. record u { queues = edit_at place (take_call c) u.queues }) w)
   take-reduces owner place c w = record {
     queued = λ k x h. edited object_key o.0 owner.0 (λ u. record u { queues = edit_at place (take_call c) u.queues }) (λ u. refl)
         (λ y. has same_call (queue_at (queues_of y) k) x ≡ true → has same_call (queue_in o w.objects k) x ≡ true) w.objects (λ e. e)
@@ -244,7 +259,9 @@ module _ (o : ObjectNo) where
   ready-lessens : (p : Image) (part : Part) (name : Who) → Lessens o (ready p part name)
   unfolding ready to_tail
   ready-lessens p part name =
-      then-lessens _ _ (edits-lessens name (with_state Runnable)) (then-lessens _ _ (changes-lessens _ (keep_level-reduces p name)) (then-lessens _ _ (changes-lessens _ (grant_quantum-reduces p name)) (says_ready-lessens p part name Tail)))
+      then-lessens _ _ (edits-lessens name (with_state Runnable))
+      (then-lessens _ _ (changes-lessens _ (keep_level-reduces p name))
+      (then-lessens _ _ (changes-lessens _ (grant_quantum-reduces p name)) (says_ready-lessens p part name Tail)))
 
   goes-lessens : (name : Who) (onward : Option StatementNo) → Lessens o (goes name onward)
   unfolding goes
@@ -276,7 +293,8 @@ module _ (o : ObjectNo) where
 
   exit_loop-lessens : (p : Image) (name : Who) (loop : StatementNo) → Lessens o (exit_loop p name loop)
   unfolding exit_loop
-  exit_loop-lessens p name loop = looks-lessens _ (λ w. branch-lessens (stands_in p loop (top_of w name)) _ _ (goes-lessens name (next_of p loop)) (leaves-lessens name (how.Exit loop)))
+  exit_loop-lessens p name loop =
+      looks-lessens _ (λ w. branch-lessens (stands_in p loop (top_of w name)) _ _ (goes-lessens name (next_of p loop)) (leaves-lessens name (how.Exit loop)))
 
   pass_on-lessens : (p : Image) (name : Who) (leaving : Leaving) → Lessens o (pass_on p name leaving)
   unfolding pass_on
@@ -295,7 +313,8 @@ module _ (o : ObjectNo) where
       branch-lessens (is_cancellable c) _ _ (then-lessens _ _ (changes-lessens _ (unqueued-reduces p c)) (says-lessens part (line.Cancel c.caller c.number)))
       (changes-lessens _ (edit_call-reduces c.number (λ d. record d { attempted = true }) (λ d. refl) (λ d. refl)))
 
-  attempt_with-lessens : (p : Image) (part : Part) (c : Call) (cancels stays : Step) → Lessens o cancels → Lessens o stays → Lessens o (attempt_with p part c cancels stays)
+  attempt_with-lessens : (p : Image) (part : Part) (c : Call) (cancels stays : Step) → Lessens o cancels → Lessens o stays
+      → Lessens o (attempt_with p part c cancels stays)
   attempt_with-lessens p part c cancels stays a b = then-lessens _ _ (attempt_on-lessens p part c) (branch-lessens (is_cancellable c) cancels stays a b)
 
   leave_by_abort-lessens : (name : Who) → Lessens o (leave_by_abort name)
@@ -304,12 +323,15 @@ module _ (o : ObjectNo) where
 
   wake_and_leave-lessens : (p : Image) (part : Part) (name : Who) → Lessens o (wake_and_leave p part name)
   unfolding wake_and_leave stop_waiting
-  wake_and_leave-lessens p part name = then-lessens _ _ (then-lessens _ _ (changes-lessens _ (drop_delay-reduces name)) (ready-lessens p part name)) (leave_by_abort-lessens name)
+  wake_and_leave-lessens p part name =
+      then-lessens _ _ (then-lessens _ _ (changes-lessens _ (drop_delay-reduces name)) (ready-lessens p part name)) (leave_by_abort-lessens name)
 
   unwind_blocked-lessens : (p : Image) (part : Part) (name : Who) (waiting : Waiting) → Lessens o (unwind_blocked p part name waiting)
   unfolding unwind_blocked
   unwind_blocked-lessens p part name (waits_for.Call c) =
-      with_call-lessens c _ (λ d. attempt_with-lessens p part d _ _ (then-lessens _ _ (changes-lessens _ (forget_call-reduces c)) (wake_and_leave-lessens p part name)) nothing-lessens)
+      with_call-lessens c _
+      (λ d.
+      attempt_with-lessens p part d _ _ (then-lessens _ _ (changes-lessens _ (forget_call-reduces c)) (wake_and_leave-lessens p part name)) nothing-lessens)
   unwind_blocked-lessens p part name (waits_for.EndOfCall c) = nothing-lessens
   unwind_blocked-lessens p part name waits_for.Activation = wake_and_leave-lessens p part name
   unwind_blocked-lessens p part name waits_for.Moment = wake_and_leave-lessens p part name
@@ -339,7 +361,8 @@ module _ (o : ObjectNo) where
 
   resume-lessens : (p : Image) (part : Part) (c : Call) (outcome : Outcome) → Lessens o (resume p part c outcome)
   unfolding resume
-  resume-lessens p part c outcome = then-lessens _ _ (changes-lessens _ (forget_call-reduces c.number)) (go_by_outcome-lessens p part (who.Task c.caller) c.statement outcome)
+  resume-lessens p part c outcome =
+      then-lessens _ _ (changes-lessens _ (forget_call-reduces c.number)) (go_by_outcome-lessens p part (who.Task c.caller) c.statement outcome)
 
   -- results are copied back into cells
   abbrev Stored : World → Valued World → Type 0
@@ -351,9 +374,12 @@ module _ (o : ObjectNo) where
   checked-stored (Err e) f w a = tt
 
   store-stored : (p : Image) (target : Variable) (v : Value) (w : World) → Stored w (store p target v w)
-  store-stored p target v w = checked-stored (checked (declaration_of p target.declared).constraint v) (λ x. write_cell target.within target.place x w) w (λ x. fewer-same w (write_cell target.within target.place x w) refl refl)
+  store-stored p target v w =
+      checked-stored (checked (declaration_of p target.declared).constraint v) (λ x. write_cell target.within target.place x w) w
+      (λ x. fewer-same w (write_cell target.within target.place x w) refl refl)
 
-  or_stored-fewer : (result : Valued World) (again : World → World × Bool) (w : World) → Stored w result → ((v : World) → Fewer o v (again v).0) → Fewer o w (or_stored w result again).0
+  or_stored-fewer : (result : Valued World) (again : World → World × Bool) (w : World) → Stored w result → ((v : World) → Fewer o v (again v).0)
+      → Fewer o w (or_stored w result again).0
   or_stored-fewer (Ok v) again w a k = fewer-then w v (again v).0 a (k v)
   or_stored-fewer (Err e) again w a k = fewer-same w w refl refl
 
@@ -362,7 +388,8 @@ module _ (o : ObjectNo) where
   copied-fewer p (None ∷ results) [] w = fewer-same w w refl refl
   copied-fewer p (None ∷ results) (v ∷ values) w = copied-fewer p results values w
   copied-fewer p (Some target ∷ results) [] w = fewer-same w w refl refl
-  copied-fewer p (Some target ∷ results) (v ∷ values) w = or_stored-fewer (store p target v w) (copy_back p results values) w (store-stored p target v w) (copied-fewer p results values)
+  copied-fewer p (Some target ∷ results) (v ∷ values) w =
+      or_stored-fewer (store p target v w) (copy_back p results values) w (store-stored p target v w) (copied-fewer p results values)
 
   with_results-fewer : (p : Image) (c : Call) (outcome : Outcome) (w : World) → Fewer o w (with_results p c outcome w).0
   with_results-fewer p c call_ended.Finished w = copied-fewer p c.results c.values w
@@ -372,13 +399,15 @@ module _ (o : ObjectNo) where
 
   trigger_at-lessens : (part : Part) (t : TaskNo) (depth : ℕ) → Lessens o (trigger_at part t depth)
   unfolding trigger_at
-  trigger_at-lessens part t depth = then-lessens _ _ (edits-lessens (who.Task t) _) (then-lessens _ _ (says-lessens part (line.Trigger t)) (edits-lessens (who.Task t) _))
+  trigger_at-lessens part t depth =
+      then-lessens _ _ (edits-lessens (who.Task t) _) (then-lessens _ _ (says-lessens part (line.Trigger t)) (edits-lessens (who.Task t) _))
 
   forget_trigger-reduces : (c : Option CallNo) → Reduces o (forget_trigger c)
   forget_trigger-reduces None = same-reduces _ (λ w. refl) (λ w. refl)
   forget_trigger-reduces (Some c) = forget_call-reduces c
 
-  run_triggered-lessens : (p : Image) (part : Part) (name : Who) (select : StatementNo) (outcome : Outcome) → Lessens o (run_triggered p part name select outcome)
+  run_triggered-lessens : (p : Image) (part : Part) (name : Who) (select : StatementNo) (outcome : Outcome)
+      → Lessens o (run_triggered p part name select outcome)
   unfolding run_triggered
   run_triggered-lessens p part name select call_ended.Finished = goes-lessens name (onward_when_done p select)
   run_triggered-lessens p part name select call_ended.Cancelled = nothing-lessens
@@ -389,13 +418,16 @@ module _ (o : ObjectNo) where
   unfolding behind_abortable
   behind_abortable-lessens p part name m outcome = when-lessens m.triggered _ (run_triggered-lessens p part name m.select outcome)
 
-  end_abortable-lessens : (p : Image) (part : Part) (name : Who) (m : AbortableMark) (f : Frame) (below : List Frame) → Lessens o (end_abortable p part name m f below)
+  end_abortable-lessens : (p : Image) (part : Part) (name : Who) (m : AbortableMark) (f : Frame) (below : List Frame)
+      → Lessens o (end_abortable p part name m f below)
   unfolding end_abortable
   end_abortable-lessens p part name m f below =
       looks-lessens _ (λ w. then-lessens _ _ (edits-lessens name _) (then-lessens _ _ (changes-lessens _ (forget_trigger-reduces m.call))
-      (branch-lessens (ended_by_itself f below) _ _ (behind_abortable-lessens p part name m (trigger_outcome w m.call)) (pass_on-lessens p name (leaving_of f)))))
+      (branch-lessens (ended_by_itself f below) _ _ (behind_abortable-lessens p part name m (trigger_outcome w m.call))
+      (pass_on-lessens p name (leaving_of f)))))
 
-  end_abortable_in-lessens : (p : Image) (part : Part) (name : Who) (f : Frame) (below : List Frame) (mark : Mark) → Lessens o (end_abortable_in p part name f below mark)
+  end_abortable_in-lessens : (p : Image) (part : Part) (name : Who) (f : Frame) (below : List Frame) (mark : Mark)
+      → Lessens o (end_abortable_in p part name f below mark)
   unfolding end_abortable_in
   end_abortable_in-lessens p part name f below (Abortable m) = end_abortable-lessens p part name m f below
   end_abortable_in-lessens p part name f below _ = nothing-lessens
@@ -409,18 +441,22 @@ module _ (o : ObjectNo) where
   unfolding end_wait
   end_wait-lessens p part c depth outcome =
       then-lessens _ _ (ready-lessens p part (who.Task c.caller)) (then-lessens _ _ (edits-lessens (who.Task c.caller) _)
-      (then-lessens _ _ (looks-lessens _ (λ w. end_top_abortable-lessens p part (who.Task c.caller) (frames_of w (who.Task c.caller)))) (open_sequence-lessens p part (who.Task c.caller))))
+      (then-lessens _ _ (looks-lessens _ (λ w. end_top_abortable-lessens p part (who.Task c.caller) (frames_of w (who.Task c.caller))))
+      (open_sequence-lessens p part (who.Task c.caller))))
 
   end_for_abortable-lessens : (p : Image) (part : Part) (c : Call) (depth : ℕ) (outcome : Outcome) → Lessens o (end_for_abortable p part c depth outcome)
   unfolding end_for_abortable
   end_for_abortable-lessens p part c depth outcome =
-      looks-lessens _ (λ w. branch-lessens (waits_for_end c.number (waiting_of w (who.Task c.caller))) _ _ (end_wait-lessens p part c depth outcome) (trigger_at-lessens part c.caller depth))
+      looks-lessens _
+      (λ w. branch-lessens (waits_for_end c.number (waiting_of w (who.Task c.caller))) _ _ (end_wait-lessens p part c depth outcome)
+      (trigger_at-lessens part c.caller depth))
 
   end_for_caller-lessens : (p : Image) (part : Part) (c : Call) (outcome : Outcome) → Lessens o (end_for_caller p part c outcome)
   unfolding end_for_caller
   end_for_caller-lessens p part c outcome =
       looks-lessens _ (λ w. when-lessens (waits_for_call c.number (waiting_of w (who.Task c.caller))) _
-      (then-lessens _ _ (ready-lessens p part (who.Task c.caller)) (then-lessens _ _ (resume-lessens p part c outcome) (open_sequence-lessens p part (who.Task c.caller)))))
+      (then-lessens _ _ (ready-lessens p part (who.Task c.caller))
+      (then-lessens _ _ (resume-lessens p part c outcome) (open_sequence-lessens p part (who.Task c.caller)))))
 
   end_for-lessens : (p : Image) (part : Part) (c : Call) (outcome : Outcome) (depth : Option ℕ) → Lessens o (end_for p part c outcome depth)
   unfolding end_for
@@ -430,7 +466,8 @@ module _ (o : ObjectNo) where
   end_with-lessens : (p : Image) (part : Part) (c : Call) (outcome : Outcome) → Lessens o (end_with p part c outcome)
   unfolding end_with
   end_with-lessens p part c outcome =
-      then-lessens _ _ (changes-lessens _ (edit_call-reduces c.number (with_outcome outcome) (λ d. refl) (λ d. refl))) (looks-lessens _ (λ w. end_for-lessens p part c outcome (abortable_depth w c)))
+      then-lessens _ _ (changes-lessens _ (edit_call-reduces c.number (with_outcome outcome) (λ d. refl) (λ d. refl)))
+      (looks-lessens _ (λ w. end_for-lessens p part c outcome (abortable_depth w c)))
 
   end_call-lessens : (p : Image) (part : Part) (c : Call) (outcome : Outcome) → Lessens o (end_call p part c outcome)
   unfolding end_call Lessens
@@ -440,18 +477,24 @@ module _ (o : ObjectNo) where
 
   pub deliver-lessens : (p : Image) (part : Part) (c : CallNo) (outcome : Outcome) → Lessens o (deliver p part c outcome)
   unfolding deliver
-  deliver-lessens p part c outcome = with_call-lessens c _ (λ d. then-lessens _ _ (end_call-lessens p part d outcome) (unwind-lessens p part (who.Task d.caller)))
+  deliver-lessens p part c outcome =
+      with_call-lessens c _ (λ d. then-lessens _ _ (end_call-lessens p part d outcome) (unwind-lessens p part (who.Task d.caller)))
 
   -- ---- a call that was sent on and not begun
 
   cancel_sent-lessens : (p : Image) (c : Call) → Lessens o (cancel_sent p c)
   unfolding cancel_sent
-  cancel_sent-lessens p c = then-lessens _ _ (changes-lessens _ (unqueued-reduces p c)) (then-lessens _ _ (says-lessens TheFinish (line.Cancel c.caller c.number)) (deliver-lessens p TheFinish c.number call_ended.Cancelled))
+  cancel_sent-lessens p c =
+      then-lessens _ _ (changes-lessens _ (unqueued-reduces p c))
+      (then-lessens _ _ (says-lessens TheFinish (line.Cancel c.caller c.number)) (deliver-lessens p TheFinish c.number call_ended.Cancelled))
 
   begin_abortable-lessens : (p : Image) (c : CallNo) → Lessens o (begin_abortable p c)
   unfolding begin_abortable
   begin_abortable-lessens p c =
-      with_call-lessens c _ (λ d. looks-lessens _ (λ w. when-lessens (may_begin_abortable w d) _ (then-lessens _ _ (edits-lessens (who.Task d.caller) _) (ready-lessens p TheFinish (who.Task d.caller)))))
+      with_call-lessens c _
+      (λ d. looks-lessens _
+      (λ w.
+      when-lessens (may_begin_abortable w d) _ (then-lessens _ _ (edits-lessens (who.Task d.caller) _) (ready-lessens p TheFinish (who.Task d.caller)))))
 
   timeout_again-reduces : (p : Image) (firm : Bool) (c : Call) → Reduces o (cond firm (λ w. w) (appoint_timeout p c.number c.moment))
   timeout_again-reduces p true c = same-reduces _ (λ w. refl) (λ w. refl)

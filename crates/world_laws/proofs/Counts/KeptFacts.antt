@@ -48,7 +48,9 @@ module _ {G : GoodWorld} (fact : KeepsFact G) where
     regions = own_regions fact.openings;
     ends = action_ends fact.exits;
     handlers = record {
-      handles = λ o n w v xs g lets k. begun fact.moves who.Agent o Write None (Some n) (λ u good. fact.pushes who.Agent (new_frame (new_protected_mark o Write None (Some n)) None) u good refl) w v xs g lets k;
+      handles =
+          λ o n w v xs g lets k. begun fact.moves who.Agent o Write None (Some n)
+          (λ u good. fact.pushes who.Agent (new_frame (new_protected_mark o Write None (Some n)) None) u good refl) w v xs g lets k;
       has_served = λ r w g is. fact.has_served w g;
     };
     settings = setting_moves fact.moves;
@@ -66,7 +68,9 @@ module _ {G : GoodWorld} (fact : KeepsFact G) where
   lasts = record {
     at_opening = λ p script. effect-leads all.fine p (opens p) (opens-keeps all p) (blank_world p script) (fact.at_first p script);
     at_instant = λ p w good. instant-leads all p (puts p) w good;
-    at_tock = λ p w good. subst (λ (a : World × List Event). G a.0) (sym (tock-parts p w)) (fact.ticks (choose w) (before_tick p (choose w) w).0 (before_tick-leads all tocks p (choose w) w good));
+    at_tock =
+        λ p w good. subst (λ (a : World × List Event). G a.0) (sym (tock-parts p w))
+        (fact.ticks (choose w) (before_tick p (choose w) w).0 (before_tick-leads all tocks p (choose w) w good));
   }
 
   pub reached-has : (p : Image) (script : List (ℤ × Item)) (bound : ℕ) (w : World) → Reached p script bound w → G w

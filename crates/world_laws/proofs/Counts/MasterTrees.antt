@@ -1,6 +1,7 @@
 -- A task's master is older than each region of its own: so its masters, each of an owner's, have ever smaller numbers, and there
 -- are no more of them than tasks.
-use Rattle.std.proofs.Common.{◌≡◌, ℕ, zero, suc, ◌+◌, ◌<◌, ◌≤◌, Bool, true, false, cond, not, ◌||◌, length, List, [], ◌∷◌, ◌++◌, Option, Some, None, option_and_then, refl, sym, ap, subst, arith, ltb}
+use Rattle.std.proofs.Common.{◌≡◌, ℕ, zero, suc, ◌+◌, ◌<◌, ◌≤◌, Bool, true, false, cond, not, ◌||◌, length, List}
+use Rattle.std.proofs.Common.{[], ◌∷◌, ◌++◌, Option, Some, None, option_and_then, refl, sym, ap, subst, arith, ltb}
 use Rattle.std.specs.Prelude.{filter, find, unwrap_or}
 use Rattle.std.specs.List.{list_any}
 use Rattle.std.proofs.lemmas.Bool.{eqb-true, ltb-true, lt-ltb, le-ltb, false≢true}
@@ -66,7 +67,8 @@ MarksGrown-later old drawn [] h = tt
 MarksGrown-later old drawn (n ∷ ns) h = (RegionGrown-later old drawn n.region h.0, MarksGrown-later old drawn ns h.1)
 
 TaskBranches-later : (drawn : ℕ) (t : Task) → TaskBranches drawn t → TaskBranches (suc drawn) t
-TaskBranches-later drawn t h = let within : age t.master ≤ suc drawn = h.0 in (omega (arith, within), MarksGrown-later (age t.master) drawn (natures t.frames) h.1)
+TaskBranches-later drawn t h =
+    let within : age t.master ≤ suc drawn = h.0 in (omega (arith, within), MarksGrown-later (age t.master) drawn (natures t.frames) h.1)
 
 AllBranch-later : (drawn : ℕ) (ts : List Task) → AllBranch drawn ts → AllBranch (suc drawn) ts
 AllBranch-later drawn [] h = tt
@@ -75,7 +77,8 @@ AllBranch-later drawn (t ∷ ts) h = (TaskBranches-later drawn t h.0, AllBranch-
 -- ---- lists of tasks
 
 module _ (drawn : ℕ) where
-  put-branch : (test : Bool) (x t : Task) (ts rest : List Task) → TaskBranches drawn x → AllBranch drawn (t ∷ ts) → AllBranch drawn rest → AllBranch drawn (cond test (x ∷ ts) (t ∷ rest))
+  put-branch : (test : Bool) (x t : Task) (ts rest : List Task) → TaskBranches drawn x → AllBranch drawn (t ∷ ts) → AllBranch drawn rest
+      → AllBranch drawn (cond test (x ∷ ts) (t ∷ rest))
   put-branch true x t ts rest a h k = (a, h.1)
   put-branch false x t ts rest a h k = (h.0, k)
 
@@ -86,7 +89,8 @@ module _ (drawn : ℕ) where
   some-is : (t u : Task) → Some t ≡ Some u → t ≡ u
   some-is t u e = cc
 
-  first-branches : (test : Bool) (t : Task) (rest : Option Task) (u : Task) → TaskBranches drawn t → (rest ≡ Some u → TaskBranches drawn u) → cond test (Some t) rest ≡ Some u → TaskBranches drawn u
+  first-branches : (test : Bool) (t : Task) (rest : Option Task) (u : Task) → TaskBranches drawn t → (rest ≡ Some u → TaskBranches drawn u)
+      → cond test (Some t) rest ≡ Some u → TaskBranches drawn u
   first-branches true t rest u a k e = subst (TaskBranches drawn) (some-is t u e) a
   first-branches false t rest u a k e = k e
 
@@ -108,20 +112,24 @@ module _ (drawn : ℕ) where
 
 -- ---- edits
 
-edited : (name : Who) (f : Task → Task) (w : World) → ((t : Task) → TaskBranches w.drawn.regions t → TaskBranches w.drawn.regions (f t)) → (found : Option Task) → task_at w name ≡ found → Tree w → Tree (edit_task_found name f w found)
+edited : (name : Who) (f : Task → Task) (w : World) → ((t : Task) → TaskBranches w.drawn.regions t → TaskBranches w.drawn.regions (f t)) → (found : Option Task)
+    → task_at w name ≡ found → Tree w → Tree (edit_task_found name f w found)
 edited name f w k None is h = h
 edited (who.Task n) f w k (Some t) is h =
     (h.0, set-branch w.drawn.regions (is_who (who.Task n)) (f t) w.tasks (k t (found-branches w.drawn.regions (is_who (who.Task n)) w.tasks t h.1 is)) h.1)
 edited who.Agent f w k (Some t) is h = (k t (subst (TaskBranches w.drawn.regions) (some-is w.drawn.regions w.agent t is) h.0), h.1)
 
-tree-edited : (name : Who) (f : Task → Task) (w : World) → ((t : Task) → TaskBranches w.drawn.regions t → TaskBranches w.drawn.regions (f t)) → Tree w → Tree (edit_task name f w)
+tree-edited : (name : Who) (f : Task → Task) (w : World) → ((t : Task) → TaskBranches w.drawn.regions t → TaskBranches w.drawn.regions (f t)) → Tree w
+    → Tree (edit_task name f w)
 tree-edited name f w k h = edited name f w k (task_at w name) refl h
 
-same-branches : (drawn : ℕ) (f : Task → Task) → ((t : Task) → (f t).frames ≡ t.frames) → ((t : Task) → (f t).master ≡ t.master) → (t : Task) → TaskBranches drawn t → TaskBranches drawn (f t)
+same-branches : (drawn : ℕ) (f : Task → Task) → ((t : Task) → (f t).frames ≡ t.frames) → ((t : Task) → (f t).master ≡ t.master) → (t : Task)
+    → TaskBranches drawn t → TaskBranches drawn (f t)
 same-branches drawn f same_frames same_master t h =
     subst (λ m. Branches drawn m (natures (f t).frames)) (sym (same_master t)) (subst (λ fs. Branches drawn t.master (natures fs)) (sym (same_frames t)) h)
 
-framed-branches : (drawn : ℕ) (f : List Frame → List Frame) → ((fs : List Frame) → natures (f fs) ≡ natures fs) → (t : Task) → TaskBranches drawn t → TaskBranches drawn (with_frames (f t.frames) t)
+framed-branches : (drawn : ℕ) (f : List Frame → List Frame) → ((fs : List Frame) → natures (f fs) ≡ natures fs) → (t : Task) → TaskBranches drawn t
+    → TaskBranches drawn (with_frames (f t.frames) t)
 framed-branches drawn f same t h = subst (Branches drawn t.master) (sym (same t.frames)) h
 
 on-natures : (onward : Option StatementNo) (fs : List Frame) → natures (edit_first (goes_on onward) fs) ≡ natures fs
@@ -129,7 +137,8 @@ on-natures onward [] = refl
 on-natures onward (f ∷ fs) = refl
 
 -- one more mark, with no region or with the next
-pushed-branches : (drawn : ℕ) (f : Frame) → (nature f.mark).region ≡ None → (t : Task) → TaskBranches drawn t → TaskBranches drawn (with_frames (f ∷ t.frames) t)
+pushed-branches : (drawn : ℕ) (f : Frame) → (nature f.mark).region ≡ None → (t : Task) → TaskBranches drawn t
+    → TaskBranches drawn (with_frames (f ∷ t.frames) t)
 pushed-branches drawn f e t h = (h.0, (subst (RegionGrown (age t.master) drawn) (sym e) tt, h.1))
 
 tree-pushed : (name : Who) (f : Frame) (w : World) → Tree w → (nature f.mark).region ≡ None → Tree (push name f w)
@@ -140,21 +149,25 @@ popped-marks old drawn [] h = tt
 popped-marks old drawn (f ∷ fs) h = h.1
 
 -- the region of a scope that is opened is the next, if it has one
-opened-branches : (drawn : ℕ) (f : Frame) → (nature f.mark).region ≡ Some (record { 0 = suc drawn }) → (t : Task) → TaskBranches drawn t → TaskBranches (suc drawn) (with_frames (f ∷ t.frames) t)
+opened-branches : (drawn : ℕ) (f : Frame) → (nature f.mark).region ≡ Some (record { 0 = suc drawn }) → (t : Task) → TaskBranches drawn t
+    → TaskBranches (suc drawn) (with_frames (f ∷ t.frames) t)
 opened-branches drawn f e t h =
     let old : age t.master ≤ suc drawn = h.0 in
     let later = TaskBranches-later drawn t h in
     (later.0, (subst (RegionGrown (age t.master) (suc drawn)) (sym e) (old, omega arith), later.1))
 
-opened-task : (n : TaskNo) (f : Frame) (w : World) → (nature f.mark).region ≡ Some (record { 0 = suc w.drawn.regions }) → (found : Option Task) → found_task (who.Task n) w.tasks ≡ found → Tree w → Tree (edit_task_found (who.Task n) (λ t. with_frames (f ∷ t.frames) t) (draw_region true w) found)
+opened-task : (n : TaskNo) (f : Frame) (w : World) → (nature f.mark).region ≡ Some (record { 0 = suc w.drawn.regions }) → (found : Option Task)
+    → found_task (who.Task n) w.tasks ≡ found → Tree w → Tree (edit_task_found (who.Task n) (λ t. with_frames (f ∷ t.frames) t) (draw_region true w) found)
 opened-task n f w e None is h = (TaskBranches-later w.drawn.regions w.agent h.0, AllBranch-later w.drawn.regions w.tasks h.1)
 opened-task n f w e (Some t) is h = (
   TaskBranches-later w.drawn.regions w.agent h.0,
   set-branch (suc w.drawn.regions) (is_who (who.Task n)) (with_frames (f ∷ t.frames) t) w.tasks
-      (opened-branches w.drawn.regions f e t (found-branches w.drawn.regions (is_who (who.Task n)) w.tasks t h.1 is)) (AllBranch-later w.drawn.regions w.tasks h.1),
+      (opened-branches w.drawn.regions f e t (found-branches w.drawn.regions (is_who (who.Task n)) w.tasks t h.1 is))
+      (AllBranch-later w.drawn.regions w.tasks h.1),
 )
 
-tree-opened : (kept : Bool) (name : Who) (f : Frame) (w : World) → (nature f.mark).region ≡ region_of_next kept w → Tree w → Tree (push name f (draw_region kept w))
+tree-opened : (kept : Bool) (name : Who) (f : Frame) (w : World) → (nature f.mark).region ≡ region_of_next kept w → Tree w
+    → Tree (push name f (draw_region kept w))
 tree-opened true (who.Task n) f w e h = opened-task n f w e (found_task (who.Task n) w.tasks) refl h
 tree-opened true who.Agent f w e h = (opened-branches w.drawn.regions f e w.agent h.0, AllBranch-later w.drawn.regions w.tasks h.1)
 tree-opened false name f w e h = tree-edited name (λ t. with_frames (f ∷ t.frames) t) w (pushed-branches w.drawn.regions f e) h
@@ -169,11 +182,13 @@ region-within : (old drawn : ℕ) (r : Option RegionNo) → RegionGrown old draw
 region-within old drawn None h = tt
 region-within old drawn (Some r) h = (omega arith, h.1)
 
-first-within : (old drawn : ℕ) (fs : List Frame) → MarksGrown old drawn (natures fs) → RegionGrown 0 drawn (option_and_then (λ f. region_of_mark f.mark) (first_of fs))
+first-within : (old drawn : ℕ) (fs : List Frame) → MarksGrown old drawn (natures fs)
+    → RegionGrown 0 drawn (option_and_then (λ f. region_of_mark f.mark) (first_of fs))
 first-within old drawn [] h = tt
 first-within old drawn (f ∷ fs) h = region-within old drawn (region_of_mark f.mark) h.0
 
-found-within : (drawn : ℕ) (found : Option Task) → ((t : Task) → found ≡ Some t → TaskBranches drawn t) → RegionGrown 0 drawn (option_and_then (λ f. region_of_mark f.mark) (first_of (unwrap_or found nobody).frames))
+found-within : (drawn : ℕ) (found : Option Task) → ((t : Task) → found ≡ Some t → TaskBranches drawn t)
+    → RegionGrown 0 drawn (option_and_then (λ f. region_of_mark f.mark) (first_of (unwrap_or found nobody).frames))
 found-within drawn None h = tt
 found-within drawn (Some t) h = let branches = h t refl in first-within (age t.master) drawn t.frames branches.1
 
@@ -182,16 +197,22 @@ named-branches (who.Task n) w h t is = found-branches w.drawn.regions (is_who (w
 named-branches who.Agent w h t is = subst (TaskBranches w.drawn.regions) (some-is w.drawn.regions w.agent t is) h.0
 
 top-within : (name : Who) (w : World) → Tree w → age (Some (top_region w name)) ≤ suc w.drawn.regions
-top-within name w h = top-grown w.drawn.regions (option_and_then (λ f. region_of_mark f.mark) (top_of w name)) (found-within w.drawn.regions (task_at w name) (named-branches name w h))
+top-within name w h =
+    top-grown w.drawn.regions (option_and_then (λ f. region_of_mark f.mark) (top_of w name))
+    (found-within w.drawn.regions (task_at w name) (named-branches name w h))
 
 created-branches : (name : Who) (t : Task) (w : World) → Tree w → t.frames ≡ [] → t.master ≡ Some (top_region w name) → TaskBranches w.drawn.regions t
 created-branches name t w h none master =
-    subst (λ m. Branches w.drawn.regions m (natures t.frames)) (sym master) (subst (λ fs. Branches w.drawn.regions (Some (top_region w name)) (natures fs)) (sym none) (top-within name w h, tt))
+    subst (λ m. Branches w.drawn.regions m (natures t.frames)) (sym master)
+    (subst (λ fs. Branches w.drawn.regions (Some (top_region w name)) (natures fs)) (sym none) (top-within name w h, tt))
 
 tree-on : (name : Who) (onward : Option StatementNo) (w : World) → Tree w → Tree (edit_top name (goes_on onward) w)
-tree-on name onward w h = tree-edited name (λ t. with_frames (edit_first (goes_on onward) t.frames) t) w (framed-branches w.drawn.regions (edit_first (goes_on onward)) (on-natures onward)) h
+tree-on name onward w h =
+    tree-edited name (λ t. with_frames (edit_first (goes_on onward) t.frames) t) w
+    (framed-branches w.drawn.regions (edit_first (goes_on onward)) (on-natures onward)) h
 
-tree-added : (name : Who) (onward : Option StatementNo) (t : Task) (w : World) → Tree w → t.frames ≡ [] → t.master ≡ Some (top_region w name) → Tree (add_task t (edit_top name (goes_on onward) w))
+tree-added : (name : Who) (onward : Option StatementNo) (t : Task) (w : World) → Tree w → t.frames ≡ [] → t.master ≡ Some (top_region w name)
+    → Tree (add_task t (edit_top name (goes_on onward) w))
 tree-added name onward t w h none master =
     let gone = edit_top name (goes_on onward) w in
     let same : gone.drawn ≡ w.drawn = edit_task-drawn name (λ u. with_frames (edit_first (goes_on onward) u.frames) u) w in
@@ -220,7 +241,9 @@ tree_is_kept = record {
     edits_frames = λ name f w h same. tree-edited name (λ t. with_frames (f t.frames) t) w (framed-branches w.drawn.regions f same) h;
     pushes_on = λ name onward f g w h may top region release abortable. tree-pushed name f (edit_top name (goes_on onward) w) (tree-on name onward w h) region;
     opens_abortable = λ name f w h o region release. tree-pushed name f w h region;
-    pops = λ name f w h may top action. tree-edited name (λ t. with_frames (rest_of t.frames) t) w (λ t b. (b.0, popped-marks (age t.master) w.drawn.regions t.frames b.1)) h;
+    pops =
+        λ name f w h may top action.
+        tree-edited name (λ t. with_frames (rest_of t.frames) t) w (λ t b. (b.0, popped-marks (age t.master) w.drawn.regions t.frames b.1)) h;
     readies = λ name w h o. tree-edited name (with_state Runnable) w (λ t b. b) h;
     blocks = λ name waiting w h o. tree-edited name (with_state (Blocked waiting)) w (λ t b. b) h;
     places = λ p part name end w h may. h;
@@ -259,13 +282,20 @@ tree_is_kept = record {
   };
   openings = record {
     pushes = λ name f w h may region release abortable. tree-pushed name f w h region;
-    opens_scope = λ p name scope b purpose w h may. tree-opened (scope_of p scope).kept name (new_frame (new_scope_mark (next_id w) (region_of_next (scope_of p scope).kept w) purpose) (scope_of p scope).first) (begin_scope p name scope b w) refl h;
+    opens_scope =
+        λ p name scope b purpose w h may. tree-opened (scope_of p scope).kept name
+        (new_frame (new_scope_mark (next_id w) (region_of_next (scope_of p scope).kept w) purpose) (scope_of p scope).first)
+        (begin_scope p name scope b w) refl h;
     outside = λ name w h may is. tt;
     within_part = λ name f w h may top is. tt;
     owned = λ name f r w h may top is. tt;
     awaits_dependents = λ name r w h may owns is. tt;
   };
-  exits = record { exits = λ name m w h may end. tree-edited name (λ t. with_frames (rest_of t.frames) t) w (λ t b. (b.0, popped-marks (age t.master) w.drawn.regions t.frames b.1)) h };
+  exits = record {
+    exits =
+        λ name m w h may end.
+        tree-edited name (λ t. with_frames (rest_of t.frames) t) w (λ t b. (b.0, popped-marks (age t.master) w.drawn.regions t.frames b.1)) h;
+  };
   pushes = tree-pushed;
   releases = λ handler argument w h. h;
   takes_up = λ r rest w h. h;
@@ -298,7 +328,8 @@ below-wider k a b h e = let low : k < a = ltb-true k a e in lt-ltb k b (omega (a
 below-rises : (a b : ℕ) (ts : List Task) → a ≤ b → count_below a ts ≤ count_below b ts
 unfolding count_below
 below-rises a b [] h = omega arith
-below-rises a b (t ∷ ts) h = one-more (ltb (age t.master) a) (ltb (age t.master) b) (count_below a ts) (count_below b ts) (below-wider (age t.master) a b h) (below-rises a b ts h)
+below-rises a b (t ∷ ts) h =
+    one-more (ltb (age t.master) a) (ltb (age t.master) b) (count_below a ts) (count_below b ts) (below-wider (age t.master) a b h) (below-rises a b ts h)
 
 at-most-one-more : (x : Bool) (m n : ℕ) → m ≤ n → cond x (suc m) m ≤ suc n
 at-most-one-more true m n h = omega (arith, h)
@@ -318,16 +349,21 @@ not-below false false m n e k h = absurd (false≢true k)
 older-at-most : (t u : Task) (b : ℕ) → t ≡ u → age u.master < b → age t.master ≤ b
 older-at-most t u b e h = let low : age t.master < b = subst (λ x. age x.master < b) (sym e) h in omega (arith, low)
 
-first-below : (test : Task → Bool) (b : ℕ) (t : Task) (ts : List Task) (u : Task) (is : Bool) → age u.master < b → cond is (Some t) (find test ts) ≡ Some u → (find test ts ≡ Some u → suc (count_below (age u.master) ts) ≤ count_below b ts) → suc (count_below (age u.master) (t ∷ ts)) ≤ count_below b (t ∷ ts)
+first-below : (test : Task → Bool) (b : ℕ) (t : Task) (ts : List Task) (u : Task) (is : Bool) → age u.master < b → cond is (Some t) (find test ts) ≡ Some u
+    → (find test ts ≡ Some u → suc (count_below (age u.master) ts) ≤ count_below b ts) → suc (count_below (age u.master) (t ∷ ts)) ≤ count_below b (t ∷ ts)
 unfolding count_below
 first-below test b t ts u true h e k =
     subst (λ x. suc (count_below (age x.master) (t ∷ ts)) ≤ count_below b (t ∷ ts)) (some-is 0 t u e)
-    (not-below (ltb (age t.master) (age t.master)) (ltb (age t.master) b) (count_below (age t.master) ts) (count_below b ts) (le-ltb (age t.master) (age t.master) (omega arith))
-    (lt-ltb (age t.master) b (subst (λ x. age x.master < b) (sym (some-is 0 t u e)) h)) (below-rises (age t.master) b ts (older-at-most t u b (some-is 0 t u e) h)))
+    (not-below (ltb (age t.master) (age t.master)) (ltb (age t.master) b) (count_below (age t.master) ts) (count_below b ts)
+    (le-ltb (age t.master) (age t.master) (omega arith))
+    (lt-ltb (age t.master) b (subst (λ x. age x.master < b) (sym (some-is 0 t u e)) h))
+    (below-rises (age t.master) b ts (older-at-most t u b (some-is 0 t u e) h)))
 first-below test b t ts u false h e k =
-    one-more-above (ltb (age t.master) (age u.master)) (ltb (age t.master) b) (count_below (age u.master) ts) (count_below b ts) (below-wider (age t.master) (age u.master) b (omega (arith, h))) (k e)
+    one-more-above (ltb (age t.master) (age u.master)) (ltb (age t.master) b) (count_below (age u.master) ts) (count_below b ts)
+    (below-wider (age t.master) (age u.master) b (omega (arith, h))) (k e)
 
-found-below : (test : Task → Bool) (b : ℕ) (ts : List Task) (u : Task) → find test ts ≡ Some u → age u.master < b → suc (count_below (age u.master) ts) ≤ count_below b ts
+found-below : (test : Task → Bool) (b : ℕ) (ts : List Task) (u : Task) → find test ts ≡ Some u → age u.master < b
+    → suc (count_below (age u.master) ts) ≤ count_below b ts
 unfolding count_below
 found-below test b [] u e h = cc
 found-below test b (t ∷ ts) u e h = first-below test b t ts u (test t) h e (λ k. found-below test b ts u k h)
@@ -347,7 +383,8 @@ owned-age old drawn r [] h e = absurd (false≢true e)
 owned-age old drawn r (f ∷ fs) h e =
     either-way (has_region r f) (list_any (has_region r) fs) (region-age old drawn (region_of_mark f.mark) r h.0) (owned-age old drawn r fs h.1) e
 
-first-passes : (test : Task → Bool) (t : Task) (rest : Option Task) (u : Task) (is : Bool) → test t ≡ is → (rest ≡ Some u → test u ≡ true) → cond is (Some t) rest ≡ Some u → test u ≡ true
+first-passes : (test : Task → Bool) (t : Task) (rest : Option Task) (u : Task) (is : Bool) → test t ≡ is → (rest ≡ Some u → test u ≡ true)
+    → cond is (Some t) rest ≡ Some u → test u ≡ true
 first-passes test t rest u true e k h = subst (λ x. test x ≡ true) (some-is 0 t u h) e
 first-passes test t rest u false e k h = k h
 
@@ -364,19 +401,24 @@ owner-older w r t h e =
 -- ---- so the count is enough
 
 masters-beyond : (fuel other : ℕ) (w : World) (r : RegionNo) (found : Option Task) → Tree w → owner_of w r ≡ found → count_below (suc r.0) w.tasks < suc fuel
-    → ((m : Option RegionNo) → count_below (age m) w.tasks < fuel → masters_from other w m ≡ masters_from fuel w m) → masters_beyond (masters_from other w) r found ≡ masters_beyond (masters_from fuel w) r found
+    → ((m : Option RegionNo) → count_below (age m) w.tasks < fuel → masters_from other w m ≡ masters_from fuel w m)
+    → masters_beyond (masters_from other w) r found ≡ masters_beyond (masters_from fuel w) r found
 masters-beyond fuel other w r None h is few k = refl
 masters-beyond fuel other w r (Some t) h is few k =
-    let fewer : suc (count_below (age t.master) w.tasks) ≤ count_below (suc r.0) w.tasks = found-below (owns r) (suc r.0) w.tasks t is (owner-older w r t h is) in
+    let fewer : suc (count_below (age t.master) w.tasks) ≤ count_below (suc r.0) w.tasks =
+    found-below (owns r) (suc r.0) w.tasks t is (owner-older w r t h is) in
     ap (λ rs. r ∷ rs) (k t.master (omega (arith, fewer, few)))
 
-masters-enough : (fuel other : ℕ) (w : World) → Tree w → fuel ≤ other → (m : Option RegionNo) → count_below (age m) w.tasks < fuel → masters_from other w m ≡ masters_from fuel w m
+masters-enough : (fuel other : ℕ) (w : World) → Tree w → fuel ≤ other → (m : Option RegionNo) → count_below (age m) w.tasks < fuel
+    → masters_from other w m ≡ masters_from fuel w m
 masters-enough zero other w h more m few = absurd (omega (arith, few))
 masters-enough (suc fuel) zero w h more m few = absurd (omega (arith, more))
 masters-enough (suc fuel) (suc other) w h more None few = refl
-masters-enough (suc fuel) (suc other) w h more (Some r) few = masters-beyond fuel other w r (owner_of w r) h refl few (masters-enough fuel other w h (omega (arith, more)))
+masters-enough (suc fuel) (suc other) w h more (Some r) few =
+    masters-beyond fuel other w r (owner_of w r) h refl few (masters-enough fuel other w h (omega (arith, more)))
 
 pub masters_end : MastersEnd
 masters_end p script bound w reached n more =
     let few : count_below (age (task_of w (who.Task n)).master) w.tasks ≤ length w.tasks = below-length (age (task_of w (who.Task n)).master) w.tasks in
-    masters-enough (suc (length w.tasks)) (suc (length w.tasks) + more) w (reached-has tree_is_kept p script bound w reached) (omega arith) (task_of w (who.Task n)).master (omega (arith, few))
+    masters-enough (suc (length w.tasks)) (suc (length w.tasks) + more) w (reached-has tree_is_kept p script bound w reached) (omega arith)
+    (task_of w (who.Task n)).master (omega (arith, few))

@@ -1,5 +1,6 @@
 -- Operands have smaller numbers, so a value needs no more turns than its number.
-use Rattle.std.proofs.Common.{◌≡◌, ℕ, zero, suc, ◌+◌, ◌<◌, ◌≤◌, length, Bool, true, false, List, [], ◌∷◌, Option, Some, None, refl, sym, ap, subst, ◌∙◌, arith, ltb, slice_index_or}
+use Rattle.std.proofs.Common.{◌≡◌, ℕ, zero, suc, ◌+◌, ◌<◌, ◌≤◌, length, Bool, true, false, List, [], ◌∷◌}
+use Rattle.std.proofs.Common.{Option, Some, None, refl, sym, ap, subst, ◌∙◌, arith, ltb, slice_index_or}
 use Rattle.std.specs.Prelude.{Ok, Err, pos, option_to_list}
 use Rattle.std.specs.List.{list_all}
 use Rattle.std.proofs.lemmas.Bool.{and_parts, ltb-true, ltb-false}
@@ -15,7 +16,8 @@ use Rattle.profile_machine.specs.declared.world.scopes.Variable.{Variable}
 use Rattle.profile_machine.specs.declared.world.tasks.Task as world
 use Rattle.profile_image.specs.Program.{expression_of}
 use Rattle.profile_machine.specs.Operators.{Valued, unary_value, binary_value, decides}
-use Rattle.profile_machine.specs.Values.{Seen, object_cell, indexed, component_cell, variable_by, read, live_task, named_task, task_in, of_task_by, port_value, span, both_values, form_value, value_by}
+use Rattle.profile_machine.specs.Values.{Seen, object_cell, indexed, component_cell, variable_by, read, live_task, named_task}
+use Rattle.profile_machine.specs.Values.{task_in, of_task_by, port_value, span, both_values, form_value, value_by}
 use Rattle.world_laws.specs.ValueLaws.{operands, operands_before, operands_rise_from, ValuesEnd}
 
 abbrev Values : Type 0
@@ -47,7 +49,8 @@ module _ (u v : Values) (q : Seen) where
   task-same f task h = then-same (named_task u q task) (named_task v q task) (λ t. live_task q.world t >>= λ found. Ok (f found)) (named-same task h)
 
   both-same : (operator : BinaryOperator) (right : ExprNo) (decided : Bool) (left : Value) → u right ≡ v right
-      → elim decided as (λ _. Valued Value) [ true ↦ Ok left | false ↦ u right >>= λ x. binary_value operator left x ] ≡ elim decided as (λ _. Valued Value) [ true ↦ Ok left | false ↦ v right >>= λ x. binary_value operator left x ]
+      → elim decided as (λ _. Valued Value) [ true ↦ Ok left | false ↦ u right >>= λ x. binary_value operator left x ]
+      ≡ elim decided as (λ _. Valued Value) [ true ↦ Ok left | false ↦ v right >>= λ x. binary_value operator left x ]
   both-same operator right true left h = refl
   both-same operator right false left h = then-same (u right) (v right) (λ x. binary_value operator left x) h
 
@@ -83,7 +86,9 @@ default = of.Known (Whole (pos 0))
 operands-of : (es : List Expression) (n i : ℕ) → operands_rise_from n es ≡ true → operands_before (n + i) (slice_index_or es i default) ≡ true
 operands-of [] n i h = refl
 operands-of (e ∷ es) n zero h = subst (λ m. operands_before m e ≡ true) (omega arith) (and_parts (operands_before n e) (operands_rise_from (suc n) es) h).0
-operands-of (e ∷ es) n (suc i) h = subst (λ m. operands_before m (slice_index_or es i default) ≡ true) (omega arith) (operands-of es (suc n) i (and_parts (operands_before n e) (operands_rise_from (suc n) es) h).1)
+operands-of (e ∷ es) n (suc i) h =
+    subst (λ m. operands_before m (slice_index_or es i default) ≡ true) (omega arith)
+    (operands-of es (suc n) i (and_parts (operands_before n e) (operands_rise_from (suc n) es) h).1)
 
 operands-rise : (es : List Expression) (e : ExprNo) → operands_rise_from 0 es ≡ true → operands_before e.0 (expression_of es e) ≡ true
 operands-rise es e h = subst (λ m. operands_before m (expression_of es e) ≡ true) (omega arith) (operands-of es 0 e.0 h)
@@ -102,7 +107,8 @@ module _ (q : Seen) (es : List Expression) (rise : operands_rise_from 0 es ≡ t
   values-enough (suc count) zero within e few = absurd (omega (arith, within))
   values-enough (suc count) (suc other) within e few =
       form-same (value_by other es q) (value_by count es q) q (expression_of es e)
-      (all-agree (value_by other es q) (value_by count es q) e.0 (operands (expression_of es e)) (operands-rise es e rise) (λ o less. values-enough count other (omega (arith, within)) o (omega (arith, few, less))))
+      (all-agree (value_by other es q) (value_by count es q) e.0 (operands (expression_of es e)) (operands-rise es e rise)
+      (λ o less. values-enough count other (omega (arith, within)) o (omega (arith, few, less))))
 
   -- of a number that is none of an expression, the value is the same in one turn
   values-past : (count other : ℕ) (e : ExprNo) → length es ≤ e.0 → value_by (suc other) es q e ≡ value_by (suc count) es q e
@@ -110,8 +116,10 @@ module _ (q : Seen) (es : List Expression) (rise : operands_rise_from 0 es ≡ t
       let is : expression_of es e ≡ default = get_or_past es e.0 default past in
       ap (form_value (value_by other es q) q) is ∙ sym (ap (form_value (value_by count es q) q) is)
 
-  values-tested : (other : ℕ) → suc (length es) ≤ suc other → (e : ExprNo) (known : Bool) → ltb e.0 (length es) ≡ known → value_by (suc other) es q e ≡ value_by (suc (length es)) es q e
-  values-tested other within e true is = let low : e.0 < length es = ltb-true e.0 (length es) is in values-enough (suc (length es)) (suc other) within e (omega (arith, low))
+  values-tested : (other : ℕ) → suc (length es) ≤ suc other → (e : ExprNo) (known : Bool) → ltb e.0 (length es) ≡ known
+      → value_by (suc other) es q e ≡ value_by (suc (length es)) es q e
+  values-tested other within e true is =
+      let low : e.0 < length es = ltb-true e.0 (length es) is in values-enough (suc (length es)) (suc other) within e (omega (arith, low))
   values-tested other within e false is = values-past (length es) other e (ltb-false e.0 (length es) is)
 
   values-all : (other : ℕ) → suc (length es) ≤ other → (e : ExprNo) → value_by other es q e ≡ value_by (suc (length es)) es q e

@@ -20,7 +20,8 @@ same-below : (n m bound : ℕ) → n ≡ m → m ≤ bound → n ≤ bound
 same-below n m bound e l = grind arith
 
 -- what is asked at an instant, where the run stops and where it goes on
-asked : (reason : Option Ended) (here there right right_there rest : Bool) → here ≡ true → there ≡ true → right ≡ true → right_there ≡ true → (reason ≡ None → rest ≡ true)
+asked : (reason : Option Ended) (here there right right_there rest : Bool) → here ≡ true → there ≡ true → right ≡ true → right_there ≡ true
+    → (reason ≡ None → rest ≡ true)
     → elim reason [ Some why ↦ here && there | None ↦ right && right_there && rest ] ≡ true
 asked (Some why) here there right right_there rest h t r u f = and_from here there h t
 asked None here there right right_there rest h t r u f = and_from (right && right_there) rest (and_from right right_there r u) (f refl)
@@ -34,9 +35,12 @@ module _ (p : Image) (fits : IsTrue (sequences_fit p)) (script : List (ℤ × It
       let here : is_well_formed p w ≡ true = reached_worlds_are_well_formed p fits script bound w (before w c) in
       let there : is_well_formed p i ≡ true = reached_worlds_are_well_formed p fits script bound i (behind w c) in
       let within : i.time ≤ bound = same-below i.time w.time bound (instants_take_no_time p w) l in
-      asked (stop p bound i) (is_well_formed p w) (is_well_formed p i) (is_right p bound w) (is_right p bound i) (all_well_formed fuel p bound (tock p i).0) here there
-      (and_from (leb w.time bound) (is_well_formed p w) (le-leb w.time bound l) here) (and_from (leb i.time bound) (is_well_formed p i) (le-leb i.time bound within) there)
-      (λ e. all-formed fuel (tock p i).0 (ticked w c e) (same-below (tock p i).0.time (suc i.time) bound (tocks_take_one_tick p i) (below_bound p bound i e within)))
+      asked (stop p bound i) (is_well_formed p w) (is_well_formed p i) (is_right p bound w) (is_right p bound i)
+      (all_well_formed fuel p bound (tock p i).0) here there
+      (and_from (leb w.time bound) (is_well_formed p w) (le-leb w.time bound l) here)
+      (and_from (leb i.time bound) (is_well_formed p i) (le-leb i.time bound within) there)
+      (λ e. all-formed fuel (tock p i).0 (ticked w c e)
+      (same-below (tock p i).0.time (suc i.time) bound (tocks_take_one_tick p i) (below_bound p bound i e within)))
 
 pub runs_are_well_formed : RunsAreWellFormed
 runs_are_well_formed p fits script bound =

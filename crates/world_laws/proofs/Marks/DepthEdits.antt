@@ -12,7 +12,8 @@ use Rattle.profile_machine.specs.Frames.{with_mark}
 use Rattle.profile_machine.specs.Unwinding.{struck_frame}
 use Rattle.profile_machine.specs.CallEnds.{is_abortable_of, depth_of_abortable, edit_depth, edit_abortable, triggered_mark, waited_mark}
 use Rattle.profile_machine.specs.WellFormed.{awaits_trigger, awaits_trigger_at, is_triggered}
-use Rattle.world_laws.proofs.Marks.MarkFacts.{finalized_in, frame_at, triggered_part, top_awaits, StruckRightly, FinalizesRightly, below_finalizes, finalizes_here}
+use Rattle.world_laws.proofs.Marks.MarkFacts.{finalized_in, frame_at, triggered_part, top_awaits}
+use Rattle.world_laws.proofs.Marks.MarkFacts.{StruckRightly, FinalizesRightly, below_finalizes, finalizes_here}
 use Rattle.world_laws.proofs.Marks.DepthLemmas.{of_call-below}
 use Rattle.machine_laws.proofs.FineMoves.{is_abortable}
 use Rattle.machine_laws.proofs.QueueLemmas.{by_test}
@@ -36,11 +37,13 @@ depth-empty d f [] = refl
 depth-empty d f (x ∷ xs) = empty-step (eqb (length xs) d) (f x) x xs (edit_depth d f xs)
 
 -- another depth awaits what it awaited
-other_awaits-step : (b : Bool) (d e : ℕ) (f : Frame → Frame) (x : Frame) (xs : List Frame) → eqb (length xs) d ≡ b → eqb e d ≡ false → awaits_trigger_at e (edit_depth d f xs) ≡ awaits_trigger_at e xs
+other_awaits-step : (b : Bool) (d e : ℕ) (f : Frame → Frame) (x : Frame) (xs : List Frame) → eqb (length xs) d ≡ b → eqb e d ≡ false
+    → awaits_trigger_at e (edit_depth d f xs) ≡ awaits_trigger_at e xs
     → awaits_trigger_at e (cond b (f x ∷ xs) (x ∷ edit_depth d f xs)) ≡ awaits_trigger_at e (x ∷ xs)
 other_awaits-step true d e f x xs here apart onward =
     let same : length xs ≡ d = eqb-true (length xs) d here in
-    let other : eqb (length xs) e ≡ false = by_test (eqb (length xs) e) (λ k. absurd (false≢true (sym apart ∙ eq-eqb e d (sym (eqb-true (length xs) e k) ∙ same)))) (λ k. k) in
+    let other : eqb (length xs) e ≡ false =
+    by_test (eqb (length xs) e) (λ k. absurd (false≢true (sym apart ∙ eq-eqb e d (sym (eqb-true (length xs) e k) ∙ same)))) (λ k. k) in
     ap (λ b. cond b (awaits_trigger (f x).mark) (awaits_trigger_at e xs)) other ∙ sym (ap (λ b. cond b (awaits_trigger x.mark) (awaits_trigger_at e xs)) other)
 other_awaits-step false d e f x xs here apart onward =
     ap (λ n. cond (eqb n e) (awaits_trigger x.mark) (awaits_trigger_at e (edit_depth d f xs))) (depth-length d f xs)
@@ -51,11 +54,14 @@ other-awaits d e f [] apart = refl
 other-awaits d e f (x ∷ xs) apart = other_awaits-step (eqb (length xs) d) d e f x xs refl apart (other-awaits d e f xs apart)
 
 -- the frame at the depth is the edited one
-edited_frame-step : (b : Bool) (d : ℕ) (f : Frame → Frame) (x y : Frame) (xs : List Frame) → eqb (length xs) d ≡ b → (frame_at d xs ≡ Some y → frame_at d (edit_depth d f xs) ≡ Some (f y)) → cond b (Some x) (frame_at d xs) ≡ Some y → frame_at d (cond b (f x ∷ xs) (x ∷ edit_depth d f xs)) ≡ Some (f y)
+edited_frame-step : (b : Bool) (d : ℕ) (f : Frame → Frame) (x y : Frame) (xs : List Frame) → eqb (length xs) d ≡ b
+    → (frame_at d xs ≡ Some y → frame_at d (edit_depth d f xs) ≡ Some (f y)) → cond b (Some x) (frame_at d xs) ≡ Some y
+    → frame_at d (cond b (f x ∷ xs) (x ∷ edit_depth d f xs)) ≡ Some (f y)
 edited_frame-step true d f x y xs here onward h =
     let same : x ≡ y = cc in ap (λ b. cond b (Some (f x)) (frame_at d xs)) here ∙ ap (λ (z : Frame). Some (f z)) same
 edited_frame-step false d f x y xs here onward h =
-    ap (λ n. cond (eqb n d) (Some x) (frame_at d (edit_depth d f xs))) (depth-length d f xs) ∙ ap (λ b. cond b (Some x) (frame_at d (edit_depth d f xs))) here ∙ onward h
+    ap (λ n. cond (eqb n d) (Some x) (frame_at d (edit_depth d f xs))) (depth-length d f xs) ∙ ap (λ b. cond b (Some x) (frame_at d (edit_depth d f xs))) here
+    ∙ onward h
 
 pub edited-frame : (d : ℕ) (f : Frame → Frame) (y : Frame) (fs : List Frame) → frame_at d fs ≡ Some y → frame_at d (edit_depth d f fs) ≡ Some (f y)
 edited-frame d f y [] h = cc
@@ -73,7 +79,8 @@ same_finalized f (InInitialize l) = refl
 same_finalized f (InFinalize o) = refl
 same_finalized f (InAssign m) = refl
 
-same_here : (f : AbortableMark → AbortableMark) (registered : List Registered) (drawn n : ℕ) (mark : Mark) → finalizes_here registered drawn n (edit_abortable f mark) ≡ finalizes_here registered drawn n mark
+same_here : (f : AbortableMark → AbortableMark) (registered : List Registered) (drawn n : ℕ) (mark : Mark)
+    → finalizes_here registered drawn n (edit_abortable f mark) ≡ finalizes_here registered drawn n mark
 same_here f registered drawn n (Scope m) = refl
 same_here f registered drawn n (Handled s) = refl
 same_here f registered drawn n (InProtected m) = refl
@@ -87,7 +94,8 @@ abbrev pub edited_part : (AbortableMark → AbortableMark) → Frame → Frame
 edited_part f x = with_mark (edit_abortable f x.mark) x
 
 module _ (f : AbortableMark → AbortableMark) (registered : List Registered) (drawn : ℕ) (d : ℕ) where
-  below-step : (b : Bool) (n : ℕ) (x : Frame) (xs ys : List Frame) → below_finalizes registered drawn n (cond b (edited_part f x ∷ xs) (x ∷ ys)) ≡ finalizes_here registered drawn n x.mark
+  below-step : (b : Bool) (n : ℕ) (x : Frame) (xs ys : List Frame)
+      → below_finalizes registered drawn n (cond b (edited_part f x ∷ xs) (x ∷ ys)) ≡ finalizes_here registered drawn n x.mark
   below-step true n x xs ys = same_here f registered drawn n x.mark
   below-step false n x xs ys = refl
 
@@ -95,7 +103,9 @@ module _ (f : AbortableMark → AbortableMark) (registered : List Registered) (d
   below-edited n [] = refl
   below-edited n (x ∷ xs) = below-step (eqb (length xs) d) n x xs (edit_depth d (edited_part f) xs)
 
-  finalizes-step : (b : Bool) (x : Frame) (xs ys : List Frame) → ((n : ℕ) → below_finalizes registered drawn n ys ≡ below_finalizes registered drawn n xs) → FinalizesRightly registered drawn ys → FinalizesRightly registered drawn (x ∷ xs) → FinalizesRightly registered drawn (cond b (edited_part f x ∷ xs) (x ∷ ys))
+  finalizes-step : (b : Bool) (x : Frame) (xs ys : List Frame) → ((n : ℕ) → below_finalizes registered drawn n ys ≡ below_finalizes registered drawn n xs)
+      → FinalizesRightly registered drawn ys → FinalizesRightly registered drawn (x ∷ xs)
+      → FinalizesRightly registered drawn (cond b (edited_part f x ∷ xs) (x ∷ ys))
   finalizes-step true x xs ys same onward h = ((λ n e. h.0 n (sym (same_finalized f x.mark) ∙ e)), h.1)
   finalizes-step false x xs ys same onward h = ((λ n e. same n ∙ h.0 n e), onward)
 
@@ -146,23 +156,32 @@ abbrev triggered : Frame → Frame
 triggered = edited_part triggered_mark
 
 module _ (d : ℕ) (abnormal : Bool) where
-  triggered_struck-step : (b : Bool) (x : Frame) (xs ys : List Frame) → is_empty ys ≡ is_empty xs → StruckRightly abnormal ys → StruckRightly abnormal (x ∷ xs) → StruckRightly abnormal (cond b (triggered x ∷ xs) (x ∷ ys))
-  triggered_struck-step true x xs ys same onward h = ((λ e. cause-more (is_triggered x.mark) (is_triggered (triggered x).mark) (is_empty xs && abnormal) (triggered_more x.mark) (h.0 e)), h.1)
+  triggered_struck-step : (b : Bool) (x : Frame) (xs ys : List Frame) → is_empty ys ≡ is_empty xs → StruckRightly abnormal ys → StruckRightly abnormal (x ∷ xs)
+      → StruckRightly abnormal (cond b (triggered x ∷ xs) (x ∷ ys))
+  triggered_struck-step true x xs ys same onward h = (
+    (λ e. cause-more (is_triggered x.mark) (is_triggered (triggered x).mark) (is_empty xs && abnormal) (triggered_more x.mark) (h.0 e)),
+    h.1,
+  )
   triggered_struck-step false x xs ys same onward h = ((λ e. ap (λ b. is_triggered x.mark || (b && abnormal)) same ∙ h.0 e), onward)
 
   pub triggered-struck : (fs : List Frame) → StruckRightly abnormal fs → StruckRightly abnormal (edit_depth d triggered fs)
   triggered-struck [] h = tt
-  triggered-struck (x ∷ xs) h = triggered_struck-step (eqb (length xs) d) x xs (edit_depth d triggered xs) (depth-empty d triggered xs) (triggered-struck xs h.1) h
+  triggered-struck (x ∷ xs) h =
+      triggered_struck-step (eqb (length xs) d) x xs (edit_depth d triggered xs) (depth-empty d triggered xs) (triggered-struck xs h.1) h
 
   -- it is struck where it is triggered
-  struck-step : (b : Bool) (x y : Frame) (xs ys : List Frame) → is_empty ys ≡ is_empty xs → (frame_at d xs ≡ Some y → StruckRightly abnormal ys) → is_triggered y.mark ≡ true → cond b (Some x) (frame_at d xs) ≡ Some y → StruckRightly abnormal (x ∷ xs) → StruckRightly abnormal (cond b (struck_frame x ∷ xs) (x ∷ ys))
+  struck-step : (b : Bool) (x y : Frame) (xs ys : List Frame) → is_empty ys ≡ is_empty xs → (frame_at d xs ≡ Some y → StruckRightly abnormal ys)
+      → is_triggered y.mark ≡ true → cond b (Some x) (frame_at d xs) ≡ Some y → StruckRightly abnormal (x ∷ xs)
+      → StruckRightly abnormal (cond b (struck_frame x ∷ xs) (x ∷ ys))
   struck-step true x y xs ys same onward is found h =
       let one : x ≡ y = cc in ((λ e. ap (λ b. b || (is_empty xs && abnormal)) (subst (λ (z : Frame). is_triggered z.mark ≡ true) (sym one) is)), h.1)
   struck-step false x y xs ys same onward is found h = ((λ e. ap (λ b. is_triggered x.mark || (b && abnormal)) same ∙ h.0 e), onward found)
 
-  pub depth-struck : (y : Frame) (fs : List Frame) → is_triggered y.mark ≡ true → frame_at d fs ≡ Some y → StruckRightly abnormal fs → StruckRightly abnormal (edit_depth d struck_frame fs)
+  pub depth-struck : (y : Frame) (fs : List Frame) → is_triggered y.mark ≡ true → frame_at d fs ≡ Some y → StruckRightly abnormal fs
+      → StruckRightly abnormal (edit_depth d struck_frame fs)
   depth-struck y [] is found h = tt
-  depth-struck y (x ∷ xs) is found h = struck-step (eqb (length xs) d) x y xs (edit_depth d struck_frame xs) (depth-empty d struck_frame xs) (λ k. depth-struck y xs is k h.1) is found h
+  depth-struck y (x ∷ xs) is found h =
+      struck-step (eqb (length xs) d) x y xs (edit_depth d struck_frame xs) (depth-empty d struck_frame xs) (λ k. depth-struck y xs is k h.1) is found h
 
 triggered_top-step : (b : Bool) (x : Frame) (xs ys : List Frame) → awaits_trigger x.mark ≡ false → top_awaits (cond b (triggered x ∷ xs) (x ∷ ys)) ≡ false
 triggered_top-step true x xs ys h = triggered_no_wait x.mark
@@ -173,17 +192,21 @@ triggered-top d [] h = refl
 triggered-top d (x ∷ xs) h = triggered_top-step (eqb (length xs) d) x xs (edit_depth d triggered xs) h
 
 -- the first part of another call
-triggered_part-step : (b : Bool) (c : CallNo) (d : ℕ) (x y : Frame) (xs ys : List Frame) → eqb (length xs) d ≡ b → (frame_at d xs ≡ Some y → triggered_part c ys ≡ triggered_part c xs) → is_abortable_of c y.mark ≡ false → cond b (Some x) (frame_at d xs) ≡ Some y
+triggered_part-step : (b : Bool) (c : CallNo) (d : ℕ) (x y : Frame) (xs ys : List Frame) → eqb (length xs) d ≡ b
+    → (frame_at d xs ≡ Some y → triggered_part c ys ≡ triggered_part c xs) → is_abortable_of c y.mark ≡ false → cond b (Some x) (frame_at d xs) ≡ Some y
     → triggered_part c (cond b (triggered x ∷ xs) (x ∷ ys)) ≡ triggered_part c (x ∷ xs)
 triggered_part-step true c d x y xs ys here onward other found =
     let one : x ≡ y = cc in
     let apart : is_abortable_of c x.mark ≡ false = subst (λ (z : Frame). is_abortable_of c z.mark ≡ false) (sym one) other in
-    ap (λ b. cond b (is_triggered (triggered x).mark) (triggered_part c xs)) (triggered_of_call c x.mark ∙ apart) ∙ sym (ap (λ b. cond b (is_triggered x.mark) (triggered_part c xs)) apart)
+    ap (λ b. cond b (is_triggered (triggered x).mark) (triggered_part c xs)) (triggered_of_call c x.mark ∙ apart)
+    ∙ sym (ap (λ b. cond b (is_triggered x.mark) (triggered_part c xs)) apart)
 triggered_part-step false c d x y xs ys here onward other found = ap (λ b. cond (is_abortable_of c x.mark) (is_triggered x.mark) b) (onward found)
 
-pub triggered-part : (c : CallNo) (d : ℕ) (y : Frame) (fs : List Frame) → is_abortable_of c y.mark ≡ false → frame_at d fs ≡ Some y → triggered_part c (edit_depth d triggered fs) ≡ triggered_part c fs
+pub triggered-part : (c : CallNo) (d : ℕ) (y : Frame) (fs : List Frame) → is_abortable_of c y.mark ≡ false → frame_at d fs ≡ Some y
+    → triggered_part c (edit_depth d triggered fs) ≡ triggered_part c fs
 triggered-part c d y [] other found = refl
-triggered-part c d y (x ∷ xs) other found = triggered_part-step (eqb (length xs) d) c d x y xs (edit_depth d triggered xs) refl (λ k. triggered-part c d y xs other k) other found
+triggered-part c d y (x ∷ xs) other found =
+    triggered_part-step (eqb (length xs) d) c d x y xs (edit_depth d triggered xs) refl (λ k. triggered-part c d y xs other k) other found
 
 -- ---- its wait is over
 
@@ -196,20 +219,31 @@ cause-other false true c none h = refl
 cause-other false false c none h = h
 
 no_depth : {P : Type 0} (c : CallNo) (d : ℕ) (xs : List Frame) → eqb (length xs) d ≡ true → depth_of_abortable c xs ≡ Some d → P
-no_depth c d xs here deeper = absurd (let low : d < length xs = of_call-below c d xs deeper in let same : length xs ≡ d = eqb-true (length xs) d here in omega (arith, same, low))
+no_depth c d xs here deeper =
+    absurd (let low : d < length xs = of_call-below c d xs deeper in let same : length xs ≡ d = eqb-true (length xs) d here in omega (arith, same, low))
 
 here_depth : {P : Type 0} (n d : ℕ) → eqb n d ≡ false → Some n ≡ Some d → P
 here_depth n d apart e = absurd (let same : n ≡ d = cc in false≢true (sym apart ∙ eq-eqb n d same))
 
 module _ (b : Bool) (c : CallNo) (d : ℕ) (abnormal : Bool) where
-  waited-case : (here of_call : Bool) (x : Frame) (xs ys : List Frame) → eqb (length xs) d ≡ here → cond of_call (Some (length xs)) (depth_of_abortable c xs) ≡ Some d → cond of_call (is_triggered x.mark) (triggered_part c xs) ≡ false
-      → is_empty ys ≡ is_empty xs → (depth_of_abortable c xs ≡ Some d → triggered_part c xs ≡ false → StruckRightly abnormal ys) → StruckRightly abnormal (x ∷ xs) → StruckRightly abnormal (cond here (waited b x ∷ xs) (x ∷ ys))
-  waited-case true true x xs ys here found untriggered same onward h = ((λ e. cause-other (is_triggered x.mark) (is_triggered (waited b x).mark) (is_empty xs && abnormal) untriggered (h.0 e)), h.1)
+  waited-case : (here of_call : Bool) (x : Frame) (xs ys : List Frame) → eqb (length xs) d ≡ here
+      → cond of_call (Some (length xs)) (depth_of_abortable c xs) ≡ Some d → cond of_call (is_triggered x.mark) (triggered_part c xs) ≡ false
+      → is_empty ys ≡ is_empty xs → (depth_of_abortable c xs ≡ Some d → triggered_part c xs ≡ false → StruckRightly abnormal ys)
+      → StruckRightly abnormal (x ∷ xs) → StruckRightly abnormal (cond here (waited b x ∷ xs) (x ∷ ys))
+  waited-case true true x xs ys here found untriggered same onward h = (
+    (λ e. cause-other (is_triggered x.mark) (is_triggered (waited b x).mark) (is_empty xs && abnormal) untriggered (h.0 e)),
+    h.1,
+  )
   waited-case true false x xs ys here found untriggered same onward h = no_depth c d xs here found
   waited-case false true x xs ys here found untriggered same onward h = here_depth (length xs) d here found
-  waited-case false false x xs ys here found untriggered same onward h = ((λ e. ap (λ k. is_triggered x.mark || (k && abnormal)) same ∙ h.0 e), onward found untriggered)
+  waited-case false false x xs ys here found untriggered same onward h = (
+    (λ e. ap (λ k. is_triggered x.mark || (k && abnormal)) same ∙ h.0 e),
+    onward found untriggered,
+  )
 
-  pub waited-struck : (fs : List Frame) → depth_of_abortable c fs ≡ Some d → triggered_part c fs ≡ false → StruckRightly abnormal fs → StruckRightly abnormal (edit_depth d (waited b) fs)
+  pub waited-struck : (fs : List Frame) → depth_of_abortable c fs ≡ Some d → triggered_part c fs ≡ false → StruckRightly abnormal fs
+      → StruckRightly abnormal (edit_depth d (waited b) fs)
   waited-struck [] found untriggered h = tt
   waited-struck (x ∷ xs) found untriggered h =
-      waited-case (eqb (length xs) d) (is_abortable_of c x.mark) x xs (edit_depth d (waited b) xs) refl found untriggered (depth-empty d (waited b) xs) (λ k u. waited-struck xs k u h.1) h
+      waited-case (eqb (length xs) d) (is_abortable_of c x.mark) x xs (edit_depth d (waited b) xs) refl found untriggered (depth-empty d (waited b) xs)
+      (λ k u. waited-struck xs k u h.1) h

@@ -1,5 +1,6 @@
 -- The frame of a depth: there is one only below the number of frames, and what an edit at a depth leaves on top.
-use Rattle.std.proofs.Common.{◌≡◌, ℕ, ◌<◌, Bool, true, false, cond, not, eqb, ◌&&◌, List, [], ◌∷◌, Option, Some, None, refl, sym, ap, ◌∙◌, length, arith, eq-eqb}
+use Rattle.std.proofs.Common.{◌≡◌, ℕ, ◌<◌, Bool, true, false, cond, not, eqb, ◌&&◌, List, []}
+use Rattle.std.proofs.Common.{◌∷◌, Option, Some, None, refl, sym, ap, ◌∙◌, length, arith, eq-eqb}
 use Rattle.std.proofs.lemmas.Bool.{eqb-true, false≢true}
 use Rattle.std.specs.Prelude.{is_none}
 use Rattle.ann_base.specs.declared.identities.CallNo.{CallNo}
@@ -19,7 +20,8 @@ use Rattle.machine_laws.proofs.QueueLemmas.{by_test}
 some-number : (m n : ℕ) → Some m ≡ Some n → m ≡ n
 some-number m n e = cc
 
-frame-step : (b : Bool) (x y : Frame) (xs : List Frame) (d : ℕ) → eqb (length xs) d ≡ b → (frame_at d xs ≡ Some y → d < length xs) → cond b (Some x) (frame_at d xs) ≡ Some y → d < length (x ∷ xs)
+frame-step : (b : Bool) (x y : Frame) (xs : List Frame) (d : ℕ) → eqb (length xs) d ≡ b → (frame_at d xs ≡ Some y → d < length xs)
+    → cond b (Some x) (frame_at d xs) ≡ Some y → d < length (x ∷ xs)
 frame-step true x y xs d e onward h = let same : length xs ≡ d = eqb-true (length xs) d e in omega (arith, same)
 frame-step false x y xs d e onward h = let below : d < length xs = onward h in omega (arith, below)
 
@@ -27,7 +29,8 @@ pub frame-below : (d : ℕ) (y : Frame) (fs : List Frame) → frame_at d fs ≡ 
 frame-below d y [] h = cc
 frame-below d y (x ∷ xs) h = frame-step (eqb (length xs) d) x y xs d refl (λ k. frame-below d y xs k) h
 
-awaits-step : (b : Bool) (x : Frame) (xs : List Frame) (d : ℕ) → eqb (length xs) d ≡ b → (awaits_trigger_at d xs ≡ true → d < length xs) → cond b (awaits_trigger x.mark) (awaits_trigger_at d xs) ≡ true → d < length (x ∷ xs)
+awaits-step : (b : Bool) (x : Frame) (xs : List Frame) (d : ℕ) → eqb (length xs) d ≡ b → (awaits_trigger_at d xs ≡ true → d < length xs)
+    → cond b (awaits_trigger x.mark) (awaits_trigger_at d xs) ≡ true → d < length (x ∷ xs)
 awaits-step true x xs d e onward h = let same : length xs ≡ d = eqb-true (length xs) d e in omega (arith, same)
 awaits-step false x xs d e onward h = let below : d < length xs = onward h in omega (arith, below)
 
@@ -35,7 +38,8 @@ pub awaits-below : (d : ℕ) (fs : List Frame) → awaits_trigger_at d fs ≡ tr
 awaits-below d [] h = cc
 awaits-below d (x ∷ xs) h = awaits-step (eqb (length xs) d) x xs d refl (λ k. awaits-below d xs k) h
 
-of_call-step : (b : Bool) (c : CallNo) (x : Frame) (xs : List Frame) (d : ℕ) → (depth_of_abortable c xs ≡ Some d → d < length xs) → cond b (Some (length xs)) (depth_of_abortable c xs) ≡ Some d → d < length (x ∷ xs)
+of_call-step : (b : Bool) (c : CallNo) (x : Frame) (xs : List Frame) (d : ℕ) → (depth_of_abortable c xs ≡ Some d → d < length xs)
+    → cond b (Some (length xs)) (depth_of_abortable c xs) ≡ Some d → d < length (x ∷ xs)
 of_call-step true c x xs d onward h = let same : length xs ≡ d = some-number (length xs) d h in omega (arith, same)
 of_call-step false c x xs d onward h = let below : d < length xs = onward h in omega (arith, below)
 
@@ -57,7 +61,8 @@ awaits-top f fs = ap (λ b. cond b (awaits_trigger f.mark) (awaits_trigger_at (l
 
 -- ---- the frame at a depth
 
-frame_awaits-step : (b : Bool) (x y : Frame) (rest : Option Frame) (awaits : Bool) → (rest ≡ Some y → awaits ≡ awaits_trigger y.mark) → cond b (Some x) rest ≡ Some y → cond b (awaits_trigger x.mark) awaits ≡ awaits_trigger y.mark
+frame_awaits-step : (b : Bool) (x y : Frame) (rest : Option Frame) (awaits : Bool) → (rest ≡ Some y → awaits ≡ awaits_trigger y.mark)
+    → cond b (Some x) rest ≡ Some y → cond b (awaits_trigger x.mark) awaits ≡ awaits_trigger y.mark
 frame_awaits-step true x y rest awaits onward h = let same : x ≡ y = cc in ap (λ (f : Frame). awaits_trigger f.mark) same
 frame_awaits-step false x y rest awaits onward h = onward h
 
@@ -73,9 +78,15 @@ pub record Found (P : Frame → Type 0) (d : ℕ) (fs : List Frame) : Type 0 whe
 
 found-below : (P : Frame → Type 0) (d : ℕ) (x : Frame) (xs : List Frame) → Found P d xs → Found P d (x ∷ xs)
 found-below P d x xs f =
-    record { frame = f.frame; found = ap (λ b. cond b (Some x) (frame_at d xs)) (not_here (length xs) d (frame-below d f.frame xs f.found)) ∙ f.found; has = f.has }
+    record {
+      frame = f.frame;
+      found = ap (λ b. cond b (Some x) (frame_at d xs)) (not_here (length xs) d (frame-below d f.frame xs f.found)) ∙ f.found;
+      has = f.has;
+    }
 
-awaits_found-step : (b : Bool) (d : ℕ) (x : Frame) (xs : List Frame) → eqb (length xs) d ≡ b → (awaits_trigger_at d xs ≡ true → Found (λ f. awaits_trigger f.mark ≡ true) d xs) → cond b (awaits_trigger x.mark) (awaits_trigger_at d xs) ≡ true → Found (λ f. awaits_trigger f.mark ≡ true) d (x ∷ xs)
+awaits_found-step : (b : Bool) (d : ℕ) (x : Frame) (xs : List Frame) → eqb (length xs) d ≡ b
+    → (awaits_trigger_at d xs ≡ true → Found (λ f. awaits_trigger f.mark ≡ true) d xs) → cond b (awaits_trigger x.mark) (awaits_trigger_at d xs) ≡ true
+    → Found (λ f. awaits_trigger f.mark ≡ true) d (x ∷ xs)
 awaits_found-step true d x xs e onward h = record { frame = x; found = ap (λ b. cond b (Some x) (frame_at d xs)) e; has = h }
 awaits_found-step false d x xs e onward h = found-below (λ f. awaits_trigger f.mark ≡ true) d x xs (onward h)
 
@@ -83,8 +94,14 @@ pub awaits-found : (d : ℕ) (fs : List Frame) → awaits_trigger_at d fs ≡ tr
 awaits-found d [] h = cc
 awaits-found d (x ∷ xs) h = awaits_found-step (eqb (length xs) d) d x xs refl (λ k. awaits-found d xs k) h
 
-of_call_found-step : (b : Bool) (c : CallNo) (d : ℕ) (x : Frame) (xs : List Frame) → is_abortable_of c x.mark ≡ b → (depth_of_abortable c xs ≡ Some d → Found (λ f. is_abortable_of c f.mark ≡ true) d xs) → cond b (Some (length xs)) (depth_of_abortable c xs) ≡ Some d → Found (λ f. is_abortable_of c f.mark ≡ true) d (x ∷ xs)
-of_call_found-step true c d x xs e onward h = record { frame = x; found = ap (λ b. cond b (Some x) (frame_at d xs)) (eq-eqb (length xs) d (some-number (length xs) d h)); has = e }
+of_call_found-step : (b : Bool) (c : CallNo) (d : ℕ) (x : Frame) (xs : List Frame) → is_abortable_of c x.mark ≡ b
+    → (depth_of_abortable c xs ≡ Some d → Found (λ f. is_abortable_of c f.mark ≡ true) d xs) → cond b (Some (length xs)) (depth_of_abortable c xs) ≡ Some d
+    → Found (λ f. is_abortable_of c f.mark ≡ true) d (x ∷ xs)
+of_call_found-step true c d x xs e onward h = record {
+  frame = x;
+  found = ap (λ b. cond b (Some x) (frame_at d xs)) (eq-eqb (length xs) d (some-number (length xs) d h));
+  has = e;
+}
 of_call_found-step false c d x xs e onward h = found-below (λ f. is_abortable_of c f.mark ≡ true) d x xs (onward h)
 
 pub of_call-found : (c : CallNo) (d : ℕ) (fs : List Frame) → depth_of_abortable c fs ≡ Some d → Found (λ f. is_abortable_of c f.mark ≡ true) d fs
@@ -143,7 +160,8 @@ awaits-uncalled c _ e = absurd (false≢true e)
 abbrev waited : Bool → Frame → Frame
 waited b x = with_mark (edit_abortable (waited_mark b) x.mark) x
 
-waited_top-step : (test : Bool) (b : Bool) (c : CallNo) (d : ℕ) (x : Frame) (xs ys : List Frame) → eqb (length xs) d ≡ test → depth_of_abortable c (x ∷ xs) ≡ Some d → awaits_trigger x.mark ≡ false → top_awaits (cond test (waited b x ∷ xs) (x ∷ ys)) ≡ false
+waited_top-step : (test : Bool) (b : Bool) (c : CallNo) (d : ℕ) (x : Frame) (xs ys : List Frame) → eqb (length xs) d ≡ test
+    → depth_of_abortable c (x ∷ xs) ≡ Some d → awaits_trigger x.mark ≡ false → top_awaits (cond test (waited b x ∷ xs) (x ∷ ys)) ≡ false
 waited_top-step true b c d x xs ys here of_call no_wait =
     by_test (is_abortable_of c x.mark)
     (λ e. of_call-awaits c (edit_abortable (waited_mark b) x.mark) (waited-of_call c b x.mark ∙ e))
@@ -151,6 +169,7 @@ waited_top-step true b c d x xs ys here of_call no_wait =
     let low : d < length xs = of_call-below c d xs deeper in let same : length xs ≡ d = eqb-true (length xs) d here in omega (arith, same, low)))
 waited_top-step false b c d x xs ys here of_call no_wait = no_wait
 
-pub waited-top : (b : Bool) (c : CallNo) (d : ℕ) (fs : List Frame) → depth_of_abortable c fs ≡ Some d → top_awaits fs ≡ false → top_awaits (edit_depth d (waited b) fs) ≡ false
+pub waited-top : (b : Bool) (c : CallNo) (d : ℕ) (fs : List Frame) → depth_of_abortable c fs ≡ Some d → top_awaits fs ≡ false
+    → top_awaits (edit_depth d (waited b) fs) ≡ false
 waited-top b c d [] of_call no_wait = refl
 waited-top b c d (x ∷ xs) of_call no_wait = waited_top-step (eqb (length xs) d) b c d x xs (edit_depth d (waited b) xs) refl of_call no_wait

@@ -23,12 +23,14 @@ unregistered-top (who.Task t) n f w e = e
 unregistered-top who.Agent n f w e = e
 
 -- what is found by its number is registered under it
-pub target-registered : (n : ℕ) (x : Registered) (rs : List Registered) → find (is_number n) rs ≡ Some x → (eqb x.object n && is_some (find (is_number x.object) rs)) ≡ true
+pub target-registered : (n : ℕ) (x : Registered) (rs : List Registered) → find (is_number n) rs ≡ Some x
+    → (eqb x.object n && is_some (find (is_number x.object) rs)) ≡ true
 target-registered n x rs e =
     let same : n ≡ x.object = eqb-true n x.object (found-test (is_number n) x rs e) in
     ap (λ b. b && is_some (find (is_number x.object) rs)) (eq-eqb x.object n (sym same)) ∙ ap is_some (ap (λ k. find (is_number k) rs) (sym same) ∙ e)
 
-drawn-step : (drawn : ℕ) (b : Bool) (r x : Registered) (rest : Option Registered) → r.object ≤ drawn → (rest ≡ Some x → x.object ≤ drawn) → cond b (Some r) rest ≡ Some x → x.object ≤ drawn
+drawn-step : (drawn : ℕ) (b : Bool) (r x : Registered) (rest : Option Registered) → r.object ≤ drawn → (rest ≡ Some x → x.object ≤ drawn)
+    → cond b (Some r) rest ≡ Some x → x.object ≤ drawn
 drawn-step drawn true r x rest low onward e = let same : r ≡ x = cc in subst (λ (y : Registered). y.object ≤ drawn) same low
 drawn-step drawn false r x rest low onward e = onward e
 
@@ -42,9 +44,11 @@ all_four true true false d p q r s = r
 all_four true false c d p q r s = q
 all_four false b c d p q r s = p
 
-pub leaving-may_finalize : (w : World) (f : Frame) (m : ScopeMark) (r : RegionNo) (x : Registered) → GoodMarks w → f.mark ≡ Scope m → m.region ≡ Some r → m.being_left ≡ true → next_to_finalize w r ≡ Some x → may_finalize (no_longer_registered x.object w) x.object f.mark ≡ true
+pub leaving-may_finalize : (w : World) (f : Frame) (m : ScopeMark) (r : RegionNo) (x : Registered) → GoodMarks w → f.mark ≡ Scope m → m.region ≡ Some r
+    → m.being_left ≡ true → next_to_finalize w r ≡ Some x → may_finalize (no_longer_registered x.object w) x.object f.mark ≡ true
 leaving-may_finalize w f m r x good is region left next =
     let low : x.object ≤ w.drawn.controlled = found-drawn w.drawn.controlled (of_region r) x w.registered good.objects next in
     subst (λ k. may_finalize (no_longer_registered x.object w) x.object k ≡ true) (sym is)
-    (all_four m.being_left (is_some m.region) (is_none (find (is_number x.object) (without (is_number x.object) w.registered))) (leb x.object w.drawn.controlled)
+    (all_four m.being_left (is_some m.region) (is_none (find (is_number x.object) (without (is_number x.object) w.registered)))
+    (leb x.object w.drawn.controlled)
     left (ap is_some region) (ap is_none (not_found-without (is_number x.object) w.registered)) (grind (arith, low)))

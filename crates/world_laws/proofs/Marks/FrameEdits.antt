@@ -15,7 +15,8 @@ use Rattle.profile_machine.specs.Frames.{edit_first}
 use Rattle.profile_machine.specs.Unwinding.{struck_frame, edit_last}
 use Rattle.profile_machine.specs.CallEnds.{is_abortable_of, edit_depth}
 use Rattle.profile_machine.specs.WellFormed.{awaits_trigger, awaits_trigger_at, is_triggered}
-use Rattle.world_laws.proofs.Marks.MarkFacts.{part_in, finalized_in, nature, triggered_part, top_awaits, StruckRightly, FinalizesRightly, below_finalizes, finalizes_here, WaitsRightly}
+use Rattle.world_laws.proofs.Marks.MarkFacts.{part_in, finalized_in, nature, triggered_part, top_awaits, StruckRightly}
+use Rattle.world_laws.proofs.Marks.MarkFacts.{FinalizesRightly, below_finalizes, finalizes_here, WaitsRightly}
 
 -- ---- what a part decides
 
@@ -82,7 +83,8 @@ module _ (f : Frame → Frame) (same : (x : Frame) → nature (f x).mark ≡ nat
   first-struck abnormal (x ∷ xs) h =
       ((λ e. ap (λ b. b || (is_empty xs && abnormal)) (same-triggered (f x).mark x.mark (same x)) ∙ h.0 (sym (alike x) ∙ e)), h.1)
 
-  pub first-finalizes : (registered : List Registered) (drawn : ℕ) (fs : List Frame) → FinalizesRightly registered drawn fs → FinalizesRightly registered drawn (edit_first f fs)
+  pub first-finalizes : (registered : List Registered) (drawn : ℕ) (fs : List Frame) → FinalizesRightly registered drawn fs
+      → FinalizesRightly registered drawn (edit_first f fs)
   first-finalizes registered drawn [] h = tt
   first-finalizes registered drawn (x ∷ xs) h = ((λ n e. h.0 n (sym (same-finalized (f x).mark x.mark (same x)) ∙ e)), h.1)
 
@@ -109,15 +111,20 @@ module _ (f : Frame) (plain : f.struck ≡ false) where
   pub pushed-struck : (abnormal : Bool) (fs : List Frame) → StruckRightly abnormal fs → StruckRightly abnormal (f ∷ fs)
   pushed-struck abnormal fs h = ((λ e. absurd (false≢true (sym plain ∙ e))), h)
 
-pub pushed-finalizes : (f : Frame) → finalized_in f.mark ≡ None → (registered : List Registered) (drawn : ℕ) (fs : List Frame) → FinalizesRightly registered drawn fs → FinalizesRightly registered drawn (f ∷ fs)
+pub pushed-finalizes : (f : Frame) → finalized_in f.mark ≡ None → (registered : List Registered) (drawn : ℕ) (fs : List Frame)
+    → FinalizesRightly registered drawn fs → FinalizesRightly registered drawn (f ∷ fs)
 pushed-finalizes f none registered drawn fs h = ((λ n e. absurd (let no : None ≡ Some n = sym none ∙ e in cc)), h)
 
 cond-false : (b x y : Bool) → x ≡ false → y ≡ false → cond b x y ≡ false
 cond-false true x y p q = p
 cond-false false x y p q = q
 
-pub pushed-waits : (f : Frame) → awaits_trigger f.mark ≡ false → is_triggered f.mark ≡ false → (waiting : Option Waiting) (fs : List Frame) → WaitsRightly waiting fs → WaitsRightly waiting (f ∷ fs)
-pushed-waits f no_wait untriggered waiting fs h c is = (no_wait, cond-false (is_abortable_of c f.mark) (is_triggered f.mark) (triggered_part c fs) untriggered (h c is).1)
+pub pushed-waits : (f : Frame) → awaits_trigger f.mark ≡ false → is_triggered f.mark ≡ false → (waiting : Option Waiting) (fs : List Frame)
+    → WaitsRightly waiting fs → WaitsRightly waiting (f ∷ fs)
+pushed-waits f no_wait untriggered waiting fs h c is = (
+  no_wait,
+  cond-false (is_abortable_of c f.mark) (is_triggered f.mark) (triggered_part c fs) untriggered (h c is).1,
+)
 
 -- ---- and ends
 
@@ -125,7 +132,8 @@ pub popped-struck : (abnormal : Bool) (fs : List Frame) → StruckRightly abnorm
 popped-struck abnormal [] h = tt
 popped-struck abnormal (x ∷ xs) h = h.1
 
-pub popped-finalizes : (registered : List Registered) (drawn : ℕ) (fs : List Frame) → FinalizesRightly registered drawn fs → FinalizesRightly registered drawn (rest_of fs)
+pub popped-finalizes : (registered : List Registered) (drawn : ℕ) (fs : List Frame) → FinalizesRightly registered drawn fs
+    → FinalizesRightly registered drawn (rest_of fs)
 popped-finalizes registered drawn [] h = tt
 popped-finalizes registered drawn (x ∷ xs) h = h.1
 
@@ -198,13 +206,15 @@ same_marks-part c (f ∷ fs) (g ∷ gs) h =
 pub same_marks-waits : (waiting : Option Waiting) (fs gs : List Frame) → SameMarks fs gs → WaitsRightly waiting gs → WaitsRightly waiting fs
 same_marks-waits waiting fs gs h k c is = let r = k c is in (same_marks-top fs gs h ∙ r.0, same_marks-part c fs gs h ∙ r.1)
 
-below-same : (registered : List Registered) (drawn n : ℕ) (fs gs : List Frame) → SameMarks fs gs → below_finalizes registered drawn n fs ≡ below_finalizes registered drawn n gs
+below-same : (registered : List Registered) (drawn n : ℕ) (fs gs : List Frame) → SameMarks fs gs
+    → below_finalizes registered drawn n fs ≡ below_finalizes registered drawn n gs
 below-same registered drawn n [] [] h = refl
 below-same registered drawn n [] (g ∷ gs) h = absurd h
 below-same registered drawn n (f ∷ fs) [] h = absurd h
 below-same registered drawn n (f ∷ fs) (g ∷ gs) h = ap (finalizes_here registered drawn n) h.0
 
-pub same_marks-finalizes : (registered : List Registered) (drawn : ℕ) (fs gs : List Frame) → SameMarks fs gs → FinalizesRightly registered drawn gs → FinalizesRightly registered drawn fs
+pub same_marks-finalizes : (registered : List Registered) (drawn : ℕ) (fs gs : List Frame) → SameMarks fs gs → FinalizesRightly registered drawn gs
+    → FinalizesRightly registered drawn fs
 same_marks-finalizes registered drawn [] [] h k = tt
 same_marks-finalizes registered drawn [] (g ∷ gs) h k = absurd h
 same_marks-finalizes registered drawn (f ∷ fs) [] h k = absurd h

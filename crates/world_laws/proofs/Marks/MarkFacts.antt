@@ -230,7 +230,8 @@ below_finalizes registered drawn n (f ∷ fs) = finalizes_here registered drawn 
 
 abbrev pub FinalizesRightly : List Registered → ℕ → List Frame → Type 0
 FinalizesRightly registered drawn [] = Unit {0}
-FinalizesRightly registered drawn (f ∷ fs) = ((n : ℕ) → finalized_in f.mark ≡ Some n → below_finalizes registered drawn n fs ≡ true) × FinalizesRightly registered drawn fs
+FinalizesRightly registered drawn (f ∷ fs) =
+    ((n : ℕ) → finalized_in f.mark ≡ Some n → below_finalizes registered drawn n fs ≡ true) × FinalizesRightly registered drawn fs
 
 pub record RightMarks (registered : List Registered) (drawn : ℕ) (t : Task) : Type 0 where
   pub struck : StruckRightly t.abnormal t.frames
@@ -255,7 +256,8 @@ pub record GoodIn (tasks : List Task) (agent : Task) (appointments : List Appoin
   pub agent_right : RightMarks registered controlled agent
   pub waits : AllTasks WaitsOf tasks
   pub numbers : AllTasks (λ t. DrawnTo drawn t.who) tasks
-  pub triggers : (t : TaskNo) (depth : ℕ) → list_any (λ a. is_trigger_of t depth a.due) appointments ≡ true → (t.0 < drawn) × AwaitsAt depth (one_of tasks agent (who.Task t))
+  pub triggers : (t : TaskNo) (depth : ℕ) → list_any (λ a. is_trigger_of t depth a.due) appointments ≡ true
+      → (t.0 < drawn) × AwaitsAt depth (one_of tasks agent (who.Task t))
   pub single : Distinct tasks
   pub objects : AllDrawn controlled registered
 
@@ -264,10 +266,12 @@ GoodMarks w = GoodIn w.tasks w.agent w.appointments w.registered w.drawn.tasks w
 
 -- ---- what stays so from one world to another: who was drawn, who is abnormal as long as it is there, and for whom no trigger is set
 
-pub record StillIn (drawn : ℕ) (tasks : List Task) (agent : Task) (appointments : List Appointment) (later : ℕ) (tasks_behind : List Task) (agent_behind : Task) (appointments_behind : List Appointment) : Type 0 where
+pub record StillIn (drawn : ℕ) (tasks : List Task) (agent : Task) (appointments : List Appointment) (later : ℕ) (tasks_behind : List Task) (agent_behind : Task)
+    (appointments_behind : List Appointment) : Type 0 where
   pub more : drawn ≤ later
   pub marked : (n : TaskNo) → MarkedIn drawn tasks agent n → MarkedIn later tasks_behind agent_behind n
-  pub fewer : (n : TaskNo) (depth : ℕ) → list_any (λ a. is_trigger_of n depth a.due) appointments ≡ false → list_any (λ a. is_trigger_of n depth a.due) appointments_behind ≡ false
+  pub fewer : (n : TaskNo) (depth : ℕ) → list_any (λ a. is_trigger_of n depth a.due) appointments ≡ false
+      → list_any (λ a. is_trigger_of n depth a.due) appointments_behind ≡ false
 
 abbrev pub Still : World → World → Type 0
 Still w v = StillIn w.drawn.tasks w.tasks w.agent w.appointments v.drawn.tasks v.tasks v.agent v.appointments

@@ -1,5 +1,6 @@
 -- Each change that steps are made of keeps what is known of marks.
-use Rattle.std.proofs.Common.{◌≡◌, inl, ℕ, suc, ◌<◌, ◌≤◌, Bool, true, false, cond, not, eqb, ◌&&◌, ◌||◌, List, [], ◌∷◌, Option, Some, None, refl, sym, ap, subst, ◌∙◌, arith, eq-eqb}
+use Rattle.std.proofs.Common.{◌≡◌, inl, ℕ, suc, ◌<◌, ◌≤◌, Bool, true, false, cond, not, eqb, ◌&&◌, ◌||◌}
+use Rattle.std.proofs.Common.{List, [], ◌∷◌, Option, Some, None, refl, sym, ap, subst, ◌∙◌, arith, eq-eqb}
 use Rattle.std.proofs.lemmas.Bool.{and_parts, eqb-true, false≢true}
 use Rattle.std.specs.Prelude.{find, is_some, is_none, leb, ℤ, int_lt, unwrap_or}
 use Rattle.std.specs.List.{list_any}
@@ -34,7 +35,8 @@ use Rattle.profile_machine.specs.Frames.{frames_of, new_frame, edit_first, edit_
 use Rattle.profile_machine.specs.Scopes.{begin_scope, draw_region, open_scope, next_id, region_of_next, new_scope_mark}
 use Rattle.profile_machine.specs.Appointments.{is_trigger_of, put_appointment, appoint, drop_appointment}
 use Rattle.profile_machine.specs.Protected.{new_protected_mark}
-use Rattle.profile_machine.specs.Controlled.{is_number, assigns_to, is_assigning_to, is_being_assigned, top_region, registered_as, no_longer_registered, edit_top_scope, edit_scope_mark}
+use Rattle.profile_machine.specs.Controlled.{is_number, assigns_to, is_assigning_to, is_being_assigned, top_region}
+use Rattle.profile_machine.specs.Controlled.{registered_as, no_longer_registered, edit_top_scope, edit_scope_mark}
 use Rattle.profile_machine.specs.Tasking.{is_task_scope, add_task, being_left_mark, left_so_frame}
 use Rattle.profile_machine.specs.WellFormed.{awaits_trigger}
 use Rattle.machine_laws.proofs.Moves.{MoveRelation}
@@ -42,10 +44,13 @@ use Rattle.machine_laws.proofs.FineMoves.{edit_task-drawn, Anybody, each-anybody
 use Rattle.machine_laws.proofs.FinestMoves.{natures, action_first, action_in}
 use Rattle.machine_laws.proofs.QueueLemmas.{by_test}
 use Rattle.line_laws.proofs.Exits.TaskEdits.{one_of}
-use Rattle.world_laws.proofs.Marks.MarkFacts.{Begun, Calm, DrawnTo, HasBegun, StandsAt, Unarmed, AwaitsAt, AllDrawn, own_scope_in, RightMarks, FinalizesRightly, below_finalizes, finalizes_here, is_a_trigger, nature, GoodMarks, Still}
+use Rattle.world_laws.proofs.Marks.MarkFacts.{Begun, Calm, DrawnTo, HasBegun, StandsAt, Unarmed, AwaitsAt, AllDrawn, own_scope_in, RightMarks}
+use Rattle.world_laws.proofs.Marks.MarkFacts.{FinalizesRightly, below_finalizes, finalizes_here, is_a_trigger, nature, GoodMarks, Still}
 use Rattle.world_laws.proofs.Marks.FineMoves.{FineMoves, RegionMoves, TockMoves}
 use Rattle.world_laws.proofs.Marks.TaskFacts.{all-map, all-both, found-test, fewer-any, all-found}
-use Rattle.world_laws.proofs.Marks.TaskMoves.{LeadsTo, still-same, stays-good, leads-then, task-leads, abort-leads, runnable-leads, blocked-leads, waiting-leads, top-leads, push-leads, part-leads, finalize-leads, own_scope-leads, pop-leads, strike-leads, triggered-leads, waited-leads, added-leads, forgotten-leads}
+use Rattle.world_laws.proofs.Marks.TaskMoves.{LeadsTo, still-same, stays-good, leads-then, task-leads, abort-leads, runnable-leads}
+use Rattle.world_laws.proofs.Marks.TaskMoves.{blocked-leads, waiting-leads, top-leads, push-leads, part-leads, finalize-leads, own_scope-leads}
+use Rattle.world_laws.proofs.Marks.TaskMoves.{pop-leads, strike-leads, triggered-leads, waited-leads, added-leads, forgotten-leads}
 use Rattle.world_laws.proofs.Queues.Listed.{AllTasks}
 
 abbrev pub GoodBehind : MoveRelation
@@ -59,7 +64,8 @@ swap true false c = refl
 swap false true c = refl
 swap false false c = refl
 
-put-step : (b : Bool) (q : Appointment → Bool) (new a : Appointment) (rest put : List Appointment) → list_any q put ≡ (q new || list_any q rest) → list_any q (cond b (new ∷ a ∷ rest) (a ∷ put)) ≡ (q new || list_any q (a ∷ rest))
+put-step : (b : Bool) (q : Appointment → Bool) (new a : Appointment) (rest put : List Appointment) → list_any q put ≡ (q new || list_any q rest)
+    → list_any q (cond b (new ∷ a ∷ rest) (a ∷ put)) ≡ (q new || list_any q (a ∷ rest))
 put-step true q new a rest put onward = refl
 put-step false q new a rest put onward = ap (λ b. q a || b) onward ∙ swap (q a) (q new) (list_any q rest)
 
@@ -82,13 +88,18 @@ appoint-leads due moment w good other = (
     numbers = good.numbers;
     single = good.single;
     triggers = λ t d is.
-        good.triggers t d (sym (put-any (λ a. is_trigger_of t d a.due) (record { due = due; moment = moment }) w.appointments ∙ ap (λ b. b || list_any (λ (a : Appointment). is_trigger_of t d a.due) w.appointments) (is_other t d due other)) ∙ is);
+        good.triggers t d
+        (sym (put-any (λ a. is_trigger_of t d a.due) (record { due = due; moment = moment }) w.appointments
+        ∙ ap (λ b. b || list_any (λ (a : Appointment). is_trigger_of t d a.due) w.appointments) (is_other t d due other))
+        ∙ is);
     objects = good.objects;
   },
   record {
     more = omega arith;
     marked = λ n h. h;
-    fewer = λ t d none. put-any (λ a. is_trigger_of t d a.due) (record { due = due; moment = moment }) w.appointments ∙ ap (λ b. b || list_any (λ (a : Appointment). is_trigger_of t d a.due) w.appointments) (is_other t d due other) ∙ none;
+    fewer =
+        λ t d none. put-any (λ a. is_trigger_of t d a.due) (record { due = due; moment = moment }) w.appointments
+        ∙ ap (λ b. b || list_any (λ (a : Appointment). is_trigger_of t d a.due) w.appointments) (is_other t d due other) ∙ none;
   },
 )
 
@@ -116,17 +127,21 @@ or-case : {P : Type 0} (a b : Bool) → (a ≡ true → P) → (b ≡ true → P
 or-case true b k l h = k refl
 or-case false b k l h = l h
 
-named-drawn : (w : World) (t : TaskNo) (u : Task) (name : Who) → u.who ≡ name → same_who (who.Task t) name ≡ true → DrawnTo w.drawn.tasks name → t.0 < w.drawn.tasks
+named-drawn : (w : World) (t : TaskNo) (u : Task) (name : Who) → u.who ≡ name → same_who (who.Task t) name ≡ true → DrawnTo w.drawn.tasks name
+    → t.0 < w.drawn.tasks
 named-drawn w t u (who.Task k) is same low = subst (λ n. n < w.drawn.tasks) (sym (eqb-true t.0 k.0 same)) low
 named-drawn w t u who.Agent is same low = absurd low
 
-trigger-here : (w : World) (t : TaskNo) (depth : ℕ) (good : GoodMarks w) (found : Option Task) → found_task (who.Task t) w.tasks ≡ found → StandsAt depth (unwrap_or found nobody).frames → HasBegun (who.Task t) (unwrap_or found nobody) → (t.0 < w.drawn.tasks) × AwaitsAt depth (unwrap_or found nobody)
+trigger-here : (w : World) (t : TaskNo) (depth : ℕ) (good : GoodMarks w) (found : Option Task) → found_task (who.Task t) w.tasks ≡ found
+    → StandsAt depth (unwrap_or found nobody).frames → HasBegun (who.Task t) (unwrap_or found nobody)
+    → (t.0 < w.drawn.tasks) × AwaitsAt depth (unwrap_or found nobody)
 trigger-here w t depth good None e h begun = absurd (false≢true h.0)
 trigger-here w t depth good (Some u) e h begun =
     let is = found-test (is_who (who.Task t)) u w.tasks e in
     (named-drawn w t u u.who refl is (all-found (λ x. DrawnTo w.drawn.tasks x.who) (is_who (who.Task t)) u w.tasks good.numbers e), (h, begun is))
 
-trigger-good : (t : TaskNo) (depth : ℕ) (moment : ℤ) (w : World) → GoodMarks w → StandsAt depth (frames_of w (who.Task t)) → Begun (who.Task t) w → GoodMarks (appoint (due_for.Trigger t depth) moment w)
+trigger-good : (t : TaskNo) (depth : ℕ) (moment : ℤ) (w : World) → GoodMarks w → StandsAt depth (frames_of w (who.Task t)) → Begun (who.Task t) w
+    → GoodMarks (appoint (due_for.Trigger t depth) moment w)
 trigger-good t depth moment w good awaits begun = record {
   tasks_right = good.tasks_right;
   agent_right = good.agent_right;
@@ -139,7 +154,8 @@ trigger-good t depth moment w good awaits begun = record {
       let one : t ≡ u = ap (λ n. record { 0 = n }) (sym (eqb-true u.0 t.0 both.0)) in
       let deep : depth ≡ d = sym (eqb-true d depth both.1) in
       subst (λ x. (x.0 < w.drawn.tasks) × AwaitsAt d (one_of w.tasks w.agent (who.Task x))) one
-      (subst (λ k. (t.0 < w.drawn.tasks) × AwaitsAt k (one_of w.tasks w.agent (who.Task t))) deep (trigger-here w t depth good (found_task (who.Task t) w.tasks) refl awaits begun)))
+      (subst (λ k. (t.0 < w.drawn.tasks) × AwaitsAt k (one_of w.tasks w.agent (who.Task t))) deep
+      (trigger-here w t depth good (found_task (who.Task t) w.tasks) refl awaits begun)))
       (λ e. good.triggers u d e)
       (sym (put-any (λ a. is_trigger_of u d a.due) (record { due = due_for.Trigger t depth; moment = moment }) w.appointments) ∙ is);
   objects = good.objects;
@@ -184,7 +200,8 @@ second-none true b e = absurd (false≢true (sym e))
 second-none false b e = e
 
 module _ (registered : List Registered) (drawn : ℕ) where
-  registered-here : (r : Registered) → r.object ≡ suc drawn → (n : ℕ) (mark : Mark) → finalizes_here registered drawn n mark ≡ true → finalizes_here (r ∷ registered) (suc drawn) n mark ≡ true
+  registered-here : (r : Registered) → r.object ≡ suc drawn → (n : ℕ) (mark : Mark) → finalizes_here registered drawn n mark ≡ true
+      → finalizes_here (r ∷ registered) (suc drawn) n mark ≡ true
   registered-here r is n (Scope m) h =
       let k = four m.being_left (is_some m.region) (is_none (find (is_number n) registered)) (leb n drawn) h in
       all_four m.being_left (is_some m.region) (is_none (find (is_number n) (r ∷ registered))) (leb n (suc drawn)) k.0 k.1
@@ -195,11 +212,15 @@ module _ (registered : List Registered) (drawn : ℕ) where
   registered-here r is n (Abortable m) h = h
   registered-here r is n (InInitialize l) h = h
   registered-here r is n (InFinalize o) h = h
-  registered-here r is n (InAssign m) h = and-more (eqb n m.target) (is_some (find (is_number n) registered)) (is_some (find (is_number n) (r ∷ registered))) (some-more (eqb n r.object) r (find (is_number n) registered)) h
+  registered-here r is n (InAssign m) h =
+      and-more (eqb n m.target) (is_some (find (is_number n) registered)) (is_some (find (is_number n) (r ∷ registered)))
+      (some-more (eqb n r.object) r (find (is_number n) registered)) h
 
 -- what stays so of each mark that is not left out stays so of marks of which none is left out
-module _ (registered behind : List Registered) (drawn later : ℕ) (out : Mark → Bool) (here : (n : ℕ) (mark : Mark) → out mark ≡ false → finalizes_here registered drawn n mark ≡ true → finalizes_here behind later n mark ≡ true) where
-  below-here : (n : ℕ) (fs : List Frame) → list_any (λ f. out f.mark) fs ≡ false → below_finalizes registered drawn n fs ≡ true → below_finalizes behind later n fs ≡ true
+module _ (registered behind : List Registered) (drawn later : ℕ) (out : Mark → Bool)
+    (here : (n : ℕ) (mark : Mark) → out mark ≡ false → finalizes_here registered drawn n mark ≡ true → finalizes_here behind later n mark ≡ true) where
+  below-here : (n : ℕ) (fs : List Frame) → list_any (λ f. out f.mark) fs ≡ false → below_finalizes registered drawn n fs ≡ true
+      → below_finalizes behind later n fs ≡ true
   below-here n [] none h = h
   below-here n (f ∷ fs) none h = here n f.mark (first-none (out f.mark) (list_any (λ (x : Frame). out x.mark) fs) none) h
 
@@ -212,7 +233,8 @@ module _ (registered behind : List Registered) (drawn later : ℕ) (out : Mark �
   marks-here : (t : Task) → list_any (λ f. out f.mark) t.frames ≡ false → RightMarks registered drawn t → RightMarks behind later t
   marks-here t none h = record { struck = h.struck; finalizes = finalizes-here t.frames none h.finalizes }
 
-none_left-step : (b c : Bool) (q : Registered → Bool) (y : Registered) (ys left : List Registered) → q y ≡ c → (find q ys ≡ None → find q left ≡ None) → cond c (Some y) (find q ys) ≡ None → find q (cond b (y ∷ left) left) ≡ None
+none_left-step : (b c : Bool) (q : Registered → Bool) (y : Registered) (ys left : List Registered) → q y ≡ c → (find q ys ≡ None → find q left ≡ None)
+    → cond c (Some y) (find q ys) ≡ None → find q (cond b (y ∷ left) left) ≡ None
 none_left-step b true q y ys left e onward h = cc
 none_left-step true false q y ys left e onward h = ap (λ k. cond k (Some y) (find q left)) e ∙ onward h
 none_left-step false false q y ys left e onward h = onward h
@@ -226,22 +248,27 @@ none-is None e = refl
 none-is (Some r) e = absurd (false≢true e)
 
 -- another than the one that is taken out is found as before
-some_left-step : (b c : Bool) (o n : ℕ) (y : Registered) (ys left : List Registered) → is_number o y ≡ b → is_number n y ≡ c → eqb o n ≡ false → (is_some (find (is_number n) ys) ≡ true → is_some (find (is_number n) left) ≡ true)
+some_left-step : (b c : Bool) (o n : ℕ) (y : Registered) (ys left : List Registered) → is_number o y ≡ b → is_number n y ≡ c → eqb o n ≡ false
+    → (is_some (find (is_number n) ys) ≡ true → is_some (find (is_number n) left) ≡ true)
     → is_some (cond c (Some y) (find (is_number n) ys)) ≡ true → is_some (find (is_number n) (cond (not b) (y ∷ left) left)) ≡ true
-some_left-step true true o n y ys left gone is apart onward h = absurd (let one : o ≡ n = eqb-true o y.object gone ∙ sym (eqb-true n y.object is) in false≢true (sym apart ∙ eq-eqb o n one))
+some_left-step true true o n y ys left gone is apart onward h =
+    absurd (let one : o ≡ n = eqb-true o y.object gone ∙ sym (eqb-true n y.object is) in false≢true (sym apart ∙ eq-eqb o n one))
 some_left-step true false o n y ys left gone is apart onward h = onward h
 some_left-step false true o n y ys left gone is apart onward h = ap (λ k. is_some (cond k (Some y) (find (is_number n) left))) is
 some_left-step false false o n y ys left gone is apart onward h = ap (λ k. is_some (cond k (Some y) (find (is_number n) left))) is ∙ onward h
 
-some-left : (o n : ℕ) (xs : List Registered) → eqb o n ≡ false → is_some (find (is_number n) xs) ≡ true → is_some (find (is_number n) (without (is_number o) xs)) ≡ true
+some-left : (o n : ℕ) (xs : List Registered) → eqb o n ≡ false → is_some (find (is_number n) xs) ≡ true
+    → is_some (find (is_number n) (without (is_number o) xs)) ≡ true
 some-left o n [] apart h = h
-some-left o n (y ∷ ys) apart h = some_left-step (is_number o y) (is_number n y) o n y ys (without (is_number o) ys) refl refl apart (λ k. some-left o n ys apart k) h
+some-left o n (y ∷ ys) apart h =
+    some_left-step (is_number o y) (is_number n y) o n y ys (without (is_number o) ys) refl refl apart (λ k. some-left o n ys apart k) h
 
 other-target : (o n target : ℕ) → eqb o target ≡ false → eqb n target ≡ true → eqb o n ≡ false
 other-target o n target apart same = ap (eqb o) (eqb-true n target same) ∙ apart
 
 -- a mark that does not assign to the object that is taken out
-unregistered-here : (registered : List Registered) (drawn o : ℕ) (n : ℕ) (mark : Mark) → assigns_to o mark ≡ false → finalizes_here registered drawn n mark ≡ true → finalizes_here (without (is_number o) registered) drawn n mark ≡ true
+unregistered-here : (registered : List Registered) (drawn o : ℕ) (n : ℕ) (mark : Mark) → assigns_to o mark ≡ false
+    → finalizes_here registered drawn n mark ≡ true → finalizes_here (without (is_number o) registered) drawn n mark ≡ true
 unregistered-here registered drawn o n (Scope m) apart h =
     let k = four m.being_left (is_some m.region) (is_none (find (is_number n) registered)) (leb n drawn) h in
     all_four m.being_left (is_some m.region) (is_none (find (is_number n) (without (is_number o) registered))) (leb n drawn) k.0 k.1
@@ -260,7 +287,8 @@ later-objects : (drawn : ℕ) (rs : List Registered) → AllDrawn drawn rs → A
 later-objects drawn [] h = tt
 later-objects drawn (r ∷ rs) h = let low = h.0 in (omega (arith, low), later-objects drawn rs h.1)
 
-left-objects-step : (drawn : ℕ) (b : Bool) (r : Registered) (left : List Registered) → r.object ≤ drawn → AllDrawn drawn left → AllDrawn drawn (cond b (r ∷ left) left)
+left-objects-step : (drawn : ℕ) (b : Bool) (r : Registered) (left : List Registered) → r.object ≤ drawn → AllDrawn drawn left
+    → AllDrawn drawn (cond b (r ∷ left) left)
 left-objects-step drawn true r left low h = (low, h)
 left-objects-step drawn false r left low h = h
 
@@ -279,9 +307,13 @@ register-leads : (region : RegionNo) (l : Located) (w : World) → GoodMarks w �
 register-leads region l w good =
     let c = w.drawn.controlled in
     let r : Registered = record { object = suc c; region = region; located = l } in
-    let here : (n : ℕ) (mark : Mark) → no_mark mark ≡ false → finalizes_here w.registered c n mark ≡ true → finalizes_here (r ∷ w.registered) (suc c) n mark ≡ true = λ n mark none. registered-here w.registered c r refl n mark in (
+    let here : (n : ℕ) (mark : Mark) → no_mark mark ≡ false → finalizes_here w.registered c n mark ≡ true
+    → finalizes_here (r ∷ w.registered) (suc c) n mark ≡ true =
+    λ n mark none. registered-here w.registered c r refl n mark in (
       record {
-        tasks_right = all-map (RightMarks w.registered c) (RightMarks (r ∷ w.registered) (suc c)) w.tasks (λ t h. marks-here w.registered (r ∷ w.registered) c (suc c) no_mark here t (no_mark-any t.frames) h) good.tasks_right;
+        tasks_right =
+            all-map (RightMarks w.registered c) (RightMarks (r ∷ w.registered) (suc c)) w.tasks
+            (λ t h. marks-here w.registered (r ∷ w.registered) c (suc c) no_mark here t (no_mark-any t.frames) h) good.tasks_right;
         agent_right = marks-here w.registered (r ∷ w.registered) c (suc c) no_mark here w.agent (no_mark-any w.agent.frames) good.agent_right;
         waits = good.waits;
         numbers = good.numbers;
@@ -295,7 +327,10 @@ register-leads region l w good =
 -- nobody assigns to an object
 none_assigns : (o : ℕ) (ts : List Task) → list_any (is_assigning_to o) ts ≡ false → AllTasks (λ t. is_assigning_to o t ≡ false) ts
 none_assigns o [] none = tt
-none_assigns o (t ∷ ts) none = (first-none (is_assigning_to o t) (list_any (is_assigning_to o) ts) none, none_assigns o ts (second-none (is_assigning_to o t) (list_any (is_assigning_to o) ts) none))
+none_assigns o (t ∷ ts) none = (
+  first-none (is_assigning_to o t) (list_any (is_assigning_to o) ts) none,
+  none_assigns o ts (second-none (is_assigning_to o t) (list_any (is_assigning_to o) ts) none),
+)
 
 unregister-leads : (o : ℕ) (w : World) → GoodMarks w → is_being_assigned w o ≡ false → LeadsTo w [] (no_longer_registered o w)
 unregister-leads o w good free =
@@ -305,7 +340,9 @@ unregister-leads o w good free =
     let tasks = list_any (is_assigning_to o) w.tasks in
     let agent = is_assigning_to o w.agent in (
       record {
-        tasks_right = all-both (λ t. is_assigning_to o t ≡ false) (RightMarks w.registered c) (RightMarks left c) w.tasks (λ t none h. marks-here w.registered left c c (assigns_to o) here t none h) (none_assigns o w.tasks (first-none tasks agent free)) good.tasks_right;
+        tasks_right =
+            all-both (λ t. is_assigning_to o t ≡ false) (RightMarks w.registered c) (RightMarks left c) w.tasks
+            (λ t none h. marks-here w.registered left c c (assigns_to o) here t none h) (none_assigns o w.tasks (first-none tasks agent free)) good.tasks_right;
         agent_right = marks-here w.registered left c c (assigns_to o) here w.agent (second-none tasks agent free) good.agent_right;
         waits = good.waits;
         numbers = good.numbers;
@@ -331,17 +368,20 @@ scope-nature f same (InAssign m) = refl
 gone-leads : (name : Who) (onward : Option StatementNo) (w : World) → GoodMarks w → LeadsTo w [] (gone_on name onward w)
 gone-leads name onward w good = top-leads name (goes_on onward) w good (λ x. refl) (λ x. refl)
 
-leaving-leads : (name : Who) (leaving : Leaving) (w : World) → GoodMarks w → LeadsTo w [] (edit_top name (left_so_frame leaving) (edit_top_scope name being_left_mark w))
+leaving-leads : (name : Who) (leaving : Leaving) (w : World) → GoodMarks w
+    → LeadsTo w [] (edit_top name (left_so_frame leaving) (edit_top_scope name being_left_mark w))
 leaving-leads name leaving w good =
     let v = edit_top_scope name being_left_mark w in
-    let first = top-leads name (λ x. with_mark (edit_scope_mark being_left_mark x.mark) x) w good (λ x. scope-nature being_left_mark (λ m. refl) x.mark) (λ x. refl) in
+    let first =
+    top-leads name (λ x. with_mark (edit_scope_mark being_left_mark x.mark) x) w good (λ x. scope-nature being_left_mark (λ m. refl) x.mark) (λ x. refl) in
     leads-then w v (edit_top name (left_so_frame leaving) v) first (top-leads name (left_so_frame leaving) v first.0 (λ x. refl) (λ x. refl))
 
 region-leads : (kept : Bool) (w : World) → GoodMarks w → LeadsTo w [] (draw_region kept w)
 region-leads true w good = (good, still-same w)
 region-leads false w good = stays-good w good
 
-scope-leads : (p : Image) (name : Who) (scope : ScopeNo) (b : Beginning) (purpose : Purpose) (w : World) → GoodMarks w → is_task_scope purpose ≡ false → LeadsTo w [] (open_scope p name scope b purpose w)
+scope-leads : (p : Image) (name : Who) (scope : ScopeNo) (b : Beginning) (purpose : Purpose) (w : World) → GoodMarks w → is_task_scope purpose ≡ false
+    → LeadsTo w [] (open_scope p name scope b purpose w)
 scope-leads p name scope b purpose w good within =
     let begun = begin_scope p name scope b w in
     let drawn = draw_region (scope_of p scope).kept begun in
@@ -358,23 +398,28 @@ begun-unarmed : (p : Image) (name other : Who) (scope : ScopeNo) (b : Beginning)
 begun-unarmed p (who.Task n) other scope b w none = none
 begun-unarmed p who.Agent other scope b w none = tt
 
-own-leads : (p : Image) (name : Who) (scope : ScopeNo) (b : Beginning) (w : World) → GoodMarks w → Unarmed name w → LeadsTo w [] (open_scope p name scope b opened_for.Task w)
+own-leads : (p : Image) (name : Who) (scope : ScopeNo) (b : Beginning) (w : World) → GoodMarks w → Unarmed name w
+    → LeadsTo w [] (open_scope p name scope b opened_for.Task w)
 own-leads p name scope b w good none =
     let begun = begin_scope p name scope b w in
     let drawn = draw_region (scope_of p scope).kept begun in
     let f = new_frame (new_scope_mark (next_id w) (region_of_next (scope_of p scope).kept w) opened_for.Task) (scope_of p scope).first in
     let first = region-leads (scope_of p scope).kept begun good in
-    leads-then w drawn (push name f drawn) first (own_scope-leads name f drawn first.0 (region-unarmed name (scope_of p scope).kept begun (begun-unarmed p name name scope b w none)) refl refl refl refl)
+    leads-then w drawn (push name f drawn) first
+    (own_scope-leads name f drawn first.0
+    (region-unarmed name (scope_of p scope).kept begun (begun-unarmed p name name scope b w none)) refl refl refl refl)
 
 still_unarmed : (name : Who) (w v : World) → Still w v → Unarmed name w → Unarmed name v
 still_unarmed (who.Task n) w v s none = λ d. s.fewer n d (none d)
 still_unarmed who.Agent w v s none = tt
 
-new-task-leads : (name : Who) (onward : Option StatementNo) (t : Task) (w : World) → GoodMarks w → t.who ≡ who.Task (record { 0 = w.drawn.tasks }) → t.frames ≡ [] → LeadsTo w [] (add_task t (gone_on name onward w))
+new-task-leads : (name : Who) (onward : Option StatementNo) (t : Task) (w : World) → GoodMarks w → t.who ≡ who.Task (record { 0 = w.drawn.tasks })
+    → t.frames ≡ [] → LeadsTo w [] (add_task t (gone_on name onward w))
 new-task-leads name onward t w good is none =
     let v = gone_on name onward w in
     let first = gone-leads name onward w good in
-    let named : t.who ≡ who.Task (record { 0 = v.drawn.tasks }) = is ∙ ap (λ d. who.Task (record { 0 = d.tasks })) (sym (edit_task-drawn name (λ u. with_frames (edit_first (goes_on onward) u.frames) u) w)) in
+    let named : t.who ≡ who.Task (record { 0 = v.drawn.tasks }) =
+    is ∙ ap (λ d. who.Task (record { 0 = d.tasks })) (sym (edit_task-drawn name (λ u. with_frames (edit_first (goes_on onward) u.frames) u) w)) in
     leads-then w v (add_task t v) first (added-leads t v first.0 named none)
 
 no_action : (mark : Mark) (o : ObjectNo) → action_in mark ≡ Some o → awaits_trigger mark ≡ false
@@ -387,7 +432,8 @@ no_action (InInitialize l) o e = refl
 no_action (InFinalize k) o e = refl
 no_action (InAssign m) o e = refl
 
-exit-leads : (name : Who) (o : ObjectNo) (w : World) (frames : List Frame) → GoodMarks w → frames_of w name ≡ frames → action_first (natures frames) ≡ Some o → Calm name w → LeadsTo w [] (pop name w)
+exit-leads : (name : Who) (o : ObjectNo) (w : World) (frames : List Frame) → GoodMarks w → frames_of w name ≡ frames → action_first (natures frames) ≡ Some o
+    → Calm name w → LeadsTo w [] (pop name w)
 exit-leads name o w [] good is action calm = cc
 exit-leads name o w (f ∷ fs) good is action calm = pop-leads name f w good (ap first_of is) (inl (no_action f.mark o action), calm)
 
@@ -451,7 +497,8 @@ fine = record {
   adds_object = λ p l u w g. (g, still-same w);
   inside = λ name o mode w g. g;
   begins = λ name o mode call release w v g lets k.
-      leads-then w v (push name (new_frame (new_protected_mark o mode call release) None) v) (k.0, k.1) (push-leads name (new_frame (new_protected_mark o mode call release) None) v k.0 refl refl refl refl);
+      leads-then w v (push name (new_frame (new_protected_mark o mode call release) None) v) (k.0, k.1)
+      (push-leads name (new_frame (new_protected_mark o mode call release) None) v k.0 refl refl refl refl);
   visits = λ name o mode xs w v g lets quiet k. k;
   finds_held = λ name o mode w g finds. stays-good w g;
   appoints = appoint-leads;

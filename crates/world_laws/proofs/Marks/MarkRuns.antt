@@ -40,7 +40,8 @@ ready-begun Runnable e = refl
 ready-begun (Blocked waiting) e = refl
 
 runner-begun : (p : Image) (script : List (ℤ × Item)) (bound : ℕ) (w : World) → Comes p script bound w → HasRunnerBegun w
-runner-begun p script bound w c name ran over = λ named. let t = told-lines p script bound w c in ready-begun (task_of w name).state ((runs_show_who_is_ready p script bound t.0 w t.1).1 name ran over)
+runner-begun p script bound w c name ran over =
+    λ named. let t = told-lines p script bound w c in ready-begun (task_of w name).state ((runs_show_who_is_ready p script bound t.0 w t.1).1 name ran over)
 
 -- ---- worlds
 
@@ -57,7 +58,9 @@ blank-good p script = record {
 }
 
 opening-good : (p : Image) (script : List (ℤ × Item)) → GoodMarks (opening p script).0
-opening-good p script = settles-from GoodBehind p (moves.fine.settles p) (opens p) (blank_world p script) (opens-from moves p (blank_world p script) (blank-good p script) (λ d. refl))
+opening-good p script =
+    settles-from GoodBehind p (moves.fine.settles p) (opens p) (blank_world p script)
+    (opens-from moves p (blank_world p script) (blank-good p script) (λ d. refl))
 
 instant-good : (p : Image) (w : World) → IsRunnerFree w → HasRunnerBegun w → GoodMarks w → GoodMarks (instant p w).0
 instant-good p w free begun good = instant-leads moves p (record { puts = λ name number pieces text v x g is e. moves.fine.stays x g }) w good free begun
@@ -69,7 +72,8 @@ tock-good p w good =
 
 comes-good : (p : Image) (script : List (ℤ × Item)) (bound : ℕ) (w : World) → Comes p script bound w → GoodMarks w
 comes-good p script bound _ opened = opening-good p script
-comes-good p script bound _ (ticked w c e) = tock-good p (instant p w).0 (instant-good p w (runner-free p script bound w c) (runner-begun p script bound w c) (comes-good p script bound w c))
+comes-good p script bound _ (ticked w c e) =
+    tock-good p (instant p w).0 (instant-good p w (runner-free p script bound w c) (runner-begun p script bound w c) (comes-good p script bound w c))
 
 pub reached-good : (p : Image) (script : List (ℤ × Item)) (bound : ℕ) (w : World) → Reached p script bound w → GoodMarks w
 reached-good p script bound _ (before w c) = comes-good p script bound w c

@@ -8,8 +8,10 @@ use Rattle.profile_machine.specs.declared.world.marks.Mark.{Mark}
 use Rattle.profile_machine.specs.declared.world.marks.Mark.TheVariants.{Scope, Handled, InProtected, InAccept, Abortable, InInitialize, InFinalize, InAssign}
 use Rattle.profile_machine.specs.declared.world.tasks.Task.{Task}
 use Rattle.ann_base.specs.Lists.{is_empty}
-use Rattle.profile_machine.specs.WellFormed.{is_triggered, is_struck_rightly, finalizes_on, finalizes_above, finalizes_rightly, frames_are_right, marks_are_right}
-use Rattle.world_laws.specs.MarkWorlds.{frames_are_struck_rightly, marks_are_struck_rightly, ReachedMarksAreStruckRightly, stands_on, stands_above, stands_rightly, frames_stand_rightly, finalizes_stand_rightly, ReachedFinalizesStandRightly, ReachedMarksAreRight}
+use Rattle.profile_machine.specs.WellFormed.{is_triggered, is_struck_rightly, finalizes_on, finalizes_above}
+use Rattle.profile_machine.specs.WellFormed.{finalizes_rightly, frames_are_right, marks_are_right}
+use Rattle.world_laws.specs.MarkWorlds.{frames_are_struck_rightly, marks_are_struck_rightly, ReachedMarksAreStruckRightly, stands_on, stands_above}
+use Rattle.world_laws.specs.MarkWorlds.{stands_rightly, frames_stand_rightly, finalizes_stand_rightly, ReachedFinalizesStandRightly, ReachedMarksAreRight}
 use Rattle.world_laws.proofs.Marks.MarkFacts.{RightMarks, StruckRightly, FinalizesRightly, below_finalizes, finalizes_here, finalized_in, GoodMarks}
 use Rattle.world_laws.proofs.Marks.MarkRuns.{reached-good}
 use Rattle.world_laws.proofs.Queues.Listed.{AllTasks}
@@ -20,7 +22,8 @@ where_so : (a b : Bool) → (a ≡ true → b ≡ true) → cond a b true ≡ tr
 where_so true b k = k refl
 where_so false b k = refl
 
-all-hold : (P : Task → Type 0) (test : Task → Bool) (ts : List Task) (agent : Task) → ((t : Task) → P t → test t ≡ true) → AllTasks P ts → P agent → list_all test (ts ++ agent ∷ []) ≡ true
+all-hold : (P : Task → Type 0) (test : Task → Bool) (ts : List Task) (agent : Task) → ((t : Task) → P t → test t ≡ true) → AllTasks P ts → P agent
+    → list_all test (ts ++ agent ∷ []) ≡ true
 all-hold P test [] agent k h a = and_from (test agent) true (k agent a) refl
 all-hold P test (t ∷ ts) agent k h a = and_from (test t) (list_all test (ts ++ agent ∷ [])) (k t h.0) (all-hold P test ts agent k h.1 a)
 
@@ -28,10 +31,14 @@ all-hold P test (t ∷ ts) agent k h a = and_from (test t) (list_all test (ts ++
 
 struck-rightly : (t : Task) (fs : List Frame) → StruckRightly t.abnormal fs → frames_are_struck_rightly t fs ≡ true
 struck-rightly t [] h = refl
-struck-rightly t (f ∷ fs) h = and_from (is_struck_rightly t f fs) (frames_are_struck_rightly t fs) (where_so f.struck (is_triggered f.mark || (is_empty fs && t.abnormal)) h.0) (struck-rightly t fs h.1)
+struck-rightly t (f ∷ fs) h =
+    and_from (is_struck_rightly t f fs) (frames_are_struck_rightly t fs) (where_so f.struck (is_triggered f.mark || (is_empty fs && t.abnormal)) h.0)
+    (struck-rightly t fs h.1)
 
 struck-world : (w : World) → GoodMarks w → marks_are_struck_rightly w ≡ true
-struck-world w good = all-hold (RightMarks w.registered w.drawn.controlled) (λ t. frames_are_struck_rightly t t.frames) w.tasks w.agent (λ t h. struck-rightly t t.frames h.struck) good.tasks_right good.agent_right
+struck-world w good =
+    all-hold (RightMarks w.registered w.drawn.controlled) (λ t. frames_are_struck_rightly t t.frames) w.tasks w.agent
+    (λ t h. struck-rightly t t.frames h.struck) good.tasks_right good.agent_right
 
 pub reached_marks_are_struck_rightly : ReachedMarksAreStruckRightly
 reached_marks_are_struck_rightly p script bound w r = struck-world w (reached-good p script bound w r)
@@ -52,7 +59,8 @@ below-above : (w : World) (n : ℕ) (fs : List Frame) → below_finalizes w.regi
 below-above w n [] h = h
 below-above w n (f ∷ fs) h = here-on w n f.mark h
 
-mark-stands : (w : World) (mark : Mark) (fs : List Frame) → ((n : ℕ) → finalized_in mark ≡ Some n → below_finalizes w.registered w.drawn.controlled n fs ≡ true) → stands_rightly w mark fs ≡ true
+mark-stands : (w : World) (mark : Mark) (fs : List Frame) → ((n : ℕ) → finalized_in mark ≡ Some n → below_finalizes w.registered w.drawn.controlled n fs ≡ true)
+    → stands_rightly w mark fs ≡ true
 mark-stands w (Scope m) fs h = refl
 mark-stands w (Handled s) fs h = refl
 mark-stands w (InProtected m) fs h = refl
@@ -67,7 +75,9 @@ frames-stand w [] h = refl
 frames-stand w (f ∷ fs) h = and_from (stands_rightly w f.mark fs) (frames_stand_rightly w fs) (mark-stands w f.mark fs h.0) (frames-stand w fs h.1)
 
 stands-world : (w : World) → GoodMarks w → finalizes_stand_rightly w ≡ true
-stands-world w good = all-hold (RightMarks w.registered w.drawn.controlled) (λ t. frames_stand_rightly w t.frames) w.tasks w.agent (λ t h. frames-stand w t.frames h.finalizes) good.tasks_right good.agent_right
+stands-world w good =
+    all-hold (RightMarks w.registered w.drawn.controlled) (λ t. frames_stand_rightly w t.frames) w.tasks w.agent
+    (λ t h. frames-stand w t.frames h.finalizes) good.tasks_right good.agent_right
 
 pub reached_finalizes_stand_rightly : ReachedFinalizesStandRightly
 reached_finalizes_stand_rightly p script bound w r = stands-world w (reached-good p script bound w r)
@@ -88,7 +98,8 @@ below-right : (w : World) (n : ℕ) (fs : List Frame) → below_finalizes w.regi
 below-right w n [] h = h
 below-right w n (f ∷ fs) h = here-right w n f.mark h
 
-mark-right : (w : World) (mark : Mark) (fs : List Frame) → ((n : ℕ) → finalized_in mark ≡ Some n → below_finalizes w.registered w.drawn.controlled n fs ≡ true) → finalizes_rightly w mark fs ≡ true
+mark-right : (w : World) (mark : Mark) (fs : List Frame) → ((n : ℕ) → finalized_in mark ≡ Some n → below_finalizes w.registered w.drawn.controlled n fs ≡ true)
+    → finalizes_rightly w mark fs ≡ true
 mark-right w (Scope m) fs h = refl
 mark-right w (Handled s) fs h = refl
 mark-right w (InProtected m) fs h = refl
@@ -98,15 +109,19 @@ mark-right w (InInitialize l) fs h = refl
 mark-right w (InFinalize n) fs h = below-right w n fs (h n refl)
 mark-right w (InAssign m) fs h = refl
 
-frames-right : (w : World) (t : Task) (fs : List Frame) → StruckRightly t.abnormal fs → FinalizesRightly w.registered w.drawn.controlled fs → frames_are_right w t fs ≡ true
+frames-right : (w : World) (t : Task) (fs : List Frame) → StruckRightly t.abnormal fs → FinalizesRightly w.registered w.drawn.controlled fs
+    → frames_are_right w t fs ≡ true
 frames-right w t [] struck finalizes = refl
 frames-right w t (f ∷ fs) struck finalizes =
     and_from (is_struck_rightly t f fs && finalizes_rightly w f.mark fs) (frames_are_right w t fs)
-    (and_from (is_struck_rightly t f fs) (finalizes_rightly w f.mark fs) (where_so f.struck (is_triggered f.mark || (is_empty fs && t.abnormal)) struck.0) (mark-right w f.mark fs finalizes.0))
+    (and_from (is_struck_rightly t f fs) (finalizes_rightly w f.mark fs) (where_so f.struck (is_triggered f.mark || (is_empty fs && t.abnormal)) struck.0)
+    (mark-right w f.mark fs finalizes.0))
     (frames-right w t fs struck.1 finalizes.1)
 
 right-world : (w : World) → GoodMarks w → marks_are_right w ≡ true
-right-world w good = all-hold (RightMarks w.registered w.drawn.controlled) (λ t. frames_are_right w t t.frames) w.tasks w.agent (λ t h. frames-right w t t.frames h.struck h.finalizes) good.tasks_right good.agent_right
+right-world w good =
+    all-hold (RightMarks w.registered w.drawn.controlled) (λ t. frames_are_right w t t.frames) w.tasks w.agent
+    (λ t h. frames-right w t t.frames h.struck h.finalizes) good.tasks_right good.agent_right
 
 pub reached_marks_are_right : ReachedMarksAreRight
 reached_marks_are_right p script bound w r = right-world w (reached-good p script bound w r)

@@ -56,11 +56,13 @@ last-own [] = refl
 last-own (x ∷ []) = refl
 last-own (x ∷ y ∷ rest) = ap (λ bs. is_own_scope x.mark ∷ bs) (last-own (y ∷ rest))
 
-depth_own-step : (b : Bool) (f : Frame → Frame) (x : Frame) (xs ys : List Frame) → is_own_scope (f x).mark ≡ is_own_scope x.mark → own_scopes ys ≡ own_scopes xs → own_scopes (cond b (f x ∷ xs) (x ∷ ys)) ≡ own_scopes (x ∷ xs)
+depth_own-step : (b : Bool) (f : Frame → Frame) (x : Frame) (xs ys : List Frame) → is_own_scope (f x).mark ≡ is_own_scope x.mark → own_scopes ys ≡ own_scopes xs
+    → own_scopes (cond b (f x ∷ xs) (x ∷ ys)) ≡ own_scopes (x ∷ xs)
 depth_own-step true f x xs ys same onward = ap (λ b. b ∷ own_scopes xs) same
 depth_own-step false f x xs ys same onward = ap (λ bs. is_own_scope x.mark ∷ bs) onward
 
-pub depth-own : (d : ℕ) (f : Frame → Frame) → ((x : Frame) → is_own_scope (f x).mark ≡ is_own_scope x.mark) → (fs : List Frame) → own_scopes (edit_depth d f fs) ≡ own_scopes fs
+pub depth-own : (d : ℕ) (f : Frame → Frame) → ((x : Frame) → is_own_scope (f x).mark ≡ is_own_scope x.mark) → (fs : List Frame)
+    → own_scopes (edit_depth d f fs) ≡ own_scopes fs
 depth-own d f same [] = refl
 depth-own d f same (x ∷ xs) = depth_own-step (eqb (length xs) d) f x xs (edit_depth d f xs) (same x) (depth-own d f same xs)
 
@@ -92,28 +94,37 @@ clear-pushed true own rest none h = refl
 clear-pushed false own rest none h = ap (λ c. not c && rest) none ∙ h
 
 pub stands-pushed : (d : ℕ) (f : Frame) (fs : List Frame) → is_own_scope f.mark ≡ false → StandsAt d fs → StandsAt d (f ∷ fs)
-stands-pushed d f fs plain h = (awaits-pushed d f fs h.0, clear-pushed (eqb (length (own_scopes fs)) d) (is_own_scope f.mark) (is_clear_above d (own_scopes fs)) plain h.1)
+stands-pushed d f fs plain h = (
+  awaits-pushed d f fs h.0,
+  clear-pushed (eqb (length (own_scopes fs)) d) (is_own_scope f.mark) (is_clear_above d (own_scopes fs)) plain h.1,
+)
 
 pub stands-top : (f : Frame) (fs : List Frame) → awaits_trigger f.mark ≡ true → StandsAt (length fs) (f ∷ fs)
-stands-top f fs awaits =
-    (awaits-top f fs ∙ awaits, ap (λ b. cond b true (not (is_own_scope f.mark) && is_clear_above (length fs) (own_scopes fs))) (eq-eqb (length (own_scopes fs)) (length fs) (own-length fs)))
+stands-top f fs awaits = (
+  awaits-top f fs ∙ awaits,
+  ap (λ b. cond b true (not (is_own_scope f.mark) && is_clear_above (length fs) (own_scopes fs)))
+      (eq-eqb (length (own_scopes fs)) (length fs) (own-length fs)),
+)
 
 second-clear : (own rest : Bool) → (not own && rest) ≡ true → rest ≡ true
 second-clear true rest h = absurd (false≢true h)
 second-clear false rest h = h
 
 -- what stands at another depth than the one on top is below it
-pub clear-below : (d : ℕ) (x : Frame) (xs : List Frame) → eqb (length xs) d ≡ false → is_clear_above d (own_scopes (x ∷ xs)) ≡ true → is_clear_above d (own_scopes xs) ≡ true
+pub clear-below : (d : ℕ) (x : Frame) (xs : List Frame) → eqb (length xs) d ≡ false → is_clear_above d (own_scopes (x ∷ xs)) ≡ true
+    → is_clear_above d (own_scopes xs) ≡ true
 clear-below d x xs apart h =
     let other : eqb (length (own_scopes xs)) d ≡ false = ap (λ n. eqb n d) (own-length xs) ∙ apart in
-    second-clear (is_own_scope x.mark) (is_clear_above d (own_scopes xs)) (sym (ap (λ b. cond b true (not (is_own_scope x.mark) && is_clear_above d (own_scopes xs))) other) ∙ h)
+    second-clear (is_own_scope x.mark) (is_clear_above d (own_scopes xs))
+    (sym (ap (λ b. cond b true (not (is_own_scope x.mark) && is_clear_above d (own_scopes xs))) other) ∙ h)
 
 no_clear : (own rest : Bool) → own ≡ true → (not own && rest) ≡ false
 no_clear true rest e = refl
 no_clear false rest e = absurd (false≢true e)
 
 -- nothing stands below a task's own scope on top
-own_top-case : (b : Bool) (d : ℕ) (x : Frame) (xs : List Frame) → eqb (length xs) d ≡ b → is_own_scope x.mark ≡ true → cond b (awaits_trigger x.mark) (awaits_trigger_at d xs) ≡ true → cond b true (not (is_own_scope x.mark) && is_clear_above d (own_scopes xs)) ≡ true → ⊥
+own_top-case : (b : Bool) (d : ℕ) (x : Frame) (xs : List Frame) → eqb (length xs) d ≡ b → is_own_scope x.mark ≡ true
+    → cond b (awaits_trigger x.mark) (awaits_trigger_at d xs) ≡ true → cond b true (not (is_own_scope x.mark) && is_clear_above d (own_scopes xs)) ≡ true → ⊥
 own_top-case true d x xs here own awaits clear = false≢true (sym (own-awaits x.mark own) ∙ awaits)
 own_top-case false d x xs here own awaits clear = false≢true (sym (no_clear (is_own_scope x.mark) (is_clear_above d (own_scopes xs)) own) ∙ clear)
 

@@ -19,7 +19,8 @@ use Rattle.world_laws.proofs.Queues.Listed.{AllTasks}
 
 -- ---- what is found
 
-found-step : {X : Type 0} (b : Bool) (test : X → Bool) (y x : X) (rest : Option X) → test y ≡ b → (rest ≡ Some x → test x ≡ true) → cond b (Some y) rest ≡ Some x → test x ≡ true
+found-step : {X : Type 0} (b : Bool) (test : X → Bool) (y x : X) (rest : Option X) → test y ≡ b → (rest ≡ Some x → test x ≡ true)
+    → cond b (Some y) rest ≡ Some x → test x ≡ true
 found-step true test y x rest e onward h = let same : y ≡ x = cc in ap test (sym same) ∙ e
 found-step false test y x rest e onward h = onward h
 
@@ -27,7 +28,8 @@ pub found-test : {X : Type 0} (test : X → Bool) (x : X) (xs : List X) → find
 found-test test x [] h = cc
 found-test test x (y ∷ ys) h = found-step (test y) test y x (find test ys) refl (λ k. found-test test x ys k) h
 
-any-step : {X : Type 0} (b : Bool) (y x : X) (q : X → Bool) (xs : List X) (rest : Option X) → q x ≡ true → (rest ≡ Some x → list_any q xs ≡ true) → cond b (Some y) rest ≡ Some x → list_any q (y ∷ xs) ≡ true
+any-step : {X : Type 0} (b : Bool) (y x : X) (q : X → Bool) (xs : List X) (rest : Option X) → q x ≡ true → (rest ≡ Some x → list_any q xs ≡ true)
+    → cond b (Some y) rest ≡ Some x → list_any q (y ∷ xs) ≡ true
 any-step true y x q xs rest is onward h = let same : y ≡ x = cc in or_left (q y) (list_any q xs) (ap q same ∙ is)
 any-step false y x q xs rest is onward h = or_right (q y) (list_any q xs) (onward h)
 
@@ -36,7 +38,8 @@ found-any q test x [] h is = cc
 found-any q test x (y ∷ ys) h is = any-step (test y) y x q ys (find test ys) is (λ k. found-any q test x ys k is) h
 
 -- what is left out is not there, and what is there was there
-none-step : {X : Type 0} (b : Bool) (q : X → Bool) (y : X) (left : List X) → q y ≡ b → list_any q left ≡ false → list_any q (cond (not b) (y ∷ left) left) ≡ false
+none-step : {X : Type 0} (b : Bool) (q : X → Bool) (y : X) (left : List X) → q y ≡ b → list_any q left ≡ false
+    → list_any q (cond (not b) (y ∷ left) left) ≡ false
 none-step true q y left e h = h
 none-step false q y left e h = ap (λ b. b || list_any q left) e ∙ h
 
@@ -48,7 +51,8 @@ either : (a b c : Bool) → (b ≡ true → c ≡ true) → (a || b) ≡ true �
 either true b c k h = refl
 either false b c k h = k h
 
-fewer-step : {X : Type 0} (b : Bool) (q : X → Bool) (y : X) (ys left : List X) → (list_any q left ≡ true → list_any q ys ≡ true) → list_any q (cond b (y ∷ left) left) ≡ true → (q y || list_any q ys) ≡ true
+fewer-step : {X : Type 0} (b : Bool) (q : X → Bool) (y : X) (ys left : List X) → (list_any q left ≡ true → list_any q ys ≡ true)
+    → list_any q (cond b (y ∷ left) left) ≡ true → (q y || list_any q ys) ≡ true
 fewer-step true q y ys left onward h = either (q y) (list_any q left) (list_any q ys) onward h
 fewer-step false q y ys left onward h = or_right (q y) (list_any q ys) (onward h)
 
@@ -82,7 +86,8 @@ pub all-found : (P : Task → Type 0) (test : Task → Bool) (x : Task) (ts : Li
 all-found P test x [] h e = cc
 all-found P test x (t ∷ ts) h e = all_found-step P (test t) t x (find test ts) h.0 (λ k. all-found P test x ts h.1 k) e
 
-set-step : (P : Task → Type 0) (b : Bool) (t x : Task) (ts set : List Task) → P t → P x → AllTasks P ts → AllTasks P set → AllTasks P (cond b (x ∷ ts) (t ∷ set))
+set-step : (P : Task → Type 0) (b : Bool) (t x : Task) (ts set : List Task) → P t → P x → AllTasks P ts → AllTasks P set
+    → AllTasks P (cond b (x ∷ ts) (t ∷ set))
 set-step P true t x ts set h k rest onward = (k, rest)
 set-step P false t x ts set h k rest onward = (h, onward)
 
@@ -102,7 +107,8 @@ pub all-both : (P R S : Task → Type 0) (ts : List Task) → ((t : Task) → P 
 all-both P R S [] k g h = tt
 all-both P R S (t ∷ ts) k g h = (k t g.0 h.0, all-both P R S ts k g.1 h.1)
 
-kept-step : (P : Task → Type 0) (test : Task → Bool) (t : Task) (left : List Task) (b : Bool) → test t ≡ b → P t → AllTasks (λ u. (test u ≡ true) × P u) left → AllTasks (λ u. (test u ≡ true) × P u) (cond b (t ∷ left) left)
+kept-step : (P : Task → Type 0) (test : Task → Bool) (t : Task) (left : List Task) (b : Bool) → test t ≡ b → P t → AllTasks (λ u. (test u ≡ true) × P u) left
+    → AllTasks (λ u. (test u ≡ true) × P u) (cond b (t ∷ left) left)
 kept-step P test t left true e h k = ((e, h), k)
 kept-step P test t left false e h k = k
 
@@ -113,25 +119,31 @@ all-kept P test (t ∷ ts) h = kept-step P test t (filter test ts) (test t) refl
 
 -- ---- names
 
-distinct_set-step : (b : Bool) (test : Task → Bool) (x y t : Task) (ts : List Task) → x.who ≡ y.who → (find test ts ≡ Some y → Distinct (set_where test x ts)) → Distinct (t ∷ ts) → cond b (Some t) (find test ts) ≡ Some y → Distinct (cond b (x ∷ ts) (t ∷ set_where test x ts))
+distinct_set-step : (b : Bool) (test : Task → Bool) (x y t : Task) (ts : List Task) → x.who ≡ y.who → (find test ts ≡ Some y → Distinct (set_where test x ts))
+    → Distinct (t ∷ ts) → cond b (Some t) (find test ts) ≡ Some y → Distinct (cond b (x ∷ ts) (t ∷ set_where test x ts))
 distinct_set-step true test x y t ts same onward h found =
     let one : t ≡ y = cc in
     let named : x.who ≡ t.who = same ∙ sym (ap (λ (u : Task). u.who) one) in
     (subst (λ name. AllTasks (λ u. same_who u.who name ≡ false) ts) (sym named) h.0, h.1)
-distinct_set-step false test x y t ts same onward h found =
-    (all-set (λ u. same_who u.who t.who ≡ false) test x ts (ap (λ name. same_who name t.who) same ∙ all-found (λ u. same_who u.who t.who ≡ false) test y ts h.0 found) h.0, onward found)
+distinct_set-step false test x y t ts same onward h found = (
+  all-set (λ u. same_who u.who t.who ≡ false) test x ts
+      (ap (λ name. same_who name t.who) same ∙ all-found (λ u. same_who u.who t.who ≡ false) test y ts h.0 found) h.0,
+  onward found,
+)
 
 pub distinct-set : (test : Task → Bool) (x y : Task) (ts : List Task) → x.who ≡ y.who → Distinct ts → find test ts ≡ Some y → Distinct (set_where test x ts)
 distinct-set test x y [] same h found = tt
 distinct-set test x y (t ∷ ts) same h found = distinct_set-step (test t) test x y t ts same (λ k. distinct-set test x y ts same h.1 k) h found
 
-distinct_filter-step : (b : Bool) (t : Task) (left : List Task) → AllTasks (λ u. same_who u.who t.who ≡ false) left → Distinct left → Distinct (cond b (t ∷ left) left)
+distinct_filter-step : (b : Bool) (t : Task) (left : List Task) → AllTasks (λ u. same_who u.who t.who ≡ false) left → Distinct left
+    → Distinct (cond b (t ∷ left) left)
 distinct_filter-step true t left apart h = (apart, h)
 distinct_filter-step false t left apart h = h
 
 pub distinct-filter : (test : Task → Bool) (ts : List Task) → Distinct ts → Distinct (filter test ts)
 distinct-filter test [] h = tt
-distinct-filter test (t ∷ ts) h = distinct_filter-step (test t) t (filter test ts) (all-filter (λ u. same_who u.who t.who ≡ false) test ts h.0) (distinct-filter test ts h.1)
+distinct-filter test (t ∷ ts) h =
+    distinct_filter-step (test t) t (filter test ts) (all-filter (λ u. same_who u.who t.who ≡ false) test ts h.0) (distinct-filter test ts h.1)
 
 pub distinct-added : (x : Task) (ts : List Task) → AllTasks (λ u. same_who x.who u.who ≡ false) ts → Distinct ts → Distinct (ts ++ x ∷ [])
 distinct-added x [] apart h = (tt, tt)
@@ -147,7 +159,8 @@ distinct-found (t ∷ ts) h = (
 )
 
 -- another is found where one is left out
-left_other-step : (a b : Who) (z : Task) (zs : List Task) (c : Bool) → same_who a b ≡ false → is_who b z ≡ c → find (is_who a) (without (is_who b) zs) ≡ find (is_who a) zs
+left_other-step : (a b : Who) (z : Task) (zs : List Task) (c : Bool) → same_who a b ≡ false → is_who b z ≡ c
+    → find (is_who a) (without (is_who b) zs) ≡ find (is_who a) zs
     → find (is_who a) (cond (not c) (z ∷ without (is_who b) zs) (without (is_who b) zs)) ≡ find (is_who a) (z ∷ zs)
 left_other-step a b z zs true apart is onward =
     let named : b ≡ z.who = same_who-path b z.who is in
@@ -171,7 +184,8 @@ no_name n e = absurd (false≢true e)
 abnormal-marked : (n : TaskNo) (w : World) → n.0 < w.drawn.tasks → Marked (edit_task (who.Task n) abnormal_task w) n
 abnormal-marked n w low = (
   subst (λ d. n.0 < d.tasks) (sym (edit_task-drawn (who.Task n) abnormal_task w)) low,
-  edited_to (λ t. Unit {0}) (AbnormalAs n) (who.Task n) (who.Task n) abnormal_task w (λ t. refl) (λ same t u e. refl) (λ apart. absurd (false≢true (sym apart ∙ same_self (who.Task n)))) (λ u e. no_name n e) tt,
+  edited_to (λ t. Unit {0}) (AbnormalAs n) (who.Task n) (who.Task n) abnormal_task w (λ t. refl) (λ same t u e. refl)
+      (λ apart. absurd (false≢true (sym apart ∙ same_self (who.Task n)))) (λ u e. no_name n e) tt,
 )
 
 named-known : (t : Task) (w : World) (name : Who) → t.who ≡ name → DrawnTo w.drawn.tasks name → KnownAbnormal (edit_task name abnormal_task w) t

@@ -23,11 +23,13 @@ use Rattle.machine_laws.proofs.Kept.Dispatching.{full_quantum-who, full_quantum-
 use Rattle.world_laws.proofs.Marks.MarkFacts.{Calm, HasBegun, Begun}
 
 -- from P of somebody before to R of the same one behind
-pub at_same : (P R : Task → Type 0) (name : Who) (f : Task → Task) (w : World) → ((t : Task) → (f t).who ≡ t.who) → ((t : Task) → P t → R (f t)) → (P nobody → R nobody) → P (task_of w name) → R (task_of (edit_task name f w) name)
+pub at_same : (P R : Task → Type 0) (name : Who) (f : Task → Task) (w : World) → ((t : Task) → (f t).who ≡ t.who) → ((t : Task) → P t → R (f t))
+    → (P nobody → R nobody) → P (task_of w name) → R (task_of (edit_task name f w) name)
 at_same P R name f w named edit blank h =
     let v = edit_task name f w in
     subst R (one_of-is v name)
-    (edited_to P R name name f w named (λ same t g. edit t g) (λ apart. absurd (false≢true (sym apart ∙ same_self name))) blank (subst P (sym (one_of-is w name)) h))
+    (edited_to P R name name f w named (λ same t g. edit t g) (λ apart. absurd (false≢true (sym apart ∙ same_self name))) blank
+    (subst P (sym (one_of-is w name)) h))
 
 -- ---- marks
 
@@ -43,7 +45,8 @@ top_edited name f x w e =
     at_same (λ t. first_of t.frames ≡ Some x) (λ t. first_of t.frames ≡ Some (f x)) name (λ t. with_frames (edit_first f t.frames) t) w (λ t. refl)
     (λ t h. first-edited f x t.frames h) (λ h. none-first f x h) e
 
-pub frames_same : (name : Who) (f : Task → Task) (w : World) → ((t : Task) → (f t).who ≡ t.who) → ((t : Task) → (f t).frames ≡ t.frames) → frames_of (edit_task name f w) name ≡ frames_of w name
+pub frames_same : (name : Who) (f : Task → Task) (w : World) → ((t : Task) → (f t).who ≡ t.who) → ((t : Task) → (f t).frames ≡ t.frames)
+    → frames_of (edit_task name f w) name ≡ frames_of w name
 frames_same name f w named same =
     at_same (λ t. t.frames ≡ frames_of w name) (λ t. t.frames ≡ frames_of w name) name f w named (λ t h. same t ∙ h) (λ h. h) refl
 
@@ -66,12 +69,14 @@ pub free-nobody : (name : Who) → FreeIn name nobody.state
 free-nobody (who.Task n) = refl
 free-nobody who.Agent = tt
 
-pub calm_edited : (name : Who) (f : Task → Task) (w : World) → ((t : Task) → (f t).who ≡ t.who) → ((t : Task) → (f t).state ≡ t.state) → Calm name w → Calm name (edit_task name f w)
+pub calm_edited : (name : Who) (f : Task → Task) (w : World) → ((t : Task) → (f t).who ≡ t.who) → ((t : Task) → (f t).state ≡ t.state) → Calm name w
+    → Calm name (edit_task name f w)
 calm_edited name f w named same h =
     at_same (λ t. FreeIn name t.state) (λ t. FreeIn name t.state) name f w named (λ t g. subst (FreeIn name) (sym (same t)) g) (λ g. g) h
 
 -- who is there has begun, as before
-pub begun_edited : (name : Who) (f : Task → Task) (w : World) → ((t : Task) → (f t).who ≡ t.who) → ((t : Task) → (f t).state ≡ t.state) → Begun name w → Begun name (edit_task name f w)
+pub begun_edited : (name : Who) (f : Task → Task) (w : World) → ((t : Task) → (f t).who ≡ t.who) → ((t : Task) → (f t).state ≡ t.state) → Begun name w
+    → Begun name (edit_task name f w)
 begun_edited name f w named same h =
     at_same (HasBegun name) (HasBegun name) name f w named (λ t g is. ap is_made_state (same t) ∙ g (sym (ap (same_who name) (named t)) ∙ is)) (λ g. g) h
 

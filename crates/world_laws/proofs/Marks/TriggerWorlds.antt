@@ -26,12 +26,15 @@ due-awaited p w (due_for.Delay t) k = refl
 due-awaited p w (due_for.Timeout c) k = refl
 due-awaited p w (due_for.Trigger t depth) k = k t depth (and_from _ _ (eq-eqb t.0 t.0 refl) (eq-eqb depth depth refl))
 
-all-awaited : (p : Image) (w : World) (xs : List Appointment) → Awaited w (λ t depth. list_any (λ a. is_trigger_of t depth a.due) xs) → list_all (λ a. trigger_is_awaited p w a.due) xs ≡ true
+all-awaited : (p : Image) (w : World) (xs : List Appointment) → Awaited w (λ t depth. list_any (λ a. is_trigger_of t depth a.due) xs)
+    → list_all (λ a. trigger_is_awaited p w a.due) xs ≡ true
 all-awaited p w [] k = refl
 all-awaited p w (a ∷ rest) k =
     and_from (trigger_is_awaited p w a.due) (list_all (λ (x : Appointment). trigger_is_awaited p w x.due) rest)
-    (due-awaited p w a.due (λ t depth is. k t depth (or_left (is_trigger_of t depth a.due) (list_any (λ (x : Appointment). is_trigger_of t depth x.due) rest) is)))
-    (all-awaited p w rest (λ t depth is. k t depth (or_right (is_trigger_of t depth a.due) (list_any (λ (x : Appointment). is_trigger_of t depth x.due) rest) is)))
+    (due-awaited p w a.due
+    (λ t depth is. k t depth (or_left (is_trigger_of t depth a.due) (list_any (λ (x : Appointment). is_trigger_of t depth x.due) rest) is)))
+    (all-awaited p w rest
+    (λ t depth is. k t depth (or_right (is_trigger_of t depth a.due) (list_any (λ (x : Appointment). is_trigger_of t depth x.due) rest) is)))
 
 triggers-awaited : (p : Image) (w : World) → GoodMarks w → list_all (λ a. trigger_is_awaited p w a.due) w.appointments ≡ true
 triggers-awaited p w good = all-awaited p w w.appointments (λ t depth is. (good.triggers t depth is).1.0.0)

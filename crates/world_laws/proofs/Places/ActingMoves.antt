@@ -90,7 +90,8 @@ pub record SelectMoves (p : Image) (actor : Who) (Listed : World → Naming) (W 
   pub looked : (v w : World) (said : List Said) → V v w said → W w said
   pub looking : (v : World) → Silences (V v)
   pub begins : (v : World) (name : Who) → same_who actor name ≡ false → Listed v name → Keeps (V v) (ready p (OfOther name) name)
-  pub waits : (v : World) (said : List Said) → W v said → EachTask (λ t. same_who actor t.who ≡ true → waits_at_terminate (waiting_in t.state) ≡ true → waits_at_terminate (waiting_of v actor) ≡ true) v.tasks
+  pub waits : (v : World) (said : List Said) → W v said
+      → EachTask (λ t. same_who actor t.who ≡ true → waits_at_terminate (waiting_in t.state) ≡ true → waits_at_terminate (waiting_of v actor) ≡ true) v.tasks
   pub runs_on : (v : World) → waits_at_terminate (waiting_of v actor) ≡ true → Keeps (V v) (changes (edit_task actor (with_state Runnable)))
   pub says_blocked : (waiting : Waiting) → Leads (With W (λ w. waits_at_terminate (waiting_of w actor) ≡ true)) Y (says_block TheBlock actor waiting)
   pub settles : (w : World) (said : List Said) → waits_at_terminate (waiting_of w actor) ≡ false → W w said → Y w said
@@ -99,7 +100,8 @@ pub record SelectMoves (p : Image) (actor : Who) (Listed : World → Naming) (W 
 -- blocked (Y), and where no more is to be said of it (B). Where who acts owes a line since its active priority may have fallen (O); since a
 -- world, of whose tasks some have only been made (N); where one of these has ended (E), or who acts (D), and where it is there no
 -- more (Z).
-pub record ActingMoves (p : Image) (actor : Who) (Fits : Fitting) (Sleeps : Sleeping) (May : Admitting) (Listed Unmade : World → Naming) (F I L W Y B D Z : State) (O V : World → State) (N : Lasting) (E : LastingOf) : Type 0 where
+pub record ActingMoves (p : Image) (actor : Who) (Fits : Fitting) (Sleeps : Sleeping) (May : Admitting) (Listed Unmade : World → Naming)
+    (F I L W Y B D Z : State) (O V : World → State) (N : Lasting) (E : LastingOf) : Type 0 where
   pub fresh : Silences F
   pub later : LaterMoves p actor Fits Sleeps I
   pub over : BaseMoves p (OfOthers actor Fits) Sleeps B
@@ -117,7 +119,8 @@ pub record ActingMoves (p : Image) (actor : Who) (Fits : Fitting) (Sleeps : Slee
   pub blocks : (waiting : Waiting) → waits_at_terminate (Some waiting) ≡ false → Leads I Y (block TheBlock actor waiting)
   -- who acts is placed, or waits at a select
   pub tails : Keeps I (to_tail p ThePlacing actor)
-  pub waits_at_select : (accepts : List StatementNo) (delay : Option StatementNo) → Leads F W (changes (edit_task actor (with_state (Blocked (waits_for.Select accepts delay true)))))
+  pub waits_at_select : (accepts : List StatementNo) (delay : Option StatementNo)
+      → Leads F W (changes (edit_task actor (with_state (Blocked (waits_for.Select accepts delay true)))))
   -- a moment is appointed for it
   pub appoints_first : (t : TaskNo) (moment : ℤ) → who.Task t ≡ actor → Alters F (appoint (due_for.Delay t) moment)
   pub appoints : (t : TaskNo) (moment : ℤ) → who.Task t ≡ actor → Alters I (appoint (due_for.Delay t) moment)
@@ -141,11 +144,16 @@ pub record ActingMoves (p : Image) (actor : Who) (Fits : Fitting) (Sleeps : Slee
   pub since_less : (v w : World) (t : Task) (rest : List Task) (said : List Said) → N v (t ∷ rest) w said → N v rest w said
   pub made_differ : (v : World) (said : List Said) → I v said → EachTask (λ t. is_made t ≡ true → Unmade v t.who) v.tasks
   pub apart : (v : World) (said : List Said) → I v said → AreApart v.tasks
-  pub dates_activation : (v : World) (t : Task) (rest : List Task) (activator : Who) (now_at : ℕ) → Unmade v t.who → Alters (N v (t ∷ rest)) (edit_task t.who (activated_task activator now_at))
-  pub inherits_activation : (v : World) (t : Task) (rest : List Task) (level : ℕ) → Unmade v t.who → Alters (N v (t ∷ rest)) (inherit t.who inherited_by.Activation level)
-  pub activates : (v : World) (t : Task) (rest : List Task) → Unmade v t.who → list_any (λ u. same_who t.who u.who) rest ≡ false → Leads (N v (t ∷ rest)) (N v rest) (ready p (OfOther t.who) t.who)
-  pub ends_other : (v : World) (rest : List Task) (name : Who) → Unmade v name → list_any (λ u. same_who name u.who) rest ≡ true → Leads (N v rest) (E v rest name) (says_done (OfOther name) name)
-  pub loses_ended : (v : World) (rest : List Task) (name : Who) (w : World) (said : List Said) → E v rest name w said → E v rest name (lose name inherited_by.Activation w) said
+  pub dates_activation : (v : World) (t : Task) (rest : List Task) (activator : Who) (now_at : ℕ) → Unmade v t.who
+      → Alters (N v (t ∷ rest)) (edit_task t.who (activated_task activator now_at))
+  pub inherits_activation : (v : World) (t : Task) (rest : List Task) (level : ℕ) → Unmade v t.who
+      → Alters (N v (t ∷ rest)) (inherit t.who inherited_by.Activation level)
+  pub activates : (v : World) (t : Task) (rest : List Task) → Unmade v t.who → list_any (λ u. same_who t.who u.who) rest ≡ false
+      → Leads (N v (t ∷ rest)) (N v rest) (ready p (OfOther t.who) t.who)
+  pub ends_other : (v : World) (rest : List Task) (name : Who) → Unmade v name → list_any (λ u. same_who name u.who) rest ≡ true
+      → Leads (N v rest) (E v rest name) (says_done (OfOther name) name)
+  pub loses_ended : (v : World) (rest : List Task) (name : Who) (w : World) (said : List Said) → E v rest name w said
+      → E v rest name (lose name inherited_by.Activation w) said
   pub forgets : (v : World) (rest : List Task) (name : Who) → Leads (E v rest name) (N v rest) (changes (forget_task name))
   pub found_since : (v w : World) (rest : List Task) (said : List Said) → N v rest w said → EachTask (λ t. is_blocked t.state ≡ true → Sleeps w t.who) w.tasks
   -- who acts ends
@@ -157,7 +165,9 @@ pub record ActingMoves (p : Image) (actor : Who) (Fits : Fitting) (Sleeps : Slee
   -- a task is created
   pub creates : (s : StatementNo) (d : DeclNo) (id : Option ScopeId) (t : Task) → Leads (With F (IsNew p t)) I (create_task p actor s d id t)
   -- a call that is sent on and has no room at the accept has ended before the acceptor becomes ready
-  pub meets_late : (t : TaskNo) (s : StatementNo) (c : Call) → Leads (With I (λ w. Sleeps w (who.Task t))) I (meet_without_room p TheFinish (who.Task t) s c (deliver p TheFinish c.number (call_ended.ToRaise exception.Storage)))
+  pub meets_late : (t : TaskNo) (s : StatementNo) (c : Call)
+      → Leads (With I (λ w. Sleeps w (who.Task t))) I
+      (meet_without_room p TheFinish (who.Task t) s c (deliver p TheFinish c.number (call_ended.ToRaise exception.Storage)))
   -- protected objects
   pub makes : (l : Located) (u : ProtectedUnitNo) → Keeps I (changes (with_object p l u) ▷ says_object p l u)
   pub may : (w : World) (o : ObjectNo) (mode : Mode) → entering p w actor o mode ≡ entering_is.Inside → May w o

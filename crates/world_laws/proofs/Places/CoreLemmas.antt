@@ -13,7 +13,8 @@ abbrev core_in : Who → List Core → Core
 core_in n [] = core nobody
 core_in n (c ∷ cs) = cond (same_who n c.who) c (core_in n cs)
 
-core-test : (b : Bool) (t : Task) (rest : Option Task) (cs : Core) → core (unwrap_or rest nobody) ≡ cs → core (unwrap_or (cond b (Some t) rest) nobody) ≡ cond b (core t) cs
+core-test : (b : Bool) (t : Task) (rest : Option Task) (cs : Core) → core (unwrap_or rest nobody) ≡ cs
+    → core (unwrap_or (cond b (Some t) rest) nobody) ≡ cond b (core t) cs
 core-test true t rest cs e = refl
 core-test false t rest cs e = e
 

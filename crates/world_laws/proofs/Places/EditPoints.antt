@@ -55,9 +55,12 @@ holds-forget P Q name forgets =
       λ n. by_test (same_who n name)
           (λ same. subst (λ m. Q w.drawn.tasks m (core (task_of (forget_task name w) m)) (last_put m said)) (sym (who-is n name same))
           (by_test (is_agent name)
-          (λ agent. subst (λ c. Q w.drawn.tasks name c (last_put name said)) (sym (forget-agent name w agent)) (forgets.agent w.drawn.tasks (core (task_of w name)) (last_put name said) agent (h.1 name)))
-          (λ task. subst (λ c. Q w.drawn.tasks name c (last_put name said)) (sym (forget-task name w task)) (forgets.task w.drawn.tasks (core (task_of w name)) (last_put name said) task (h.1 name)))))
-          (λ apart. subst (λ c. Q w.drawn.tasks n c (last_put n said)) (sym (forget-other name w n apart)) (forgets.others w.drawn.tasks n (core (task_of w n)) (last_put n said) apart (h.1 n))),
+          (λ agent. subst (λ c. Q w.drawn.tasks name c (last_put name said)) (sym (forget-agent name w agent))
+          (forgets.agent w.drawn.tasks (core (task_of w name)) (last_put name said) agent (h.1 name)))
+          (λ task. subst (λ c. Q w.drawn.tasks name c (last_put name said)) (sym (forget-task name w task))
+          (forgets.task w.drawn.tasks (core (task_of w name)) (last_put name said) task (h.1 name)))))
+          (λ apart. subst (λ c. Q w.drawn.tasks n c (last_put n said)) (sym (forget-other name w n apart))
+          (forgets.others w.drawn.tasks n (core (task_of w n)) (last_put n said) apart (h.1 n))),
     ))
 
 -- ---- a task is added
@@ -74,8 +77,11 @@ added_by t n (Some x) behind b is e = inl (ap (λ (r : Option Task). core (unwra
 added_by t n None behind true is e = inr (record { named = is; was = refl; is = ap (λ (r : Option Task). core (unwrap_or r nobody)) e })
 added_by t n None behind false is e = inl (ap (λ (r : Option Task). core (unwrap_or r nobody)) e)
 
-pub add-found : (t : Task) (w : World) (n : Who) → (core (task_of (add_task t w) n) ≡ core (task_of w n)) ⊎ AddedAs t n (core (task_of w n)) (core (task_of (add_task t w) n))
-add-found t w (who.Task k) = added_by t (who.Task k) (find (is_who (who.Task k)) w.tasks) (find (is_who (who.Task k)) (w.tasks ++ t ∷ [])) (is_who (who.Task k) t) refl (find-behind (is_who (who.Task k)) t w.tasks)
+pub add-found : (t : Task) (w : World) (n : Who)
+    → (core (task_of (add_task t w) n) ≡ core (task_of w n)) ⊎ AddedAs t n (core (task_of w n)) (core (task_of (add_task t w) n))
+add-found t w (who.Task k) =
+    added_by t (who.Task k) (find (is_who (who.Task k)) w.tasks) (find (is_who (who.Task k)) (w.tasks ++ t ∷ [])) (is_who (who.Task k) t) refl
+    (find-behind (is_who (who.Task k)) t w.tasks)
 add-found t w who.Agent = inl refl
 
 -- ---- lines that take somebody out
@@ -89,11 +95,16 @@ nowhere c = None
 pub done-holds : (P Q : Point) (part : Part) (t : TaskNo) → Places P Q (who.Task t) part nowhere → Leads (Holds P) (Holds Q) (says_done part (who.Task t))
 unfolding says_done Ends nowhere
 done-holds P Q part t places = record {
-  runs = λ w said h. holds-put P Q (who.Task t) part nowhere (line.Done t) w said (ap (λ b. cond b (Some None) None) (same_self (who.Task t))) (λ n apart. done_puts n t apart) places h;
+  runs =
+      λ w said h. holds-put P Q (who.Task t) part nowhere (line.Done t) w said (ap (λ b. cond b (Some None) None) (same_self (who.Task t)))
+      (λ n apart. done_puts n t apart) places h;
 }
 
-pub block-holds : (P Q : Point) (name : Who) (waits : Waits) → Places P Q name TheBlock nowhere → Leads (Holds P) (Holds Q) (says TheBlock (line.Block name waits))
+pub block-holds : (P Q : Point) (name : Who) (waits : Waits) → Places P Q name TheBlock nowhere
+    → Leads (Holds P) (Holds Q) (says TheBlock (line.Block name waits))
 unfolding Ends nowhere
 block-holds P Q name waits places = record {
-  runs = λ w said h. holds-put P Q name TheBlock nowhere (line.Block name waits) w said (ap (λ b. cond b (Some None) None) (same_self name)) (λ n apart. ap (λ b. cond b (Some None) None) apart) places h;
+  runs =
+      λ w said h. holds-put P Q name TheBlock nowhere (line.Block name waits) w said (ap (λ b. cond b (Some None) None) (same_self name))
+      (λ n apart. ap (λ b. cond b (Some None) None) apart) places h;
 }

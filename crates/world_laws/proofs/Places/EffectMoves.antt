@@ -1,21 +1,28 @@
 -- What each step by which priorities and deadlines change or somebody wakes makes of places.
 use Rattle.world_laws.proofs.Places.ActiveLemmas.{edit-part, active-falls, inherit-rises, lose-falls}
-use Rattle.world_laws.proofs.Places.CorePoints.{Holds, IsAt, Knowing, Places, Point, Readies, Turns, active_in, at_active, core-plain, holds-also, holds-edit, holds-knowing, holds-of, holds-sound, holds_quiet, keeps_says, not-absent, ready-holds, spot_for, state-kept, to_head-holds, to_tail-holds}
+use Rattle.world_laws.proofs.Places.CorePoints.{Holds, IsAt, Knowing, Places, Point, Readies, Turns, active_in, at_active, core-plain}
+use Rattle.world_laws.proofs.Places.CorePoints.{holds-also, holds-edit, holds-knowing, holds-of, holds-sound, holds_quiet, keeps_says}
+use Rattle.world_laws.proofs.Places.CorePoints.{not-absent, ready-holds, spot_for, state-kept, to_head-holds, to_tail-holds}
 use Rattle.world_laws.proofs.Places.SoundWorlds.{IsAbsent, Sound, known, sound-edit}
-use Rattle.world_laws.proofs.Places.Standing.{Acting, AtLevel, Bare, Choosing, Dying, Ending, First, Fits, Gone, Good, IsCalm, IsShown, IsShownRightly, IsUnmade, Last, Later, Loose, Owes, Owing, Resting, Since, Undated, acting-placed, asleep-hidden, at-out, at-still, awake, deadline-kept, fits_limit, limit, limit-actor, nobody-runs, nobody-sleeps, place, placed-good, runs_in, shown-free, sleeps_in, woken-good}
+use Rattle.world_laws.proofs.Places.Standing.{Acting, AtLevel, Bare, Choosing, Dying, Ending, First, Fits, Gone, Good, IsCalm, IsShown}
+use Rattle.world_laws.proofs.Places.Standing.{IsShownRightly, IsUnmade, Last, Later, Loose, Owes, Owing, Resting, Since, Undated, acting-placed}
+use Rattle.world_laws.proofs.Places.Standing.{asleep-hidden, at-out, at-still, awake, deadline-kept, fits_limit, limit, limit-actor}
+use Rattle.world_laws.proofs.Places.Standing.{nobody-runs, nobody-sleeps, place, placed-good, runs_in, shown-free, sleeps_in, woken-good}
 use Rattle.world_laws.proofs.Places.Puts.{Spot, last_put, spot_in, with_put}
 use Rattle.world_laws.proofs.Places.ActingMoves.{OfOthers}
 use Rattle.world_laws.proofs.Places.CoreLemmas.{core-same}
 use Rattle.world_laws.proofs.Places.Kept.Priorities.{reprioritize_own-keeps, says_deadline-keeps}
 use Rattle.ceiling_laws.proofs.Fine.Kept.Tasks.{edit_task-alters}
 use Rattle.ceiling_laws.proofs.Fine.LevelMoves.{BaseMoves}
-use Rattle.ceiling_laws.proofs.Runs.Triples.{At, Keeps, Leads, State, With, branch-leads, changes-keeps, changes-leads, from-leads, from_at, looks-keeps, looks-leads, looks-with, nothing-keeps, nothing-leads, then-keeps, then-leads, when-keeps}
+use Rattle.ceiling_laws.proofs.Runs.Triples.{At, Keeps, Leads, State, With, branch-leads, changes-keeps, changes-leads, from-leads, from_at}
+use Rattle.ceiling_laws.proofs.Runs.Triples.{looks-keeps, looks-leads, looks-with, nothing-keeps, nothing-leads, then-keeps, then-leads, when-keeps}
 use Rattle.ceiling_laws.proofs.Fine.Cores.{Core, Same, core}
 use Rattle.profile_machine.specs.Dispatching.{active_of, ready, to_head, to_tail}
 use Rattle.profile_machine.specs.Frames.{in_protected}
 use Rattle.profile_machine.specs.Inheritance.{falls, inherit, inherit_running, lose, lose_running, rises, same_cause}
 use Rattle.profile_machine.specs.Masters.{part_of, waits_at_terminate}
-use Rattle.profile_machine.specs.Priorities.{defer_base, defer_deadline, is_runnable_at_edf, placing_of, replace_in, reprioritize_own, says_base, says_deadline, set_base, set_deadline, set_deferred, set_or_defer_base, set_or_defer_deadline, take_base, take_deadline}
+use Rattle.profile_machine.specs.Priorities.{defer_base, defer_deadline, is_runnable_at_edf, placing_of, replace_in, reprioritize_own, says_base, says_deadline}
+use Rattle.profile_machine.specs.Priorities.{set_base, set_deadline, set_deferred, set_or_defer_base, set_or_defer_deadline, take_base, take_deadline}
 use Rattle.profile_image.specs.Program.{has_edf, is_edf_level}
 use Rattle.profile_machine.specs.Scopes.{end_scope}
 use Rattle.profile_machine.specs.Steps.{Step, changes, when}
@@ -50,8 +57,10 @@ use Rattle.line_laws.proofs.Leaving.TaskLemmas.{same_self}
 
 -- by who sleeps and inherits a priority, and by who wakes
 pub record Wakeful (p : Image) (Parts : Fitting) (P : Point) : Type 0 where
-  pub rises : (d : ℕ) (n : Who) (t : Task) (l : Last) (i : Inherited) → (is_agent n ≡ false → same_who n t.who ≡ true) → sleeps_in (core t) ≡ true → P d n (core t) l → P d n (core (record t { inherited = i ∷ t.inherited })) l
-  pub wakes : (part : Part) (d : ℕ) (n : Who) (c e : Core) (l : Last) → Parts part n → is_fresh d n ≡ false → sleeps_in c ≡ true → runs_in e ≡ true → P d n c l → P d n e (with_put l part (Some (Some (spot_for p e))))
+  pub rises : (d : ℕ) (n : Who) (t : Task) (l : Last) (i : Inherited) → (is_agent n ≡ false → same_who n t.who ≡ true) → sleeps_in (core t) ≡ true
+      → P d n (core t) l → P d n (core (record t { inherited = i ∷ t.inherited })) l
+  pub wakes : (part : Part) (d : ℕ) (n : Who) (c e : Core) (l : Last) → Parts part n → is_fresh d n ≡ false → sleeps_in c ≡ true → runs_in e ≡ true → P d n c l
+      → P d n e (with_put l part (Some (Some (spot_for p e))))
 
 pub made-asleep : {P : Type 0} (state : tasks.State) → is_made_state state ≡ true → is_blocked state ≡ true → P
 made-asleep Made made sleeps = absurd cc
@@ -62,7 +71,8 @@ module _ {p : Image} {Parts : Fitting} (P : Point) (wakeful : Wakeful p Parts P)
   pub Dozing : Who → Point
   Dozing name = Knowing P name (λ d c. sleeps_in c ≡ true)
 
-  pub inherit-turns : (name : Who) (cause : Cause) (level : ℕ) → Turns (Dozing name) P name (λ t. record t { inherited = record { cause = cause; level = level } ∷ t.inherited })
+  pub inherit-turns : (name : Who) (cause : Cause) (level : ℕ)
+      → Turns (Dozing name) P name (λ t. record t { inherited = record { cause = cause; level = level } ∷ t.inherited })
   unfolding Dozing
   inherit-turns name cause level = record {
     others = λ d n c l apart h. h.0;
@@ -74,8 +84,10 @@ module _ {p : Image} {Parts : Fitting} (P : Point) (wakeful : Wakeful p Parts P)
   unfolding Dozing
   dozing name w said sleeps h = holds-knowing P name (λ d c. sleeps_in c ≡ true) w said sleeps h
 
-  pub inherit-sound : (name : Who) (cause : Cause) (level : ℕ) (w : World) → same_cause inherited_by.Activation cause ≡ false → Sound w → Sound (inherit name cause level w)
-  inherit-sound name cause level w other h = sound-edit name (λ t. record t { inherited = record { cause = cause; level = level } ∷ t.inherited }) w (λ t. refl) (λ t k. (other, k)) h
+  pub inherit-sound : (name : Who) (cause : Cause) (level : ℕ) (w : World) → same_cause inherited_by.Activation cause ≡ false → Sound w
+      → Sound (inherit name cause level w)
+  inherit-sound name cause level w other h =
+      sound-edit name (λ t. record t { inherited = record { cause = cause; level = level } ∷ t.inherited }) w (λ t. refl) (λ t k. (other, k)) h
 
   -- it wakes where it fits, in a world in which it is there
   pub Waking : Who → Point
@@ -99,26 +111,32 @@ module _ {p : Image} {Parts : Fitting} (P : Point) (wakeful : Wakeful p Parts P)
     places = λ d c l h. wakeful.wakes part d name h.before c l fits h.drawn h.slept h.runs h.held;
   }
 
-  pub known-asleep : (name : Who) (w : World) → Sleeping_in w name → IsAbsent name (core (task_of w name)) ⊎ (is_fresh w.drawn.tasks name ≡ false) → is_fresh w.drawn.tasks name ≡ false
+  pub known-asleep : (name : Who) (w : World) → Sleeping_in w name → IsAbsent name (core (task_of w name)) ⊎ (is_fresh w.drawn.tasks name ≡ false)
+      → is_fresh w.drawn.tasks name ≡ false
   known-asleep name w sleeps (inl absent) = nobody-sleeps (subst (λ c. sleeps_in c ≡ true) absent.1 sleeps)
   known-asleep name w sleeps (inr drawn) = drawn
 
   pub wakes-holds : (part : Part) (name : Who) → Parts part name → Leads (With (Holds P) (λ w. Sleeping_in w name)) (Holds P) (ready p part name)
   unfolding Waking
   wakes-holds part name fits =
-      from-leads (ready p part name) (λ w said h. holds-knowing P name (λ d c. (is_fresh d name ≡ false) × (sleeps_in c ≡ true)) w said (known-asleep name w h.1 (known w name (holds-sound P w said h.0)), h.1) h.0)
+      from-leads (ready p part name)
+      (λ w said h. holds-knowing P name (λ d c. (is_fresh d name ≡ false) × (sleeps_in c ≡ true)) w said
+      (known-asleep name w h.1 (known w name (holds-sound P w said h.0)), h.1) h.0)
       (ready-holds p (Waking name) P name part (waking name part fits))
 
   pub sleeps-on : (a b : World) (name : Who) → Same a b → Sleeping_in a name → Sleeping_in b name
   sleeps-on a b name same h = ap (λ (c : Core). is_blocked c.state) (core-same a b name same) ∙ h
 
   pub sleeps-heir : (heir : Who) (cause : Cause) (level : ℕ) (w : World) (name : Who) → Sleeping_in w name → Sleeping_in (inherit heir cause level w) name
-  sleeps-heir heir cause level w name h = ap is_blocked (state-kept heir (λ t. record t { inherited = record { cause = cause; level = level } ∷ t.inherited }) w name (λ t. refl) (λ t. refl)) ∙ h
+  sleeps-heir heir cause level w name h =
+      ap is_blocked (state-kept heir (λ t. record t { inherited = record { cause = cause; level = level } ∷ t.inherited }) w name (λ t. refl) (λ t. refl)) ∙ h
 
   pub base_moves : BaseMoves p Parts Sleeping_in (Holds P)
   base_moves = record {
     quiet = holds_quiet P;
-    inherits = λ name cause level w said other sleeps h. holds-edit (Dozing name) P name _ w said (λ t. refl) (inherit-sound name cause level w other (holds-sound P w said h)) (inherit-turns name cause level) (dozing name w said sleeps h);
+    inherits =
+        λ name cause level w said other sleeps h. holds-edit (Dozing name) P name _ w said (λ t. refl)
+        (inherit-sound name cause level w other (holds-sound P w said h)) (inherit-turns name cause level) (dozing name w said sleeps h);
     sleeps = λ w name e. e;
     sleeps_on = sleeps-on;
     sleeps_behind = λ id w name e. ap (λ (c : Core). is_blocked c.state) (core-plain w (end_scope id w) name refl refl) ∙ e;
@@ -143,7 +161,8 @@ module _ (p : Image) (s : List Placed) (a : Who) where
   pub calm-kept : (n : Who) (c e : Core) (l : Last) → e.state ≡ c.state → IsCalm p s a n c l → IsCalm p s a n e l
   calm-kept n c e l same calm apart = ((calm apart).0, λ sleeps. (calm apart).1 (ap is_blocked (sym same) ∙ sleeps))
 
-  pub good-kept : (d : ℕ) (n : Who) (t : Task) (e : Core) (l : Last) → Named n t → e.state ≡ t.state → IsAt p (place p s a n l) e → Good p s a d n (core t) l → Good p s a d n e l
+  pub good-kept : (d : ℕ) (n : Who) (t : Task) (e : Core) (l : Last) → Named n t → e.state ≡ t.state → IsAt p (place p s a n l) e → Good p s a d n (core t) l
+      → Good p s a d n e l
   good-kept d n t e l named same at h = record {
     late = h.late;
     at = at;
@@ -156,7 +175,8 @@ module _ (p : Image) (s : List Placed) (a : Who) where
   pub acting-kept : (d : ℕ) (n : Who) (c e : Core) (l : Last) → e.state ≡ c.state → Acting p s a d n c l → Acting p s a d n e l
   acting-kept d n c e l same h = (h.0, ap is_runnable_state same ∙ h.1)
 
-  pub later-kept : (d : ℕ) (n : Who) (t : Task) (e : Core) (l : Last) → Named n t → e.state ≡ t.state → IsAt p (place p s a n l) e → Later p s a d n (core t) l → Later p s a d n e l
+  pub later-kept : (d : ℕ) (n : Who) (t : Task) (e : Core) (l : Last) → Named n t → e.state ≡ t.state → IsAt p (place p s a n l) e → Later p s a d n (core t) l
+      → Later p s a d n e l
   later-kept d n t e l named same at h = (good-kept d n t e l named same at h.0, λ is. acting-kept d n (core t) e l same (h.1 is))
 
   -- who sleeps stands nowhere, so its level may be any
@@ -169,28 +189,38 @@ module _ (p : Image) (s : List Placed) (a : Who) where
 
   -- ---- each mode is kept by who wakes
 
-  pub good-rises : (d : ℕ) (n : Who) (t : Task) (l : Last) (i : Inherited) → Named n t → sleeps_in (core t) ≡ true → Good p s a d n (core t) l → Good p s a d n (core (record t { inherited = i ∷ t.inherited })) l
+  pub good-rises : (d : ℕ) (n : Who) (t : Task) (l : Last) (i : Inherited) → Named n t → sleeps_in (core t) ≡ true → Good p s a d n (core t) l
+      → Good p s a d n (core (record t { inherited = i ∷ t.inherited })) l
   good-rises d n t l i named sleeps h =
       let e : Core = core (record t { inherited = i ∷ t.inherited }) in
       good-kept d n t e l named refl (asleep-at n (core t) e l h.shown sleeps) h
 
-  pub later-rises : (d : ℕ) (n : Who) (t : Task) (l : Last) (i : Inherited) → Named n t → sleeps_in (core t) ≡ true → Later p s a d n (core t) l → Later p s a d n (core (record t { inherited = i ∷ t.inherited })) l
+  pub later-rises : (d : ℕ) (n : Who) (t : Task) (l : Last) (i : Inherited) → Named n t → sleeps_in (core t) ≡ true → Later p s a d n (core t) l
+      → Later p s a d n (core (record t { inherited = i ∷ t.inherited })) l
   later-rises d n t l i named sleeps h =
       let e : Core = core (record t { inherited = i ∷ t.inherited }) in
       later-kept d n t e l named refl (asleep-at n (core t) e l h.0.shown sleeps) h
 
-  pub good-wakes : (part : Part) (d : ℕ) (n : Who) (c e : Core) (l : Last) → Fits p s a part n → same_who n a ≡ false → is_fresh d n ≡ false → sleeps_in c ≡ true → runs_in e ≡ true → Good p s a d n c l → Good p s a d n e (with_put l part (Some (Some (spot_for p e))))
+  pub good-wakes : (part : Part) (d : ℕ) (n : Who) (c e : Core) (l : Last) → Fits p s a part n → same_who n a ≡ false → is_fresh d n ≡ false
+      → sleeps_in c ≡ true → runs_in e ≡ true → Good p s a d n c l → Good p s a d n e (with_put l part (Some (Some (spot_for p e))))
   good-wakes part d n c e l fits apart drawn sleeps runs h = woken-good p s a d n c e l part fits apart drawn sleeps runs h
 
   -- who acts runs, so who wakes is another
   other-wakes : (d : ℕ) (n : Who) (c : Core) (l : Last) → sleeps_in c ≡ true → (same_who n a ≡ true → Acting p s a d n c l) → same_who n a ≡ false
   other-wakes d n c l sleeps acting = by_test (same_who n a) (λ same. awake c (acting same).1 sleeps) (λ apart. apart)
 
-  pub later-wakes : (part : Part) (d : ℕ) (n : Who) (c e : Core) (l : Last) → Fits p s a part n → is_fresh d n ≡ false → sleeps_in c ≡ true → runs_in e ≡ true → Later p s a d n c l → Later p s a d n e (with_put l part (Some (Some (spot_for p e))))
-  later-wakes part d n c e l fits drawn sleeps runs h = (good-wakes part d n c e l fits (other-wakes d n c l sleeps h.1) drawn sleeps runs h.0, λ is. (drawn, runs))
+  pub later-wakes : (part : Part) (d : ℕ) (n : Who) (c e : Core) (l : Last) → Fits p s a part n → is_fresh d n ≡ false → sleeps_in c ≡ true → runs_in e ≡ true
+      → Later p s a d n c l → Later p s a d n e (with_put l part (Some (Some (spot_for p e))))
+  later-wakes part d n c e l fits drawn sleeps runs h = (
+    good-wakes part d n c e l fits (other-wakes d n c l sleeps h.1) drawn sleeps runs h.0,
+    λ is. (drawn, runs),
+  )
 
   pub good_wakeful : Wakeful p (OfOthers a (Fits p s a)) (Good p s a)
-  good_wakeful = record { rises = good-rises; wakes = λ part d n c e l fits drawn sleeps runs h. good-wakes part d n c e l fits.0 (apart-sym a n fits.1) drawn sleeps runs h }
+  good_wakeful = record {
+    rises = good-rises;
+    wakes = λ part d n c e l fits drawn sleeps runs h. good-wakes part d n c e l fits.0 (apart-sym a n fits.1) drawn sleeps runs h;
+  }
 
   pub gone_wakeful : Wakeful p (Fits p s a) (Gone p s a)
   gone_wakeful = record {
@@ -215,13 +245,20 @@ module _ (p : Image) (s : List Placed) (a : Who) where
   pub since_wakeful : (v : World) (rest : List Task) → Wakeful p (Fits p s a) (Since p s a v rest)
   since_wakeful v rest = record {
     rises = λ d n t l i named sleeps h. (later-rises d n t l i named sleeps h.0, h.1, h.2, h.3);
-    wakes = λ part d n c e l fits drawn sleeps runs h. (later-wakes part d n c e l fits drawn sleeps runs h.0, h.1, (λ slept. awake e runs slept), (λ among. made-asleep c.state (h.3 among) sleeps));
+    wakes = λ part d n c e l fits drawn sleeps runs h. (
+      later-wakes part d n c e l fits drawn sleeps runs h.0,
+      h.1,
+      (λ slept. awake e runs slept),
+      (λ among. made-asleep c.state (h.3 among) sleeps),
+    );
   }
 
   -- who has ended does not sleep
   pub ended-apart : (v : World) (name n : Who) → is_blocked (task_of v n).state ≡ true → IsUnmade p s a v name → same_who n name ≡ false
   ended-apart v name n sleeps made =
-      by_test (same_who n name) (λ same. absurd (let clash : false ≡ true = sym made.unblocked ∙ ap (λ m. is_blocked (task_of v m).state) (sym (who-is n name same)) ∙ sleeps in cc)) (λ apart. apart)
+      by_test (same_who n name)
+      (λ same. absurd (let clash : false ≡ true = sym made.unblocked ∙ ap (λ m. is_blocked (task_of v m).state) (sym (who-is n name same)) ∙ sleeps in cc))
+      (λ apart. apart)
 
   pub ending_wakeful : (v : World) (rest : List Task) (name : Who) → Wakeful p (Fits p s a) (Ending p s a v rest name)
   ending_wakeful v rest name = record {
@@ -263,7 +300,8 @@ module _ (p : Image) (s : List Placed) (a : Who) where
   pub ended_resting : (w : World) (said : List Said) → Holds (Gone p s a) w said → Holds (Resting p s a) w said
   ended_resting w said h = holds-also (Gone p s a) (Resting p s a) (λ d n c l k. (k.0, λ same. awake_rests c.state (k.1 same))) w said h
 
-  pub good-choosing : (d : ℕ) (n : Who) (c : Core) (l : Last) → (same_who n a ≡ true → waits_at_terminate (waiting_in c.state) ≡ false) → Good p s a d n c l → Choosing p s a d n c l
+  pub good-choosing : (d : ℕ) (n : Who) (c : Core) (l : Last) → (same_who n a ≡ true → waits_at_terminate (waiting_in c.state) ≡ false) → Good p s a d n c l
+      → Choosing p s a d n c l
   good-choosing d n c l rests h = record {
     late = h.late;
     at = h.at;
@@ -282,25 +320,42 @@ module _ (p : Image) (s : List Placed) (a : Who) where
   pub self_apart : {P : Type 0} (n : Who) → same_who n n ≡ false → P
   self_apart n apart = clash_of (same_who n n) (same_self n) apart
 
-  pub keeps_turns : (P : Point) (name : Who) (f : Task → Task) → ((d : ℕ) (t : Task) (l : Last) → Named name t → P d name (core t) l → P d name (core (f t)) l) → Turns P P name f
+  pub keeps_turns : (P : Point) (name : Who) (f : Task → Task) → ((d : ℕ) (t : Task) (l : Last) → Named name t → P d name (core t) l → P d name (core (f t)) l)
+      → Turns P P name f
   keeps_turns P name f own = record { others = λ d n c l apart h. h; own = own; missed = λ d l task h. h }
 
   -- an edit of what decides no level and no deadline
-  pub later-edits : (name : Who) (f : Task → Task) → ((t : Task) → (f t).who ≡ t.who) → ((t : Task) → (f t).state ≡ t.state) → ((t : Task) → active_in p (core (f t)) ≡ active_in p (core t)) → ((t : Task) → (f t).deadline ≡ t.deadline) → ((t : Task) → (f t).inherited ≡ t.inherited) → Keeps (Holds (Later p s a)) (changes (edit_task name f))
+  pub later-edits : (name : Who) (f : Task → Task) → ((t : Task) → (f t).who ≡ t.who) → ((t : Task) → (f t).state ≡ t.state)
+      → ((t : Task) → active_in p (core (f t)) ≡ active_in p (core t)) → ((t : Task) → (f t).deadline ≡ t.deadline)
+      → ((t : Task) → (f t).inherited ≡ t.inherited) → Keeps (Holds (Later p s a)) (changes (edit_task name f))
   later-edits name f named same level deadline inherited =
-      changes-leads (edit_task name f) (λ w said h. holds-edit (Later p s a) (Later p s a) name f w said named (sound-edit name f w named (λ t k. subst Unactivated (sym (inherited t)) k) (holds-sound (Later p s a) w said h))
-      (keeps_turns (Later p s a) name f (λ d t l is k. later-kept d name t (core (f t)) l is (same t) (at-still p (place p s a name l) (core t) (core (f t)) (level t) (deadline-kept p (core t) (core (f t)) (level t) (deadline t)) k.0.at) k)) h)
+      changes-leads (edit_task name f)
+      (λ w said h. holds-edit (Later p s a) (Later p s a) name f w said named
+      (sound-edit name f w named (λ t k. subst Unactivated (sym (inherited t)) k) (holds-sound (Later p s a) w said h))
+      (keeps_turns (Later p s a) name f
+      (λ d t l is k. later-kept d name t (core (f t)) l is (same t)
+      (at-still p (place p s a name l) (core t) (core (f t)) (level t) (deadline-kept p (core t) (core (f t)) (level t) (deadline t)) k.0.at) k)) h)
 
   -- ---- who acts is placed at its active priority
 
   pub actor_places : Places (Loose p s a a) (Later p s a) a ThePlacing (at_active p)
   actor_places = record {
     others = λ d n c l apart h. h.0 apart;
-    own = λ d c l h. let b = h.1 (same_self a) in acting-placed p s a d a c l ThePlacing (same_self a) refl b.late (b.ready (b.acting (same_self a)).1) (b.acting (same_self a));
+    own =
+        λ d c l h. let b = h.1 (same_self a) in
+        acting-placed p s a d a c l ThePlacing (same_self a) refl b.late (b.ready (b.acting (same_self a)).1) (b.acting (same_self a));
   }
 
   pub later-bare : (d : ℕ) (n : Who) (c : Core) (l : Last) → Later p s a d n c l → Bare p s a d n c l
-  later-bare d n c l h = record { late = h.0.late; shown = h.0.shown; fresh = h.0.fresh; absent = λ e. h.0.at; acting = h.1; ready = h.0.ready; calm = h.0.calm }
+  later-bare d n c l h = record {
+    late = h.0.late;
+    shown = h.0.shown;
+    fresh = h.0.fresh;
+    absent = λ e. h.0.at;
+    acting = h.1;
+    ready = h.0.ready;
+    calm = h.0.calm;
+  }
 
   pub loosened : (name : Who) (w : World) (said : List Said) → Holds (Later p s a) w said → Holds (Loose p s a name) w said
   loosened name w said h = holds-also (Later p s a) (Loose p s a name) (λ d n c l k. ((λ apart. k), (λ same. later-bare d n c l k))) w said h
@@ -310,7 +365,8 @@ module _ (p : Image) (s : List Placed) (a : Who) where
 
   -- ---- a level is set or lost
 
-  pub loose_turns : (name : Who) (f : Task → Task) → ((t : Task) → (f t).who ≡ t.who) → ((t : Task) → (f t).state ≡ t.state) → Turns (Later p s a) (Loose p s a name) name f
+  pub loose_turns : (name : Who) (f : Task → Task) → ((t : Task) → (f t).who ≡ t.who) → ((t : Task) → (f t).state ≡ t.state)
+      → Turns (Later p s a) (Loose p s a name) name f
   loose_turns name f named same = record {
     others = λ d n c l apart h. ((λ e. h), (λ is. clash_of (same_who n name) is apart));
     own = λ d t l is h. (
@@ -328,14 +384,17 @@ module _ (p : Image) (s : List Placed) (a : Who) where
     missed = λ d l task h. ((λ apart. self_apart name apart), (λ self. later-bare d name (core nobody) l h));
   }
 
-  pub loosens : (name : Who) (f : Task → Task) (w : World) (said : List Said) → ((t : Task) → (f t).who ≡ t.who) → ((t : Task) → (f t).state ≡ t.state) → ((t : Task) → Unactivated t.inherited → Unactivated (f t).inherited) → Holds (Later p s a) w said → Holds (Loose p s a name) (edit_task name f w) said
+  pub loosens : (name : Who) (f : Task → Task) (w : World) (said : List Said) → ((t : Task) → (f t).who ≡ t.who) → ((t : Task) → (f t).state ≡ t.state)
+      → ((t : Task) → Unactivated t.inherited → Unactivated (f t).inherited) → Holds (Later p s a) w said → Holds (Loose p s a name) (edit_task name f w) said
   loosens name f w said named same frees h =
-      holds-edit (Later p s a) (Loose p s a name) name f w said named (sound-edit name f w named frees (holds-sound (Later p s a) w said h)) (loose_turns name f named same) h
+      holds-edit (Later p s a) (Loose p s a name) name f w said named (sound-edit name f w named frees (holds-sound (Later p s a) w said h))
+      (loose_turns name f named same) h
 
   pub tight : (d : ℕ) (n : Who) (c : Core) (l : Last) → Bare p s a d n c l → IsAt p (place p s a n l) c → Later p s a d n c l
   tight d n c l b at = (record { late = b.late; at = at; shown = b.shown; fresh = b.fresh; ready = b.ready; calm = b.calm }, b.acting)
 
-  pub tightened : (name : Who) (w : World) (said : List Said) → Holds (Loose p s a name) w said → IsAt p (place p s a name (last_put name said)) (core (task_of w name)) → Holds (Later p s a) w said
+  pub tightened : (name : Who) (w : World) (said : List Said) → Holds (Loose p s a name) w said
+      → IsAt p (place p s a name (last_put name said)) (core (task_of w name)) → Holds (Later p s a) w said
   unfolding Holds
   tightened name w said h at = (
     h.0,
@@ -346,12 +405,14 @@ module _ (p : Image) (s : List Placed) (a : Who) where
   )
 
   -- who is not ready is placed nowhere, so its level may be any
-  pub unready-at : (d : ℕ) (n : Who) (c : Core) (l : Last) → runs_in c ≡ false → IsShownRightly p s a n c l → (IsAbsent n c → IsAt p (place p s a n l) c) → IsAt p (place p s a n l) c
+  pub unready-at : (d : ℕ) (n : Who) (c : Core) (l : Last) → runs_in c ≡ false → IsShownRightly p s a n c l → (IsAbsent n c → IsAt p (place p s a n l) c)
+      → IsAt p (place p s a n l) c
   unready-at d n c l idle (inl runs) absent = clash_of (runs_in c) runs idle
   unready-at d n c l idle (inr (inl hidden)) absent = at-out p (place p s a n l) c hidden
   unready-at d n c l idle (inr (inr gone)) absent = absent gone
 
-  pub unready : (name : Who) (w : World) (said : List Said) → runs_in (core (task_of w name)) ≡ false → Holds (Loose p s a name) w said → Holds (Later p s a) w said
+  pub unready : (name : Who) (w : World) (said : List Said) → runs_in (core (task_of w name)) ≡ false → Holds (Loose p s a name) w said
+      → Holds (Later p s a) w said
   unready name w said idle h =
       let b = (holds-of (Loose p s a name) w said name h).1 (same_self name) in
       tightened name w said h (unready-at w.drawn.tasks name (core (task_of w name)) (last_put name said) idle b.shown b.absent)
@@ -366,31 +427,43 @@ module _ (p : Image) (s : List Placed) (a : Who) where
     others = λ d n c l apart h. h.0.0 apart;
     own = λ d c l h.
         let b = h.0.1 (same_self name) in
-        let k = h.1 (same_self name) in
-        (placed-good p s a d name c l (limit p s a name) (fits_limit p s a name) k.1 b.late (shown-free (limit p s a name) l (spot_in name s) b.late (b.ready k.0)) (inl k.0) (λ apart. (b.calm apart).0), λ acts. (k.1, k.0));
+        let k = h.1 (same_self name) in (
+          placed-good p s a d name c l (limit p s a name) (fits_limit p s a name) k.1 b.late
+              (shown-free (limit p s a name) l (spot_in name s) b.late (b.ready k.0)) (inl k.0) (λ apart. (b.calm apart).0),
+          λ acts. (k.1, k.0),
+        );
   }
 
-  pub runs-drawn : (name : Who) (w : World) → runs_in (core (task_of w name)) ≡ true → IsAbsent name (core (task_of w name)) ⊎ (is_fresh w.drawn.tasks name ≡ false) → is_fresh w.drawn.tasks name ≡ false
+  pub runs-drawn : (name : Who) (w : World) → runs_in (core (task_of w name)) ≡ true
+      → IsAbsent name (core (task_of w name)) ⊎ (is_fresh w.drawn.tasks name ≡ false) → is_fresh w.drawn.tasks name ≡ false
   runs-drawn name w runs (inl absent) = nobody-runs (subst (λ c. runs_in c ≡ true) absent.1 runs)
   runs-drawn name w runs (inr drawn) = drawn
 
-  pub is_ready : (name : Who) (w : World) (said : List Said) → runs_in (core (task_of w name)) ≡ true → Holds (Loose p s a name) w said → Holds (Ready name) w said
+  pub is_ready : (name : Who) (w : World) (said : List Said) → runs_in (core (task_of w name)) ≡ true → Holds (Loose p s a name) w said
+      → Holds (Ready name) w said
   unfolding Ready
   is_ready name w said runs h =
-      holds-knowing (Loose p s a name) name (λ d c. (runs_in c ≡ true) × (is_fresh d name ≡ false)) w said (runs, runs-drawn name w runs (known w name (holds-sound (Loose p s a name) w said h))) h
+      holds-knowing (Loose p s a name) name (λ d c. (runs_in c ≡ true) × (is_fresh d name ≡ false)) w said
+      (runs, runs-drawn name w runs (known w name (holds-sound (Loose p s a name) w said h))) h
 
-  pub ready_tails : (name : Who) → Leads (With (Holds (Loose p s a name)) (λ w. runs_in (core (task_of w name)) ≡ true)) (Holds (Later p s a)) (to_tail p (limit p s a name) name)
-  ready_tails name = from-leads (to_tail p (limit p s a name) name) (λ w said h. is_ready name w said h.1 h.0) (to_tail-holds p (Ready name) (Later p s a) name (limit p s a name) (ready_places name))
+  pub ready_tails : (name : Who)
+      → Leads (With (Holds (Loose p s a name)) (λ w. runs_in (core (task_of w name)) ≡ true)) (Holds (Later p s a)) (to_tail p (limit p s a name) name)
+  ready_tails name =
+      from-leads (to_tail p (limit p s a name) name) (λ w said h. is_ready name w said h.1 h.0)
+      (to_tail-holds p (Ready name) (Later p s a) name (limit p s a name) (ready_places name))
 
   pub at_state : (name : Who) (v w : World) (state : tasks.State) → (task_of v name).state ≡ state → w ≡ v → (task_of w name).state ≡ state
   at_state name v w state is same = ap (λ u. (task_of u name).state) same ∙ is
 
-  pub replaced : (name : Who) (v : World) (state : tasks.State) → (task_of v name).state ≡ state → Leads (At (Holds (Loose p s a name)) v) (Holds (Later p s a)) (replace_in p (limit p s a name) name state)
+  pub replaced : (name : Who) (v : World) (state : tasks.State) → (task_of v name).state ≡ state
+      → Leads (At (Holds (Loose p s a name)) v) (Holds (Later p s a)) (replace_in p (limit p s a name) name state)
   unfolding replace_in
   replaced name v Made is = nothing-leads (λ w said h. unready name w said (ap is_runnable_state (at_state name v w Made is h.1)) h.0)
-  replaced name v Runnable is = from-leads (to_tail p (limit p s a name) name) (λ w said h. (h.0, ap is_runnable_state (at_state name v w Runnable is h.1))) (ready_tails name)
+  replaced name v Runnable is =
+      from-leads (to_tail p (limit p s a name) name) (λ w said h. (h.0, ap is_runnable_state (at_state name v w Runnable is h.1))) (ready_tails name)
   replaced name v (Blocked waiting) is =
-      from-leads (reprioritize_own p name waiting) (λ w said h. unready name w said (ap is_runnable_state (at_state name v w (Blocked waiting) is h.1)) h.0) (reprioritize_own-keeps (holds_quiet (Later p s a)) p name waiting)
+      from-leads (reprioritize_own p name waiting) (λ w said h. unready name w said (ap is_runnable_state (at_state name v w (Blocked waiting) is h.1)) h.0)
+      (reprioritize_own-keeps (holds_quiet (Later p s a)) p name waiting)
 
   pub says_base-keeps : (P : Point) (part : Part) (name : Who) (level : ℕ) → Keeps (Holds P) (says_base part name level)
   unfolding says_base
@@ -400,17 +473,23 @@ module _ (p : Image) (s : List Placed) (a : Who) where
   pub base_set : (part : Part) (name : Who) (level : ℕ) → Keeps (Holds (Later p s a)) (set_base p part (limit p s a name) name level)
   unfolding set_base
   base_set part name level =
-      then-leads (changes (edit_task name (λ t. record t { base = level }))) _ (changes-leads (edit_task name (λ t. record t { base = level })) (λ w said h. loosens name (λ t. record t { base = level }) w said (λ t. refl) (λ t. refl) (λ t k. k) h))
+      then-leads (changes (edit_task name (λ t. record t { base = level }))) _
+      (changes-leads (edit_task name (λ t. record t { base = level }))
+      (λ w said h. loosens name (λ t. record t { base = level }) w said (λ t. refl) (λ t. refl) (λ t k. k) h))
       (then-leads (says_base part name level) _ (says_base-keeps (Loose p s a name) part name level)
       (looks-with _ (λ v said h. replaced name v (task_of v name).state refl)))
 
   pub base_set_or_deferred : (name : Who) (level : ℕ) → Keeps (Holds (Later p s a)) (set_or_defer_base p a name level)
   unfolding set_or_defer_base defer_base
   base_set_or_deferred name level =
-      looks-leads _ (λ w. branch-leads (in_protected w name) (changes (edit_task name (λ t. record t { deferred_base = Some level }))) (set_base p (part_of a name) (placing_of a name) name level)
-      (later-edits name (λ t. record t { deferred_base = Some level }) (λ t. refl) (λ t. refl) (λ t. refl) (λ t. refl) (λ t. refl)) (base_set (part_of a name) name level))
+      looks-leads _
+      (λ w. branch-leads (in_protected w name) (changes (edit_task name (λ t. record t { deferred_base = Some level })))
+      (set_base p (part_of a name) (placing_of a name) name level)
+      (later-edits name (λ t. record t { deferred_base = Some level }) (λ t. refl) (λ t. refl) (λ t. refl) (λ t. refl) (λ t. refl))
+      (base_set (part_of a name) name level))
 
-  pub when-tested : {X Y : State} (b : Bool) (step : Step) → (b ≡ true → Leads X Y step) → (b ≡ false → (w : World) (said : List Said) → X w said → Y w said) → Leads X Y (when b step)
+  pub when-tested : {X Y : State} (b : Bool) (step : Step) → (b ≡ true → Leads X Y step) → (b ≡ false → (w : World) (said : List Said) → X w said → Y w said)
+      → Leads X Y (when b step)
   when-tested true step acts keeps = acts refl
   when-tested false step acts keeps = nothing-leads (keeps refl)
 
@@ -441,31 +520,42 @@ module _ (p : Image) (s : List Placed) (a : Who) where
         at_level (place p s a name l) (core t) (core (record t { deadline = deadline })) refl h.0.at,
       )),
     );
-    missed = λ d l task h. ((λ apart. self_apart name apart), (λ self. (later-bare d name (core nobody) l h, at_level (place p s a name l) (core nobody) (core nobody) refl h.0.at)));
+    missed = λ d l task h. (
+      (λ apart. self_apart name apart),
+      (λ self. (later-bare d name (core nobody) l h, at_level (place p s a name l) (core nobody) (core nobody) refl h.0.at)),
+    );
   }
 
-  pub dates : (name : Who) (deadline : ℤ) → Leads (Holds (Later p s a)) (Holds (Undated p s a name)) (changes (edit_task name (λ t. record t { deadline = deadline })))
+  pub dates : (name : Who) (deadline : ℤ)
+      → Leads (Holds (Later p s a)) (Holds (Undated p s a name)) (changes (edit_task name (λ t. record t { deadline = deadline })))
   dates name deadline =
-      changes-leads (edit_task name (λ t. record t { deadline = deadline })) (λ w said h. holds-edit (Later p s a) (Undated p s a name) name (λ t. record t { deadline = deadline }) w said (λ t. refl)
+      changes-leads (edit_task name (λ t. record t { deadline = deadline }))
+      (λ w said h. holds-edit (Later p s a) (Undated p s a name) name (λ t. record t { deadline = deadline }) w said (λ t. refl)
       (sound-edit name (λ t. record t { deadline = deadline }) w (λ t. refl) (λ t k. k) (holds-sound (Later p s a) w said h)) (dated_turns name deadline) h)
 
   pub undated_loose : (name : Who) (w : World) (said : List Said) → Holds (Undated p s a name) w said → Holds (Loose p s a name) w said
   undated_loose name w said h = holds-also (Undated p s a name) (Loose p s a name) (λ d n c l k. (k.0, λ same. (k.1 same).0)) w said h
 
-  pub dated_level : (name : Who) (w : World) (said : List Said) → Holds (Undated p s a name) w said → AtLevel p s a (place p s a name (last_put name said)) (core (task_of w name))
+  pub dated_level : (name : Who) (w : World) (said : List Said) → Holds (Undated p s a name) w said
+      → AtLevel p s a (place p s a name (last_put name said)) (core (task_of w name))
   dated_level name w said h = ((holds-of (Undated p s a name) w said name h).1 (same_self name)).1
 
-  pub dated_unready : (name : Who) (v : World) (state : tasks.State) → (task_of v name).state ≡ state → is_runnable_state state ≡ false → (w : World) (said : List Said) → At (Holds (Undated p s a name)) v w said → Holds (Later p s a) w said
-  dated_unready name v state is idle w said h = unready name w said (ap is_runnable_state (at_state name v w state is h.1) ∙ idle) (undated_loose name w said h.0)
+  pub dated_unready : (name : Who) (v : World) (state : tasks.State) → (task_of v name).state ≡ state → is_runnable_state state ≡ false
+      → (w : World) (said : List Said) → At (Holds (Undated p s a name)) v w said → Holds (Later p s a) w said
+  dated_unready name v state is idle w said h =
+      unready name w said (ap is_runnable_state (at_state name v w state is h.1) ∙ idle) (undated_loose name w said h.0)
 
-  pub replaced_dated : (name : Who) (v : World) (state : tasks.State) → (task_of v name).state ≡ state → Leads (At (Holds (Undated p s a name)) v) (Holds (Later p s a)) (when (is_runnable_at_edf p v name state) (to_tail p (limit p s a name) name))
+  pub replaced_dated : (name : Who) (v : World) (state : tasks.State) → (task_of v name).state ≡ state
+      → Leads (At (Holds (Undated p s a name)) v) (Holds (Later p s a)) (when (is_runnable_at_edf p v name state) (to_tail p (limit p s a name) name))
   replaced_dated name v Made is = nothing-leads (dated_unready name v Made is refl)
   replaced_dated name v (Blocked waiting) is = nothing-leads (dated_unready name v (Blocked waiting) is refl)
   replaced_dated name v Runnable is =
       when-tested (is_edf_level p (active_of p v name)) (to_tail p (limit p s a name) name)
-      (λ edf. from-leads (to_tail p (limit p s a name) name) (λ w said h. (undated_loose name w said h.0, ap is_runnable_state (at_state name v w Runnable is h.1))) (ready_tails name))
+      (λ edf. from-leads (to_tail p (limit p s a name) name)
+      (λ w said h. (undated_loose name w said h.0, ap is_runnable_state (at_state name v w Runnable is h.1))) (ready_tails name))
       (λ none w said h. tightened name w said (undated_loose name w said h.0)
-      (level_at (place p s a name (last_put name said)) (core (task_of w name)) (ap (λ u. is_edf_level p (active_of p u name)) h.1 ∙ none) (dated_level name w said h.0)))
+      (level_at (place p s a name (last_put name said)) (core (task_of w name)) (ap (λ u. is_edf_level p (active_of p u name)) h.1 ∙ none)
+      (dated_level name w said h.0)))
 
   pub deadline_set : (part : Part) (name : Who) (deadline : ℤ) → Keeps (Holds (Later p s a)) (set_deadline p part (limit p s a name) name deadline)
   unfolding set_deadline
@@ -477,35 +567,48 @@ module _ (p : Image) (s : List Placed) (a : Who) where
   pub deadline_set_or_deferred : (name : Who) (deadline : ℤ) → Keeps (Holds (Later p s a)) (set_or_defer_deadline p a name deadline)
   unfolding set_or_defer_deadline defer_deadline
   deadline_set_or_deferred name deadline =
-      looks-leads _ (λ w. branch-leads (in_protected w name && has_edf p) (changes (edit_task name (λ t. record t { deferred_deadline = Some deadline }))) (set_deadline p (part_of a name) (placing_of a name) name deadline)
-      (changes-keeps _ (edit_task-alters (holds_quiet (Later p s a)) name (λ t. record t { deferred_deadline = Some deadline }) (λ t. refl))) (deadline_set (part_of a name) name deadline))
+      looks-leads _
+      (λ w. branch-leads (in_protected w name && has_edf p) (changes (edit_task name (λ t. record t { deferred_deadline = Some deadline })))
+      (set_deadline p (part_of a name) (placing_of a name) name deadline)
+      (changes-keeps _ (edit_task-alters (holds_quiet (Later p s a)) name (λ t. record t { deferred_deadline = Some deadline }) (λ t. refl)))
+      (deadline_set (part_of a name) name deadline))
 
   -- what was deferred is set behind an action
   pub base_set_placing : (level : ℕ) → Keeps (Holds (Later p s a)) (set_base p ThePlacing ThePlacing a level)
-  base_set_placing level = subst (λ part. Keeps (Holds (Later p s a)) (set_base p ThePlacing part a level)) (limit-actor p s a a (same_self a)) (base_set ThePlacing a level)
+  base_set_placing level =
+      subst (λ part. Keeps (Holds (Later p s a)) (set_base p ThePlacing part a level)) (limit-actor p s a a (same_self a)) (base_set ThePlacing a level)
 
   pub deadline_set_placing : (deadline : ℤ) → Keeps (Holds (Later p s a)) (set_deadline p ThePlacing ThePlacing a deadline)
-  deadline_set_placing deadline = subst (λ part. Keeps (Holds (Later p s a)) (set_deadline p ThePlacing part a deadline)) (limit-actor p s a a (same_self a)) (deadline_set ThePlacing a deadline)
+  deadline_set_placing deadline =
+      subst (λ part. Keeps (Holds (Later p s a)) (set_deadline p ThePlacing part a deadline)) (limit-actor p s a a (same_self a))
+      (deadline_set ThePlacing a deadline)
 
   pub base_taken : (deferred : Option ℕ) → Keeps (Holds (Later p s a)) (take_base p a deferred)
   unfolding take_base
   base_taken None = nothing-keeps
   base_taken (Some level) =
-      then-keeps (changes (edit_task a (λ t. record t { deferred_base = None }))) _ (later-edits a (λ t. record t { deferred_base = None }) (λ t. refl) (λ t. refl) (λ t. refl) (λ t. refl) (λ t. refl)) (base_set_placing level)
+      then-keeps (changes (edit_task a (λ t. record t { deferred_base = None }))) _
+      (later-edits a (λ t. record t { deferred_base = None }) (λ t. refl) (λ t. refl) (λ t. refl) (λ t. refl) (λ t. refl)) (base_set_placing level)
 
   pub deadline_taken : (deferred : Option ℤ) → Keeps (Holds (Later p s a)) (take_deadline p a deferred)
   unfolding take_deadline
   deadline_taken None = nothing-keeps
   deadline_taken (Some deadline) =
-      then-keeps (changes (edit_task a (λ t. record t { deferred_deadline = None }))) _ (changes-keeps _ (edit_task-alters (holds_quiet (Later p s a)) a (λ t. record t { deferred_deadline = None }) (λ t. refl))) (deadline_set_placing deadline)
+      then-keeps (changes (edit_task a (λ t. record t { deferred_deadline = None }))) _
+      (changes-keeps _ (edit_task-alters (holds_quiet (Later p s a)) a (λ t. record t { deferred_deadline = None }) (λ t. refl)))
+      (deadline_set_placing deadline)
 
   pub deferred_set : Keeps (Holds (Later p s a)) (set_deferred p a)
   unfolding set_deferred
-  deferred_set = looks-keeps _ (λ w. when-keeps (not (in_protected w a)) _ (then-keeps (take_base p a (task_of w a).deferred_base) _ (base_taken (task_of w a).deferred_base) (deadline_taken (task_of w a).deferred_deadline)))
+  deferred_set =
+      looks-keeps _
+      (λ w. when-keeps (not (in_protected w a)) _
+      (then-keeps (take_base p a (task_of w a).deferred_base) _ (base_taken (task_of w a).deferred_base) (deadline_taken (task_of w a).deferred_deadline)))
 
   -- ---- who acts loses a priority
 
-  pub stays_at : (place : Option Spot) (c e : Core) → active_in p e ≤ active_in p c → active_in p c ≤ active_in p e → e.deadline ≡ c.deadline → IsAt p place c → IsAt p place e
+  pub stays_at : (place : Option Spot) (c e : Core) → active_in p e ≤ active_in p c → active_in p c ≤ active_in p e → e.deadline ≡ c.deadline → IsAt p place c
+      → IsAt p place e
   stays_at place c e down up deadline h =
       let level : active_in p e ≡ active_in p c = le_antisymm down up in
       at-still p place c e level (deadline-kept p c e level deadline) h
@@ -520,7 +623,8 @@ module _ (p : Image) (s : List Placed) (a : Who) where
   unfolding Lost
   lost_first v cause =
       changes-leads (lose a cause) (λ w said h. (
-        loosens a (λ t. record t { inherited = without (λ i. same_cause cause i.cause) t.inherited }) w said (λ t. refl) (λ t. refl) (λ t k. unactivated_without (λ i. same_cause cause i.cause) t.inherited k) h.0,
+        loosens a (λ t. record t { inherited = without (λ i. same_cause cause i.cause) t.inherited }) w said (λ t. refl) (λ t. refl)
+            (λ t k. unactivated_without (λ i. same_cause cause i.cause) t.inherited k) h.0,
         ap (lose a cause) h.1,
         subst (λ u. IsAt p (place p s a a (last_put a said)) (core (task_of u a))) h.1 (holds-of (Later p s a) w said a h.0).0.at,
       ))
@@ -532,7 +636,8 @@ module _ (p : Image) (s : List Placed) (a : Who) where
       (λ is. from-leads (to_head p ThePlacing a) (λ w said h. h.0) (to_head-holds p (Loose p s a a) (Later p s a) a ThePlacing actor_places))
       (λ is w said h. tightened a w said h.0
       (subst (λ u. IsAt p (place p s a a (last_put a said)) (core (task_of u a))) (sym h.1)
-      (stays_at (place p s a a (last_put a said)) (core (task_of v a)) (core (task_of (lose a cause v) a)) (lose-falls p a cause v) (not_less (active_of p (lose a cause v) a) (active_of p v a) is)
+      (stays_at (place p s a a (last_put a said)) (core (task_of v a)) (core (task_of (lose a cause v) a)) (lose-falls p a cause v)
+      (not_less (active_of p (lose a cause v) a) (active_of p v a) is)
       (edit-part (λ c. c.deadline) a (λ t. record t { inherited = without (λ i. same_cause cause i.cause) t.inherited }) v (λ t. refl) (λ t. refl)) h.2)))
 
   pub lost_later : (cause : Cause) → Keeps (Holds (Later p s a)) (lose_running p a cause)
@@ -544,7 +649,8 @@ module _ (p : Image) (s : List Placed) (a : Who) where
   pub Gained : World → Cause → ℕ → State
   Gained v cause level w said = Holds (Loose p s a a) w said × (w ≡ inherit a cause level v) × IsAt p (place p s a a (last_put a said)) (core (task_of v a))
 
-  pub gained_first : (v : World) (cause : Cause) (level : ℕ) → same_cause inherited_by.Activation cause ≡ false → Leads (At (Holds (Later p s a)) v) (Gained v cause level) (changes (inherit a cause level))
+  pub gained_first : (v : World) (cause : Cause) (level : ℕ) → same_cause inherited_by.Activation cause ≡ false
+      → Leads (At (Holds (Later p s a)) v) (Gained v cause level) (changes (inherit a cause level))
   unfolding Gained
   gained_first v cause level other =
       changes-leads (inherit a cause level) (λ w said h. (
@@ -553,19 +659,23 @@ module _ (p : Image) (s : List Placed) (a : Who) where
         subst (λ u. IsAt p (place p s a a (last_put a said)) (core (task_of u a))) h.1 (holds-of (Later p s a) w said a h.0).0.at,
       ))
 
-  pub gained_then : (v : World) (cause : Cause) (level : ℕ) → Leads (Gained v cause level) (Holds (Later p s a)) (when (rises p a v (inherit a cause level v)) (to_head p ThePlacing a))
+  pub gained_then : (v : World) (cause : Cause) (level : ℕ)
+      → Leads (Gained v cause level) (Holds (Later p s a)) (when (rises p a v (inherit a cause level v)) (to_head p ThePlacing a))
   unfolding Gained
   gained_then v cause level =
       when-tested (rises p a v (inherit a cause level v)) (to_head p ThePlacing a)
       (λ is. from-leads (to_head p ThePlacing a) (λ w said h. h.0) (to_head-holds p (Loose p s a a) (Later p s a) a ThePlacing actor_places))
       (λ is w said h. tightened a w said h.0
       (subst (λ u. IsAt p (place p s a a (last_put a said)) (core (task_of u a))) (sym h.1)
-      (stays_at (place p s a a (last_put a said)) (core (task_of v a)) (core (task_of (inherit a cause level v) a)) (not_less (active_of p v a) (active_of p (inherit a cause level v) a) is) (inherit-rises p a cause level v)
+      (stays_at (place p s a a (last_put a said)) (core (task_of v a)) (core (task_of (inherit a cause level v) a))
+      (not_less (active_of p v a) (active_of p (inherit a cause level v) a) is) (inherit-rises p a cause level v)
       (edit-part (λ c. c.deadline) a (λ t. record t { inherited = record { cause = cause; level = level } ∷ t.inherited }) v (λ t. refl) (λ t. refl)) h.2)))
 
-  pub gained_later : (cause : Cause) (level : ℕ) → same_cause inherited_by.Activation cause ≡ false → Keeps (Holds (Later p s a)) (inherit_running p a cause level)
+  pub gained_later : (cause : Cause) (level : ℕ) → same_cause inherited_by.Activation cause ≡ false
+      → Keeps (Holds (Later p s a)) (inherit_running p a cause level)
   unfolding inherit_running
-  gained_later cause level other = looks-with _ (λ v said h. then-leads (changes (inherit a cause level)) _ (gained_first v cause level other) (gained_then v cause level))
+  gained_later cause level other =
+      looks-with _ (λ v said h. then-leads (changes (inherit a cause level)) _ (gained_first v cause level other) (gained_then v cause level))
 
   -- ---- it owes a line since a world
 
@@ -578,23 +688,39 @@ module _ (p : Image) (s : List Placed) (a : Who) where
       (λ same. record {
         late = (h.1 n).0.late;
         at = subst (λ m. IsAt p (place p s a n (last_put n said)) (core (task_of w m))) (who-is n a same) (h.1 n).0.at;
-        fallen = subst (λ m. (active_of p w n ≤ active_of p w m) × ((task_of w n).deadline ≡ (task_of w m).deadline)) (who-is n a same) (le_refl (active_of p w n), refl);
+        fallen =
+            subst (λ m. (active_of p w n ≤ active_of p w m) × ((task_of w n).deadline ≡ (task_of w m).deadline)) (who-is n a same) (
+              le_refl (active_of p w n),
+              refl,
+            );
         acting = (h.1 n).1 same;
         ready = (h.1 n).0.ready ((h.1 n).1 same).1;
       }),
     ),
   )
 
-  owed-fallen : (before : World) (t : Task) (test : Inherited → Bool) → (active_in p (core t) ≤ active_of p before a) × (t.deadline ≡ (task_of before a).deadline) → (active_in p (core (record t { inherited = without test t.inherited })) ≤ active_of p before a) × (t.deadline ≡ (task_of before a).deadline)
+  owed-fallen : (before : World) (t : Task) (test : Inherited → Bool)
+      → (active_in p (core t) ≤ active_of p before a) × (t.deadline ≡ (task_of before a).deadline)
+      → (active_in p (core (record t { inherited = without test t.inherited })) ≤ active_of p before a) × (t.deadline ≡ (task_of before a).deadline)
   owed-fallen before t test fell = (le_trans (active-falls p (core t) test) fell.0, fell.1)
 
-  pub owed_loses : (before w : World) (said : List Said) → Holds (Owing p s a before) w said → Holds (Owing p s a before) (lose a inherited_by.Activation w) said
+  pub owed_loses : (before w : World) (said : List Said) → Holds (Owing p s a before) w said
+      → Holds (Owing p s a before) (lose a inherited_by.Activation w) said
   owed_loses before w said h =
       let f : Task → Task = λ t. record t { inherited = without (λ i. same_cause inherited_by.Activation i.cause) t.inherited } in
-      holds-edit (Owing p s a before) (Owing p s a before) a f w said (λ t. refl) (sound-edit a f w (λ t. refl) (λ t k. unactivated_without (λ i. same_cause inherited_by.Activation i.cause) t.inherited k) (holds-sound (Owing p s a before) w said h))
+      holds-edit (Owing p s a before) (Owing p s a before) a f w said (λ t. refl)
+      (sound-edit a f w (λ t. refl) (λ t k. unactivated_without (λ i. same_cause inherited_by.Activation i.cause) t.inherited k)
+      (holds-sound (Owing p s a before) w said h))
       (keeps_turns (Owing p s a before) a f (λ d t l named k. (
         (λ apart. self_apart a apart),
-        (λ same. let o = k.1 same in record { late = o.late; at = o.at; fallen = owed-fallen before t (λ i. same_cause inherited_by.Activation i.cause) o.fallen; acting = acting-kept d a (core t) (core (f t)) l refl o.acting; ready = o.ready }),
+        (λ same. let o = k.1 same in
+            record {
+              late = o.late;
+              at = o.at;
+              fallen = owed-fallen before t (λ i. same_cause inherited_by.Activation i.cause) o.fallen;
+              acting = acting-kept d a (core t) (core (f t)) l refl o.acting;
+              ready = o.ready;
+            }),
       ))) h
 
   pub paid_places : (before : World) → Places (Owing p s a before) (Later p s a) a ThePlacing (at_active p)
@@ -603,12 +729,15 @@ module _ (p : Image) (s : List Placed) (a : Who) where
     own = λ d c l h. let o = h.1 (same_self a) in acting-placed p s a d a c l ThePlacing (same_self a) refl o.late o.ready o.acting;
   }
 
-  pub owed-at : (before : World) (n : Who) (c : Core) (l : Last) → active_of p before a ≤ active_in p c → (active_in p c ≤ active_of p before a) × (c.deadline ≡ (task_of before a).deadline) → IsAt p (place p s a n l) (core (task_of before a)) → IsAt p (place p s a n l) c
+  pub owed-at : (before : World) (n : Who) (c : Core) (l : Last) → active_of p before a ≤ active_in p c
+      → (active_in p c ≤ active_of p before a) × (c.deadline ≡ (task_of before a).deadline) → IsAt p (place p s a n l) (core (task_of before a))
+      → IsAt p (place p s a n l) c
   owed-at before n c l up fell h =
       let level : active_in p c ≡ active_of p before a = le_antisymm fell.0 up in
       at-still p (place p s a n l) (core (task_of before a)) c level (deadline-kept p (core (task_of before a)) c level fell.1) h
 
-  pub owed-later : (before : World) (d : ℕ) (n : Who) (c : Core) (l : Last) → same_who n a ≡ true → Owes p s a before d n c l → active_of p before a ≤ active_in p c → Later p s a d n c l
+  pub owed-later : (before : World) (d : ℕ) (n : Who) (c : Core) (l : Last) → same_who n a ≡ true → Owes p s a before d n c l
+      → active_of p before a ≤ active_in p c → Later p s a d n c l
   owed-later before d n c l is o up = (
     record {
       late = o.late;
@@ -621,12 +750,14 @@ module _ (p : Image) (s : List Placed) (a : Who) where
     λ same. o.acting,
   )
 
-  pub not_fallen : (before w : World) (said : List Said) → active_of p before a ≤ active_of p w a → Holds (Owing p s a before) w said → Holds (Later p s a) w said
+  pub not_fallen : (before w : World) (said : List Said) → active_of p before a ≤ active_of p w a → Holds (Owing p s a before) w said
+      → Holds (Later p s a) w said
   unfolding Holds
   not_fallen before w said up h = (
     h.0,
     λ n. by_test (same_who n a)
-        (λ same. owed-later before w.drawn.tasks n (core (task_of w n)) (last_put n said) same ((h.1 n).1 same) (subst (λ m. active_of p before a ≤ active_of p w m) (sym (who-is n a same)) up))
+        (λ same. owed-later before w.drawn.tasks n (core (task_of w n)) (last_put n said) same ((h.1 n).1 same)
+        (subst (λ m. active_of p before a ≤ active_of p w m) (sym (who-is n a same)) up))
         (λ apart. ((h.1 n).0 apart, λ same. clash_of (same_who n a) same apart)),
   )
 
@@ -635,4 +766,5 @@ module _ (p : Image) (s : List Placed) (a : Who) where
   paid before =
       looks-with _ (λ v said h. when-tested (falls p a before v) (to_head p ThePlacing a)
       (λ is. from_at (to_head p ThePlacing a) (to_head-holds p (Owing p s a before) (Later p s a) a ThePlacing (paid_places before)))
-      (λ is w more k. not_fallen before w more (subst (λ u. active_of p before a ≤ active_of p u a) (sym k.1) (not_less (active_of p v a) (active_of p before a) is)) k.0))
+      (λ is w more k.
+      not_fallen before w more (subst (λ u. active_of p before a ≤ active_of p u a) (sym k.1) (not_less (active_of p v a) (active_of p before a) is)) k.0))

@@ -8,7 +8,8 @@ use Rattle.ceiling_laws.proofs.Fine.LevelMoves.{BaseMoves, Silences}
 use Rattle.profile_machine.specs.Dispatching.{grant_quantum, granted, keep_level, level_kept_by, ready, says_ready, to_head, to_tail}
 use Rattle.profile_machine.specs.Frames.{in_protected}
 use Rattle.profile_machine.specs.Inheritance.{falls, inherit, lose, lose_running, same_cause}
-use Rattle.profile_machine.specs.Priorities.{is_runnable_at_edf, replace_in, says_base, says_deadline, set_base, set_deadline, set_deferred, take_base, take_deadline}
+use Rattle.profile_machine.specs.Priorities.{is_runnable_at_edf, replace_in, says_base, says_deadline}
+use Rattle.profile_machine.specs.Priorities.{set_base, set_deadline, set_deferred, take_base, take_deadline}
 use Rattle.profile_image.specs.Program.{edf_low}
 use Rattle.profile_machine.specs.Steps.{Done, Step, changes, done, says}
 use Rattle.profile_machine.specs.Tasks.{edit_task, edit_task_found, task_at, task_of, with_state}
@@ -78,7 +79,8 @@ module _ (call : Option CallNo) (name : Who) where
 
   calling_tails : (p : Image) (part : Part) (someone : Who) → Keeps Calling (to_tail p part someone)
   unfolding to_tail
-  calling_tails p part someone = then-keeps (changes (grant_quantum p someone)) _ (calling_edits someone (λ w. granted p w.quanta)) (calling_shows p part someone _)
+  calling_tails p part someone =
+      then-keeps (changes (grant_quantum p someone)) _ (calling_edits someone (λ w. granted p w.quanta)) (calling_shows p part someone _)
 
   calling_heads : (p : Image) (part : Part) (someone : Who) → Keeps Calling (to_head p part someone)
   unfolding to_head
@@ -88,12 +90,15 @@ module _ (call : Option CallNo) (name : Who) where
   unfolding ready
   calling_readies p part someone =
       then-keeps (changes (edit_task someone (with_state Runnable))) _ (calling_edits someone (λ w. with_state Runnable))
-      (then-keeps (changes (keep_level p someone)) _ (calling_edits someone (λ w t. record t { kept_level = level_kept_by p w t (edf_low p t.base) })) (calling_tails p part someone))
+      (then-keeps (changes (keep_level p someone)) _ (calling_edits someone (λ w t. record t { kept_level = level_kept_by p w t (edf_low p t.base) }))
+      (calling_tails p part someone))
 
   pub calling_loses : (p : Image) (someone : Who) (cause : Cause) → Keeps Calling (lose_running p someone cause)
   unfolding lose_running
   calling_loses p someone cause =
-      looks-keeps _ (λ w. then-keeps (changes (lose someone cause)) _ (calling_edits someone (λ v t. record t { inherited = without (λ i. same_cause cause i.cause) t.inherited }))
+      looks-keeps _
+      (λ w. then-keeps (changes (lose someone cause)) _
+      (calling_edits someone (λ v t. record t { inherited = without (λ i. same_cause cause i.cause) t.inherited }))
       (when-keeps (falls p someone w (lose someone cause w)) _ (calling_heads p ThePlacing someone)))
 
   -- ---- what was deferred is set
@@ -113,7 +118,8 @@ module _ (call : Option CallNo) (name : Who) where
   unfolding set_base
   calling_base_set p part placing someone level =
       then-keeps (changes (edit_task someone (λ t. record t { base = level }))) _ (calling_edits someone (λ w t. record t { base = level }))
-      (then-keeps (says_base part someone level) _ (calling_base_says part someone level) (looks-keeps _ (λ w. calling_replaces p placing someone (task_of w someone).state)))
+      (then-keeps (says_base part someone level) _ (calling_base_says part someone level)
+      (looks-keeps _ (λ w. calling_replaces p placing someone (task_of w someone).state)))
 
   calling_deadline_set : (p : Image) (part placing : Part) (someone : Who) (deadline : ℤ) → Keeps Calling (set_deadline p part placing someone deadline)
   unfolding set_deadline
@@ -126,18 +132,23 @@ module _ (call : Option CallNo) (name : Who) where
   unfolding take_base
   calling_base_taken p someone None = nothing-keeps
   calling_base_taken p someone (Some level) =
-      then-keeps (changes (edit_task someone (λ t. record t { deferred_base = None }))) _ (calling_edits someone (λ w t. record t { deferred_base = None })) (calling_base_set p ThePlacing ThePlacing someone level)
+      then-keeps (changes (edit_task someone (λ t. record t { deferred_base = None }))) _ (calling_edits someone (λ w t. record t { deferred_base = None }))
+      (calling_base_set p ThePlacing ThePlacing someone level)
 
   calling_deadline_taken : (p : Image) (someone : Who) (deferred : Option ℤ) → Keeps Calling (take_deadline p someone deferred)
   unfolding take_deadline
   calling_deadline_taken p someone None = nothing-keeps
   calling_deadline_taken p someone (Some deadline) =
-      then-keeps (changes (edit_task someone (λ t. record t { deferred_deadline = None }))) _ (calling_edits someone (λ w t. record t { deferred_deadline = None })) (calling_deadline_set p ThePlacing ThePlacing someone deadline)
+      then-keeps (changes (edit_task someone (λ t. record t { deferred_deadline = None }))) _
+      (calling_edits someone (λ w t. record t { deferred_deadline = None })) (calling_deadline_set p ThePlacing ThePlacing someone deadline)
 
   pub calling_deferred : (p : Image) (someone : Who) → Keeps Calling (set_deferred p someone)
   unfolding set_deferred
   calling_deferred p someone =
-      looks-keeps _ (λ w. when-keeps (not (in_protected w someone)) _ (then-keeps (take_base p someone (task_of w someone).deferred_base) _ (calling_base_taken p someone (task_of w someone).deferred_base) (calling_deadline_taken p someone (task_of w someone).deferred_deadline)))
+      looks-keeps _
+      (λ w. when-keeps (not (in_protected w someone)) _
+      (then-keeps (take_base p someone (task_of w someone).deferred_base) _ (calling_base_taken p someone (task_of w someone).deferred_base)
+      (calling_deadline_taken p someone (task_of w someone).deferred_deadline)))
 
   -- ---- by who wakes
 

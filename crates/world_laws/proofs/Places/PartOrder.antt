@@ -21,7 +21,8 @@ pick-with a x r p q s =
     (λ f g. rw (f, g) refl)
     (λ f g. rw (f, g) (ap (λ t. cond t (Some (a, p)) (Some (x, q))) (behind-trans x r a f g) ∙ sym (ap (λ t. cond t (Some (r, s)) (Some (x, q))) f)))
 
-pick-append : (a x : Part) (place next : Option (Option Spot)) (last : Option (Part × Option Spot)) → pick a place (with_put last x next) ≡ with_put (pick a place last) x next
+pick-append : (a x : Part) (place next : Option (Option Spot)) (last : Option (Part × Option Spot))
+    → pick a place (with_put last x next) ≡ with_put (pick a place last) x next
 pick-append a x None next last = refl
 pick-append a x (Some p) None last = refl
 pick-append a x (Some p) (Some q) None = refl
@@ -29,7 +30,8 @@ pick-append a x (Some p) (Some q) (Some last) = pick-with a x last.0 p q last.1
 
 pub last_put-append : (n : Who) (xs : List Said) (x : Said) → last_put n (xs ++ x ∷ []) ≡ with_put (last_put n xs) x.part (puts n x.line)
 last_put-append n [] x = pick-none x.part (puts n x.line)
-last_put-append n (a ∷ xs) x = ap (pick a.part (puts n a.line)) (last_put-append n xs x) ∙ pick-append a.part x.part (puts n a.line) (puts n x.line) (last_put n xs)
+last_put-append n (a ∷ xs) x =
+    ap (pick a.part (puts n a.line)) (last_put-append n xs x) ∙ pick-append a.part x.part (puts n a.line) (puts n x.line) (last_put n xs)
 
 -- ---- what is said last
 
@@ -45,7 +47,8 @@ abbrev last_of : Who → List Said → Option (Part × Option Spot)
 last_of n [] = None
 last_of n (y ∷ ys) = behind (last_of n ys) (put_at_part y.part (puts n y.line))
 
-by_last : (part : Part) (place : Option (Option Spot)) (last : Option (Part × Option Spot)) (e : Option Spot) → place_by last (over place e) ≡ place_by (behind last (put_at_part part place)) e
+by_last : (part : Part) (place : Option (Option Spot)) (last : Option (Part × Option Spot)) (e : Option Spot)
+    → place_by last (over place e) ≡ place_by (behind last (put_at_part part place)) e
 by_last part None None e = refl
 by_last part (Some place) None e = refl
 by_last part place (Some last) e = refl
@@ -54,7 +57,8 @@ place-last : (n : Who) (e : Option Spot) (ys : List Said) → place_behind n e y
 place-last n e [] = refl
 place-last n e (y ∷ ys) = place-last n (over (puts n y.line) e) ys ∙ by_last y.part (puts n y.line) (last_of n ys) e
 
-last-part-step : (P : Part → Type 0) (part : Part) (place : Option (Option Spot)) (last : Option (Part × Option Spot)) (r : Part × Option Spot) → P part → (last ≡ Some r → P r.0) → behind last (put_at_part part place) ≡ Some r → P r.0
+last-part-step : (P : Part → Type 0) (part : Part) (place : Option (Option Spot)) (last : Option (Part × Option Spot)) (r : Part × Option Spot) → P part
+    → (last ≡ Some r → P r.0) → behind last (put_at_part part place) ≡ Some r → P r.0
 last-part-step P part None None r a onward e = absurd cc
 last-part-step P part (Some place) None r a onward e = let one : (part, place) ≡ r = cc in subst (λ (q : Part × Option Spot). P q.0) one a
 last-part-step P part place (Some last) r a onward e = onward e
@@ -63,7 +67,8 @@ last-part : (P : Part → Type 0) (n : Who) (ys : List Said) (r : Part × Option
 last-part P n [] r all e = absurd cc
 last-part P n (y ∷ ys) r all e = last-part-step P y.part (puts n y.line) (last_of n ys) r all.0 (last-part P n ys r all.1) e
 
-picked : (b : Bool) (x : Part) (p : Option Spot) (last : Part × Option Spot) (first : Option (Part × Option Spot)) → behind (cond b (Some (x, p)) (Some last)) first ≡ cond b (Some (x, p)) (Some last)
+picked : (b : Bool) (x : Part) (p : Option Spot) (last : Part × Option Spot) (first : Option (Part × Option Spot))
+    → behind (cond b (Some (x, p)) (Some last)) first ≡ cond b (Some (x, p)) (Some last)
 picked true x p last first = refl
 picked false x p last first = refl
 
@@ -71,24 +76,31 @@ pick-alone : (x : Part) (p : Option (Option Spot)) → pick x p None ≡ put_at_
 pick-alone x None = refl
 pick-alone x (Some p) = refl
 
-passed : (x y : Part) (p q : Option (Option Spot)) (last : Option (Part × Option Spot)) → is_part_before y x ≡ true → behind (pick x p last) (put_at_part y q) ≡ pick x p (behind last (put_at_part y q))
+passed : (x y : Part) (p q : Option (Option Spot)) (last : Option (Part × Option Spot)) → is_part_before y x ≡ true
+    → behind (pick x p last) (put_at_part y q) ≡ pick x p (behind last (put_at_part y q))
 passed x y None q last is = refl
 passed x y (Some p) None None is = refl
 passed x y (Some p) (Some q) None is = sym (ap (λ t. cond t (Some (x, p)) (Some (y, q))) is)
 passed x y (Some p) q (Some last) is = picked (is_part_before last.0 x) x p last (put_at_part y q)
 
-stopped : (x : Part) (p : Option (Option Spot)) (last : Option (Part × Option Spot)) → ((r : Part × Option Spot) → last ≡ Some r → is_part_before r.0 x ≡ false) → behind last (put_at_part x p) ≡ pick x p last
+stopped : (x : Part) (p : Option (Option Spot)) (last : Option (Part × Option Spot)) → ((r : Part × Option Spot) → last ≡ Some r → is_part_before r.0 x ≡ false)
+    → behind last (put_at_part x p) ≡ pick x p last
 stopped x None None f = refl
 stopped x (Some p) None f = refl
 stopped x None (Some last) f = refl
 stopped x (Some p) (Some last) f = sym (ap (λ t. cond t (Some (x, p)) (Some last)) (f last refl))
 
-last-test : (n : Who) (x y : Said) (ys : List Said) (b : Bool) → is_part_before y.part x.part ≡ b → Sorted (y ∷ ys) → last_of n (put_in_order x ys) ≡ pick x.part (puts n x.line) (last_of n ys)
+last-test : (n : Who) (x y : Said) (ys : List Said) (b : Bool) → is_part_before y.part x.part ≡ b → Sorted (y ∷ ys)
+    → last_of n (put_in_order x ys) ≡ pick x.part (puts n x.line) (last_of n ys)
     → last_of n (cond b (y ∷ put_in_order x ys) (x ∷ y ∷ ys)) ≡ pick x.part (puts n x.line) (last_of n (y ∷ ys))
-last-test n x y ys true is h onward = ap (λ t. behind t (put_at_part y.part (puts n y.line))) onward ∙ passed x.part y.part (puts n x.line) (puts n y.line) (last_of n ys) is
+last-test n x y ys true is h onward =
+    ap (λ t. behind t (put_at_part y.part (puts n y.line))) onward ∙ passed x.part y.part (puts n x.line) (puts n y.line) (last_of n ys) is
 last-test n x y ys false is h onward =
-    stopped x.part (puts n x.line) (last_of n (y ∷ ys)) (λ r e. last-part (λ part. is_part_before part x.part ≡ false) n (y ∷ ys) r
-    (is, all-more (λ part. is_part_before part y.part ≡ false) (λ part. is_part_before part x.part ≡ false) ys (λ part k. behind-trans part y.part x.part k is) h.0) e)
+    stopped x.part (puts n x.line) (last_of n (y ∷ ys)) (λ r e. last-part (λ part. is_part_before part x.part ≡ false) n (y ∷ ys) r (
+      is,
+      all-more (λ part. is_part_before part y.part ≡ false) (λ part. is_part_before part x.part ≡ false) ys
+          (λ part k. behind-trans part y.part x.part k is) h.0,
+    ) e)
 
 last-put : (n : Who) (x : Said) (ys : List Said) → Sorted ys → last_of n (put_in_order x ys) ≡ pick x.part (puts n x.line) (last_of n ys)
 last-put n x [] h = sym (pick-alone x.part (puts n x.line))

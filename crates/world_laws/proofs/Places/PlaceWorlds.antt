@@ -41,9 +41,11 @@ not-any n [] out = refl
 not-any n (x ∷ xs) out =
     by_test (same_who n x.who)
     (λ same. absurd (let clash : Some (x.level, x.deadline) ≡ None = sym (ap (λ b. cond b (Some (x.level, x.deadline)) (spot_in n xs)) same) ∙ out in cc))
-    (λ apart. ap (λ b. b || list_any (λ y. same_who n y.who) xs) apart ∙ not-any n xs (sym (ap (λ b. cond b (Some (x.level, x.deadline)) (spot_in n xs)) apart) ∙ out))
+    (λ apart. ap (λ b. b || list_any (λ y. same_who n y.who) xs) apart
+    ∙ not-any n xs (sym (ap (λ b. cond b (Some (x.level, x.deadline)) (spot_in n xs)) apart) ∙ out))
 
-any_if : (b : Bool) (spot : Spot) (rest : Option Spot) (others : Bool) → is_some (cond b (Some spot) rest) ≡ true → (is_some rest ≡ true → others ≡ true) → (b || others) ≡ true
+any_if : (b : Bool) (spot : Spot) (rest : Option Spot) (others : Bool) → is_some (cond b (Some spot) rest) ≡ true → (is_some rest ≡ true → others ≡ true)
+    → (b || others) ≡ true
 any_if true spot rest others shown onward = refl
 any_if false spot rest others shown onward = onward shown
 
@@ -60,10 +62,12 @@ unready_out : (w : World) (t : Task) → is_runnable t ≡ false → (is_runnabl
 unready_out w t idle (inl runs) = absurd (let clash : true ≡ false = sym runs ∙ idle in cc)
 unready_out w t idle (inr out) = not-any t.who w.places out
 
-ready_there : (w : World) (t : Task) → (is_runnable t ≡ true → is_some (spot_in t.who w.places) ≡ true) → (is_runnable t ≡ true) ⊎ (spot_in t.who w.places ≡ None) → cond (is_runnable t) (is_placed w t) (not (is_placed w t)) ≡ true
+ready_there : (w : World) (t : Task) → (is_runnable t ≡ true → is_some (spot_in t.who w.places) ≡ true)
+    → (is_runnable t ≡ true) ⊎ (spot_in t.who w.places ≡ None) → cond (is_runnable t) (is_placed w t) (not (is_placed w t)) ≡ true
 ready_there w t ready shown = placed_if (is_runnable t) (is_placed w t) (λ runs. any-shown t.who w.places (ready runs)) (λ idle. unready_out w t idle shown)
 
-there-shown : (w : World) (t : Task) (n : Who) → (is_agent n ≡ false → same_who n t.who ≡ true) → (runs_in (core t) ≡ true) ⊎ ((spot_in n w.places ≡ None) ⊎ IsAbsent n (core t)) → (is_runnable t ≡ true) ⊎ (spot_in n w.places ≡ None)
+there-shown : (w : World) (t : Task) (n : Who) → (is_agent n ≡ false → same_who n t.who ≡ true)
+    → (runs_in (core t) ≡ true) ⊎ ((spot_in n w.places ≡ None) ⊎ IsAbsent n (core t)) → (is_runnable t ≡ true) ⊎ (spot_in n w.places ≡ None)
 there-shown w t n named (inl runs) = inl runs
 there-shown w t n named (inr (inl out)) = inr out
 there-shown w t n named (inr (inr absent)) = not-absent n t (λ u. u) named refl absent
@@ -71,12 +75,15 @@ there-shown w t n named (inr (inr absent)) = not-absent n t (λ u. u) named refl
 task-there : (p : Image) (w : World) (t : Task) → IsThere w t → AllStand p w.places w → cond (is_runnable t) (is_placed w t) (not (is_placed w t)) ≡ true
 task-there p w t there h =
     ready_there w t (λ runs. (h.1 t.who).ready (ap is_runnable there.found ∙ runs))
-    (there-shown w t t.who (λ task. same_self t.who) (subst (λ u. (runs_in (core u) ≡ true) ⊎ ((spot_in t.who w.places ≡ None) ⊎ IsAbsent t.who (core u))) there.found (h.1 t.who).shown))
+    (there-shown w t t.who (λ task. same_self t.who)
+    (subst (λ u. (runs_in (core u) ≡ true) ⊎ ((spot_in t.who w.places ≡ None) ⊎ IsAbsent t.who (core u))) there.found (h.1 t.who).shown))
 
-agent-there : (p : Image) (w : World) → w.agent.who ≡ who.Agent → AllStand p w.places w → cond (is_runnable w.agent) (is_placed w w.agent) (not (is_placed w w.agent)) ≡ true
+agent-there : (p : Image) (w : World) → w.agent.who ≡ who.Agent → AllStand p w.places w
+    → cond (is_runnable w.agent) (is_placed w w.agent) (not (is_placed w w.agent)) ≡ true
 agent-there p w is h =
     ready_there w w.agent (λ runs. ap (λ n. is_some (spot_in n w.places)) is ∙ (h.1 who.Agent).ready runs)
-    (subst (λ n. (is_runnable w.agent ≡ true) ⊎ (spot_in n w.places ≡ None)) (sym is) (there-shown w w.agent who.Agent (λ task. absurd (let clash : true ≡ false = task in cc)) (h.1 who.Agent).shown))
+    (subst (λ n. (is_runnable w.agent ≡ true) ⊎ (spot_in n w.places ≡ None)) (sym is)
+    (there-shown w w.agent who.Agent (λ task. absurd (let clash : true ≡ false = task in cc)) (h.1 who.Agent).shown))
 
 all-there : (P : Task → Bool) (ts : List Task) (last : Task) → EachTask (λ t. P t ≡ true) ts → P last ≡ true → list_all P (ts ++ last ∷ []) ≡ true
 all-there P [] last each is = ap (λ b. b && true) is
@@ -91,18 +98,21 @@ not-there n (x ∷ xs) e =
     ap (λ b. cond b (Some (x.level, x.deadline)) (spot_in n xs)) none.0 ∙ not-there n xs none.1
 
 -- each entry is the one of its name
-later-spot : (n : Who) (x : Placed) (xs : List Placed) (spot : Spot) → list_any (λ y. same_who x.who y.who) xs ≡ false → spot_in n xs ≡ Some spot → spot_in n (x ∷ xs) ≡ Some spot
+later-spot : (n : Who) (x : Placed) (xs : List Placed) (spot : Spot) → list_any (λ y. same_who x.who y.who) xs ≡ false → spot_in n xs ≡ Some spot
+    → spot_in n (x ∷ xs) ≡ Some spot
 later-spot n x xs spot apart found =
     by_test (same_who n x.who)
     (λ same. absurd (let clash : None ≡ Some spot = sym (not-there x.who xs apart) ∙ ap (λ m. spot_in m xs) (sym (who-is n x.who same)) ∙ found in cc))
     (λ other. ap (λ b. cond b (Some (x.level, x.deadline)) (spot_in n xs)) other ∙ found)
 
-entries-hold : (P : Placed → Bool) (places : List Placed) → all_differ (λ x y. same_who x.who y.who) places ≡ true → ((x : Placed) → spot_in x.who places ≡ Some (x.level, x.deadline) → P x ≡ true) → list_all P places ≡ true
+entries-hold : (P : Placed → Bool) (places : List Placed) → all_differ (λ x y. same_who x.who y.who) places ≡ true
+    → ((x : Placed) → spot_in x.who places ≡ Some (x.level, x.deadline) → P x ≡ true) → list_all P places ≡ true
 entries-hold P [] differ h = refl
 entries-hold P (x ∷ xs) differ h =
     let apart = and_parts (not (list_any (λ y. same_who x.who y.who) xs)) (all_differ (λ y z. same_who y.who z.who) xs) differ in
     ap (λ b. b && list_all P xs) (h x (ap (λ b. cond b (Some (x.level, x.deadline)) (spot_in x.who xs)) (same_self x.who)))
-    ∙ entries-hold P xs apart.1 (λ y found. h y (later-spot y.who x xs (y.level, y.deadline) (not-true (list_any (λ z. same_who x.who z.who) xs) apart.0) found))
+    ∙ entries-hold P xs apart.1
+    (λ y found. h y (later-spot y.who x xs (y.level, y.deadline) (not-true (list_any (λ z. same_who x.who z.who) xs) apart.0) found))
 
 entry-stands : (p : Image) (w : World) (x : Placed) → AllStand p w.places w → spot_in x.who w.places ≡ Some (x.level, x.deadline)
     → (x.level ≡ active p (task_of w x.who)) × (x.deadline ≡ deadline_shown p (task_of w x.who))
@@ -118,7 +128,8 @@ same-deadline : (a b : Option ℤ) → a ≡ b → same_option same_number a b �
 same-deadline None b e = subst (λ c. same_option same_number None c ≡ true) e refl
 same-deadline (Some a) b e = subst (λ c. same_option same_number (Some a) c ≡ true) e (same_moment-self a)
 
-placed-at-active : (p : Image) (w : World) → all_differ (λ x y. same_who x.who y.who) w.places ≡ true → AllStand p w.places w → list_all (is_at_active p w) w.places ≡ true
+placed-at-active : (p : Image) (w : World) → all_differ (λ x y. same_who x.who y.who) w.places ≡ true → AllStand p w.places w
+    → list_all (is_at_active p w) w.places ≡ true
 placed-at-active p w differ h =
     entries-hold (is_at_active p w) w.places differ (λ x found.
     let stands = entry-stands p w x h found in
@@ -128,7 +139,9 @@ placed-at-active p w differ h =
 ready-placed : (p : Image) (w : World) → AllStand p w.places w → ready_are_placed w ≡ true
 ready-placed p w h =
     all-there (λ t. cond (is_runnable t) (is_placed w t) (not (is_placed w t))) w.tasks w.agent
-    (each-on (IsThere w) (λ t. cond (is_runnable t) (is_placed w t) (not (is_placed w t)) ≡ true) w.tasks (λ t there. task-there p w t there h) (all_there w h.0)) (agent-there p w h.0.named h)
+    (each-on (IsThere w) (λ t. cond (is_runnable t) (is_placed w t) (not (is_placed w t)) ≡ true) w.tasks (λ t there. task-there p w t there h)
+    (all_there w h.0))
+    (agent-there p w h.0.named h)
 
 all_four : (a b c d : Bool) → a ≡ true → b ≡ true → c ≡ true → d ≡ true → (a && b && c && d) ≡ true
 all_four true true true true e f g h = refl
@@ -141,5 +154,6 @@ pub reached_places_are_right : ReachedPlacesAreRight
 reached_places_are_right p script bound w r =
     let h = reached_stand p script bound w r in
     let differ = nobody_is_placed_twice p script bound w r in
-    all_four (ready_are_placed w) (all_differ (λ x y. same_who x.who y.who) w.places) (all_adjacent (λ x y. not (is_above y x)) w.places) (list_all (is_at_active p w) w.places) (ready-placed p w h) differ (places_are_in_order p script bound w r)
+    all_four (ready_are_placed w) (all_differ (λ x y. same_who x.who y.who) w.places) (all_adjacent (λ x y. not (is_above y x)) w.places)
+    (list_all (is_at_active p w) w.places) (ready-placed p w h) differ (places_are_in_order p script bound w r)
     (placed-at-active p w differ h)

@@ -1,5 +1,6 @@
 -- What each effect keeps of the lines and of what they show, what comes about in an instant beside the effect of who acts keeps.
-use Rattle.world_laws.proofs.Places.Kept.Instant.{OtherMoves, appointments_due-keeps, budgets_due-keeps, quantum_spent-keeps, script_items-keeps, timers_due-keeps}
+use Rattle.world_laws.proofs.Places.Kept.Instant.{OtherMoves, appointments_due-keeps, budgets_due-keeps}
+use Rattle.world_laws.proofs.Places.Kept.Instant.{quantum_spent-keeps, script_items-keeps, timers_due-keeps}
 use Rattle.ceiling_laws.proofs.Runs.Triples.{Ends, Keeps, Leads, State}
 use Rattle.machine_laws.proofs.Moves.{lines_of}
 use Rattle.profile_machine.specs.Instant.{budgets_due, events_due, moments_due, quantum_spent, script_items, timers_due}
@@ -18,7 +19,8 @@ module _ {S : Type 0} (see : S → Event → S) (lawful : S → Event → Bool) 
   abbrev pub Onward : S → World × List Event → Type 0
   Onward s behind = Leads_on see lawful Shows s behind.1 behind.0
 
-  pub then_onward : (f g : Move) (s : S) (w : World) → Onward s (f w) → (Shows (seen_behind see lawful s (f w).1) (f w).0 → Onward (seen_behind see lawful s (f w).1) (g (f w).0)) → Onward s ((f ▶ g) w)
+  pub then_onward : (f g : Move) (s : S) (w : World) → Onward s (f w)
+      → (Shows (seen_behind see lawful s (f w).1) (f w).0 → Onward (seen_behind see lawful s (f w).1) (g (f w).0)) → Onward s ((f ▶ g) w)
   then_onward f g s w a b =
       let next = b a.shows in
       record {
@@ -41,23 +43,29 @@ module _ {S : Type 0} (see : S → Event → S) (lawful : S → Event → Bool) 
 
   -- of what comes about beside the effect of who acts
   abbrev pub Others : Image → Type 1
-  Others p = (s : S) → (N : State) × (Sleeps : Sleeping) × (Drawn : Appointing) × OtherMoves p Sleeps Drawn N × ((w : World) → Shows s w → N w []) × Settles p s N
+  Others p =
+      (s : S) → (N : State) × (Sleeps : Sleeping) × (Drawn : Appointing) × OtherMoves p Sleeps Drawn N × ((w : World) → Shows s w → N w []) × Settles p s N
 
   module _ {p : Image} (others : Others p) where
-    other_onward : (step : Step) → ((N : State) (Sleeps : Sleeping) (Drawn : Appointing) → OtherMoves p Sleeps Drawn N → Keeps N step) → (s : S) (w : World) → Shows s w → Onward s (settles p step w)
+    other_onward : (step : Step) → ((N : State) (Sleeps : Sleeping) (Drawn : Appointing) → OtherMoves p Sleeps Drawn N → Keeps N step) → (s : S) (w : World)
+        → Shows s w → Onward s (settles p step w)
     other_onward step keeps s w h =
         let by = others s in
         settles_onward p s by.0 by.0 step w by.5 (keeps by.0 by.1 by.2 by.3) (by.4 w h)
 
-    pub behind_onward : (s1 : S) (w1 : World) → Shows s1 w1 → Onward s1 ((script_items p ▶ events_due p ▶ moments_due p ▶ timers_due p ▶ budgets_due p ▶ quantum_spent p) w1)
+    pub behind_onward : (s1 : S) (w1 : World) → Shows s1 w1
+        → Onward s1 ((script_items p ▶ events_due p ▶ moments_due p ▶ timers_due p ▶ budgets_due p ▶ quantum_spent p) w1)
     behind_onward s1 w1 h =
-        then_onward (script_items p) (events_due p ▶ moments_due p ▶ timers_due p ▶ budgets_due p ▶ quantum_spent p) s1 w1 (other_onward _ (λ N Sleeps Drawn m. script_items-keeps m) s1 w1 h) (λ h.
+        then_onward (script_items p) (events_due p ▶ moments_due p ▶ timers_due p ▶ budgets_due p ▶ quantum_spent p) s1 w1
+        (other_onward _ (λ N Sleeps Drawn m. script_items-keeps m) s1 w1 h) (λ h.
         let s2 = seen_behind see lawful s1 (script_items p w1).1 in
         let w2 = (script_items p w1).0 in
-        then_onward (events_due p) (moments_due p ▶ timers_due p ▶ budgets_due p ▶ quantum_spent p) s2 w2 (other_onward _ (λ N Sleeps Drawn m. appointments_due-keeps m true) s2 w2 h) (λ h.
+        then_onward (events_due p) (moments_due p ▶ timers_due p ▶ budgets_due p ▶ quantum_spent p) s2 w2
+        (other_onward _ (λ N Sleeps Drawn m. appointments_due-keeps m true) s2 w2 h) (λ h.
         let s3 = seen_behind see lawful s2 (events_due p w2).1 in
         let w3 = (events_due p w2).0 in
-        then_onward (moments_due p) (timers_due p ▶ budgets_due p ▶ quantum_spent p) s3 w3 (other_onward _ (λ N Sleeps Drawn m. appointments_due-keeps m false) s3 w3 h) (λ h.
+        then_onward (moments_due p) (timers_due p ▶ budgets_due p ▶ quantum_spent p) s3 w3
+        (other_onward _ (λ N Sleeps Drawn m. appointments_due-keeps m false) s3 w3 h) (λ h.
         let s4 = seen_behind see lawful s3 (moments_due p w3).1 in
         let w4 = (moments_due p w3).0 in
         then_onward (timers_due p) (budgets_due p ▶ quantum_spent p) s4 w4 (other_onward _ (λ N Sleeps Drawn m. timers_due-keeps m) s4 w4 h) (λ h.

@@ -37,10 +37,12 @@ pub at-out : (p : Image) (place : Option Spot) (c : Core) → place ≡ None →
 at-out p place c out = subst (λ q. IsAt p q c) (sym out) tt
 
 -- it stands there on where its level and its deadline are what they were
-at-moved : (p : Image) (s : Spot) (c e : Core) → active_in p e ≡ active_in p c → deadline_in p e ≡ deadline_in p c → (s.0 ≡ active_in p c) × (s.1 ≡ deadline_in p c) → (s.0 ≡ active_in p e) × (s.1 ≡ deadline_in p e)
+at-moved : (p : Image) (s : Spot) (c e : Core) → active_in p e ≡ active_in p c → deadline_in p e ≡ deadline_in p c
+    → (s.0 ≡ active_in p c) × (s.1 ≡ deadline_in p c) → (s.0 ≡ active_in p e) × (s.1 ≡ deadline_in p e)
 at-moved p s c e level deadline h = (h.0 ∙ sym level, h.1 ∙ sym deadline)
 
-pub at-still : (p : Image) (place : Option Spot) (c e : Core) → active_in p e ≡ active_in p c → deadline_in p e ≡ deadline_in p c → IsAt p place c → IsAt p place e
+pub at-still : (p : Image) (place : Option Spot) (c e : Core) → active_in p e ≡ active_in p c → deadline_in p e ≡ deadline_in p c → IsAt p place c
+    → IsAt p place e
 at-still p None c e level deadline h = tt
 at-still p (Some s) c e level deadline h = at-moved p s c e level deadline h
 
@@ -60,23 +62,28 @@ free-may part (Some last) free = inr free
 pub none-free : (part : Part) (last : Last) → last ≡ None → FreeFor part last
 none-free part last is = subst (FreeFor part) (sym is) tt
 
-free_if : (b : Bool) (limit part : Part) (last : Part × Option Spot) (place : Option Spot) → is_part_before limit part ≡ false → is_part_before limit last.0 ≡ false → FreeFor limit (cond b (Some last) (Some (part, place)))
+free_if : (b : Bool) (limit part : Part) (last : Part × Option Spot) (place : Option Spot) → is_part_before limit part ≡ false
+    → is_part_before limit last.0 ≡ false → FreeFor limit (cond b (Some last) (Some (part, place)))
 free_if true limit part last place fits free = free
 free_if false limit part last place fits free = fits
 
-pub put-free : (limit part : Part) (last : Last) (place : Option Spot) → is_part_before limit part ≡ false → FreeFor limit last → FreeFor limit (with_put last part (Some place))
+pub put-free : (limit part : Part) (last : Last) (place : Option Spot) → is_part_before limit part ≡ false → FreeFor limit last
+    → FreeFor limit (with_put last part (Some place))
 put-free limit part None place fits free = fits
 put-free limit part (Some last) place fits free = free_if (is_part_before part last.0) limit part last place fits free
 
-shown_if : (b : Bool) (part : Part) (last : Part × Option Spot) (spot : Spot) (shown : Option Spot) → b ≡ false → is_some (place_by (cond b (Some last) (Some (part, Some spot))) shown) ≡ true
+shown_if : (b : Bool) (part : Part) (last : Part × Option Spot) (spot : Spot) (shown : Option Spot) → b ≡ false
+    → is_some (place_by (cond b (Some last) (Some (part, Some spot))) shown) ≡ true
 shown_if true part last spot shown e = absurd cc
 shown_if false part last spot shown e = refl
 
-pub put-shown : (part : Part) (last : Last) (spot : Spot) (shown : Option Spot) → FreeFor part last → is_some (place_by (with_put last part (Some (Some spot))) shown) ≡ true
+pub put-shown : (part : Part) (last : Last) (spot : Spot) (shown : Option Spot) → FreeFor part last
+    → is_some (place_by (with_put last part (Some (Some spot))) shown) ≡ true
 put-shown part None spot shown free = refl
 put-shown part (Some last) spot shown free = shown_if (is_part_before part last.0) part last spot shown free
 
-shown_free : (part : Part) (last : Part × Option Spot) → (last.1 ≡ None) ⊎ (is_part_before part last.0 ≡ false) → is_some last.1 ≡ true → is_part_before part last.0 ≡ false
+shown_free : (part : Part) (last : Part × Option Spot) → (last.1 ≡ None) ⊎ (is_part_before part last.0 ≡ false) → is_some last.1 ≡ true
+    → is_part_before part last.0 ≡ false
 shown_free part last (inl out) shown = absurd (let clash : false ≡ true = sym (ap is_some out) ∙ shown in cc)
 shown_free part last (inr free) shown = free
 
@@ -85,25 +92,30 @@ pub shown-free : (part : Part) (last : Last) (before : Option Spot) → MayBePla
 shown-free part None before late shown = tt
 shown-free part (Some last) before late shown = shown_free part last late shown
 
-late_if : (b : Bool) (limit part : Part) (last : Part × Option Spot) (place : Option Spot) → is_part_before limit part ≡ false → MayBePlaced limit (Some last) → MayBePlaced limit (cond b (Some last) (Some (part, place)))
+late_if : (b : Bool) (limit part : Part) (last : Part × Option Spot) (place : Option Spot) → is_part_before limit part ≡ false → MayBePlaced limit (Some last)
+    → MayBePlaced limit (cond b (Some last) (Some (part, place)))
 late_if true limit part last place fits late = late
 late_if false limit part last place fits late = inr fits
 
-at_if : (p : Image) (b : Bool) (part : Part) (last : Part × Option Spot) (c : Core) (shown : Option Spot) → (last.1 ≡ None) ⊎ (b ≡ false) → IsAt p (place_by (cond b (Some last) (Some (part, Some (spot_for p c)))) shown) c
+at_if : (p : Image) (b : Bool) (part : Part) (last : Part × Option Spot) (c : Core) (shown : Option Spot) → (last.1 ≡ None) ⊎ (b ≡ false)
+    → IsAt p (place_by (cond b (Some last) (Some (part, Some (spot_for p c)))) shown) c
 at_if p true part last c shown (inl out) = at-out p last.1 c out
 at_if p true part last c shown (inr e) = absurd cc
 at_if p false part last c shown late = (refl, refl)
 
-out_if : (b : Bool) (part : Part) (last : Part × Option Spot) (shown : Option Spot) → (last.1 ≡ None) ⊎ (b ≡ false) → place_by (cond b (Some last) (Some (part, None))) shown ≡ None
+out_if : (b : Bool) (part : Part) (last : Part × Option Spot) (shown : Option Spot) → (last.1 ≡ None) ⊎ (b ≡ false)
+    → place_by (cond b (Some last) (Some (part, None))) shown ≡ None
 out_if true part last shown (inl out) = out
 out_if true part last shown (inr e) = absurd cc
 out_if false part last shown late = refl
 
-pub put-late : (limit part : Part) (last : Last) (place : Option Spot) → is_part_before limit part ≡ false → MayBePlaced limit last → MayBePlaced limit (with_put last part (Some place))
+pub put-late : (limit part : Part) (last : Last) (place : Option Spot) → is_part_before limit part ≡ false → MayBePlaced limit last
+    → MayBePlaced limit (with_put last part (Some place))
 put-late limit part None place fits late = inr fits
 put-late limit part (Some last) place fits late = late_if (is_part_before part last.0) limit part last place fits late
 
-pub put-at : (p : Image) (part : Part) (last : Last) (c : Core) (shown : Option Spot) → MayBePlaced part last → IsAt p (place_by (with_put last part (Some (Some (spot_for p c)))) shown) c
+pub put-at : (p : Image) (part : Part) (last : Last) (c : Core) (shown : Option Spot) → MayBePlaced part last
+    → IsAt p (place_by (with_put last part (Some (Some (spot_for p c)))) shown) c
 put-at p part None c shown late = (refl, refl)
 put-at p part (Some last) c shown late = at_if p (is_part_before part last.0) part last c shown late
 
@@ -215,7 +227,9 @@ module _ (p : Image) (s : List Placed) (a : Who) where
 
   -- nobody has blocked since a world, and the tasks of a list have only been made
   abbrev pub Since : World → List Task → Point
-  Since v rest d n c l = Later d n c l × (d ≡ v.drawn.tasks) × (sleeps_in c ≡ true → is_blocked (task_of v n).state ≡ true) × (is_among n rest ≡ true → is_made_state c.state ≡ true)
+  Since v rest d n c l =
+      Later d n c l × (d ≡ v.drawn.tasks) × (sleeps_in c ≡ true → is_blocked (task_of v n).state ≡ true)
+      × (is_among n rest ≡ true → is_made_state c.state ≡ true)
 
   -- a task that was made, seen from that world
   pub record IsUnmade (v : World) (name : Who) : Type 0 where
@@ -315,7 +329,8 @@ module _ (p : Image) (s : List Placed) (a : Who) where
   begun_awake name c (inl runs) sleeps = awake c runs sleeps
   begun_awake name c (inr absent) sleeps = nobody-sleeps (subst (λ e. sleeps_in e ≡ true) absent.1 sleeps)
 
-  pub placed-good : (d : ℕ) (n : Who) (c : Core) (l : Last) (part : Part) → Fits part n → is_fresh d n ≡ false → MayBePlaced (limit n) l → FreeFor part l → (runs_in c ≡ true) ⊎ IsAbsent n c → (same_who n a ≡ false → FreeFor (limit n) l) → Good d n c (with_put l part (Some (Some (spot_for p c))))
+  pub placed-good : (d : ℕ) (n : Who) (c : Core) (l : Last) (part : Part) → Fits part n → is_fresh d n ≡ false → MayBePlaced (limit n) l → FreeFor part l
+      → (runs_in c ≡ true) ⊎ IsAbsent n c → (same_who n a ≡ false → FreeFor (limit n) l) → Good d n c (with_put l part (Some (Some (spot_for p c))))
   placed-good d n c l part fits drawn late free runs others = record {
     late = put-late (limit n) part l (Some (spot_for p c)) fits late;
     at = put-at p part l c (spot_in n s) (free-may part l free);
@@ -332,7 +347,8 @@ module _ (p : Image) (s : List Placed) (a : Who) where
   asleep-hidden n c l (inr (inr absent)) sleeps = nobody-sleeps (subst (λ e. sleeps_in e ≡ true) absent.1 sleeps)
 
   -- another who sleeps may be woken in each part that fits
-  pub woken-good : (d : ℕ) (n : Who) (c e : Core) (l : Last) (part : Part) → Fits part n → same_who n a ≡ false → is_fresh d n ≡ false → sleeps_in c ≡ true → runs_in e ≡ true → Good d n c l → Good d n e (with_put l part (Some (Some (spot_for p e))))
+  pub woken-good : (d : ℕ) (n : Who) (c e : Core) (l : Last) (part : Part) → Fits part n → same_who n a ≡ false → is_fresh d n ≡ false → sleeps_in c ≡ true
+      → runs_in e ≡ true → Good d n c l → Good d n e (with_put l part (Some (Some (spot_for p e))))
   woken-good d n c e l part fits apart drawn sleeps runs h =
       let silent : l ≡ None = (h.calm apart).1 sleeps in
       placed-good d n e l part fits drawn h.late (none-free part l silent) (inl runs) (λ other. none-free (limit n) l silent)
@@ -341,10 +357,18 @@ module _ (p : Image) (s : List Placed) (a : Who) where
   pub blocked-good : (d : ℕ) (n : Who) (c : Core) (l : Last) → same_who n a ≡ true → sleeps_in c ≡ true → l ≡ Some (TheBlock, None) → Good d n c l
   blocked-good d n c l same sleeps is =
       subst (Good d n c) (sym is)
-      (record { late = inl refl; at = tt; shown = inr (inl refl); fresh = λ e. refl; ready = λ runs. awake c runs sleeps; calm = λ apart. absurd (let clash : true ≡ false = sym same ∙ apart in cc) })
+      (record {
+        late = inl refl;
+        at = tt;
+        shown = inr (inl refl);
+        fresh = λ e. refl;
+        ready = λ runs. awake c runs sleeps;
+        calm = λ apart. absurd (let clash : true ≡ false = sym same ∙ apart in cc);
+      })
 
   -- who acts is placed
-  pub acting-placed : (d : ℕ) (n : Who) (c : Core) (l : Last) (part : Part) → same_who n a ≡ true → part ≡ ThePlacing → MayBePlaced (limit n) l → IsShown n l → Acting d n c l → Later d n c (with_put l part (Some (Some (spot_for p c))))
+  pub acting-placed : (d : ℕ) (n : Who) (c : Core) (l : Last) (part : Part) → same_who n a ≡ true → part ≡ ThePlacing → MayBePlaced (limit n) l → IsShown n l
+      → Acting d n c l → Later d n c (with_put l part (Some (Some (spot_for p c))))
   acting-placed d n c l part same is late shown acting =
       let fits : Fits part n = subst (λ q. is_part_before q part ≡ false) (sym (limit-actor n same)) (ap (is_part_before ThePlacing) is) in
       let free : FreeFor part l = subst (λ q. FreeFor q l) (limit-actor n same ∙ sym is) (shown-free (limit n) l (spot_in n s) late shown) in

@@ -1,7 +1,8 @@
 -- Before each instant of every run, and behind it, whoever is ready is in the ready queues, at its active priority and with its
 -- deadline, and nobody else is there.
 use Rattle.ann_base.specs.declared.identities.TaskNo.{TaskNo}
-use Rattle.world_laws.proofs.Places.CorePoints.{Except, Holds, IsAt, Knowing, Places, Point, Readies, at_active, core-plain, holds-also, holds-knowing, holds-sound, holds_quiet, keeps_says, not-absent, ready-holds, spot_for, to_tail-holds}
+use Rattle.world_laws.proofs.Places.CorePoints.{Except, Holds, IsAt, Knowing, Places, Point, Readies, at_active, core-plain, holds-also}
+use Rattle.world_laws.proofs.Places.CorePoints.{holds-knowing, holds-sound, holds_quiet, keeps_says, not-absent, ready-holds, spot_for, to_tail-holds}
 use Rattle.world_laws.proofs.Places.EffectKeeps.{begun_runs, effect_moves}
 use Rattle.world_laws.proofs.Places.EffectMoves.{Wakeful, base_moves, good-rises, runs-drawn}
 use Rattle.world_laws.proofs.Places.SoundWorlds.{IsAbsent, Sound, known, sound-plain, sound-same}
@@ -33,7 +34,8 @@ use Rattle.machine_laws.proofs.PlaceLemmas.{instants_place_by_lines, openings_pl
 use Rattle.machine_laws.proofs.TimeLemmas.{opening-runner}
 use Rattle.machine_laws.specs.Reached.{Comes, before, opened, ticked}
 use Rattle.profile_machine.specs.Dispatching.{head_of, ready, to_tail}
-use Rattle.profile_machine.specs.Instant.{budgets_due, effect, effect_of_runner, events_due, finish_action, instant, is_over, moments_due, quantum_spent, script_items, timers_due}
+use Rattle.profile_machine.specs.Instant.{budgets_due, effect, effect_of_runner, events_due, finish_action}
+use Rattle.profile_machine.specs.Instant.{instant, is_over, moments_due, quantum_spent, script_items, timers_due}
 use Rattle.profile_machine.specs.Run.{blank_world, environment, environment_task, opening, opens, tock}
 use Rattle.profile_machine.specs.Scopes.{open_scope, plainly}
 use Rattle.profile_machine.specs.Steps.{Move, changes, is_part_before, placed_by, places_after, places_after_all, rests, says, settles, ◌▶◌}
@@ -103,7 +105,8 @@ OwnPut None = Unit {0}
 OwnPut (Some r) = r.0 ≡ Own
 
 module _ (p : Image) where
-  stands_as : (sight : List Placed) (d : ℕ) (n : Who) (c : Core) (l : Last) (a : Who) (behind : List Placed) → spot_in n behind ≡ place p sight a n l → Good p sight a d n c l → Stands p behind d n c
+  stands_as : (sight : List Placed) (d : ℕ) (n : Who) (c : Core) (l : Last) (a : Who) (behind : List Placed) → spot_in n behind ≡ place p sight a n l
+      → Good p sight a d n c l → Stands p behind d n c
   stands_as sight d n c l a behind is h = record {
     at = subst (λ q. IsAt p q c) (sym is) h.at;
     shown = subst (λ q. (runs_in c ≡ true) ⊎ ((q ≡ None) ⊎ IsAbsent n c)) (sym is) h.shown;
@@ -112,7 +115,8 @@ module _ (p : Image) where
   }
 
   -- an effect is over
-  stands_behind : (sight : List Placed) (a : Who) (v : World) (xs : List Said) → Holds (Good p sight a) v xs → AllStand p (places_after_all (lines_of p xs) sight) (placed_by (lines_of p xs) v)
+  stands_behind : (sight : List Placed) (a : Who) (v : World) (xs : List Said) → Holds (Good p sight a) v xs
+      → AllStand p (places_after_all (lines_of p xs) sight) (placed_by (lines_of p xs) v)
   unfolding Holds
   stands_behind sight a v xs h = (
     sound-plain v (placed_by (lines_of p xs) v) refl refl refl refl h.0,
@@ -131,7 +135,8 @@ module _ (p : Image) where
   good-first : (sight : List Placed) (a n : Who) (d : ℕ) (c : Core) → Stands p sight d n c → Good p sight a d n c None
   good-first sight a n d c h = record { late = tt; at = h.at; shown = h.shown; fresh = h.fresh; ready = h.ready; calm = λ apart. (tt, λ sleeps. refl) }
 
-  acts_first : (sight : List Placed) (a : Who) (w : World) → is_fresh w.drawn.tasks a ≡ false → runs_in (core (task_of w a)) ≡ true → AllStand p sight w → Holds (First p sight a) w []
+  acts_first : (sight : List Placed) (a : Who) (w : World) → is_fresh w.drawn.tasks a ≡ false → runs_in (core (task_of w a)) ≡ true → AllStand p sight w
+      → Holds (First p sight a) w []
   unfolding Holds
   acts_first sight a w drawn runs h = (
     h.0,
@@ -141,22 +146,28 @@ module _ (p : Image) where
     ),
   )
 
-  effect-stands : (sight : List Placed) (a : Who) (w : World) → MayAct a w → is_fresh w.drawn.tasks a ≡ false → runs_in (core (task_of w a)) ≡ true → AllStand p sight w → let behind = settles p (effect p a) w in AllStand p (places_after_all behind.1 sight) behind.0
+  effect-stands : (sight : List Placed) (a : Who) (w : World) → MayAct a w → is_fresh w.drawn.tasks a ≡ false → runs_in (core (task_of w a)) ≡ true
+      → AllStand p sight w →
+      let behind = settles p (effect p a) w in
+      AllStand p (places_after_all behind.1 sight) behind.0
   effect-stands sight a w may drawn runs h =
       subst (λ s. AllStand p s (settles p (effect p a) w).0) (seen-placed sight (settles p (effect p a) w).1)
-      (settles_onward placed_behind any_event (AllStand p) p sight (With (Holds (First p sight a)) (MayAct a)) (Holds (Good p sight a)) (effect p a) w (over sight a) (effect-leads (effect_moves p sight a)) (acts_first sight a w drawn runs h, may)).shows
+      (settles_onward placed_behind any_event (AllStand p) p sight (With (Holds (First p sight a)) (MayAct a)) (Holds (Good p sight a)) (effect p a) w
+      (over sight a) (effect-leads (effect_moves p sight a)) (acts_first sight a w drawn runs h, may)).shows
 
   -- who acts stands there, so it is ready
   shown-drawn : (sight : List Placed) (n : Who) (d : ℕ) (spot : Spot) (c : Core) → spot_in n sight ≡ Some spot → Stands p sight d n c → is_fresh d n ≡ false
   shown-drawn sight n d spot c found h =
       by_test (is_fresh d n) (λ fresh. absurd (let clash : Some spot ≡ None = sym found ∙ h.fresh fresh in cc)) (λ apart. apart)
 
-  there-apart : {P : Type 0} (n : Who) (w : World) (found : Option Task) → task_at w n ≡ found → is_over (unwrap_or found nobody).ticks_left ≡ true → IsAbsent n (core (unwrap_or found nobody)) → P
+  there-apart : {P : Type 0} (n : Who) (w : World) (found : Option Task) → task_at w n ≡ found → is_over (unwrap_or found nobody).ticks_left ≡ true
+      → IsAbsent n (core (unwrap_or found nobody)) → P
   there-apart n w None is acts absent = absurd cc
   there-apart (who.Task t) w (Some x) is acts absent = not-absent (who.Task t) x (λ u. u) (λ task. found_is_who (who.Task t) x w.tasks is) refl absent
   there-apart who.Agent w (Some x) is acts absent = absurd (let clash : true ≡ false = absent.0 in cc)
 
-  shown-runs : (sight : List Placed) (n : Who) (w : World) (spot : Spot) → spot_in n sight ≡ Some spot → is_over (task_of w n).ticks_left ≡ true → (runs_in (core (task_of w n)) ≡ true) ⊎ ((spot_in n sight ≡ None) ⊎ IsAbsent n (core (task_of w n))) → runs_in (core (task_of w n)) ≡ true
+  shown-runs : (sight : List Placed) (n : Who) (w : World) (spot : Spot) → spot_in n sight ≡ Some spot → is_over (task_of w n).ticks_left ≡ true
+      → (runs_in (core (task_of w n)) ≡ true) ⊎ ((spot_in n sight ≡ None) ⊎ IsAbsent n (core (task_of w n))) → runs_in (core (task_of w n)) ≡ true
   shown-runs sight n w spot found acts (inl runs) = runs
   shown-runs sight n w spot found acts (inr (inl hidden)) = absurd (let clash : Some spot ≡ None = sym found ∙ hidden in cc)
   shown-runs sight n w spot found acts (inr (inr absent)) = there-apart n w (task_at w n) refl acts absent
@@ -186,7 +197,8 @@ module _ (p : Image) where
   beside_wakeful sight = record {
     rises = λ d n t l i named sleeps h. (good-rises p sight who.Agent d n t l i named sleeps h.0, h.1);
     wakes = λ part d n c e l is drawn sleeps runs h. (
-      placed-good p sight who.Agent d n e l part (beside_fits sight part n is) drawn h.0.late (subst (λ q. FreeFor q l) (sym is) (own-free l h.1)) (inl runs) (λ apart. (h.0.calm apart).0),
+      placed-good p sight who.Agent d n e l part (beside_fits sight part n is) drawn h.0.late (subst (λ q. FreeFor q l) (sym is) (own-free l h.1)) (inl runs)
+          (λ apart. (h.0.calm apart).0),
       own-put l part (Some (spot_for p e)) is h.1,
     );
   }
@@ -212,11 +224,21 @@ module _ (p : Image) where
     others = λ d m c l apart h. h.0;
     own = λ d t l h. record { late = h.0.0.late; own = h.0.1; free = λ apart. (h.0.0.calm apart).0; drawn = h.1 (same_self n); runs = inl refl };
     missed = λ d l task h. record { late = h.0.0.late; own = h.0.1; free = λ apart. (h.0.0.calm apart).0; drawn = h.1 (same_self n); runs = inr (task, refl) };
-    keeps = λ d t l level named h. record { late = h.late; own = h.own; free = h.free; drawn = h.drawn; runs = begun_runs p sight who.Agent n t level named h.runs };
-    places = λ d c l h. (placed-good p sight who.Agent d n c l Own (fits_own p sight who.Agent n) h.drawn h.late (own-free l h.own) h.runs h.free, own-put l Own (Some (spot_for p c)) refl h.own);
+    keeps = λ d t l level named h. record {
+      late = h.late;
+      own = h.own;
+      free = h.free;
+      drawn = h.drawn;
+      runs = begun_runs p sight who.Agent n t level named h.runs;
+    };
+    places = λ d c l h. (
+      placed-good p sight who.Agent d n c l Own (fits_own p sight who.Agent n) h.drawn h.late (own-free l h.own) h.runs h.free,
+      own-put l Own (Some (spot_for p c)) refl h.own,
+    );
   }
 
-  awaited_readies : (sight : List Placed) (t : TaskNo) → Leads (With (Holds (Beside sight)) (λ w. IsDrawn w t)) (Holds (Beside sight)) (ready p Own (who.Task t))
+  awaited_readies : (sight : List Placed) (t : TaskNo)
+      → Leads (With (Holds (Beside sight)) (λ w. IsDrawn w t)) (Holds (Beside sight)) (ready p Own (who.Task t))
   unfolding Awaited IsDrawn
   awaited_readies sight t =
       from-leads (ready p Own (who.Task t)) (λ w said h. holds-knowing (Beside sight) (who.Task t) (λ d c. is_fresh d (who.Task t) ≡ false) w said h.1 h.0)
@@ -231,17 +253,24 @@ module _ (p : Image) where
   running_places sight n = record {
     others = λ d m c l apart h. h.0;
     own = λ d c l h.
-        let k = h.1 (same_self n) in
-        (placed-good p sight who.Agent d n c l Own (fits_own p sight who.Agent n) k.1 h.0.0.late (own-free l h.0.1) (inl k.0) (λ apart. (h.0.0.calm apart).0), own-put l Own (Some (spot_for p c)) refl h.0.1);
+        let k = h.1 (same_self n) in (
+          placed-good p sight who.Agent d n c l Own (fits_own p sight who.Agent n) k.1 h.0.0.late (own-free l h.0.1) (inl k.0) (λ apart. (h.0.0.calm apart).0),
+          own-put l Own (Some (spot_for p c)) refl h.0.1,
+        );
   }
 
-  is_running : (sight : List Placed) (n : Who) (w : World) (said : List Said) → runs_in (core (task_of w n)) ≡ true → Holds (Beside sight) w said → Holds (Running sight n) w said
+  is_running : (sight : List Placed) (n : Who) (w : World) (said : List Said) → runs_in (core (task_of w n)) ≡ true → Holds (Beside sight) w said
+      → Holds (Running sight n) w said
   unfolding Running
   is_running sight n w said runs h =
-      holds-knowing (Beside sight) n (λ d c. (runs_in c ≡ true) × (is_fresh d n ≡ false)) w said (runs, runs-drawn p sight who.Agent n w runs (known w n (holds-sound (Beside sight) w said h))) h
+      holds-knowing (Beside sight) n (λ d c. (runs_in c ≡ true) × (is_fresh d n ≡ false)) w said
+      (runs, runs-drawn p sight who.Agent n w runs (known w n (holds-sound (Beside sight) w said h))) h
 
-  running_tails : (sight : List Placed) (n : Who) → Leads (With (Holds (Beside sight)) (λ w. is_runnable (task_of w n) ≡ true)) (Holds (Beside sight)) (to_tail p Own n)
-  running_tails sight n = from-leads (to_tail p Own n) (λ w said h. is_running sight n w said h.1 h.0) (to_tail-holds p (Running sight n) (Beside sight) n Own (running_places sight n))
+  running_tails : (sight : List Placed) (n : Who)
+      → Leads (With (Holds (Beside sight)) (λ w. is_runnable (task_of w n) ≡ true)) (Holds (Beside sight)) (to_tail p Own n)
+  running_tails sight n =
+      from-leads (to_tail p Own n) (λ w said h. is_running sight n w said h.1 h.0)
+      (to_tail-holds p (Running sight n) (Beside sight) n Own (running_places sight n))
 
   beside_others : (sight : List Placed) → OtherMoves p Sleeping_in IsDrawn (Holds (Beside sight))
   unfolding IsDrawn
@@ -262,7 +291,14 @@ module _ (p : Image) where
   beside_good sight w said h = holds-also (Beside sight) (Good p sight who.Agent) (λ d n c l k. k.0) w said h
 
   beside : Others placed_behind any_event (AllStand p) p
-  beside sight = (Holds (Beside sight), Sleeping_in, IsDrawn, beside_others sight, beside_starts sight, (λ v xs h. over sight who.Agent v xs (beside_good sight v xs h)))
+  beside sight = (
+    Holds (Beside sight),
+    Sleeping_in,
+    IsDrawn,
+    beside_others sight,
+    beside_starts sight,
+    (λ v xs h. over sight who.Agent v xs (beside_good sight v xs h)),
+  )
 
   -- ---- the opening
 
@@ -283,7 +319,17 @@ module _ (p : Image) where
   opening_starts script = (
     blank-sound script,
     λ n. (
-      (λ apart. (record { late = tt; at = tt; shown = inr (inl refl); fresh = λ e. refl; ready = λ runs. blank-idle script n apart runs; calm = λ other. (tt, λ sleeps. refl) }, tt)),
+      (λ apart. (
+        record {
+          late = tt;
+          at = tt;
+          shown = inr (inl refl);
+          fresh = λ e. refl;
+          ready = λ runs. blank-idle script n apart runs;
+          calm = λ other. (tt, λ sleeps. refl);
+        },
+        tt,
+      )),
       (λ same. (refl, ap (λ m. runs_in (core (task_of (blank_world p script) m))) (who-is n environment same), refl)),
     ),
   )
@@ -294,7 +340,9 @@ module _ (p : Image) where
     others = λ d n c l apart h. h.0 apart;
     own = λ d c l h.
         let k = h.1 (same_self environment) in (
-          placed-good p [] who.Agent d environment c l Own (fits_own p [] who.Agent environment) k.2 (subst (MayBePlaced (limit p [] who.Agent environment)) (sym k.0) tt) (none-free Own l k.0) (inl k.1) (λ apart. none-free (limit p [] who.Agent environment) l k.0),
+          placed-good p [] who.Agent d environment c l Own (fits_own p [] who.Agent environment) k.2
+              (subst (MayBePlaced (limit p [] who.Agent environment)) (sym k.0) tt) (none-free Own l k.0) (inl k.1)
+              (λ apart. none-free (limit p [] who.Agent environment) l k.0),
           own-put l Own (Some (spot_for p c)) refl (subst OwnPut (sym k.0) tt),
         );
   }
@@ -302,9 +350,12 @@ module _ (p : Image) where
   opens-stands : Leads (Holds Opening) (Holds (Beside [])) (opens p)
   unfolding opens
   opens-stands =
-      then-leads (changes (open_scope p environment p.environment (plainly None) opened_for.Task)) _ (changes-keeps _ (open_scope-alters (holds_quiet Opening) p environment p.environment (plainly None) opened_for.Task))
-      (then-leads (says Own (line.New (created.Task (record { 0 = 0 })) None p.main.priority)) _ (keeps_says Opening Own (line.New (created.Task (record { 0 = 0 })) None p.main.priority) (λ n. refl))
-      (then-leads (to_tail p Own environment) _ (to_tail-holds p Opening (Beside []) environment Own opening_places) (open_sequence-keeps (holds_quiet (Beside [])) p Own environment)))
+      then-leads (changes (open_scope p environment p.environment (plainly None) opened_for.Task)) _
+      (changes-keeps _ (open_scope-alters (holds_quiet Opening) p environment p.environment (plainly None) opened_for.Task))
+      (then-leads (says Own (line.New (created.Task (record { 0 = 0 })) None p.main.priority)) _
+      (keeps_says Opening Own (line.New (created.Task (record { 0 = 0 })) None p.main.priority) (λ n. refl))
+      (then-leads (to_tail p Own environment) _ (to_tail-holds p Opening (Beside []) environment Own opening_places)
+      (open_sequence-keeps (holds_quiet (Beside [])) p Own environment)))
 
   opening-stands : (script : List (ℤ × Item)) → AllStand p (places_after_all (opening p script).1 []) (opening p script).0
   opening-stands script =
@@ -314,10 +365,13 @@ module _ (p : Image) where
 
   -- ---- a tock
 
-  stands_on : (sight behind : List Placed) (d e : ℕ) (n : Who) (b c : Core) → spot_in n behind ≡ spot_in n sight → e ≡ d → c ≡ b → Stands p sight d n b → Stands p behind e n c
+  stands_on : (sight behind : List Placed) (d e : ℕ) (n : Who) (b c : Core) → spot_in n behind ≡ spot_in n sight → e ≡ d → c ≡ b → Stands p sight d n b
+      → Stands p behind e n c
   stands_on sight behind d e n b c shown drawn same h = record {
     at = subst (λ q. IsAt p q c) (sym shown) (subst (IsAt p (spot_in n sight)) (sym same) h.at);
-    shown = subst (λ q. (runs_in c ≡ true) ⊎ ((q ≡ None) ⊎ IsAbsent n c)) (sym shown) (subst (λ x. (runs_in x ≡ true) ⊎ ((spot_in n sight ≡ None) ⊎ IsAbsent n x)) (sym same) h.shown);
+    shown =
+        subst (λ q. (runs_in c ≡ true) ⊎ ((q ≡ None) ⊎ IsAbsent n c)) (sym shown)
+        (subst (λ x. (runs_in x ≡ true) ⊎ ((spot_in n sight ≡ None) ⊎ IsAbsent n x)) (sym same) h.shown);
     fresh = λ f. shown ∙ h.fresh (ap (λ x. is_fresh x n) (sym drawn) ∙ f);
     ready = λ runs. ap is_some shown ∙ h.ready (ap runs_in (sym same) ∙ runs);
   }
@@ -336,27 +390,34 @@ module _ (p : Image) where
   abbrev Behind : List Placed → World × List Event → Type 0
   Behind sight behind = AllStand p (places_after_all behind.1 sight) behind.0
 
-  effect_if-stands : (sight : List Placed) (w : World) (name : Who) (test : Bool) → AllStand p sight w → (test ≡ true → Behind sight (settles p (effect p name) w)) → Behind sight ((elim test as (λ _. Move) [ true ↦ settles p (effect p name) | false ↦ rests ]) w)
+  effect_if-stands : (sight : List Placed) (w : World) (name : Who) (test : Bool) → AllStand p sight w
+      → (test ≡ true → Behind sight (settles p (effect p name) w))
+      → Behind sight ((elim test as (λ _. Move) [ true ↦ settles p (effect p name) | false ↦ rests ]) w)
   effect_if-stands sight w name true h acts = acts refl
   effect_if-stands sight w name false h acts = h
 
-  effect_of-stands : (sight : List Placed) (w : World) (ran : Option Who) → ((name : Who) → MayAct name w) → w.ran ≡ ran → AllStand p sight w → ((name : Who) → w.ran ≡ Some name → (spot : Spot) × (spot_in name sight ≡ Some spot)) → Behind sight (effect_of_runner p ran w)
+  effect_of-stands : (sight : List Placed) (w : World) (ran : Option Who) → ((name : Who) → MayAct name w) → w.ran ≡ ran → AllStand p sight w
+      → ((name : Who) → w.ran ≡ Some name → (spot : Spot) × (spot_in name sight ≡ Some spot)) → Behind sight (effect_of_runner p ran w)
   effect_of-stands sight w None may is h acts = h
   effect_of-stands sight w (Some name) may is h acts =
       effect_if-stands sight w name (is_over (task_of w name).ticks_left) h (λ ends.
       let stands = acts name is in
-      effect-stands sight name w (may name) (shown-drawn sight name w.drawn.tasks stands.0 (core (task_of w name)) stands.1 (h.1 name)) (shown-runs sight name w stands.0 stands.1 ends (h.1 name).shown) h)
+      effect-stands sight name w (may name) (shown-drawn sight name w.drawn.tasks stands.0 (core (task_of w name)) stands.1 (h.1 name))
+      (shown-runs sight name w stands.0 stands.1 ends (h.1 name).shown) h)
 
-  instant-stands : (sight : List Placed) (w : World) → ((name : Who) → MayAct name w) → AllStand p sight w → ((name : Who) → w.ran ≡ Some name → (spot : Spot) × (spot_in name sight ≡ Some spot)) → Behind sight (instant p w)
+  instant-stands : (sight : List Placed) (w : World) → ((name : Who) → MayAct name w) → AllStand p sight w
+      → ((name : Who) → w.ran ≡ Some name → (spot : Spot) × (spot_in name sight ≡ Some spot)) → Behind sight (instant p w)
   instant-stands sight w may h acts =
       let first = finish_action p w in
       let later = (script_items p ▶ events_due p ▶ moments_due p ▶ timers_due p ▶ budgets_due p ▶ quantum_spent p) first.0 in
       subst (λ s. AllStand p s later.0) (seen-placed (places_after_all first.1 sight) later.1 ∙ sym (places-append sight first.1 later.1))
-      (behind_onward placed_behind any_event (AllStand p) beside (places_after_all first.1 sight) first.0 (effect_of-stands sight w w.ran may refl h acts)).shows
+      (behind_onward placed_behind any_event (AllStand p) beside (places_after_all first.1 sight) first.0
+      (effect_of-stands sight w w.ran may refl h acts)).shows
 
 -- ---- a run
 
-runner-first : (p : Image) (script : List (ℤ × Item)) (bound : ℕ) (w : World) (name : Who) → Comes p script bound w → w.ran ≡ Some name → head_of w.places ≡ Some name
+runner-first : (p : Image) (script : List (ℤ × Item)) (bound : ℕ) (w : World) (name : Who) → Comes p script bound w → w.ran ≡ Some name
+    → head_of w.places ≡ Some name
 runner-first p script bound _ name opened e = absurd (let none : None ≡ Some name = sym (opening-runner p script) ∙ e in cc)
 runner-first p script bound _ name (ticked w comes going) e =
     let behind = (instant p w).0 in
@@ -371,7 +432,8 @@ head-spot name (x ∷ xs) e =
 -- the agent acts where it attends to a release, so inside a protected action
 comes-attends : (p : Image) (script : List (ℤ × Item)) (bound : ℕ) (w : World) → Comes p script bound w → Attending w
 comes-attends p script bound _ opened = (opening-attended p script).attending
-comes-attends p script bound _ (ticked w comes going) = (tock-ticked p (instant p w).0 (instant-attended p w (comes-attends p script bound w comes)).attending).attending
+comes-attends p script bound _ (ticked w comes going) =
+    (tock-ticked p (instant p w).0 (instant-attended p w (comes-attends p script bound w comes)).attending).attending
 
 standing-inside : (frames : List Frame) → Standing (natures frames) → InsideOrNone frames
 standing-inside [] h = inl refl
@@ -389,16 +451,19 @@ comes-inside : (p : Image) (script : List (ℤ × Item)) (bound : ℕ) (w : Worl
 comes-inside p script bound w comes = marked-inside w.serving w.agent.frames (comes-attends p script bound w comes).marks
 
 -- who entered with a call of its own made it, and no release ends with an action of a task
-own_top : (calls : List Call) (last : ℕ) (name : Who) (frames : List Frame) (f : Frame) (m : ProtectedMark) (c : CallNo) → first_of frames ≡ Some f → f.mark ≡ InProtected m → m.own_call ≡ Some c → OwnIn calls last name (own.natures frames) → CallerIn calls last c name
+own_top : (calls : List Call) (last : ℕ) (name : Who) (frames : List Frame) (f : Frame) (m : ProtectedMark) (c : CallNo) → first_of frames ≡ Some f
+    → f.mark ≡ InProtected m → m.own_call ≡ Some c → OwnIn calls last name (own.natures frames) → CallerIn calls last c name
 own_top calls last name frames f m c top mark e h =
     let found = has_top frames f top in
     (subst (λ fs. OwnIn calls last name (own.natures fs)) found.1 h).0 c (ap own.nature mark ∙ e)
 
-no_release : (w : World) (name : Who) (f : Frame) (m : ProtectedMark) (r : ℕ) → Attending w → first_of (frames_of w name) ≡ Some f → f.mark ≡ InProtected m → m.release ≡ Some r → who.Agent ≡ name
+no_release : (w : World) (name : Who) (f : Frame) (m : ProtectedMark) (r : ℕ) → Attending w → first_of (frames_of w name) ≡ Some f → f.mark ≡ InProtected m
+    → m.release ≡ Some r → who.Agent ≡ name
 no_release w who.Agent f m r h top mark e = refl
 no_release w (who.Task n) f m r h top mark e =
     let found = has_top (frames_of w (who.Task n)) f top in
-    let free : MarksFree h.colour w.drawn.regions (natures (f ∷ found.0)) = subst (λ fs. MarksFree h.colour w.drawn.regions (natures fs)) found.1 (marks-free h.colour w (who.Task n) tt h.apart) in
+    let free : MarksFree h.colour w.drawn.regions (natures (f ∷ found.0)) =
+    subst (λ fs. MarksFree h.colour w.drawn.regions (natures fs)) found.1 (marks-free h.colour w (who.Task n) tt h.apart) in
     absurd (let clash : None ≡ Some r = sym free.0 ∙ ap release_in mark ∙ e in cc)
 
 comes-may : (p : Image) (script : List (ℤ × Item)) (bound : ℕ) (w : World) → Comes p script bound w → (name : Who) → MayAct name w
@@ -410,11 +475,14 @@ comes-may p script bound w comes name = record {
   );
 }
 
-pub instant-places : (p : Image) (script : List (ℤ × Item)) (bound : ℕ) (w : World) → Comes p script bound w → AllStand p w.places w → AllStand p (instant p w).0.places (instant p w).0
+pub instant-places : (p : Image) (script : List (ℤ × Item)) (bound : ℕ) (w : World) → Comes p script bound w → AllStand p w.places w
+    → AllStand p (instant p w).0.places (instant p w).0
 instant-places p script bound w comes h =
     subst (λ places. AllStand p places (instant p w).0) (sym (instants_place_by_lines p w))
     (instant-stands p w.places w (comes-may p script bound w comes) h (λ name ran. head-spot name w.places (runner-first p script bound w name comes ran)))
 
 pub comes-stands : (p : Image) (script : List (ℤ × Item)) (bound : ℕ) (w : World) → Comes p script bound w → AllStand p w.places w
-comes-stands p script bound _ opened = subst (λ places. AllStand p places (opening p script).0) (sym (openings_place_by_lines p script)) (opening-stands p script)
-comes-stands p script bound _ (ticked w comes going) = tock-stands p (instant p w).0 (instant-places p script bound w comes (comes-stands p script bound w comes))
+comes-stands p script bound _ opened =
+    subst (λ places. AllStand p places (opening p script).0) (sym (openings_place_by_lines p script)) (opening-stands p script)
+comes-stands p script bound _ (ticked w comes going) =
+    tock-stands p (instant p w).0 (instant-places p script bound w comes (comes-stands p script bound w comes))

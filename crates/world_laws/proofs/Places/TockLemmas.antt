@@ -35,8 +35,17 @@ spent-core false n t = refl
 abbrev calls_and_drawn : World → List Call × Drawn
 calls_and_drawn w = (w.calls, w.drawn)
 
-plain_same : (a b : World) → b.tasks ≡ a.tasks → b.agent ≡ a.agent → b.objects ≡ a.objects → calls_and_drawn b ≡ calls_and_drawn a → b.appointments ≡ a.appointments → Same a b
-plain_same a b tasks agent objects drawn appointments = record { tasks = ap (map core) tasks; agent = ap core agent; objects = ap (map ceiling_in) objects; drawn_tasks = ap (λ q. q.1.tasks) drawn; drawn_objects = ap (λ q. q.1.objects) drawn; callers = λ c n k. subst (λ q. CallerIn q.0 q.1.calls c n) (sym drawn) k; delays = λ t e. ap (λ xs. list_any (λ a. is_delay_of t a.due) xs) (sym appointments) ∙ e }
+plain_same : (a b : World) → b.tasks ≡ a.tasks → b.agent ≡ a.agent → b.objects ≡ a.objects → calls_and_drawn b ≡ calls_and_drawn a
+    → b.appointments ≡ a.appointments → Same a b
+plain_same a b tasks agent objects drawn appointments = record {
+  tasks = ap (map core) tasks;
+  agent = ap core agent;
+  objects = ap (map ceiling_in) objects;
+  drawn_tasks = ap (λ q. q.1.tasks) drawn;
+  drawn_objects = ap (λ q. q.1.objects) drawn;
+  callers = λ c n k. subst (λ q. CallerIn q.0 q.1.calls c n) (sym drawn) k;
+  delays = λ t e. ap (λ xs. list_any (λ a. is_delay_of t a.due) xs) (sym appointments) ∙ e;
+}
 
 clock-same : (t : TaskNo) (w : World) → Same w (charge_clock t w)
 clock-same t w =
@@ -97,4 +106,5 @@ pub tock-same : (p : Image) (w : World) → Same w (tock p w).0
 tock-same p w =
     let behind = (before_tick p (choose w) w).0 in
     subst (λ (t : World × List Event). Same w t.0) (sym (tock-parts p w))
-    (same_then w behind (next_tick (choose w) behind) (before_tick-same p (choose w) w) (plain_same behind (next_tick (choose w) behind) refl refl refl refl refl))
+    (same_then w behind (next_tick (choose w) behind) (before_tick-same p (choose w) w)
+    (plain_same behind (next_tick (choose w) behind) refl refl refl refl refl))

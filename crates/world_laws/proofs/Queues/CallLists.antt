@@ -24,7 +24,8 @@ AtSome queues c = (k : ℕ) × (has same_call (queue_at queues k) c ≡ true)
 pub one-on : (queue : List CallNo) (queues : List (List CallNo)) (c : CallNo) → AtSome queues c → AtSome (queue ∷ queues) c
 one-on queue queues c h = (suc h.0, h.1)
 
-pub some-step : (queue : List CallNo) (queues : List (List CallNo)) (c : CallNo) (b : Bool) → has same_call queue c ≡ b → (b || in_queues queues c) ≡ true → (in_queues queues c ≡ true → AtSome queues c) → AtSome (queue ∷ queues) c
+pub some-step : (queue : List CallNo) (queues : List (List CallNo)) (c : CallNo) (b : Bool) → has same_call queue c ≡ b → (b || in_queues queues c) ≡ true
+    → (in_queues queues c ≡ true → AtSome queues c) → AtSome (queue ∷ queues) c
 some-step queue queues c true is e onward = (0, is)
 some-step queue queues c false is e onward = one-on queue queues c (onward e)
 
@@ -37,7 +38,8 @@ pub or-on : (a b c : Bool) → (a || b) ≡ true → (b ≡ true → c ≡ true)
 or-on true b c h onward = refl
 or-on false b c h onward = onward h
 
-pub has-step : (b : Bool) (x c : CallNo) (left queue : List CallNo) → has same_call (cond b (x ∷ left) left) c ≡ true → (has same_call left c ≡ true → has same_call queue c ≡ true) → (same_call x c || has same_call queue c) ≡ true
+pub has-step : (b : Bool) (x c : CallNo) (left queue : List CallNo) → has same_call (cond b (x ∷ left) left) c ≡ true
+    → (has same_call left c ≡ true → has same_call queue c ≡ true) → (same_call x c || has same_call queue c) ≡ true
 has-step true x c left queue h onward = or-on (same_call x c) (has same_call left c) (has same_call queue c) h onward
 has-step false x c left queue h onward = or_right (same_call x c) (has same_call queue c) (onward h)
 
@@ -46,7 +48,9 @@ taken-has out [] c h = h
 taken-has out (x ∷ queue) c h = has-step (not (same_call out x)) x c (take_call out queue) queue h (taken-has out queue c)
 
 -- another stays
-left-step : (b d : Bool) (out x c : CallNo) (left : List CallNo) → same_call out x ≡ b → same_call x c ≡ d → (d ≡ false → (has same_call left c ≡ true) ⊎ (same_call out c ≡ true)) → (has same_call (cond (not b) (x ∷ left) left) c ≡ true) ⊎ (same_call out c ≡ true)
+left-step : (b d : Bool) (out x c : CallNo) (left : List CallNo) → same_call out x ≡ b → same_call x c ≡ d
+    → (d ≡ false → (has same_call left c ≡ true) ⊎ (same_call out c ≡ true))
+    → (has same_call (cond (not b) (x ∷ left) left) c ≡ true) ⊎ (same_call out c ≡ true)
 left-step true true out x c left is here onward = inr (subst (λ n. same_call out n ≡ true) (same-call x c here) is)
 left-step true false out x c left is here onward = onward refl
 left-step false true out x c left is here onward = inl (or_left (same_call x c) (has same_call left c) here)
@@ -59,25 +63,31 @@ rest-has : (a b : Bool) → (a || b) ≡ true → a ≡ false → b ≡ true
 rest-has true b h e = absurd (true≢false e)
 rest-has false b h e = h
 
-pub left-has : (out : CallNo) (queue : List CallNo) (c : CallNo) → has same_call queue c ≡ true → (has same_call (take_call out queue) c ≡ true) ⊎ (same_call out c ≡ true)
+pub left-has : (out : CallNo) (queue : List CallNo) (c : CallNo) → has same_call queue c ≡ true
+    → (has same_call (take_call out queue) c ≡ true) ⊎ (same_call out c ≡ true)
 left-has out [] c h = inl h
-left-has out (x ∷ queue) c h = left-step (same_call out x) (same_call x c) out x c (take_call out queue) refl refl (λ apart. left-has out queue c (rest-has (same_call x c) (has same_call queue c) h apart))
+left-has out (x ∷ queue) c h =
+    left-step (same_call out x) (same_call x c) out x c (take_call out queue) refl refl
+    (λ apart. left-has out queue c (rest-has (same_call x c) (has same_call queue c) h apart))
 
-pub left-at : (queues : List (List CallNo)) (place k : ℕ) (out c : CallNo) → has same_call (queue_at queues k) c ≡ true → (has same_call (queue_at (edit_at place (take_call out) queues) k) c ≡ true) ⊎ (same_call out c ≡ true)
+pub left-at : (queues : List (List CallNo)) (place k : ℕ) (out c : CallNo) → has same_call (queue_at queues k) c ≡ true
+    → (has same_call (queue_at (edit_at place (take_call out) queues) k) c ≡ true) ⊎ (same_call out c ≡ true)
 left-at [] place k out c h = inl h
 left-at (queue ∷ queues) zero zero out c h = left-has out queue c h
 left-at (queue ∷ queues) zero (suc k) out c h = inl h
 left-at (queue ∷ queues) (suc place) zero out c h = inl h
 left-at (queue ∷ queues) (suc place) (suc k) out c h = left-at queues place k out c h
 
-pub taken-at : (queues : List (List CallNo)) (place k : ℕ) (out c : CallNo) → has same_call (queue_at (edit_at place (take_call out) queues) k) c ≡ true → has same_call (queue_at queues k) c ≡ true
+pub taken-at : (queues : List (List CallNo)) (place k : ℕ) (out c : CallNo) → has same_call (queue_at (edit_at place (take_call out) queues) k) c ≡ true
+    → has same_call (queue_at queues k) c ≡ true
 taken-at [] place k out c h = h
 taken-at (queue ∷ queues) zero zero out c h = taken-has out queue c h
 taken-at (queue ∷ queues) zero (suc k) out c h = h
 taken-at (queue ∷ queues) (suc place) zero out c h = h
 taken-at (queue ∷ queues) (suc place) (suc k) out c h = taken-at queues place k out c h
 
-pub gone-step : (b d : Bool) (c x : CallNo) (left : List CallNo) → same_call c x ≡ b → same_call x c ≡ d → has same_call left c ≡ false → has same_call (cond (not b) (x ∷ left) left) c ≡ false
+pub gone-step : (b d : Bool) (c x : CallNo) (left : List CallNo) → same_call c x ≡ b → same_call x c ≡ d → has same_call left c ≡ false
+    → has same_call (cond (not b) (x ∷ left) left) c ≡ false
 gone-step true d c x left is back h = h
 gone-step false true c x left is back h =
     let one : x ≡ c = same-call x c back in

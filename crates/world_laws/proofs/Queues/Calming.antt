@@ -1,5 +1,6 @@
 -- Changes of a world by which no call is made, none comes into a queue, and none is served that was not.
-use Rattle.std.proofs.Common.{◌≡◌, ℕ, suc, ◌≤◌, ◌<◌, Bool, true, false, cond, ◌⊎◌, inl, inr, List, [], ◌∷◌, Option, Some, None, refl, sym, ap, subst, ◌∙◌, arith}
+use Rattle.std.proofs.Common.{◌≡◌, ℕ, suc, ◌≤◌, ◌<◌, Bool, true, false, cond, ◌⊎◌, inl, inr, List}
+use Rattle.std.proofs.Common.{[], ◌∷◌, Option, Some, None, refl, sym, ap, subst, ◌∙◌, arith}
 use Rattle.std.specs.Prelude.{find, is_some}
 use Rattle.std.specs.List.{list_all, list_any}
 use Rattle.std.proofs.lemmas.Bool.{and_from, and_parts, true≢false}
@@ -26,7 +27,9 @@ use Rattle.line_laws.proofs.Exits.TaskEdits as edits_of
 use Rattle.profile_machine.specs.Notation.{agent, t}
 use Rattle.profile_machine.specs.WellFormed.{number_in}
 use Rattle.machine_laws.proofs.ListLemmas.{Falls, Falls-edit_where, Rises, Rises-set_where}
-use Rattle.world_laws.proofs.Queues.Standing.{Awaited, Calm, Came, Ended, Fall, Idle, Kind, Open, Own, Stands, Unfirm, Waited, awaits_at, ends_by, has_own, is_ending, is_named, is_task, natures, natures_of, none_late, object_key, served_in, some_nature, task_number, top_waits, waits_end}
+use Rattle.world_laws.proofs.Queues.Standing.{Awaited, Calm, Came, Ended, Fall, Idle, Kind, Open, Own, Stands, Unfirm, Waited}
+use Rattle.world_laws.proofs.Queues.Standing.{awaits_at, ends_by, has_own, is_ending, is_named, is_task, natures, natures_of}
+use Rattle.world_laws.proofs.Queues.Standing.{none_late, object_key, served_in, some_nature, task_number, top_waits, waits_end}
 
 -- ---- what an edit of somebody leaves alone
 
@@ -55,7 +58,8 @@ pub edit_task-drawn : (name : Who) (f : Task → Task) (w : World) → (edit_tas
 edit_task-drawn name f w = found-drawn name f w (task_at w name)
 
 -- what somebody was, and is behind the edit of somebody
-module _ (name : Who) (f : Task → Task) (w : World) (named : (t : Task) → (f t).who ≡ t.who) (S : Who → Task → Task → Type 0) (stays : (me : Who) → S me (task_of w me) (task_of w me)) (edits : S name (task_of w name) (f (task_of w name))) where
+module _ (name : Who) (f : Task → Task) (w : World) (named : (t : Task) → (f t).who ≡ t.who) (S : Who → Task → Task → Type 0)
+    (stays : (me : Who) → S me (task_of w me) (task_of w me)) (edits : S name (task_of w name) (f (task_of w name))) where
   edited-one : (me : Who) → same_who me name ≡ true → (t : Task) → t ≡ task_of w me → S me (task_of w me) (f t)
   edited-one me same t e =
       let one : me ≡ name = edits_of.same_who-path me name same in
@@ -66,9 +70,11 @@ module _ (name : Who) (f : Task → Task) (w : World) (named : (t : Task) → (f
 
   pub task-edited : (me : Who) → S me (task_of w me) (task_of (edit_task name f w) me)
   task-edited (who.Task n) =
-      edits_of.edited_to (λ t. t ≡ task_of w (who.Task n)) (S (who.Task n) (task_of w (who.Task n))) (who.Task n) name f w named (edited-one (who.Task n)) (λ apart t e. other-one (who.Task n) t e) (λ e. other-one (who.Task n) nobody e) refl
+      edits_of.edited_to (λ t. t ≡ task_of w (who.Task n)) (S (who.Task n) (task_of w (who.Task n))) (who.Task n) name f w named (edited-one (who.Task n))
+      (λ apart t e. other-one (who.Task n) t e) (λ e. other-one (who.Task n) nobody e) refl
   task-edited who.Agent =
-      edits_of.edited_to (λ t. t ≡ task_of w who.Agent) (S who.Agent (task_of w who.Agent)) who.Agent name f w named (edited-one who.Agent) (λ apart t e. other-one who.Agent t e) (λ e. other-one who.Agent nobody e) refl
+      edits_of.edited_to (λ t. t ≡ task_of w who.Agent) (S who.Agent (task_of w who.Agent)) who.Agent name f w named (edited-one who.Agent)
+      (λ apart t e. other-one who.Agent t e) (λ e. other-one who.Agent nobody e) refl
 
 pub task_of-same : (w v : World) → v.tasks ≡ w.tasks → v.agent ≡ w.agent → (me : Who) → task_of v me ≡ task_of w me
 task_of-same w v same whole (who.Task n) = ap (λ ts. edits_of.one_of ts w.agent (who.Task n)) same
@@ -76,7 +82,8 @@ task_of-same w v same whole who.Agent = whole
 
 -- ---- names
 
-named-set_step : (x t : Task) (ts others : List Task) (b : Bool) → is_named x ≡ true → is_named t ≡ true → list_all is_named ts ≡ true → list_all is_named others ≡ true → list_all is_named (cond b (x ∷ ts) (t ∷ others)) ≡ true
+named-set_step : (x t : Task) (ts others : List Task) (b : Bool) → is_named x ≡ true → is_named t ≡ true → list_all is_named ts ≡ true
+    → list_all is_named others ≡ true → list_all is_named (cond b (x ∷ ts) (t ∷ others)) ≡ true
 named-set_step x t ts others true h first rest more = and_from (is_named x) (list_all is_named ts) h rest
 named-set_step x t ts others false h first rest more = and_from (is_named t) (list_all is_named others) first more
 
@@ -96,9 +103,11 @@ named-found test x (t ∷ ts) all e =
     let parts = and_parts (is_named t) (list_all is_named ts) all in
     found-one (λ y. is_named y ≡ true) (test t) t x (find test ts) parts.0 (named-found test x ts parts.1) e
 
-pub named-edited : (name : Who) (f : Task → Task) (w : World) (found : Option Task) → task_at w name ≡ found → ((t : Task) → (f t).who ≡ t.who) → list_all is_named w.tasks ≡ true → list_all is_named (edit_task_found name f w found).tasks ≡ true
+pub named-edited : (name : Who) (f : Task → Task) (w : World) (found : Option Task) → task_at w name ≡ found → ((t : Task) → (f t).who ≡ t.who)
+    → list_all is_named w.tasks ≡ true → list_all is_named (edit_task_found name f w found).tasks ≡ true
 named-edited name f w None e who_is all = all
-named-edited (who.Task n) f w (Some t) e who_is all = named-set (who.Task n) (f t) w.tasks (ap is_task (who_is t) ∙ named-found (is_who (who.Task n)) t w.tasks all e) all
+named-edited (who.Task n) f w (Some t) e who_is all =
+    named-set (who.Task n) (f t) w.tasks (ap is_task (who_is t) ∙ named-found (is_who (who.Task n)) t w.tasks all e) all
 named-edited who.Agent f w (Some t) e who_is all = all
 
 -- ---- a task that becomes calmer
@@ -112,8 +121,10 @@ pub record Softens (E : Kind) (late : CallNo → Bool) (me : Who) (w : World) (t
   pub fewer : (c : CallNo) → served_in c (natures u.frames) ≤ served_in c (natures t.frames)
   pub owns : (c : CallNo) → some_nature (has_own c) (natures u.frames) ≡ true → (some_nature (has_own c) (natures t.frames) ≡ true) ⊎ Own me c w
   pub ended : (c : CallNo) → some_nature (ends_by c) (natures u.frames) ≡ true → (some_nature (ends_by c) (natures t.frames) ≡ true) ⊎ Ended c w
-  pub awaits : (n : TaskNo) (depth : ℕ) → me ≡ who.Task n → is_appointed (is_trigger_of n depth) w ≡ true → awaits_at depth (natures t.frames) ≡ true → awaits_at depth (natures u.frames) ≡ true
-  pub ends : (c : CallNo) → waiting_in u.state ≡ waits_end c → (waiting_in t.state ≡ waits_end c) × ((d : Call) → call_of w c ≡ Some d → is_ending c t.frames ≡ true → is_ending c u.frames ≡ true)
+  pub awaits : (n : TaskNo) (depth : ℕ) → me ≡ who.Task n → is_appointed (is_trigger_of n depth) w ≡ true → awaits_at depth (natures t.frames) ≡ true
+      → awaits_at depth (natures u.frames) ≡ true
+  pub ends : (c : CallNo) → waiting_in u.state ≡ waits_end c
+      → (waiting_in t.state ≡ waits_end c) × ((d : Call) → call_of w c ≡ Some d → is_ending c t.frames ≡ true → is_ending c u.frames ≡ true)
   pub tops : E.steady me ≡ true → top_waits (natures t.frames) ≡ false → top_waits (natures u.frames) ≡ false
 
 pub softens-same : {E : Kind} {late : CallNo → Bool} (me : Who) (w : World) (t : Task) → Softens E late me w t t
@@ -168,7 +179,8 @@ waits-same w v objects calls appointments = record {
   set = λ c h. inl (appointed-same (is_timeout_of c) w v appointments h);
 }
 
-module _ {E : Kind} {late : CallNo → Bool} (w v : World) (soft : (me : Who) → Softens E late me w (task_of w me) (task_of v me)) (objects : (o : ObjectNo) (k : ℕ) (c : CallNo) → StandsAt v.objects o k c → StandsAt w.objects o k c) where
+module _ {E : Kind} {late : CallNo → Bool} (w v : World) (soft : (me : Who) → Softens E late me w (task_of w me) (task_of v me))
+    (objects : (o : ObjectNo) (k : ℕ) (c : CallNo) → StandsAt v.objects o k c → StandsAt w.objects o k c) where
   stood : (o : Owner) (k : ℕ) (c : CallNo) → Stands v o k c → Stands w o k c
   stood (owned_by.Task t) k c h = (soft (who.Task t)).queues k c h
   stood (owned_by.Object o) k c h = objects o k c h
@@ -187,7 +199,8 @@ module _ {E : Kind} {late : CallNo → Bool} (w v : World) (soft : (me : Who) �
     unfirm : Unfirm c v
     unfirm = waits.unfirm was.owner was.place c was.stands was.unfirm
 
-    in_task : (n : TaskNo) (k : ℕ) → (task_of w (who.Task n)).completed ≡ false → (has same_call (queue_at (task_of v (who.Task n)).queues k) c ≡ true) ⊎ (late c ≡ true) → Awaited c v
+    in_task : (n : TaskNo) (k : ℕ) → (task_of w (who.Task n)).completed ≡ false
+        → (has same_call (queue_at (task_of v (who.Task n)).queues k) c ≡ true) ⊎ (late c ≡ true) → Awaited c v
     in_task n k is (inl here) = record { owner = owned_by.Task n; place = k; stands = here; opens = (soft (who.Task n)).completed ∙ is; unfirm = unfirm }
     in_task n k is (inr out) = absurd (waits.gone c out h)
 
@@ -199,14 +212,20 @@ module _ {E : Kind} {late : CallNo → Bool} (w v : World) (soft : (me : Who) �
     by_owner (owned_by.Task n) k here is = in_task n k is ((soft (who.Task n)).stays k c here)
     by_owner (owned_by.Object o) k here is = in_object o k (waits.objects fall o k c here)
 
-  timeouts : (c : CallNo) → Waits late w v → Fall w → is_appointed (is_timeout_of c) v ≡ true → (is_appointed (is_timeout_of c) w ≡ true) ⊎ Awaited c v → ((is_appointed (is_timeout_of c) w ≡ true) × (Awaited c w → Awaited c v)) ⊎ Awaited c v
+  timeouts : (c : CallNo) → Waits late w v → Fall w → is_appointed (is_timeout_of c) v ≡ true → (is_appointed (is_timeout_of c) w ≡ true) ⊎ Awaited c v
+      → ((is_appointed (is_timeout_of c) w ≡ true) × (Awaited c w → Awaited c v)) ⊎ Awaited c v
   timeouts c waits fall h (inl was) = inl (was, awaited c waits fall h)
   timeouts c waits fall h (inr awaits) = inr awaits
 
-  pub calm-from : v.drawn.calls ≡ w.drawn.calls → v.drawn.tasks ≡ w.drawn.tasks → (Fall w → Fall v) → (list_all is_named w.tasks ≡ true → list_all is_named v.tasks ≡ true)
-      → ((c : CallNo) (y : Call) → call_of v c ≡ Some y → Came E w v c y) → ((c : CallNo) → ((o : Owner) × (k : ℕ) × Stands v o k c) ⊎ (E.stay c ≡ true) → is_some (call_of w c) ≡ true → is_some (call_of v c) ≡ true)
+  pub calm-from : v.drawn.calls ≡ w.drawn.calls → v.drawn.tasks ≡ w.drawn.tasks → (Fall w → Fall v)
+      → (list_all is_named w.tasks ≡ true → list_all is_named v.tasks ≡ true)
+      → ((c : CallNo) (y : Call) → call_of v c ≡ Some y → Came E w v c y)
+      → ((c : CallNo) → ((o : Owner) × (k : ℕ) × Stands v o k c) ⊎ (E.stay c ≡ true) → is_some (call_of w c) ≡ true → is_some (call_of v c) ≡ true)
       → ((c : CallNo) → is_appointed (is_timeout_of c) v ≡ true → (is_appointed (is_timeout_of c) w ≡ true) ⊎ Idle c v)
-      → ((t : TaskNo) (depth : ℕ) → is_appointed (is_trigger_of t depth) v ≡ true → (is_appointed (is_trigger_of t depth) w ≡ true) ⊎ ((t.0 < v.drawn.tasks) × Waited t depth v)) → Waits late w v → Calm E w v
+      → ((t : TaskNo) (depth : ℕ) → is_appointed (is_trigger_of t depth) v ≡ true
+      → (is_appointed (is_trigger_of t depth) w ≡ true) ⊎ ((t.0 < v.drawn.tasks) × Waited t depth v))
+      → Waits late w v
+      → Calm E w v
   calm-from drawn drawn_tasks fall all_named calls there timed set waits = record {
     drawn = drawn;
     tasks = subst (λ n. w.drawn.tasks ≤ n) (sym drawn_tasks) (omega arith);
@@ -229,11 +248,13 @@ module _ {E : Kind} {late : CallNo → Bool} (w v : World) (soft : (me : Who) �
     tops = λ a is h. (soft a).tops is h;
   } where
     set_before : (t : TaskNo) (depth : ℕ) → (is_appointed (is_trigger_of t depth) w ≡ true) ⊎ ((t.0 < v.drawn.tasks) × Waited t depth v)
-        → ((is_appointed (is_trigger_of t depth) w ≡ true) × (t.0 < w.drawn.tasks → Waited t depth w → Waited t depth v)) ⊎ ((t.0 < v.drawn.tasks) × Waited t depth v)
+        → ((is_appointed (is_trigger_of t depth) w ≡ true) × (t.0 < w.drawn.tasks → Waited t depth w → Waited t depth v))
+        ⊎ ((t.0 < v.drawn.tasks) × Waited t depth v)
     set_before t depth (inl h) = inl (h, λ low at. waited t depth h at)
     set_before t depth (inr made) = inr made
 
-    owned : (a : Who) (c : CallNo) → (some_nature (has_own c) (natures_of w a) ≡ true) ⊎ Own a c w → (some_nature (has_own c) (natures_of w a) ≡ true) ⊎ Own a c v
+    owned : (a : Who) (c : CallNo) → (some_nature (has_own c) (natures_of w a) ≡ true) ⊎ Own a c w
+        → (some_nature (has_own c) (natures_of w a) ≡ true) ⊎ Own a c v
     owned a c (inl h) = inl h
     owned a c (inr own) = inr (subst (λ n. c.0 ≤ n) (sym drawn) own.0, λ d e. let x = calls c d e in ap who.Task x.caller ∙ own.1 x.before x.found)
 
@@ -245,10 +266,19 @@ pub there-same : (w v : World) (c : CallNo) → v.calls ≡ w.calls → is_some 
 there-same w v c same e = ap (λ ds. is_some (find (is_call c) ds)) same ∙ e
 
 -- nothing of it is changed
-pub same-calm : {E : Kind} (w v : World) → v.tasks ≡ w.tasks → v.agent ≡ w.agent → v.objects ≡ w.objects → v.calls ≡ w.calls → v.drawn.calls ≡ w.drawn.calls → v.drawn.tasks ≡ w.drawn.tasks → v.appointments ≡ w.appointments → v.drawn.objects ≡ w.drawn.objects → Calm E w v
+pub same-calm : {E : Kind} (w v : World) → v.tasks ≡ w.tasks → v.agent ≡ w.agent → v.objects ≡ w.objects → v.calls ≡ w.calls → v.drawn.calls ≡ w.drawn.calls
+    → v.drawn.tasks ≡ w.drawn.tasks → v.appointments ≡ w.appointments → v.drawn.objects ≡ w.drawn.objects → Calm E w v
 same-calm {E = E} w v same_tasks agent objects calls drawn drawn_tasks appointments drawn_objects =
-    calm-from w v (λ me. subst (Softens E none_late me w (task_of w me)) (sym (task_of-same w v same_tasks agent me)) (softens-same me w (task_of w me))) (λ o k c h. subst (λ xs. StandsAt xs o k c) objects h)
-    drawn drawn_tasks (λ h. (subst (λ n. Falls object_key (suc n) v.objects) (sym drawn_objects) (subst (λ xs. Falls object_key (suc w.drawn.objects) xs) (sym objects) h.0), subst (λ n. Rises task_number 0 n v.tasks) (sym drawn_tasks) (subst (λ ts. Rises task_number 0 w.drawn.tasks ts) (sym same_tasks) h.1))) (λ h. ap (list_all is_named) same_tasks ∙ h) (λ c y e. came-same w v c y calls e) (λ c h e. there-same w v c calls e)
+    calm-from w v (λ me. subst (Softens E none_late me w (task_of w me)) (sym (task_of-same w v same_tasks agent me)) (softens-same me w (task_of w me)))
+    (λ o k c h. subst (λ xs. StandsAt xs o k c) objects h)
+    drawn drawn_tasks
+    (λ h. (
+      subst (λ n. Falls object_key (suc n) v.objects) (sym drawn_objects) (subst (λ xs. Falls object_key (suc w.drawn.objects) xs) (sym objects) h.0),
+      subst (λ n. Rises task_number 0 n v.tasks) (sym drawn_tasks) (subst (λ ts. Rises task_number 0 w.drawn.tasks ts) (sym same_tasks) h.1),
+    ))
+    (λ h. ap (list_all is_named) same_tasks ∙ h)
+    (λ c y e. came-same w v c y calls e)
+    (λ c h e. there-same w v c calls e)
     (λ c h. inl (appointed-same (is_timeout_of c) w v appointments h)) (λ t depth h. inl (appointed-same (is_trigger_of t depth) w v appointments h))
     (waits-same w v objects calls appointments)
 
@@ -257,41 +287,53 @@ found-appointments name f w None = refl
 found-appointments (who.Task n) f w (Some t) = refl
 found-appointments who.Agent f w (Some t) = refl
 
-rises-edited : (name : Who) (f : Task → Task) (w : World) (found : Option Task) → task_at w name ≡ found → ((t : Task) → (f t).who ≡ t.who) → Rises task_number 0 w.drawn.tasks w.tasks → Rises task_number 0 w.drawn.tasks (edit_task_found name f w found).tasks
+rises-edited : (name : Who) (f : Task → Task) (w : World) (found : Option Task) → task_at w name ≡ found → ((t : Task) → (f t).who ≡ t.who)
+    → Rises task_number 0 w.drawn.tasks w.tasks → Rises task_number 0 w.drawn.tasks (edit_task_found name f w found).tasks
 rises-edited name f w None e who_is h = h
-rises-edited (who.Task n) f w (Some t) e who_is h = Rises-set_where task_number (is_who (who.Task n)) t (f t) (ap number_in (who_is t)) 0 w.drawn.tasks w.tasks e h
+rises-edited (who.Task n) f w (Some t) e who_is h =
+    Rises-set_where task_number (is_who (who.Task n)) t (f t) (ap number_in (who_is t)) 0 w.drawn.tasks w.tasks e h
 rises-edited who.Agent f w (Some t) e who_is h = h
 
 pub edit_task-fall : (name : Who) (f : Task → Task) (w : World) → ((t : Task) → (f t).who ≡ t.who) → Fall w → Fall (edit_task name f w)
 edit_task-fall name f w who_is h =
     let v = edit_task name f w in (
-      subst (λ d. Falls object_key (suc d.objects) v.objects) (sym (edit_task-drawn name f w)) (subst (λ xs. Falls object_key (suc w.drawn.objects) xs) (sym (edit_task-objects name f w)) h.0),
+      subst (λ d. Falls object_key (suc d.objects) v.objects) (sym (edit_task-drawn name f w))
+          (subst (λ xs. Falls object_key (suc w.drawn.objects) xs) (sym (edit_task-objects name f w)) h.0),
       subst (λ d. Rises task_number 0 d.tasks v.tasks) (sym (edit_task-drawn name f w)) (rises-edited name f w (task_at w name) refl who_is h.1),
     )
 
 -- somebody is edited
-pub edit_task-calm : {E : Kind} (name : Who) (f : Task → Task) (w : World) → ((t : Task) → (f t).who ≡ t.who) → Softens E none_late name w (task_of w name) (f (task_of w name)) → Calm E w (edit_task name f w)
+pub edit_task-calm : {E : Kind} (name : Who) (f : Task → Task) (w : World) → ((t : Task) → (f t).who ≡ t.who)
+    → Softens E none_late name w (task_of w name) (f (task_of w name)) → Calm E w (edit_task name f w)
 edit_task-calm {E = E} name f w who_is soft =
     let v = edit_task name f w in
-    calm-from w v (task-edited name f w who_is (λ me t u. Softens E none_late me w t u) (λ me. softens-same me w (task_of w me)) soft) (λ o k c h. subst (λ xs. StandsAt xs o k c) (edit_task-objects name f w) h)
-    (ap (λ d. d.calls) (edit_task-drawn name f w)) (ap (λ d. d.tasks) (edit_task-drawn name f w)) (λ h. edit_task-fall name f w who_is h) (λ h. named-edited name f w (task_at w name) refl who_is h)
+    calm-from w v (task-edited name f w who_is (λ me t u. Softens E none_late me w t u) (λ me. softens-same me w (task_of w me)) soft)
+    (λ o k c h. subst (λ xs. StandsAt xs o k c) (edit_task-objects name f w) h)
+    (ap (λ d. d.calls) (edit_task-drawn name f w)) (ap (λ d. d.tasks) (edit_task-drawn name f w)) (λ h. edit_task-fall name f w who_is h)
+    (λ h. named-edited name f w (task_at w name) refl who_is h)
     (λ c y e. came-same w v c y (edit_task-calls name f w) e) (λ c h e. there-same w v c (edit_task-calls name f w) e)
-    (λ c h. inl (appointed-same (is_timeout_of c) w v (found-appointments name f w (task_at w name)) h)) (λ t depth h. inl (appointed-same (is_trigger_of t depth) w v (found-appointments name f w (task_at w name)) h))
+    (λ c h. inl (appointed-same (is_timeout_of c) w v (found-appointments name f w (task_at w name)) h))
+    (λ t depth h. inl (appointed-same (is_trigger_of t depth) w v (found-appointments name f w (task_at w name)) h))
     (waits-same w v (edit_task-objects name f w) (edit_task-calls name f w) (found-appointments name f w (task_at w name)))
 
 -- an object is edited into whose queues none comes, and out of which none goes
 pub edit_object-calm : {E : Kind} (o : ObjectNo) (f : Object → Object) (w : World) → ((x : Object) → (f x).number ≡ x.number)
     → ((x : Object) (k : ℕ) (c : CallNo) → has same_call (queue_at (f x).queues k) c ≡ true → has same_call (queue_at x.queues k) c ≡ true)
-    → ((x : Object) (k : ℕ) (c : CallNo) → has same_call (queue_at x.queues k) c ≡ true → has same_call (queue_at (f x).queues k) c ≡ true) → Calm E w (edit_object o f w)
+    → ((x : Object) (k : ℕ) (c : CallNo) → has same_call (queue_at x.queues k) c ≡ true → has same_call (queue_at (f x).queues k) c ≡ true)
+    → Calm E w (edit_object o f w)
 edit_object-calm {E = E} o f w number queues stays =
     let v = edit_object o f w in
     calm-from w v (λ me. subst (Softens E none_late me w (task_of w me)) (sym (task_of-same w v refl refl me)) (softens-same me w (task_of w me)))
-    (λ q k c h. numbered.edited object_key q.0 o.0 f (λ x. ap (λ n. n.0) (number x)) (λ y. has same_call (queue_at (queues_of y) k) c ≡ true → StandsAt w.objects q k c) w.objects (λ e. e)
+    (λ q k c h. numbered.edited object_key q.0 o.0 f (λ x. ap (λ n. n.0) (number x))
+    (λ y. has same_call (queue_at (queues_of y) k) c ≡ true → StandsAt w.objects q k c) w.objects (λ e. e)
     (λ x is e. subst (λ y. has same_call (queue_at (queues_of y) k) c ≡ true) (sym is) (queues x k c e)) h)
-    refl refl (λ h. (Falls-edit_where object_key (is_object o) f (λ x. ap (λ n. n.0) (number x)) (suc w.drawn.objects) w.objects h.0, h.1)) (λ h. h) (λ c y e. came-same w v c y refl e) (λ c h e. e) (λ c h. inl h) (λ t depth h. inl h)
+    refl refl (λ h. (Falls-edit_where object_key (is_object o) f (λ x. ap (λ n. n.0) (number x)) (suc w.drawn.objects) w.objects h.0, h.1)) (λ h. h)
+    (λ c y e. came-same w v c y refl e) (λ c h e. e) (λ c h. inl h) (λ t depth h. inl h)
     record {
       gone = λ c is h. true≢false (sym is);
-      objects = λ fall q k c h. inl (numbered.edited object_key q.0 o.0 f (λ x. ap (λ n. n.0) (number x)) (λ y. has same_call (queue_at (queues_of y) k) c ≡ true) w.objects h
+      objects =
+          λ fall q k c h.
+          inl (numbered.edited object_key q.0 o.0 f (λ x. ap (λ n. n.0) (number x)) (λ y. has same_call (queue_at (queues_of y) k) c ≡ true) w.objects h
           (λ x is. stays x k c (subst (λ y. has same_call (queue_at (queues_of y) k) c ≡ true) is h)));
       unfirm = λ q k c h. unfirm-same w v c refl;
       set = λ c h. inl h;

@@ -14,7 +14,9 @@ abbrev pub InSome : List (List CallNo) → CallNo → Type 0
 InSome queues c = list_any (λ q. has same_call q c) queues ≡ true
 
 in-first : (x c : CallNo) (xs : List CallNo) (queues : List (List CallNo)) → x ≡ c → InSome ((x ∷ xs) ∷ queues) c
-in-first x c xs queues is = or_left (has same_call (x ∷ xs) c) (list_any (λ q. has same_call q c) queues) (or_left (same_call x c) (has same_call xs c) (subst (λ y. same_call x y ≡ true) is (eq-eqb x.0 x.0 refl)))
+in-first x c xs queues is =
+    or_left (has same_call (x ∷ xs) c) (list_any (λ q. has same_call q c) queues)
+    (or_left (same_call x c) (has same_call xs c) (subst (λ y. same_call x y ≡ true) is (eq-eqb x.0 x.0 refl)))
 
 in-rest : (q : List CallNo) (queues : List (List CallNo)) (c : CallNo) → InSome queues c → InSome (q ∷ queues) c
 in-rest q queues c h = or_right (has same_call q c) (list_any (λ r. has same_call r c) queues) h
@@ -30,7 +32,8 @@ first-in [] c e = absurd (none-some c e)
 first-in ([] ∷ queues) c e = first-in queues c e
 first-in ((x ∷ xs) ∷ queues) c e = in-first x c xs queues (some-same x c e)
 
-better-in : (w : World) (x c : CallNo) (xs : List CallNo) (queues : List (List CallNo)) (found : Option CallNo) → better_of w x found ≡ c → (found ≡ Some c → InSome queues c) → InSome ((x ∷ xs) ∷ queues) c
+better-in : (w : World) (x c : CallNo) (xs : List CallNo) (queues : List (List CallNo)) (found : Option CallNo) → better_of w x found ≡ c
+    → (found ≡ Some c → InSome queues c) → InSome ((x ∷ xs) ∷ queues) c
 better-in w x c xs queues None e onward = in-first x c xs queues e
 better-in w x c xs queues (Some d) e onward = step (ltb (priority_of w x) (priority_of w d)) e onward where
   step : (b : Bool) → cond b d x ≡ c → (Some d ≡ Some c → InSome queues c) → InSome ((x ∷ xs) ∷ queues) c
@@ -53,7 +56,8 @@ next-in p w queues c e = next-by_in p.policies.queuing w queues c e
 pub in-mapped : {X : Type 0} (f : X → List CallNo) (xs : List X) (c : CallNo) → InSome (map f xs) c → (x : X) × (has same_call (f x) c ≡ true)
 in-mapped f [] c h = absurd (true≢false (sym h))
 in-mapped f (x ∷ xs) c h = step (has same_call (f x) c) refl h (in-mapped f xs c) where
-  step : (b : Bool) → has same_call (f x) c ≡ b → (b || list_any (λ q. has same_call q c) (map f xs)) ≡ true → (InSome (map f xs) c → (y : _) × (has same_call (f y) c ≡ true)) → (y : _) × (has same_call (f y) c ≡ true)
+  step : (b : Bool) → has same_call (f x) c ≡ b → (b || list_any (λ q. has same_call q c) (map f xs)) ≡ true
+      → (InSome (map f xs) c → (y : _) × (has same_call (f y) c ≡ true)) → (y : _) × (has same_call (f y) c ≡ true)
   step true is k onward = (x, is)
   step false is k onward = onward k
 

@@ -32,13 +32,18 @@ pair-all P Q (t ∷ ts) one two = ((one.0, two.0), pair-all P Q ts one.1 two.1)
 pub filter-all : (P : Task → Type 0) (test : Task → Bool) (ts : List Task) → AllTasks P ts → AllTasks (λ t. P t × (test t ≡ true)) (filter test ts)
 filter-all P test [] all = tt
 filter-all P test (t ∷ ts) all = step (test t) refl (filter-all P test ts all.1) where
-  step : (b : Bool) → test t ≡ b → AllTasks (λ u. P u × (test u ≡ true)) (filter test ts) → AllTasks (λ u. P u × (test u ≡ true)) (cond b (t ∷ filter test ts) (filter test ts))
+  step : (b : Bool) → test t ≡ b → AllTasks (λ u. P u × (test u ≡ true)) (filter test ts)
+      → AllTasks (λ u. P u × (test u ≡ true)) (cond b (t ∷ filter test ts) (filter test ts))
   step true is rest = ((all.0, is), rest)
   step false is rest = rest
 
 above : (low top : ℕ) (ts : List Task) → Rises task_number low top ts → AllTasks (λ t. low ≤ task_number t) ts
 above low top [] h = tt
-above low top (t ∷ ts) h = (h.0, map-all (λ u. suc (task_number t) ≤ task_number u) (λ u. low ≤ task_number u) (λ u higher. let first : low ≤ task_number t = h.0 in omega (arith, first, higher)) ts (above (suc (task_number t)) top ts h.1))
+above low top (t ∷ ts) h = (
+  h.0,
+  map-all (λ u. suc (task_number t) ≤ task_number u) (λ u. low ≤ task_number u)
+      (λ u higher. let first : low ≤ task_number t = h.0 in omega (arith, first, higher)) ts (above (suc (task_number t)) top ts h.1),
+)
 
 named-each : (ts : List Task) → list_all is_named ts ≡ true → AllTasks (λ t. is_named t ≡ true) ts
 named-each [] h = tt
@@ -64,9 +69,13 @@ found-each low top [] h named = tt
 found-each low top (t ∷ ts) h named =
     let parts = and_parts (is_named t) (list_all is_named ts) named in (
       ap (λ b. cond b (Some t) (find (is_who t.who) ts)) (self-named t.who),
-      map-all (λ u. (find (is_who u.who) ts ≡ Some u) × ((suc (task_number t) ≤ task_number u) × (is_named u ≡ true))) (λ u. find (is_who u.who) (t ∷ ts) ≡ Some u)
-          (λ u x. ap (λ b. cond b (Some t) (find (is_who u.who) ts)) (other-names u.who t.who x.1.1 parts.0 (let higher : suc (task_number t) ≤ task_number u = x.1.0 in omega (arith, higher))) ∙ x.0) ts
-          (pair-all (λ u. find (is_who u.who) ts ≡ Some u) (λ u. (suc (task_number t) ≤ task_number u) × (is_named u ≡ true)) ts (found-each (suc (task_number t)) top ts h.1 parts.1)
+      map-all (λ u. (find (is_who u.who) ts ≡ Some u) × ((suc (task_number t) ≤ task_number u) × (is_named u ≡ true)))
+          (λ u. find (is_who u.who) (t ∷ ts) ≡ Some u)
+          (λ u x. ap (λ b. cond b (Some t) (find (is_who u.who) ts))
+          (other-names u.who t.who x.1.1 parts.0 (let higher : suc (task_number t) ≤ task_number u = x.1.0 in omega (arith, higher)))
+          ∙ x.0) ts
+          (pair-all (λ u. find (is_who u.who) ts ≡ Some u) (λ u. (suc (task_number t) ≤ task_number u) × (is_named u ≡ true)) ts
+          (found-each (suc (task_number t)) top ts h.1 parts.1)
           (pair-all (λ u. suc (task_number t) ≤ task_number u) (λ u. is_named u ≡ true) ts (above (suc (task_number t)) top ts h.1) (named-each ts parts.1))),
     )
 
@@ -77,8 +86,10 @@ at-name w t who.Agent named is = absurd (true≢false (sym named))
 -- each is found by its name, which is that of a task
 pub listed-each : (p : Image) (w : World) → Good p w → AllTasks (λ t. (task_of w t.who ≡ t) × (is_named t ≡ true)) w.tasks
 listed-each p w good =
-    map-all (λ t. (find (is_who t.who) w.tasks ≡ Some t) × (is_named t ≡ true)) (λ t. (task_of w t.who ≡ t) × (is_named t ≡ true)) (λ t x. (at-name w t t.who x.1 x.0, x.1)) w.tasks
-    (pair-all (λ t. find (is_who t.who) w.tasks ≡ Some t) (λ t. is_named t ≡ true) w.tasks (found-each 0 w.drawn.tasks w.tasks good.objects.1 good.named) (named-each w.tasks good.named))
+    map-all (λ t. (find (is_who t.who) w.tasks ≡ Some t) × (is_named t ≡ true)) (λ t. (task_of w t.who ≡ t) × (is_named t ≡ true))
+    (λ t x. (at-name w t t.who x.1 x.0, x.1)) w.tasks
+    (pair-all (λ t. find (is_who t.who) w.tasks ≡ Some t) (λ t. is_named t ≡ true) w.tasks (found-each 0 w.drawn.tasks w.tasks good.objects.1 good.named)
+    (named-each w.tasks good.named))
 
 pub none-waits : (c : CallNo) → None ≡ waits_end c → ⊥
 none-waits c e = cc
@@ -94,4 +105,5 @@ made-one w t is made c d waits e = none-waits c (sym (made-waiting t.state made)
 
 -- who is only made waits for nothing
 pub made-awake : (p : Image) (w : World) → Good p w → AllTasks (λ t. is_made t ≡ true → Awake t.who w) w.tasks
-made-awake p w good = map-all (λ t. (task_of w t.who ≡ t) × (is_named t ≡ true)) (λ t. is_made t ≡ true → Awake t.who w) (λ t x. made-one w t x.0) w.tasks (listed-each p w good)
+made-awake p w good =
+    map-all (λ t. (task_of w t.who ≡ t) × (is_named t ≡ true)) (λ t. is_made t ≡ true → Awake t.who w) (λ t x. made-one w t x.0) w.tasks (listed-each p w good)

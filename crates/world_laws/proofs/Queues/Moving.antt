@@ -20,10 +20,13 @@ use Rattle.profile_machine.specs.Values.{is_object, queue_at}
 use Rattle.profile_machine.specs.Calls.{is_call, call_of, edit_queue}
 use Rattle.profile_machine.specs.Notation.{p, t}
 use Rattle.world_laws.proofs.Queues.CallLists.{same-call}
-use Rattle.world_laws.proofs.Queues.Calming.{StandsAt, edit_task-calls, edit_task-drawn, edit_task-fall, edit_task-objects, found-appointments, named-edited, task-edited, task_of-same}
+use Rattle.world_laws.proofs.Queues.Calming.{StandsAt, edit_task-calls, edit_task-drawn, edit_task-fall, edit_task-objects}
+use Rattle.world_laws.proofs.Queues.Calming.{found-appointments, named-edited, task-edited, task_of-same}
 use Rattle.machine_laws.proofs.ListLemmas.{Falls-edit_where}
-use Rattle.world_laws.proofs.Queues.Serving.{Beside, Marks, Services, call-was, good-by, low-is, marks-same, queue-comes, set-was, awaited-on, queue-open, queue-stays}
-use Rattle.world_laws.proofs.Queues.Standing.{Awake, Calm, Good, Idle, Kind, Own, Stands, awaits_at, calm-awake, calm-good, calm-owns, ends_by, has_own, natures, object_key, one_if, rightly, served, served_in, some_nature, Open}
+use Rattle.world_laws.proofs.Queues.Serving.{Beside, Marks, Services, call-was, good-by, low-is, marks-same}
+use Rattle.world_laws.proofs.Queues.Serving.{queue-comes, set-was, awaited-on, queue-open, queue-stays}
+use Rattle.world_laws.proofs.Queues.Standing.{Awake, Calm, Good, Idle, Kind, Own, Stands, awaits_at, calm-awake, calm-good, calm-owns}
+use Rattle.world_laws.proofs.Queues.Standing.{ends_by, has_own, natures, object_key, one_if, rightly, served, served_in, some_nature, Open}
 
 -- ---- what leads on: the world behind is good, who was awake is awake, and calls are those of their callers
 
@@ -65,7 +68,9 @@ queue-beside (owned_by.Task t) place f w =
       appointments = found-appointments name g w (task_at w name);
       objects = λ h. edit_task-fall name g w (λ u. refl) h;
       named = λ h. named-edited name g w (task_at w name) refl (λ u. refl) h;
-      marks = task-edited name g w (λ u. refl) (λ me t u. Marks me w t u) (λ me. marks-same me w (task_of w me) (task_of w me) refl refl refl) (marks-same name w (task_of w name) (g (task_of w name)) refl refl refl);
+      marks =
+          task-edited name g w (λ u. refl) (λ me t u. Marks me w t u) (λ me. marks-same me w (task_of w me) (task_of w me) refl refl refl)
+          (marks-same name w (task_of w name) (g (task_of w name)) refl refl refl);
     }
 queue-beside (owned_by.Object o) place f w =
     let v = edit_queue (owned_by.Object o) place f w in
@@ -73,19 +78,27 @@ queue-beside (owned_by.Object o) place f w =
       calls = refl;
       drawn = refl;
       appointments = refl;
-      objects = λ h. (Falls-edit_where object_key (is_object o) (λ u. record u { queues = edit_at place f u.queues }) (λ x. refl) (suc w.drawn.objects) w.objects h.0, h.1);
+      objects = λ h. (
+        Falls-edit_where object_key (is_object o) (λ u. record u { queues = edit_at place f u.queues }) (λ x. refl) (suc w.drawn.objects) w.objects h.0,
+        h.1,
+      );
       named = λ h. h;
       marks = λ me. subst (Marks me w (task_of w me)) (sym (task_of-same w v refl refl me)) (marks-same me w (task_of w me) (task_of w me) refl refl refl);
     }
 
-pub queue-frames : (owner : Owner) (place : ℕ) (f : List CallNo → List CallNo) (w : World) (me : Who) → frames_of (edit_queue owner place f w) me ≡ frames_of w me
-queue-frames (owned_by.Task t) place f w me = task-edited (who.Task t) (λ u. record u { queues = edit_at place f u.queues }) w (λ u. refl) (λ m a b. b.frames ≡ a.frames) (λ m. refl) refl me
+pub queue-frames : (owner : Owner) (place : ℕ) (f : List CallNo → List CallNo) (w : World) (me : Who)
+    → frames_of (edit_queue owner place f w) me ≡ frames_of w me
+queue-frames (owned_by.Task t) place f w me =
+    task-edited (who.Task t) (λ u. record u { queues = edit_at place f u.queues }) w (λ u. refl) (λ m a b. b.frames ≡ a.frames) (λ m. refl) refl me
 queue-frames (owned_by.Object o) place f w me = ap (λ (t : Task). t.frames) (task_of-same w (edit_queue (owned_by.Object o) place f w) refl refl me)
 
-queue-agent : (owner : Owner) (place : ℕ) (f : List CallNo → List CallNo) (w : World) (k : ℕ) (c : CallNo) → has same_call (queue_at (task_of (edit_queue owner place f w) who.Agent).queues k) c ≡ true → has same_call (queue_at (task_of w who.Agent).queues k) c ≡ true
+queue-agent : (owner : Owner) (place : ℕ) (f : List CallNo → List CallNo) (w : World) (k : ℕ) (c : CallNo)
+    → has same_call (queue_at (task_of (edit_queue owner place f w) who.Agent).queues k) c ≡ true
+    → has same_call (queue_at (task_of w who.Agent).queues k) c ≡ true
 queue-agent (owned_by.Task t) place f w k c h =
     task-edited (who.Task t) (λ u. record u { queues = edit_at place f u.queues }) w (λ u. refl)
-    (λ m a b. m ≡ who.Agent → has same_call (queue_at b.queues k) c ≡ true → has same_call (queue_at a.queues k) c ≡ true) (λ m is e. e) (λ is e. absurd (apart is)) who.Agent refl h where
+    (λ m a b. m ≡ who.Agent → has same_call (queue_at b.queues k) c ≡ true → has same_call (queue_at a.queues k) c ≡ true) (λ m is e. e)
+    (λ is e. absurd (apart is)) who.Agent refl h where
       apart : who.Task t ≡ who.Agent → ⊥
       apart e = cc
 queue-agent (owned_by.Object o) place f w k c h = h
@@ -105,8 +118,10 @@ services-same p w v good beside frames = record {
   was : (a : Who) (c : CallNo) → 0 < served c v a → 0 < served c w a
   was a c h = subst (λ n. 0 < n) (same a c) h
 
-pub queued-next : (p : Image) (owner : Owner) (place : ℕ) (f : List CallNo → List CallNo) (c : CallNo) (d : Call) (w : World) → ((q : List CallNo) (x : CallNo) → has same_call (f q) x ≡ true → (same_call c x ≡ true) ⊎ (has same_call q x ≡ true))
-    → ((q : List CallNo) (x : CallNo) → has same_call q x ≡ true → has same_call (f q) x ≡ true) → Good p w → call_of w c ≡ Some d → rightly p owner place d ≡ true → Next p w (edit_queue owner place f w)
+pub queued-next : (p : Image) (owner : Owner) (place : ℕ) (f : List CallNo → List CallNo) (c : CallNo) (d : Call) (w : World)
+    → ((q : List CallNo) (x : CallNo) → has same_call (f q) x ≡ true → (same_call c x ≡ true) ⊎ (has same_call q x ≡ true))
+    → ((q : List CallNo) (x : CallNo) → has same_call q x ≡ true → has same_call (f q) x ≡ true) → Good p w → call_of w c ≡ Some d
+    → rightly p owner place d ≡ true → Next p w (edit_queue owner place f w)
 queued-next p owner place f c d w comes stays good is right =
     let v = edit_queue owner place f w in
     let beside = queue-beside owner place f w in
@@ -119,21 +134,25 @@ queued-next p owner place f c d w comes stays good is right =
     }
     (services-same p w v good beside (queue-frames owner place f w))
     (awaited-on w v beside p good (queue-stays owner place f stays w) (queue-open owner place f w))) where
-      by_way_low : {o : Owner} {k : ℕ} (x : CallNo) → ((same_call c x ≡ true) × (o ≡ owner) × (k ≡ place)) ⊎ Stands w o k x → x.0 ≤ (edit_queue owner place f w).drawn.calls
-      by_way_low x (inl e) = low-is w (edit_queue owner place f w) (queue-beside owner place f w) x.0 (subst (λ n. n.0 ≤ w.drawn.calls) (same-call c x e.0) (good.known c d is))
+      by_way_low : {o : Owner} {k : ℕ} (x : CallNo) → ((same_call c x ≡ true) × (o ≡ owner) × (k ≡ place)) ⊎ Stands w o k x
+          → x.0 ≤ (edit_queue owner place f w).drawn.calls
+      by_way_low x (inl e) =
+          low-is w (edit_queue owner place f w) (queue-beside owner place f w) x.0 (subst (λ n. n.0 ≤ w.drawn.calls) (same-call c x e.0) (good.known c d is))
       by_way_low {o = o} {k = k} x (inr h) = low-is w (edit_queue owner place f w) (queue-beside owner place f w) x.0 (good.within o k x h)
 
       here : (x : CallNo) → is_some (call_of w x) ≡ true → is_some (call_of (edit_queue owner place f w) x) ≡ true
       here x e = ap (λ ds. is_some (find (is_call x) ds)) (queue-beside owner place f w).calls ∙ e
 
-      by_way_there : {o : Owner} {k : ℕ} (x : CallNo) → ((same_call c x ≡ true) × (o ≡ owner) × (k ≡ place)) ⊎ Stands w o k x → is_some (call_of (edit_queue owner place f w) x) ≡ true
+      by_way_there : {o : Owner} {k : ℕ} (x : CallNo) → ((same_call c x ≡ true) × (o ≡ owner) × (k ≡ place)) ⊎ Stands w o k x
+          → is_some (call_of (edit_queue owner place f w) x) ≡ true
       by_way_there x (inl e) = here x (subst (λ n. is_some (call_of w n) ≡ true) (same-call c x e.0) (ap is_some is))
       by_way_there {o = o} {k = k} x (inr h) = here x (good.there o k x h)
 
       one-call : (a b : Call) → Some a ≡ Some b → a ≡ b
       one-call a b e = cc
 
-      by_way_right : (o : Owner) (k : ℕ) (x : CallNo) (y : Call) → ((same_call c x ≡ true) × (o ≡ owner) × (k ≡ place)) ⊎ Stands w o k x → call_of w x ≡ Some y → rightly p o k y ≡ true
+      by_way_right : (o : Owner) (k : ℕ) (x : CallNo) (y : Call) → ((same_call c x ≡ true) × (o ≡ owner) × (k ≡ place)) ⊎ Stands w o k x → call_of w x ≡ Some y
+          → rightly p o k y ≡ true
       by_way_right o k x y (inl e) found =
           let same : d ≡ y = one-call d y (sym is ∙ subst (λ n. call_of w n ≡ Some y) (sym (same-call c x e.0)) found) in
           subst (λ z. rightly p o k z ≡ true) same (subst (λ q. rightly p q k d ≡ true) (sym e.1) (subst (λ n. rightly p owner n d ≡ true) (sym e.2) right))
@@ -153,7 +172,8 @@ pub record Serves (c : CallNo) (fs gs : List Frame) : Type 0 where
   pub awaits : (depth : ℕ) → awaits_at depth (natures fs) ≡ true → awaits_at depth (natures gs) ≡ true
   pub few : (x : CallNo) → served_in x (natures gs) ≤ one_if (same_call c x) + served_in x (natures fs)
 
-module _ (p : Image) (name : Who) (f : List Frame → List Frame) (c : CallNo) (w : World) (good : Good p w) (begun : Begun c w) (awake : Awake name w) (serves : Serves c (frames_of w name) (f (frames_of w name))) where
+module _ (p : Image) (name : Who) (f : List Frame → List Frame) (c : CallNo) (w : World) (good : Good p w) (begun : Begun c w) (awake : Awake name w)
+    (serves : Serves c (frames_of w name) (f (frames_of w name))) where
   abbrev servant : World
   servant = edit_task name (λ t. with_frames (f t.frames) t) w
 
@@ -183,19 +203,25 @@ module _ (p : Image) (name : Who) (f : List Frame → List Frame) (c : CallNo) (
   stood-serves (owned_by.Object o) k x h = subst (λ xs. StandsAt xs o k x) (sym (edit_task-objects name (λ t. with_frames (f t.frames) t) w)) h
 
   open-serves : (o : Owner) → Open w o → Open servant o
-  open-serves (owned_by.Task t) is = task-edited name (λ t. with_frames (f t.frames) t) w (λ t. refl) (λ m a b. b.completed ≡ a.completed) (λ m. refl) refl (who.Task t) ∙ is
+  open-serves (owned_by.Task t) is =
+      task-edited name (λ t. with_frames (f t.frames) t) w (λ t. refl) (λ m a b. b.completed ≡ a.completed) (λ m. refl) refl (who.Task t) ∙ is
   open-serves (owned_by.Object o) is = tt
 
   -- served as before, or by this one alone
   serves-few : (x : CallNo) (a : Who) → (served x servant a ≤ served x w a) ⊎ ((a ≡ name) × (served x servant a ≤ one_if (same_call c x) + served x w a))
-  serves-few x = task-edited name (λ t. with_frames (f t.frames) t) w (λ t. refl) (λ m a b. (served_in x (natures b.frames) ≤ served_in x (natures a.frames)) ⊎ ((m ≡ name) × (served_in x (natures b.frames) ≤ one_if (same_call c x) + served_in x (natures a.frames))))
+  serves-few x =
+      task-edited name (λ t. with_frames (f t.frames) t) w (λ t. refl)
+      (λ m a b. (served_in x (natures b.frames) ≤ served_in x (natures a.frames))
+      ⊎ ((m ≡ name) × (served_in x (natures b.frames) ≤ one_if (same_call c x) + served_in x (natures a.frames))))
       (λ m. inl (omega arith)) (inr (refl, serves.few x))
 
   serves-was : (x : CallNo) → same_call c x ≡ false → (a : Who) → served x servant a ≤ served x w a
   serves-was x apart a = of-way (serves-few x a) where
-    of-way : (served x servant a ≤ served x w a) ⊎ ((a ≡ name) × (served x servant a ≤ one_if (same_call c x) + served x w a)) → served x servant a ≤ served x w a
+    of-way : (served x servant a ≤ served x w a) ⊎ ((a ≡ name) × (served x servant a ≤ one_if (same_call c x) + served x w a))
+        → served x servant a ≤ served x w a
     of-way (inl h) = h
-    of-way (inr h) = let most : served x servant a ≤ 0 + served x w a = subst (λ b. served x servant a ≤ one_if b + served x w a) apart h.1 in omega (arith, most)
+    of-way (inr h) =
+        let most : served x servant a ≤ 0 + served x w a = subst (λ b. served x servant a ≤ one_if b + served x w a) apart h.1 in omega (arith, most)
 
   serves-new : (x : CallNo) → same_call c x ≡ true → (a : Who) → served x servant a ≤ 1
   serves-new x is a = of-way (serves-few x a) where
@@ -204,7 +230,9 @@ module _ (p : Image) (name : Who) (f : List Frame → List Frame) (c : CallNo) (
 
     of-way : (served x servant a ≤ served x w a) ⊎ ((a ≡ name) × (served x servant a ≤ one_if (same_call c x) + served x w a)) → served x servant a ≤ 1
     of-way (inl h) = let zero_of : served x w a ≡ 0 = none in omega (arith, h, zero_of)
-    of-way (inr h) = let most : served x servant a ≤ 1 + served x w a = subst (λ b. served x servant a ≤ one_if b + served x w a) is h.1 in let zero_of : served x w a ≡ 0 = none in omega (arith, most, zero_of)
+    of-way (inr h) =
+        let most : served x servant a ≤ 1 + served x w a = subst (λ b. served x servant a ≤ one_if b + served x w a) is h.1 in
+        let zero_of : served x w a ≡ 0 = none in omega (arith, most, zero_of)
 
   serves-name : (x : CallNo) → same_call c x ≡ true → (a : Who) → 0 < served x servant a → a ≡ name
   serves-name x is a h = of-way (serves-few x a) where
@@ -226,12 +254,24 @@ module _ (p : Image) (name : Who) (f : List Frame → List Frame) (c : CallNo) (
 
   serves-services : Services servant
   serves-services = record {
-    serving = λ a x h. by_call x (λ is. low-is w servant serves-beside x.0 (subst (λ n. n.0 ≤ w.drawn.calls) (same-call c x is) begun.low)) (λ apart. low-is w servant serves-beside x.0 (good.serving a x (still x a apart h)));
-    begun = λ a x d h e. by_call x (λ is. begun.begun d (subst (λ n. call_of w n ≡ Some d) (sym (same-call c x is)) (call-was w servant serves-beside x d e))) (λ apart. good.begun a x d (still x a apart h) (call-was w servant serves-beside x d e));
-    once = λ a x. by_call x (λ is. serves-new x is a) (λ apart. let few : served x servant a ≤ served x w a = serves-was x apart a in let one : served x w a ≤ 1 = good.once a x in omega (arith, few, one));
-    alone = λ a b x h i. by_call x (λ is. serves-name x is a h ∙ sym (serves-name x is b i)) (λ apart. good.alone a b x (still x a apart h) (still x b apart i));
-    timed = λ x h. by_call x (λ is. absurd (true≢false (sym (set-was w servant serves-beside (is_timeout_of x) h) ∙ subst (λ n. is_appointed (is_timeout_of n) w ≡ false) (same-call c x is) begun.untimed)))
-        (λ apart a. let none : served x w a ≡ 0 = good.timed x (set-was w servant serves-beside (is_timeout_of x) h) a in let few : served x servant a ≤ served x w a = serves-was x apart a in omega (arith, few, none));
+    serving =
+        λ a x h. by_call x (λ is. low-is w servant serves-beside x.0 (subst (λ n. n.0 ≤ w.drawn.calls) (same-call c x is) begun.low))
+        (λ apart. low-is w servant serves-beside x.0 (good.serving a x (still x a apart h)));
+    begun =
+        λ a x d h e. by_call x (λ is. begun.begun d (subst (λ n. call_of w n ≡ Some d) (sym (same-call c x is)) (call-was w servant serves-beside x d e)))
+        (λ apart. good.begun a x d (still x a apart h) (call-was w servant serves-beside x d e));
+    once =
+        λ a x. by_call x (λ is. serves-new x is a)
+        (λ apart. let few : served x servant a ≤ served x w a = serves-was x apart a in let one : served x w a ≤ 1 = good.once a x in omega (arith, few, one));
+    alone =
+        λ a b x h i. by_call x (λ is. serves-name x is a h ∙ sym (serves-name x is b i)) (λ apart. good.alone a b x (still x a apart h) (still x b apart i));
+    timed =
+        λ x h. by_call x
+        (λ is. absurd
+        (true≢false
+        (sym (set-was w servant serves-beside (is_timeout_of x) h) ∙ subst (λ n. is_appointed (is_timeout_of n) w ≡ false) (same-call c x is) begun.untimed)))
+        (λ apart a. let none : served x w a ≡ 0 = good.timed x (set-was w servant serves-beside (is_timeout_of x) h) a in
+        let few : served x servant a ≤ served x w a = serves-was x apart a in omega (arith, few, none));
   }
 
   pub served-next : Next p w servant

@@ -94,7 +94,8 @@ unfolding Leads
 numbered-lasts = record {
   at_opening = λ p script. effect-leads (all_of stays_numbered).fine p (opens p) (opens-keeps (all_of stays_numbered) p) (blank_world p script) tt tt;
   at_instant = λ p w h. instant-leads (all_of stays_numbered) p (record { puts = λ name s pieces text v w good is e k. k }) w tt h;
-  at_tock = λ p w h. subst (λ a. Numbered a.0) (sym (tock-parts p w)) (before_tick-leads (all_of stays_numbered) (tocks_of tocks_stay_numbered) p (choose w) w tt h);
+  at_tock =
+      λ p w h. subst (λ a. Numbered a.0) (sym (tock-parts p w)) (before_tick-leads (all_of stays_numbered) (tocks_of tocks_stay_numbered) p (choose w) w tt h);
 }
 
 pub calls-fall : (p : Image) (script : List (ℤ × Item)) (bound : ℕ) (w : World) → Reached p script bound w → calls_fall w ≡ true

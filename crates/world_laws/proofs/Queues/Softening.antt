@@ -1,5 +1,6 @@
 -- Edits of somebody that are calm: of what is no queue, mark or state, of a state, and of marks.
-use Rattle.std.proofs.Common.{◌≡◌, ℕ, suc, ◌+◌, ◌≤◌, ◌<◌, Bool, true, false, cond, ◌||◌, ◌⊎◌, inl, inr, eqb, length, List, [], ◌∷◌, Some, refl, sym, ap, subst, ◌∙◌, arith}
+use Rattle.std.proofs.Common.{◌≡◌, ℕ, suc, ◌+◌, ◌≤◌, ◌<◌, Bool, true, false, cond, ◌||◌, ◌⊎◌, inl}
+use Rattle.std.proofs.Common.{inr, eqb, length, List, [], ◌∷◌, Some, refl, sym, ap, subst, ◌∙◌, arith}
 use Rattle.std.proofs.lemmas.Bool.{eqb-true, or_cases, or_right, true≢false}
 use Rattle.ann_base.specs.declared.identities.CallNo.{CallNo}
 use Rattle.ann_base.specs.declared.identities.TaskNo.{TaskNo}
@@ -18,12 +19,15 @@ use Rattle.profile_machine.specs.Appointments.{is_appointed, is_trigger_of}
 use Rattle.profile_machine.specs.Calls.{call_of}
 use Rattle.profile_machine.specs.Values.{queue_at}
 use Rattle.world_laws.proofs.Queues.Calming.{Softens, edit_task-calm}
-use Rattle.world_laws.proofs.Queues.Standing.{Awake, Calm, Kind, Nature, Own, awaits_at, awaits_part, ends_by, has_own, is_ending, nature, natures, one_if, served_in, some_nature, top_waits, waits_end}
+use Rattle.world_laws.proofs.Queues.Standing.{Awake, Calm, Kind, Nature, Own, awaits_at, awaits_part, ends_by, has_own}
+use Rattle.world_laws.proofs.Queues.Standing.{is_ending, nature, natures, one_if, served_in, some_nature, top_waits, waits_end}
 
 -- ---- neither marks nor state
 
-pub softens-plain : {E : Kind} {late : CallNo → Bool} (me : Who) (w : World) (t u : Task) → u.who ≡ t.who → u.frames ≡ t.frames → u.state ≡ t.state → ((k : ℕ) (c : CallNo) → has same_call (queue_at u.queues k) c ≡ true → has same_call (queue_at t.queues k) c ≡ true)
-    → ((k : ℕ) (c : CallNo) → has same_call (queue_at t.queues k) c ≡ true → (has same_call (queue_at u.queues k) c ≡ true) ⊎ (late c ≡ true)) → u.completed ≡ t.completed → Softens E late me w t u
+pub softens-plain : {E : Kind} {late : CallNo → Bool} (me : Who) (w : World) (t u : Task) → u.who ≡ t.who → u.frames ≡ t.frames → u.state ≡ t.state
+    → ((k : ℕ) (c : CallNo) → has same_call (queue_at u.queues k) c ≡ true → has same_call (queue_at t.queues k) c ≡ true)
+    → ((k : ℕ) (c : CallNo) → has same_call (queue_at t.queues k) c ≡ true → (has same_call (queue_at u.queues k) c ≡ true) ⊎ (late c ≡ true))
+    → u.completed ≡ t.completed → Softens E late me w t u
 softens-plain me w t u named frames state queues stays completed = record {
   named = named;
   queues = queues;
@@ -37,15 +41,19 @@ softens-plain me w t u named frames state queues stays completed = record {
   tops = λ is h. subst (λ fs. top_waits (natures fs) ≡ false) (sym frames) h;
 }
 
-pub plain-calm : {E : Kind} (name : Who) (f : Task → Task) (w : World) → ((t : Task) → (f t).who ≡ t.who) → ((t : Task) → (f t).frames ≡ t.frames) → ((t : Task) → (f t).state ≡ t.state) → ((t : Task) → (f t).queues ≡ t.queues) → ((t : Task) → (f t).completed ≡ t.completed) → Calm E w (edit_task name f w)
+pub plain-calm : {E : Kind} (name : Who) (f : Task → Task) (w : World) → ((t : Task) → (f t).who ≡ t.who) → ((t : Task) → (f t).frames ≡ t.frames)
+    → ((t : Task) → (f t).state ≡ t.state) → ((t : Task) → (f t).queues ≡ t.queues) → ((t : Task) → (f t).completed ≡ t.completed)
+    → Calm E w (edit_task name f w)
 plain-calm name f w named frames state queues completed =
     let t = task_of w name in
-    edit_task-calm name f w named (softens-plain name w t (f t) (named t) (frames t) (state t) (λ k c h. subst (λ qs. has same_call (queue_at qs k) c ≡ true) (queues t) h)
+    edit_task-calm name f w named
+    (softens-plain name w t (f t) (named t) (frames t) (state t) (λ k c h. subst (λ qs. has same_call (queue_at qs k) c ≡ true) (queues t) h)
     (λ k c h. inl (subst (λ qs. has same_call (queue_at qs k) c ≡ true) (sym (queues t)) h)) (completed t))
 
 -- ---- a state in which nobody waits for the end of a call
 
-pub state-calm : {E : Kind} (name : Who) (state : State) (w : World) → ((c : CallNo) → waiting_in state ≡ waits_end c → ⊥) → Calm E w (edit_task name (with_state state) w)
+pub state-calm : {E : Kind} (name : Who) (state : State) (w : World) → ((c : CallNo) → waiting_in state ≡ waits_end c → ⊥)
+    → Calm E w (edit_task name (with_state state) w)
 state-calm name state w none =
     edit_task-calm name (with_state state) w (λ t. refl)
     record {
@@ -63,7 +71,8 @@ state-calm name state w none =
 
 -- ---- marks: of the same natures, where the one that has come to its end is still on top and at its end
 
-pub marks-calm : {E : Kind} (name : Who) (f : List Frame → List Frame) (w : World) → ((fs : List Frame) → natures (f fs) ≡ natures fs) → ((c : CallNo) (fs : List Frame) → is_ending c fs ≡ true → is_ending c (f fs) ≡ true) → Calm E w (edit_task name (λ t. with_frames (f t.frames) t) w)
+pub marks-calm : {E : Kind} (name : Who) (f : List Frame → List Frame) (w : World) → ((fs : List Frame) → natures (f fs) ≡ natures fs)
+    → ((c : CallNo) (fs : List Frame) → is_ending c fs ≡ true → is_ending c (f fs) ≡ true) → Calm E w (edit_task name (λ t. with_frames (f t.frames) t) w)
 marks-calm name f w same ending =
     let fs = frames_of w name in
     edit_task-calm name (λ t. with_frames (f t.frames) t) w (λ t. refl)
@@ -81,7 +90,8 @@ marks-calm name f w same ending =
     }
 
 -- the same of who is awake, whatever is on top
-pub awake-calm : {E : Kind} (name : Who) (f : List Frame → List Frame) (w : World) → ((fs : List Frame) → natures (f fs) ≡ natures fs) → Awake name w → Calm E w (edit_task name (λ t. with_frames (f t.frames) t) w)
+pub awake-calm : {E : Kind} (name : Who) (f : List Frame → List Frame) (w : World) → ((fs : List Frame) → natures (f fs) ≡ natures fs) → Awake name w
+    → Calm E w (edit_task name (λ t. with_frames (f t.frames) t) w)
 unfolding Awake
 awake-calm name f w same awake =
     let fs = frames_of w name in
@@ -109,7 +119,8 @@ none-before false n e = omega arith
 at-below : (depth : ℕ) (ns : List Nature) → awaits_at depth ns ≡ true → depth < length ns
 at-below depth [] h = cc
 at-below depth (n ∷ ns) h = step (eqb (length ns) depth) refl (λ k. at-below depth ns k) h where
-  step : (b : Bool) → eqb (length ns) depth ≡ b → (awaits_at depth ns ≡ true → depth < length ns) → cond b (awaits_part n.part) (awaits_at depth ns) ≡ true → depth < suc (length ns)
+  step : (b : Bool) → eqb (length ns) depth ≡ b → (awaits_at depth ns ≡ true → depth < length ns) → cond b (awaits_part n.part) (awaits_at depth ns) ≡ true
+      → depth < suc (length ns)
   step true e onward k = let same : length ns ≡ depth = eqb-true (length ns) depth e in omega (arith, same)
   step false e onward k = let low : depth < length ns = onward k in omega (arith, low)
 
@@ -118,7 +129,8 @@ not-same true m n e h = let same : m ≡ n = eqb-true m n e in absurd (omega (ar
 not-same false m n e h = refl
 
 pub awaits-more : (depth : ℕ) (n : Nature) (ns : List Nature) → awaits_at depth ns ≡ true → awaits_at depth (n ∷ ns) ≡ true
-awaits-more depth n ns h = ap (λ b. cond b (awaits_part n.part) (awaits_at depth ns)) (not-same (eqb (length ns) depth) (length ns) depth refl (at-below depth ns h)) ∙ h
+awaits-more depth n ns h =
+    ap (λ b. cond b (awaits_part n.part) (awaits_at depth ns)) (not-same (eqb (length ns) depth) (length ns) depth refl (at-below depth ns h)) ∙ h
 
 pub record Opens (E : Kind) (name : Who) (w : World) (n : Nature) : Type 0 where
   pub serves : (c : CallNo) → is_the same_call n.service c ≡ false
@@ -126,7 +138,8 @@ pub record Opens (E : Kind) (name : Who) (w : World) (n : Nature) : Type 0 where
   pub begun : (c : CallNo) → ends_by c n ≡ false
   pub tops : E.steady name ≡ true → awaits_part n.part ≡ false
 
-pub push-calm : {E : Kind} (name : Who) (f : Frame) (w : World) → Opens E name w (nature f.mark) → Awake name w → Calm E w (edit_task name (λ t. with_frames (f ∷ t.frames) t) w)
+pub push-calm : {E : Kind} (name : Who) (f : Frame) (w : World) → Opens E name w (nature f.mark) → Awake name w
+    → Calm E w (edit_task name (λ t. with_frames (f ∷ t.frames) t) w)
 unfolding Awake
 push-calm name f w opens awake =
     let fs = frames_of w name in
@@ -143,7 +156,8 @@ push-calm name f w opens awake =
       ends = λ c h. (h, λ d e i. absurd (awake c d h e));
       tops = λ is h. opens.tops is;
     } where
-      own_or : (c : CallNo) → (has_own c (nature f.mark) ≡ true) ⊎ (some_nature (has_own c) (natures (frames_of w name)) ≡ true) → (some_nature (has_own c) (natures (frames_of w name)) ≡ true) ⊎ Own name c w
+      own_or : (c : CallNo) → (has_own c (nature f.mark) ≡ true) ⊎ (some_nature (has_own c) (natures (frames_of w name)) ≡ true)
+          → (some_nature (has_own c) (natures (frames_of w name)) ≡ true) ⊎ Own name c w
       own_or c (inl h) = inr (opens.own c h)
       own_or c (inr h) = inl h
 
@@ -174,16 +188,20 @@ some-below : (test : Nature → Bool) (fs : List Frame) → some_nature test (na
 some-below test [] h = h
 some-below test (f ∷ fs) h = or_right (test (nature f.mark)) (some_nature test (natures fs)) h
 
-awaits-below : (name : Who) (w : World) (n : TaskNo) (depth : ℕ) (fs : List Frame) → Unset name w fs → name ≡ who.Task n → is_appointed (is_trigger_of n depth) w ≡ true → awaits_at depth (natures fs) ≡ true → awaits_at depth (natures (rest_of fs)) ≡ true
+awaits-below : (name : Who) (w : World) (n : TaskNo) (depth : ℕ) (fs : List Frame) → Unset name w fs → name ≡ who.Task n
+    → is_appointed (is_trigger_of n depth) w ≡ true → awaits_at depth (natures fs) ≡ true → awaits_at depth (natures (rest_of fs)) ≡ true
 awaits-below name w n depth [] unset is set h = h
 awaits-below name w n depth (f ∷ fs) unset is set h = step (eqb (length (natures fs)) depth) refl h where
-  step : (b : Bool) → eqb (length (natures fs)) depth ≡ b → cond b (awaits_part (nature f.mark).part) (awaits_at depth (natures fs)) ≡ true → awaits_at depth (natures fs) ≡ true
+  step : (b : Bool) → eqb (length (natures fs)) depth ≡ b → cond b (awaits_part (nature f.mark).part) (awaits_at depth (natures fs)) ≡ true
+      → awaits_at depth (natures fs) ≡ true
   step true e k =
       let same : length fs ≡ depth = sym (natures-length fs) ∙ eqb-true (length (natures fs)) depth e in
       absurd (unset n is (subst (λ d. is_appointed (is_trigger_of n d) w ≡ true) (sym same) set) k)
   step false e k = k
 
-pub pop-calm : {E : Kind} (name : Who) (w : World) → E.steady name ≡ false → Unset name w (frames_of w name) → ((c : CallNo) (d : Call) → waiting_in (task_of w name).state ≡ waits_end c → call_of w c ≡ Some d → is_ending c (frames_of w name) ≡ true → ⊥) → Calm E w (edit_task name (λ t. with_frames (rest_of t.frames) t) w)
+pub pop-calm : {E : Kind} (name : Who) (w : World) → E.steady name ≡ false → Unset name w (frames_of w name)
+    → ((c : CallNo) (d : Call) → waiting_in (task_of w name).state ≡ waits_end c → call_of w c ≡ Some d → is_ending c (frames_of w name) ≡ true → ⊥)
+    → Calm E w (edit_task name (λ t. with_frames (rest_of t.frames) t) w)
 pop-calm name w free unset none =
     let fs = frames_of w name in
     edit_task-calm name (λ t. with_frames (rest_of t.frames) t) w (λ t. refl)

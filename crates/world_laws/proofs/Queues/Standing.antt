@@ -1,5 +1,6 @@
 -- Which calls stand in the entry queues of a world, which are served by marks, and how they are directed.
-use Rattle.std.proofs.Common.{◌≡◌, ℕ, zero, suc, ◌+◌, ◌≤◌, ◌<◌, Bool, true, false, cond, not, ◌&&◌, ◌||◌, ◌⊎◌, inl, inr, eqb, length, List, [], ◌∷◌, Option, Some, None, refl, sym, ap, subst, ◌∙◌, arith}
+use Rattle.std.proofs.Common.{◌≡◌, ℕ, zero, suc, ◌+◌, ◌≤◌, ◌<◌, Bool, true, false, cond, not, ◌&&◌, ◌||◌, ◌⊎◌, inl}
+use Rattle.std.proofs.Common.{inr, eqb, length, List, [], ◌∷◌, Option, Some, None, refl, sym, ap, subst, ◌∙◌, arith}
 use Rattle.std.specs.Prelude.{is_some, is_none}
 use Rattle.std.specs.List.{list_all}
 use Rattle.ann_base.specs.declared.identities.CallNo.{CallNo}
@@ -281,11 +282,13 @@ pub record Calm (E : Kind) (w v : World) : Type 0 where
   pub tasks : w.drawn.tasks ≤ v.drawn.tasks
   pub queues : (o : Owner) (k : ℕ) (c : CallNo) → Stands v o k c → Stands w o k c
   pub there : (o : Owner) (k : ℕ) (c : CallNo) → Stands v o k c → is_some (call_of w c) ≡ true → is_some (call_of v c) ≡ true
-  pub agent : (k : ℕ) (c : CallNo) → has same_call (queue_at (task_of v who.Agent).queues k) c ≡ true → has same_call (queue_at (task_of w who.Agent).queues k) c ≡ true
+  pub agent : (k : ℕ) (c : CallNo) → has same_call (queue_at (task_of v who.Agent).queues k) c ≡ true
+      → has same_call (queue_at (task_of w who.Agent).queues k) c ≡ true
   pub calls : (c : CallNo) (y : Call) → call_of v c ≡ Some y → Came E w v c y
   pub fewer : (a : Who) (c : CallNo) → served c v a ≤ served c w a
   pub timed : (c : CallNo) → is_appointed (is_timeout_of c) v ≡ true → (is_appointed (is_timeout_of c) w ≡ true) ⊎ Idle c v
-  pub timeouts : Fall w → (c : CallNo) → is_appointed (is_timeout_of c) v ≡ true → ((is_appointed (is_timeout_of c) w ≡ true) × (Awaited c w → Awaited c v)) ⊎ Awaited c v
+  pub timeouts : Fall w → (c : CallNo) → is_appointed (is_timeout_of c) v ≡ true
+      → ((is_appointed (is_timeout_of c) w ≡ true) × (Awaited c w → Awaited c v)) ⊎ Awaited c v
   pub opened : (o : Owner) (k : ℕ) (c : CallNo) → Stands v o k c → Open v o → Open w o
   pub objects : Fall w → Fall v
   pub named : list_all is_named w.tasks ≡ true → list_all is_named v.tasks ≡ true
@@ -293,8 +296,10 @@ pub record Calm (E : Kind) (w v : World) : Type 0 where
   pub owns : (a : Who) (c : CallNo) → some_nature (has_own c) (natures_of v a) ≡ true → (some_nature (has_own c) (natures_of w a) ≡ true) ⊎ Own a c v
   pub ended : (a : Who) (c : CallNo) → some_nature (ends_by c) (natures_of v a) ≡ true → (some_nature (ends_by c) (natures_of w a) ≡ true) ⊎ Ended c v
   pub triggers : (t : TaskNo) (depth : ℕ) → is_appointed (is_trigger_of t depth) v ≡ true
-      → ((is_appointed (is_trigger_of t depth) w ≡ true) × (t.0 < w.drawn.tasks → Waited t depth w → Waited t depth v)) ⊎ ((t.0 < v.drawn.tasks) × Waited t depth v)
-  pub ends : (a : Who) (c : CallNo) → waiting_of v a ≡ waits_end c → (waiting_of w a ≡ waits_end c) × ((d : Call) → call_of v c ≡ Some d → is_ending c (frames_of w a) ≡ true → is_ending c (frames_of v a) ≡ true)
+      → ((is_appointed (is_trigger_of t depth) w ≡ true) × (t.0 < w.drawn.tasks → Waited t depth w → Waited t depth v))
+      ⊎ ((t.0 < v.drawn.tasks) × Waited t depth v)
+  pub ends : (a : Who) (c : CallNo) → waiting_of v a ≡ waits_end c
+      → (waiting_of w a ≡ waits_end c) × ((d : Call) → call_of v c ≡ Some d → is_ending c (frames_of w a) ≡ true → is_ending c (frames_of v a) ≡ true)
   pub kept : (c : CallNo) → E.stay c ≡ true → is_some (call_of w c) ≡ true → is_some (call_of v c) ≡ true
   pub tops : (a : Who) → E.steady a ≡ true → top_waits (natures_of w a) ≡ false → top_waits (natures_of v a) ≡ false
 
@@ -326,7 +331,8 @@ pub either : {A B C : Type 0} → A ⊎ B → (A → C) → (B → C) → C
 either (inl a) f g = f a
 either (inr b) f g = g b
 
-rightly-same : (p : Image) (o : Owner) (k : ℕ) (x y : Call) → y.owner ≡ x.owner → y.entry ≡ x.entry → y.begun ≡ x.begun → y.outcome ≡ x.outcome → rightly p o k x ≡ true → rightly p o k y ≡ true
+rightly-same : (p : Image) (o : Owner) (k : ℕ) (x y : Call) → y.owner ≡ x.owner → y.entry ≡ x.entry → y.begun ≡ x.begun → y.outcome ≡ x.outcome
+    → rightly p o k x ≡ true → rightly p o k y ≡ true
 rightly-same p o k x y owner entry begun outcome h =
     subst (λ b. (not b && is_none y.outcome && same_owner o y.owner && eqb (place_of_entry p y.entry) k) ≡ true) (sym begun)
     (subst (λ r. (not x.begun && is_none r && same_owner o y.owner && eqb (place_of_entry p y.entry) k) ≡ true) (sym outcome)
@@ -348,7 +354,8 @@ calm-then a b c f g = record {
       record {
         before = first.before;
         found = first.found;
-        directed = λ o k h. let i = g.queues o k x h in ((later.directed o k h).0 ∙ (first.directed o k i).0, (later.directed o k h).1 ∙ (first.directed o k i).1);
+        directed =
+            λ o k h. let i = g.queues o k x h in ((later.directed o k h).0 ∙ (first.directed o k i).0, (later.directed o k h).1 ∙ (first.directed o k i).1);
         caller = later.caller ∙ first.caller;
         outcome = λ h. later.outcome (first.outcome h);
         steady = λ h. ((later.steady h).0 ∙ (first.steady h).0, (later.steady h).1 ∙ (first.steady h).1);
@@ -357,18 +364,23 @@ calm-then a b c f g = record {
       };
   fewer = λ n x. let one : served x b n ≤ served x a n = f.fewer n x in let two : served x c n ≤ served x b n = g.fewer n x in omega (arith, one, two);
   timed = λ x h. either (g.timed x h) (λ i. either (f.timed x i) inl (λ idle. inr (calm-idle b c g x idle))) inr;
-  timeouts = λ fall x h. either (g.timeouts (f.objects fall) x h) (λ later. either (f.timeouts fall x later.0) (λ first. inl (first.0, λ a. later.1 (first.1 a))) (λ a. inr (later.1 a))) inr;
+  timeouts =
+      λ fall x h. either (g.timeouts (f.objects fall) x h)
+      (λ later. either (f.timeouts fall x later.0) (λ first. inl (first.0, λ a. later.1 (first.1 a))) (λ a. inr (later.1 a))) inr;
   opened = λ o k x h i. f.opened o k x (g.queues o k x h) (g.opened o k x h i);
   objects = λ h. g.objects (f.objects h);
   named = λ h. g.named (f.named h);
-  present = λ t h. either (g.present t h) (λ i. either (f.present t i) inl (λ low. inr (let two : b.drawn.tasks ≤ c.drawn.tasks = g.tasks in omega (arith, low, two)))) inr;
+  present =
+      λ t h.
+      either (g.present t h) (λ i. either (f.present t i) inl (λ low. inr (let two : b.drawn.tasks ≤ c.drawn.tasks = g.tasks in omega (arith, low, two)))) inr;
   owns = λ n x h. either (g.owns n x h) (λ i. either (f.owns n x i) inl (λ own. inr (calm-owns b c g n x own))) inr;
   ended = λ n x h. either (g.ended n x h) (λ i. either (f.ended n x i) inl (λ end. inr (calm-ended b c g x end))) inr;
   triggers = λ t depth h.
       either (g.triggers t depth h)
       (λ later. either (f.triggers t depth later.0)
       (λ first. inl (first.0, λ low waited. later.1 (let one : a.drawn.tasks ≤ b.drawn.tasks = f.tasks in omega (arith, low, one)) (first.1 low waited)))
-      (λ made. inr (let two : b.drawn.tasks ≤ c.drawn.tasks = g.tasks in let low : t.0 < b.drawn.tasks = made.0 in omega (arith, low, two), later.1 made.0 made.1)))
+      (λ made.
+      inr (let two : b.drawn.tasks ≤ c.drawn.tasks = g.tasks in let low : t.0 < b.drawn.tasks = made.0 in omega (arith, low, two), later.1 made.0 made.1)))
       inr;
   ends = λ n x h.
       let later = g.ends n x h in
@@ -383,7 +395,10 @@ calm-good p w v g calm = record {
   known = λ c d e. let x = calm.calls c d e in subst (λ n. c.0 ≤ n) (sym calm.drawn) (g.known c x.before x.found);
   within = λ o k c h. subst (λ n. c.0 ≤ n) (sym calm.drawn) (g.within o k c (calm.queues o k c h));
   there = λ o k c h. calm.there o k c h (g.there o k c (calm.queues o k c h));
-  right = λ o k c d h e. let x = calm.calls c d e in rightly-same p o k x.before d (x.directed o k h).0 (x.directed o k h).1 (x.queued o k h).0 (x.queued o k h).1 (g.right o k c x.before (calm.queues o k c h) x.found);
+  right =
+      λ o k c d h e. let x = calm.calls c d e in
+      rightly-same p o k x.before d (x.directed o k h).0 (x.directed o k h).1 (x.queued o k h).0 (x.queued o k h).1
+      (g.right o k c x.before (calm.queues o k c h) x.found);
   agent = λ k c h. g.agent k c (calm.agent k c h);
   serving = λ a c h. subst (λ n. c.0 ≤ n) (sym calm.drawn) (g.serving a c (more w v calm a c h));
   begun = λ a c d h e.
@@ -396,7 +411,9 @@ calm-good p w v g calm = record {
   awaited = λ c h. either (calm.timeouts g.objects c h) (λ was. either (g.awaited c was.0) (λ a. inl (was.1 a)) inr) inl;
   objects = calm.objects g.objects;
   named = calm.named g.named;
-  present = λ t h. either (calm.present t h) (λ i. let low : t.0 < w.drawn.tasks = g.present t i in let grown : w.drawn.tasks ≤ v.drawn.tasks = calm.tasks in omega (arith, low, grown)) (λ low. low);
+  present =
+      λ t h. either (calm.present t h)
+      (λ i. let low : t.0 < w.drawn.tasks = g.present t i in let grown : w.drawn.tasks ≤ v.drawn.tasks = calm.tasks in omega (arith, low, grown)) (λ low. low);
   owns = λ a c h. either (calm.owns a c h) (λ i. calm-owns w v calm a c (g.owns a c i)) (λ own. own);
   ended = λ a c h. either (calm.ended a c h) (λ i. calm-ended w v calm c (g.ended a c i)) (λ end. end);
   triggers = λ t depth h.
@@ -409,7 +426,8 @@ calm-good p w v g calm = record {
 }
 
 -- fewer time-outs are to be dropped
-pub fewer-late : {late then_late : CallNo → Bool} (p : Image) (w : World) → GoodBut p late w → ((c : CallNo) → is_appointed (is_timeout_of c) w ≡ true → late c ≡ true → then_late c ≡ true) → GoodBut p then_late w
+pub fewer-late : {late then_late : CallNo → Bool} (p : Image) (w : World) → GoodBut p late w
+    → ((c : CallNo) → is_appointed (is_timeout_of c) w ≡ true → late c ≡ true → then_late c ≡ true) → GoodBut p then_late w
 fewer-late p w g fewer = record {
   known = g.known;
   within = g.within;
@@ -439,7 +457,8 @@ rightly-queued true b c e f = cc
 rightly-queued false b c e f = cc
 
 -- a call that is queued no more stands in no queue
-pub unqueued-out : {late : CallNo → Bool} (p : Image) (w : World) (c : CallNo) (d : Call) → GoodBut p late w → call_of w c ≡ Some d → is_queued d ≡ false → Out c w
+pub unqueued-out : {late : CallNo → Bool} (p : Image) (w : World) (c : CallNo) (d : Call) → GoodBut p late w → call_of w c ≡ Some d → is_queued d ≡ false
+    → Out c w
 unqueued-out p w c d g e f o k h = rightly-queued (is_queued d) (same_owner o d.owner) (eqb (place_of_entry p d.entry) k) (g.right o k c d h e) f
 
 positive : (n : ℕ) → (0 < n → ⊥) → n ≡ 0
@@ -451,7 +470,8 @@ begun-queued true b e f = cc
 begun-queued false b e f = cc
 
 -- a call that is queued is served by nobody
-pub queued-idle : {late : CallNo → Bool} (p : Image) (w : World) (c : CallNo) (d : Call) → GoodBut p late w → call_of w c ≡ Some d → is_queued d ≡ true → Idle c w
+pub queued-idle : {late : CallNo → Bool} (p : Image) (w : World) (c : CallNo) (d : Call) → GoodBut p late w → call_of w c ≡ Some d → is_queued d ≡ true
+    → Idle c w
 queued-idle p w c d g e f a = positive (served c w a) (λ h. begun-queued d.begun (is_none d.outcome) (g.begun a c d h e).0 f)
 
 -- a number that was not drawn stands in no queue, and nobody serves it

@@ -62,7 +62,8 @@ opens-led me name w v good still live = record { good = good; live = still me li
 
 -- ---- a task is made
 
-found-step : (test : Task → Bool) (z x t : Task) (zs : List Task) (b : Bool) → cond b (Some z) (find test zs) ≡ Some t → (find test zs ≡ Some t → find test (zs ++ x ∷ []) ≡ Some t) → cond b (Some z) (find test (zs ++ x ∷ [])) ≡ Some t
+found-step : (test : Task → Bool) (z x t : Task) (zs : List Task) (b : Bool) → cond b (Some z) (find test zs) ≡ Some t
+    → (find test zs ≡ Some t → find test (zs ++ x ∷ []) ≡ Some t) → cond b (Some z) (find test (zs ++ x ∷ [])) ≡ Some t
 found-step test z x t zs true e onward = e
 found-step test z x t zs false e onward = onward e
 
@@ -76,14 +77,17 @@ live-added x w (who.Task k) live =
     ap (λ found. is_made (unwrap_or found nobody)) (found-added (is_who (who.Task k)) x there.task w.tasks there.found) ∙ not_made (who.Task k) w there live
 live-added x w who.Agent live = live
 
-task-added : (me name : Who) (onward : Option StatementNo) (t : Task) (w : World) → ActingWorld me w → t.who ≡ who.Task (record { 0 = w.drawn.tasks }) → t.frames ≡ [] → Led me w (add_task t (gone_on name onward w))
+task-added : (me name : Who) (onward : Option StatementNo) (t : Task) (w : World) → ActingWorld me w → t.who ≡ who.Task (record { 0 = w.drawn.tasks })
+    → t.frames ≡ [] → Led me w (add_task t (gone_on name onward w))
 task-added me name onward t w g named_so none =
     let gone = gone_on name onward w in
     let same = gone-same name onward w in
     let led = same-led me w gone g same in
     let drawn_so : t.who ≡ who.Task (record { 0 = gone.drawn.tasks }) = named_so ∙ ap (λ d. who.Task (record { 0 = d })) (sym same.drawn_tasks) in
     record {
-      good = adds-good nobody_free t gone.tasks gone.agent (scope_keys gone.scopes) gone.drawn.tasks gone.drawn.scopes led.good drawn_so (ap (λ fs. owns_in (natures fs)) none);
+      good =
+          adds-good nobody_free t gone.tasks gone.agent (scope_keys gone.scopes) gone.drawn.tasks gone.drawn.scopes led.good drawn_so
+          (ap (λ fs. owns_in (natures fs)) none);
       live = live-added t gone me led.live;
       still = λ n h. live-added t gone n (led.still n h);
     }
@@ -99,7 +103,8 @@ openings me = record {
       (opens-live p name scope b purpose w there) g.1;
   opens_accept = λ p name s c w g live.
       let there = live-there name w live in
-      opens-led me name w (open_accept p name s c w) (accepts-good nobody_free p name s c w there g.0 (λ known. not_made name w there live)) (accepts-live p name s c w there) g.1;
+      opens-led me name w (open_accept p name s c w) (accepts-good nobody_free p name s c w there g.0 (λ known. not_made name w there live))
+      (accepts-live p name s c w there) g.1;
   acts_live = λ name w g acts. subst (λ x. Live x w) (sym acts) g.1;
   still_live = λ name a b {xs} r. r.still name;
   adds_task = λ name onward t w g named_so none. task-added me name onward t w g named_so none;
@@ -120,4 +125,5 @@ gone-live name w n apart live =
 
 pub gone-good : (name : Who) (w : World) → GoodWorld w → NoScopes name w → GoodWorld (forget_task name w)
 gone-good name w g none =
-    forgets-good nobody_free name w.tasks w.agent (scope_keys w.scopes) w.drawn.tasks w.drawn.scopes g (subst (λ (x : Task). marks_of x ≡ []) (sym (one_of-is w name)) none)
+    forgets-good nobody_free name w.tasks w.agent (scope_keys w.scopes) w.drawn.tasks w.drawn.scopes g
+    (subst (λ (x : Task). marks_of x ≡ []) (sym (one_of-is w name)) none)

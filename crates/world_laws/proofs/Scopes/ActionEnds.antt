@@ -37,7 +37,9 @@ use Rattle.profile_machine.specs.CallEnds.{deliver}
 use Rattle.profile_machine.specs.Protected.{begin_call, body_opens, edit_top_protected, has_room_for_body, serve_call, served_next}
 use Rattle.profile_machine.specs.Sending.{send_on}
 use Rattle.profile_machine.specs.Values.{object_of}
-use Rattle.profile_machine.specs.Serving.{begins_part, behind_action, chosen_is_sent, close_action, end_entry_body, end_in_protected, end_in_protected_by, end_operation, finish_call, finish_raised, finish_well, go_on_by_mode, is_own_call, no_longer_serves, not_left, outcome_by, part_of_start, release_object, serve_calls, serve_chosen, serve_next, settle_sent, with_body_left}
+use Rattle.profile_machine.specs.Serving.{begins_part, behind_action, chosen_is_sent, close_action, end_entry_body, end_in_protected, end_in_protected_by}
+use Rattle.profile_machine.specs.Serving.{end_operation, finish_call, finish_raised, finish_well, go_on_by_mode, is_own_call, no_longer_serves, not_left}
+use Rattle.profile_machine.specs.Serving.{outcome_by, part_of_start, release_object, serve_calls, serve_chosen, serve_next, settle_sent, with_body_left}
 use Rattle.world_laws.proofs.Scopes.FineMoves.{Live, natures, chains, says-keeps}
 use Rattle.world_laws.proofs.Scopes.ScopeKeys.{scope_keys}
 use Rattle.world_laws.proofs.Scopes.TaskMarks.{opened-owns, owns_in, shielded}
@@ -57,7 +59,8 @@ use Rattle.world_laws.proofs.Scopes.Kept.Sending.{send_on-keeps}
 use Rattle.world_laws.proofs.Scopes.Kept.Serving.{begins_part-keeps, behind_action-keeps, close_action-alters, settle_sent-keeps}
 use Rattle.machine_laws.proofs.FineMoves.{AnyWorld}
 use Rattle.line_laws.proofs.Exits.TaskEdits.{one_of-is}
-use Rattle.machine_laws.proofs.Kept.Combinators.{From, Keeps, changes-keeps, changes_then-from, either-from, keeps-from, looks_at-from, nothing-keeps, then-keeps}
+use Rattle.machine_laws.proofs.Kept.Combinators.{From, Keeps, changes-keeps, changes_then-from, either-from}
+use Rattle.machine_laws.proofs.Kept.Combinators.{keeps-from, looks_at-from, nothing-keeps, then-keeps}
 use Rattle.machine_laws.proofs.Plain.Calls.{enqueue-keeps}
 
 -- ---- the mark of an action above all scopes
@@ -95,7 +98,8 @@ top-shielded name f w top e = top-shields f (frames_of w name) top e
 -- ---- it ends
 
 -- whatever stands on top of somebody so shielded has no scope
-top-none : (action : Bool) (mark : Mark) (rest : Bool) → is_protected mark ≡ action → cond action true (cond (is_some (id_in mark)) false rest) ≡ true → id_in mark ≡ None
+top-none : (action : Bool) (mark : Mark) (rest : Bool) → is_protected mark ≡ action → cond action true (cond (is_some (id_in mark)) false rest) ≡ true
+    → id_in mark ≡ None
 top-none true mark rest is e = protected-none mark is
 top-none false mark rest is e = none-here (id_in mark) e where
   none-here : (id : Option ScopeId) → cond (is_some id) false rest ≡ true → id ≡ None
@@ -125,7 +129,9 @@ pop-led me w g h =
     let v = pop me w in
     let put = popped-put me w there in
     let here : shielded (natures t.frames) ≡ true = subst (λ (x : Task). shielded (natures x.frames) ≡ true) (there-is me w there) h in
-    let kept = marks-good nobody_free me t (with_frames (rest_of t.frames) t) w.tasks w.agent v.tasks v.agent (scope_keys w.scopes) w.drawn.tasks w.drawn.scopes put g.0 refl (shielded-owns t.frames here) (λ e. e) in
+    let kept =
+    marks-good nobody_free me t (with_frames (rest_of t.frames) t) w.tasks w.agent v.tasks v.agent
+    (scope_keys w.scopes) w.drawn.tasks w.drawn.scopes put g.0 refl (shielded-owns t.frames here) (λ e. e) in
     let rest = edited-rest me (λ u. with_frames (rest_of u.frames) u) w in
     let good : GoodWorld v =
     subst (λ d. Good nobody_free v.tasks v.agent (scope_keys v.scopes) d.tasks d.scopes) (sym rest.1)
@@ -133,7 +139,8 @@ pop-led me w g h =
     record { good = good; live = pop-live me w there me g.1; still = pop-live me w there }
 
 module _ (p : Image) (me : Who) where
-  step_then : (f g : Step) (w : World) → ActingWorld me w → Shielded me w → Keeps AnyWorld SameStep f → ((v : World) → ActingWorld me v → Shielded me v → From (StepOf (Led me)) v g) → From (StepOf (Led me)) w (f ▷ g)
+  step_then : (f g : Step) (w : World) → ActingWorld me w → Shielded me w → Keeps AnyWorld SameStep f
+      → ((v : World) → ActingWorld me v → Shielded me v → From (StepOf (Led me)) v g) → From (StepOf (Led me)) w (f ▷ g)
   step_then f g w good h kept next = quietly_then-from (acting-lifts me) f g w good kept (λ v same good_v. next v good_v (same-shield w v me same h))
 
   release_object-from : (m : ProtectedMark) (w : World) → ActingWorld me w → Shielded me w → From (StepOf (Led me)) w (release_object p me m)
@@ -141,36 +148,60 @@ module _ (p : Image) (me : Who) where
   release_object-from m w good h =
       step_then (says Own (line.Exit me m.object)) _ w good h (says-keeps quiet Own (line.Exit me m.object)) (λ v good_v k.
       let out = pop-led me v good_v k in
-      changes_then-from (chains (acting me)) (pop me) _ v out (keeps-from (chains (acting me)) (changes (close_action me m.object) ▷ lose_running p me (inherited_by.Ceiling m.object) ▷ set_deferred p me ▷ behind_action p me m m.release m.own_call) (pop me v) (out.good, out.live)
+      changes_then-from (chains (acting me)) (pop me) _ v out
+      (keeps-from (chains (acting me))
+      (changes (close_action me m.object) ▷ lose_running p me (inherited_by.Ceiling m.object) ▷ set_deferred p me
+      ▷ behind_action p me m m.release m.own_call)
+      (pop me v)
+      (out.good, out.live)
       (then-keeps (chains (acting me)) _ _ (changes-keeps (chains (acting me)) _ (close_action-alters (acting me) me m.object))
       (then-keeps (chains (acting me)) _ _ (lose_running-keeps (acting me) p me (inherited_by.Ceiling m.object) tt)
       (then-keeps (chains (acting me)) _ _ (set_deferred-keeps (acting me) p me tt) (behind_action-keeps (acting me) p me m m.release m.own_call))))))
 
   -- queued calls are served, and then the object is released
   module _ (m : ProtectedMark) where
-    served-from : (is_sent : Bool) (c : CallNo) (d : Call) (again : Step) (w : World) → ((v : World) → ActingWorld me v → Shielded me v → From (StepOf (Led me)) v again) → ActingWorld me w → Shielded me w
-        → From (StepOf (Led me)) w (serve_call p (part_of_start is_sent) me m.object d (begins_part p is_sent c) (deliver p (part_of_start is_sent) c (call_ended.ToRaise exception.Storage) ▷ again))
+    served-from : (is_sent : Bool) (c : CallNo) (d : Call) (again : Step) (w : World)
+        → ((v : World) → ActingWorld me v → Shielded me v → From (StepOf (Led me)) v again) → ActingWorld me w → Shielded me w
+        → From (StepOf (Led me)) w
+        (serve_call p (part_of_start is_sent) me m.object d (begins_part p is_sent c)
+        (deliver p (part_of_start is_sent) c (call_ended.ToRaise exception.Storage) ▷ again))
     served-from is_sent c d again w onward good h =
         let part = part_of_start is_sent in
         let otherwise = deliver p part c (call_ended.ToRaise exception.Storage) ▷ again in
-        let by_room = λ (b : Bool). elim b as (λ _. Step) [ true ↦ body_opens p me m.object d ▷ begins_part p is_sent c | false ↦ says part (line.Finish me d.number (meeting.Raised exception.Storage)) ▷ otherwise ] in
+        let by_room =
+        λ (b : Bool). elim b as (λ _. Step) [
+          | true ↦ body_opens p me m.object d ▷ begins_part p is_sent c
+          | false ↦ says part (line.Finish me d.number (meeting.Raised exception.Storage)) ▷ otherwise
+        ] in
         looks_at-from (chains (acting me)) (λ v. begin_call p part me d ▷ by_room (has_room_for_body p v me d.entry)) w
         (step_then (begin_call p part me d) (by_room (has_room_for_body p w me d.entry)) w good h (begin_call-keeps quiet p part me d)
-        (λ v g k. either-from (chains (acting me)) (has_room_for_body p w me d.entry) (body_opens p me m.object d ▷ begins_part p is_sent c) (says part (line.Finish me d.number (meeting.Raised exception.Storage)) ▷ otherwise) v
-        (keeps-from (chains (acting me)) _ v g (then-keeps (chains (acting me)) _ _ (body_opens-keeps (acting me) (openings me) p me m.object d refl) (begins_part-keeps (acting me) p is_sent c)))
-        (step_then (says part (line.Finish me d.number (meeting.Raised exception.Storage))) otherwise v g k (says-keeps quiet part (line.Finish me d.number (meeting.Raised exception.Storage)))
-        (λ u g_u l. step_then (deliver p part c (call_ended.ToRaise exception.Storage)) again u g_u l (deliver-keeps quiet p part c (call_ended.ToRaise exception.Storage)) onward))))
+        (λ v g k. either-from (chains (acting me)) (has_room_for_body p w me d.entry) (body_opens p me m.object d ▷ begins_part p is_sent c)
+        (says part (line.Finish me d.number (meeting.Raised exception.Storage)) ▷ otherwise) v
+        (keeps-from (chains (acting me)) _ v g
+        (then-keeps (chains (acting me)) _ _ (body_opens-keeps (acting me) (openings me) p me m.object d refl) (begins_part-keeps (acting me) p is_sent c)))
+        (step_then (says part (line.Finish me d.number (meeting.Raised exception.Storage))) otherwise v g k
+        (says-keeps quiet part (line.Finish me d.number (meeting.Raised exception.Storage)))
+        (λ u g_u l. step_then (deliver p part c (call_ended.ToRaise exception.Storage)) again u g_u l
+        (deliver-keeps quiet p part c (call_ended.ToRaise exception.Storage)) onward))))
 
-    found-from : (is_sent : Bool) (c : CallNo) (again : Step) (found : Option Call) (w : World) → ((v : World) → ActingWorld me v → Shielded me v → From (StepOf (Led me)) v again) → ActingWorld me w → Shielded me w
-        → From (StepOf (Led me)) w (for_some found (λ d. serve_call p (part_of_start is_sent) me m.object d (begins_part p is_sent c) (deliver p (part_of_start is_sent) c (call_ended.ToRaise exception.Storage) ▷ again)))
+    found-from : (is_sent : Bool) (c : CallNo) (again : Step) (found : Option Call) (w : World)
+        → ((v : World) → ActingWorld me v → Shielded me v → From (StepOf (Led me)) v again) → ActingWorld me w → Shielded me w
+        → From (StepOf (Led me)) w
+        (for_some found
+        (λ d. serve_call p (part_of_start is_sent) me m.object d (begins_part p is_sent c)
+        (deliver p (part_of_start is_sent) c (call_ended.ToRaise exception.Storage) ▷ again)))
     found-from is_sent c again None w onward good h = keeps-from (chains (acting me)) _ w good (nothing-keeps (chains (acting me)))
     found-from is_sent c again (Some d) w onward good h = served-from is_sent c d again w onward good h
 
-    serve_chosen-from : (is_sent : Bool) (again : Step) (chosen : Option CallNo) (w : World) → ((v : World) → ActingWorld me v → Shielded me v → From (StepOf (Led me)) v again) → ActingWorld me w → Shielded me w
+    serve_chosen-from : (is_sent : Bool) (again : Step) (chosen : Option CallNo) (w : World)
+        → ((v : World) → ActingWorld me v → Shielded me v → From (StepOf (Led me)) v again) → ActingWorld me w → Shielded me w
         → From (StepOf (Led me)) w (serve_chosen p me m is_sent again chosen)
     serve_chosen-from is_sent again None w onward good h = release_object-from m w good h
     serve_chosen-from is_sent again (Some c) w onward good h =
-        looks_at-from (chains (acting me)) (λ v. for_some (call_of v c) (λ d. serve_call p (part_of_start is_sent) me m.object d (begins_part p is_sent c) (deliver p (part_of_start is_sent) c (call_ended.ToRaise exception.Storage) ▷ again))) w
+        looks_at-from (chains (acting me))
+        (λ v. for_some (call_of v c)
+        (λ d. serve_call p (part_of_start is_sent) me m.object d (begins_part p is_sent c)
+        (deliver p (part_of_start is_sent) c (call_ended.ToRaise exception.Storage) ▷ again))) w
         (found-from is_sent c again (call_of w c) w onward good h)
 
     serve_next-from : (fuel : ℕ) (sent : Option CallNo) (w : World) → ActingWorld me w → Shielded me w → From (StepOf (Led me)) w (serve_next fuel p me m sent)
@@ -178,13 +209,17 @@ module _ (p : Image) (me : Who) where
     serve_next-from zero sent w good h = release_object-from m w good h
     serve_next-from (suc fuel) sent w good h =
         let chosen = λ (v : World). served_next p v me (object_of v m.object) in
-        looks_at-from (chains (acting me)) (λ v. settle_sent p sent (chosen_is_sent sent (chosen v)) ▷ serve_chosen p me m (chosen_is_sent sent (chosen v)) (serve_next fuel p me m None) (chosen v)) w
+        looks_at-from (chains (acting me))
+        (λ v. settle_sent p sent (chosen_is_sent sent (chosen v))
+        ▷ serve_chosen p me m (chosen_is_sent sent (chosen v)) (serve_next fuel p me m None) (chosen v)) w
         (step_then (settle_sent p sent (chosen_is_sent sent (chosen w))) _ w good h (settle_sent-keeps quiet p sent (chosen_is_sent sent (chosen w)))
-        (λ v g k. serve_chosen-from (chosen_is_sent sent (chosen w)) (serve_next fuel p me m None) (chosen w) v (λ u g_u l. serve_next-from fuel None u g_u l) g k))
+        (λ v g k.
+        serve_chosen-from (chosen_is_sent sent (chosen w)) (serve_next fuel p me m None) (chosen w) v (λ u g_u l. serve_next-from fuel None u g_u l) g k))
 
     serve_calls-from : (sent : Option CallNo) (w : World) → ActingWorld me w → Shielded me w → From (StepOf (Led me)) w (serve_calls p me m sent)
     unfolding serve_calls
-    serve_calls-from sent w good h = looks_at-from (chains (acting me)) (λ v. serve_next (suc (length v.calls)) p me m sent) w (serve_next-from (suc (length w.calls)) sent w good h)
+    serve_calls-from sent w good h =
+        looks_at-from (chains (acting me)) (λ v. serve_next (suc (length v.calls)) p me m sent) w (serve_next-from (suc (length w.calls)) sent w good h)
 
     by_mode-from : (mode : Mode) (w : World) → ActingWorld me w → Shielded me w → From (StepOf (Led me)) w (go_on_by_mode p me m mode)
     unfolding go_on_by_mode
@@ -194,19 +229,23 @@ module _ (p : Image) (me : Who) where
     raised-from : (c : Call) (e : Raised) (w : World) → ActingWorld me w → Shielded me w → From (StepOf (Led me)) w (finish_raised p me m c e)
     unfolding finish_raised
     raised-from c e w good h =
-        step_then (says TheFinish (line.Finish me c.number (meeting.Raised e))) _ w good h (says-keeps quiet TheFinish (line.Finish me c.number (meeting.Raised e)))
-        (λ v g k. step_then (deliver p TheFinish c.number (outcome_by (is_own_call me m.own_call c) e)) _ v g k (deliver-keeps quiet p TheFinish c.number (outcome_by (is_own_call me m.own_call c) e))
+        step_then (says TheFinish (line.Finish me c.number (meeting.Raised e))) _ w good h
+        (says-keeps quiet TheFinish (line.Finish me c.number (meeting.Raised e)))
+        (λ v g k. step_then (deliver p TheFinish c.number (outcome_by (is_own_call me m.own_call c) e)) _ v g k
+        (deliver-keeps quiet p TheFinish c.number (outcome_by (is_own_call me m.own_call c) e))
         (λ u g_u l. serve_calls-from None u g_u l))
 
     well-from : (c : Call) (sending : Option Sending) (w : World) → ActingWorld me w → Shielded me w → From (StepOf (Led me)) w (finish_well p me m c sending)
     unfolding finish_well
     well-from c None w good h =
         step_then (says TheFinish (line.Finish me c.number meeting.Ok)) _ w good h (says-keeps quiet TheFinish (line.Finish me c.number meeting.Ok))
-        (λ v g k. step_then (deliver p TheFinish c.number call_ended.Finished) _ v g k (deliver-keeps quiet p TheFinish c.number call_ended.Finished) (λ u g_u l. serve_calls-from None u g_u l))
+        (λ v g k. step_then (deliver p TheFinish c.number call_ended.Finished) _ v g k (deliver-keeps quiet p TheFinish c.number call_ended.Finished)
+        (λ u g_u l. serve_calls-from None u g_u l))
     well-from c (Some s) w good h =
         step_then (says TheFinish (line.Finish me c.number meeting.Requeue)) _ w good h (says-keeps quiet TheFinish (line.Finish me c.number meeting.Requeue))
         (λ v g k. step_then (send_on c.number s) _ v g k (send_on-keeps quiet c.number s)
-        (λ u g_u l. step_then (enqueue p c.number) _ u g_u l (enqueue-keeps (plain_steps quiet) p c.number) (λ x g_x j. serve_calls-from (Some c.number) x g_x j)))
+        (λ u g_u l.
+        step_then (enqueue p c.number) _ u g_u l (enqueue-keeps (plain_steps quiet) p c.number) (λ x g_x j. serve_calls-from (Some c.number) x g_x j)))
 
     finish_call-from : (leaving : Leaving) (c : Call) (w : World) → ActingWorld me w → Shielded me w → From (StepOf (Led me)) w (finish_call p me m leaving c)
     unfolding finish_call
@@ -217,29 +256,37 @@ module _ (p : Image) (me : Who) where
     finish_call-from how.Abort c w good h = well-from c c.sending w good h
     finish_call-from how.Terminate c w good h = well-from c c.sending w good h
 
-    called-from : (leaving : Leaving) (found : Option Call) (w : World) → ActingWorld me w → Shielded me w → From (StepOf (Led me)) w (for_some found (finish_call p me m leaving))
+    called-from : (leaving : Leaving) (found : Option Call) (w : World) → ActingWorld me w → Shielded me w
+        → From (StepOf (Led me)) w (for_some found (finish_call p me m leaving))
     called-from leaving None w good h = keeps-from (chains (acting me)) _ w good (nothing-keeps (chains (acting me)))
     called-from leaving (Some c) w good h = finish_call-from leaving c w good h
 
-  end_operation-from : (m : ProtectedMark) (leaving : Leaving) (w : World) → ActingWorld me w → Shielded me w → From (StepOf (Led me)) w (end_operation p me m leaving)
+  end_operation-from : (m : ProtectedMark) (leaving : Leaving) (w : World) → ActingWorld me w → Shielded me w
+      → From (StepOf (Led me)) w (end_operation p me m leaving)
   unfolding end_operation
   end_operation-from m leaving w good h =
-      step_then (changes (edit_top_protected me (with_body_left leaving))) _ w good h (changes-keeps (chains quiet) _ (edit_top_protected-alters quiet me (with_body_left leaving)))
+      step_then (changes (edit_top_protected me (with_body_left leaving))) _ w good h
+      (changes-keeps (chains quiet) _ (edit_top_protected-alters quiet me (with_body_left leaving)))
       (λ v g k. step_then (changes (edit_top me not_left)) _ v g k (changes-keeps (chains quiet) _ (edit_top-alters quiet me not_left (λ x. refl)))
       (λ u g_u l. by_mode-from (with_body_left leaving m) m.mode u g_u l))
 
-  end_entry_body-from : (m : ProtectedMark) (leaving : Leaving) (c : CallNo) (w : World) → ActingWorld me w → Shielded me w → From (StepOf (Led me)) w (end_entry_body p me m leaving c)
+  end_entry_body-from : (m : ProtectedMark) (leaving : Leaving) (c : CallNo) (w : World) → ActingWorld me w → Shielded me w
+      → From (StepOf (Led me)) w (end_entry_body p me m leaving c)
   unfolding end_entry_body
   end_entry_body-from m leaving c w good h =
-      step_then (changes (edit_top_protected me no_longer_serves)) _ w good h (changes-keeps (chains quiet) _ (edit_top_protected-alters quiet me no_longer_serves))
+      step_then (changes (edit_top_protected me no_longer_serves)) _ w good h
+      (changes-keeps (chains quiet) _ (edit_top_protected-alters quiet me no_longer_serves))
       (λ v g k. step_then (changes (edit_top me not_left)) _ v g k (changes-keeps (chains quiet) _ (edit_top-alters quiet me not_left (λ x. refl)))
-      (λ u g_u l. looks_at-from (chains (acting me)) (λ x. for_some (call_of x c) (finish_call p me (no_longer_serves m) leaving)) u (called-from (no_longer_serves m) leaving (call_of u c) u g_u l)))
+      (λ u g_u l. looks_at-from (chains (acting me)) (λ x. for_some (call_of x c) (finish_call p me (no_longer_serves m) leaving)) u
+      (called-from (no_longer_serves m) leaving (call_of u c) u g_u l)))
 
-  by_serves-from : (m : ProtectedMark) (leaving : Leaving) (c : Option CallNo) (w : World) → ActingWorld me w → Shielded me w → From (StepOf (Led me)) w (end_in_protected_by p me m leaving c)
+  by_serves-from : (m : ProtectedMark) (leaving : Leaving) (c : Option CallNo) (w : World) → ActingWorld me w → Shielded me w
+      → From (StepOf (Led me)) w (end_in_protected_by p me m leaving c)
   unfolding end_in_protected_by
   by_serves-from m leaving None w good h = end_operation-from m leaving w good h
   by_serves-from m leaving (Some c) w good h = end_entry_body-from m leaving c w good h
 
-  pub end_in_protected-from : (m : ProtectedMark) (leaving : Leaving) (w : World) → ActingWorld me w → Shielded me w → From (StepOf (Led me)) w (end_in_protected p me m leaving)
+  pub end_in_protected-from : (m : ProtectedMark) (leaving : Leaving) (w : World) → ActingWorld me w → Shielded me w
+      → From (StepOf (Led me)) w (end_in_protected p me m leaving)
   unfolding end_in_protected
   end_in_protected-from m leaving w good h = by_serves-from m leaving m.serves w good h

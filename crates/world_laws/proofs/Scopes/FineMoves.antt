@@ -110,17 +110,22 @@ pub record FineMoves (G : GoodWorld) (May Other : Naming) (R : StepRelation) (Q 
   pub listed : (w : World) → G w → EachIs Other w.tasks
   pub awaits : (name : Who) (w : World) → G w → waits_for_activation (waiting_of w name) ≡ true → Other name
   -- tasks: an edit of anybody that leaves alone who it is, its marks, its state and its master; one of marks alone
-  pub edits_task : (name : Who) (f : Task → Task) (w : World) → G w → ((t : Task) → (f t).who ≡ t.who) → ((t : Task) → (f t).frames ≡ t.frames) → ((t : Task) → (f t).state ≡ t.state) → ((t : Task) → (f t).master ≡ t.master) → R w [] (edit_task name f w)
-  pub edits_frames : (name : Who) (f : List Frame → List Frame) (w : World) → G w → ((fs : List Frame) → natures (f fs) ≡ natures fs) → R w [] (edit_task name (λ t. with_frames (f t.frames) t) w)
+  pub edits_task : (name : Who) (f : Task → Task) (w : World) → G w → ((t : Task) → (f t).who ≡ t.who) → ((t : Task) → (f t).frames ≡ t.frames)
+      → ((t : Task) → (f t).state ≡ t.state) → ((t : Task) → (f t).master ≡ t.master) → R w [] (edit_task name f w)
+  pub edits_frames : (name : Who) (f : List Frame → List Frame) (w : World) → G w → ((fs : List Frame) → natures (f fs) ≡ natures fs)
+      → R w [] (edit_task name (λ t. with_frames (f t.frames) t) w)
   -- a mark is opened by who has one, behind its going on; by a task; and one that is no protected action ends
-  pub pushes_on : (name : Who) (onward : Option StatementNo) (f g : Frame) (w : World) → G w → May name → top_of w name ≡ Some g → (nature f.mark).id ≡ None → R w [] (push name f (gone_on name onward w))
+  pub pushes_on : (name : Who) (onward : Option StatementNo) (f g : Frame) (w : World) → G w → May name → top_of w name ≡ Some g → (nature f.mark).id ≡ None
+      → R w [] (push name f (gone_on name onward w))
   pub opens_abortable : (name : Who) (f : Frame) (w : World) → G w → Other name → (nature f.mark).id ≡ None → R w [] (push name f w)
-  pub pops : (name : Who) (f : Frame) (w : World) → G w → May name → top_of w name ≡ Some f → is_protected f.mark ≡ false → id_in f.mark ≡ None → R w [] (pop name w)
+  pub pops : (name : Who) (f : Frame) (w : World) → G w → May name → top_of w name ≡ Some f → is_protected f.mark ≡ false → id_in f.mark ≡ None
+      → R w [] (pop name w)
   -- states, and places
   pub readies : (name : Who) (w : World) → G w → Other name → R w [] (edit_task name (with_state Runnable) w)
   pub blocks : (name : Who) (waiting : Waiting) (w : World) → G w → Other name → R w [] (edit_task name (with_state (Blocked waiting)) w)
   pub places : (p : Image) (part : Part) (name : Who) (end : QueueEnd) (w : World) → G w → May name → R w (ready_line p part name end w ∷ []) w
-  pub says_blocked : (part : Part) (name : Who) (waiting : Waiting) (w : World) → G w → Other name → R w (record { part = part; line = said.Block name (word_of waiting) } ∷ []) w
+  pub says_blocked : (part : Part) (name : Who) (waiting : Waiting) (w : World) → G w → Other name
+      → R w (record { part = part; line = said.Block name (word_of waiting) } ∷ []) w
   pub sets_quantum : (level ticks : ℕ) (w : World) → G w → R w [] (record w { quanta = edit_at level (λ _. ticks) w.quanta })
   pub ends_environment : (leaving : Leaving) (w : World) → G w → R w [] (end_environment leaving w)
   -- scopes and their cells
@@ -130,8 +135,10 @@ pub record FineMoves (G : GoodWorld) (May Other : Naming) (R : StepRelation) (Q 
   pub adds_call : (c : Call) (w : World) → G w → R w [] (add_call c w)
   pub forgets_call : (c : CallNo) (w : World) → G w → R w [] (forget_call c w)
   -- protected objects: no other edit changes the actions that are open
-  pub edits_object : (o : ObjectNo) (f : Object → Object) (w : World) → G w → ((x : Object) → (f x).number ≡ x.number) → ((x : Object) → (f x).actions ≡ x.actions) → R w [] (edit_object o f w)
-  pub adds_object : (p : Image) (l : Located) (u : ProtectedUnitNo) (w : World) → G w → R w [] (record w { objects = new_object p l u (suc w.drawn.objects) ∷ w.objects; drawn = object_drawn w.drawn })
+  pub edits_object : (o : ObjectNo) (f : Object → Object) (w : World) → G w → ((x : Object) → (f x).number ≡ x.number)
+      → ((x : Object) → (f x).actions ≡ x.actions) → R w [] (edit_object o f w)
+  pub adds_object : (p : Image) (l : Located) (u : ProtectedUnitNo) (w : World) → G w
+      → R w [] (record w { objects = new_object p l u (suc w.drawn.objects) ∷ w.objects; drawn = object_drawn w.drawn })
   -- protected actions: one begins, and one ends
   pub enters : (name : Who) (o : ObjectNo) (mode : Mode) (w : World) → G w → R w [] (open_action name o mode w)
   pub closes : (name : Who) (o : ObjectNo) (w : World) → G w → R w [] (close_action name o w)
@@ -156,16 +163,19 @@ pub record FineMoves (G : GoodWorld) (May Other : Naming) (R : StepRelation) (Q 
   pub sets_port : (n : ℕ) (value : ℤ) (w : World) → G w → R w [] (with_port n value w)
   pub masks : (n : ℕ) (flag : Bool) (w : World) → G w → R w [] (with_masked n flag w)
   pub keeps_interrupt : (n : ℕ) (flag : Bool) (w : World) → G w → R w [] (with_kept_interrupt n flag w)
-  pub cuts_script : (x : ℤ × Item) (rest : List (ℤ × Item)) (w : World) → G w → w.script ≡ x ∷ rest → int_le x.0 (pos w.time) ≡ true → R w [] (with_script rest w)
+  pub cuts_script : (x : ℤ × Item) (rest : List (ℤ × Item)) (w : World) → G w → w.script ≡ x ∷ rest → int_le x.0 (pos w.time) ≡ true
+      → R w [] (with_script rest w)
 
 -- Who acts opens marks and scopes, and makes tasks; and a task that waits for a meeting opens its accept.
 pub record Openings (G : GoodWorld) (Acts : Naming) (R : StepRelation) : Type 0 where
   pub pushes : (name : Who) (f : Frame) (w : World) → G w → (nature f.mark).id ≡ None → R w [] (push name f w)
-  pub opens_scope : (p : Image) (name : Who) (scope : ScopeNo) (b : Beginning) (purpose : Purpose) (w : World) → G w → Acts name → is_task_scope purpose ≡ false → R w [] (open_scope p name scope b purpose w)
+  pub opens_scope : (p : Image) (name : Who) (scope : ScopeNo) (b : Beginning) (purpose : Purpose) (w : World) → G w → Acts name → is_task_scope purpose ≡ false
+      → R w [] (open_scope p name scope b purpose w)
   pub opens_accept : (p : Image) (name : Who) (s : StatementNo) (c : Call) (w : World) → G w → Live name w → R w [] (open_accept p name s c w)
   pub acts_live : (name : Who) (w : World) → G w → Acts name → Live name w
   pub still_live : (name : Who) (a b : World) {xs : List Said} → R a xs b → Live name a → Live name b
-  pub adds_task : (name : Who) (onward : Option StatementNo) (t : Task) (w : World) → G w → t.who ≡ who.Task (record { 0 = w.drawn.tasks }) → t.frames ≡ [] → R w [] (add_task t (gone_on name onward w))
+  pub adds_task : (name : Who) (onward : Option StatementNo) (t : Task) (w : World) → G w → t.who ≡ who.Task (record { 0 = w.drawn.tasks }) → t.frames ≡ []
+      → R w [] (add_task t (gone_on name onward w))
 
 -- steps and moves are put together, a line that tells no change is said, and an effect is over
 module _ {G : GoodWorld} {May Other : Naming} {R : StepRelation} {Q : MoveRelation} (moves : FineMoves G May Other R Q) where

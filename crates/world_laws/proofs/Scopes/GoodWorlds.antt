@@ -10,7 +10,8 @@ use Rattle.profile_image.specs.Words.{same_who}
 use Rattle.profile_machine.specs.Tasks.{is_made}
 use Rattle.machine_laws.proofs.ListLemmas.{Falls}
 use Rattle.machine_laws.proofs.QueueLemmas.{by_test}
-use Rattle.world_laws.proofs.Scopes.ScopeKeys.{Key, number, falls-dropped, Weights, weigh, of_number, except, drop_number, dropped-weigh, dropped-less, absent-weigh, scope_keys}
+use Rattle.world_laws.proofs.Scopes.ScopeKeys.{Key, number, falls-dropped, Weights, weigh, of_number, except}
+use Rattle.world_laws.proofs.Scopes.ScopeKeys.{drop_number, dropped-weigh, dropped-less, absent-weigh, scope_keys}
 use Rattle.world_laws.proofs.Scopes.TaskMarks.{Own, marks_of, keys_by, task_keys, bottomed}
 use Rattle.world_laws.proofs.Scopes.Likeness.{Like, AllLike, Same, all-found, all-keys, all-named, like-keys, named, keys_of, everybody_keys}
 use Rattle.world_laws.proofs.Scopes.TaskPuts.{Put}
@@ -50,9 +51,11 @@ like_one : (ts us : List Task) (a b : Task) (n : Who) → AllLike ts us → Like
 like_one ts us a b (who.Task n) all agent = all-found (who.Task n) ts us all
 like_one ts us a b who.Agent all agent = agent
 
-like-good : (free : Who → Bool) (ts us : List Task) (a b : Task) (keys : List Key) (dt ds : ℕ) → AllLike ts us → Like a b → Good free ts a keys dt ds → Good free us b keys dt ds
+like-good : (free : Who → Bool) (ts us : List Task) (a b : Task) (keys : List Key) (dt ds : ℕ) → AllLike ts us → Like a b → Good free ts a keys dt ds
+    → Good free us b keys dt ds
 like-good free ts us a b keys dt ds all agent g =
-    let same : everybody_keys us b ≡ everybody_keys ts a = ap (λ ks. ks ++ task_keys b) (all-keys ts us all) ∙ ap (λ ks. keys_of ts ++ ks) (like-keys a b agent) in
+    let same : everybody_keys us b ≡ everybody_keys ts a =
+    ap (λ ks. ks ++ task_keys b) (all-keys ts us all) ∙ ap (λ ks. keys_of ts ++ ks) (like-keys a b agent) in
     record {
       once = g.once;
       fresh = g.fresh;
@@ -96,9 +99,11 @@ below-bottomed m [] e = refl
 below-bottomed (k, true) (n ∷ ms) e = absurd (false≢true e)
 below-bottomed (k, false) (n ∷ ms) e = e
 
-module _ {name : Who} {t u : Task} {tasks tasks_behind : List Task} {agent agent_behind : Task} (put : Put name t u tasks agent tasks_behind agent_behind) (t_named : t.who ≡ name) (u_named : u.who ≡ name) where
+module _ {name : Who} {t u : Task} {tasks tasks_behind : List Task} {agent agent_behind : Task} (put : Put name t u tasks agent tasks_behind agent_behind)
+    (t_named : t.who ≡ name) (u_named : u.who ≡ name) where
   -- by each name it is the one that was put, or the one that was there
-  by_name : (P : Task → Type 0) (n : Who) → (same_who n name ≡ true → P u) → (same_who n name ≡ false → P (one_of tasks agent n)) → P (one_of tasks_behind agent_behind n)
+  by_name : (P : Task → Type 0) (n : Who) → (same_who n name ≡ true → P u) → (same_who n name ≡ false → P (one_of tasks agent n))
+      → P (one_of tasks_behind agent_behind n)
   by_name P n own other = by_test (same_who n name)
       (λ e. let is : n ≡ name = same_who-path n name e in subst (λ x. P (one_of tasks_behind agent_behind x)) (sym is) (subst P (sym put.is) (own e)))
       (λ e. subst P (sym (put.other n e)) (other e))
@@ -112,7 +117,8 @@ module _ {name : Who} {t u : Task} {tasks tasks_behind : List Task} {agent agent
   u-keys : task_keys u ≡ keys_by name (marks_of u)
   u-keys = ap (λ n. keys_by n (marks_of u)) u_named
 
-  pub begins-good : (free : Who → Bool) (keys : List Key) (dt ds : ℕ) (task : Bool) → Good free tasks agent keys dt ds → marks_of u ≡ (ds, task) ∷ marks_of t → (task ≡ true → marks_of t ≡ []) → (free name ≡ false → is_made u ≡ false)
+  pub begins-good : (free : Who → Bool) (keys : List Key) (dt ds : ℕ) (task : Bool) → Good free tasks agent keys dt ds → marks_of u ≡ (ds, task) ∷ marks_of t
+      → (task ≡ true → marks_of t ≡ []) → (free name ≡ false → is_made u ≡ false)
       → Good free tasks_behind agent_behind ((name, ds) ∷ keys) dt (suc ds)
   begins-good free keys dt ds task g marks alone live = record {
     once = λ k. once-step k ds (weigh (of_number k) keys) (eqb k ds) refl (g.once k) (g.fresh k);
@@ -122,13 +128,15 @@ module _ {name : Who} {t u : Task} {tasks tasks_behind : List Task} {agent agent
     unnamed = λ n is. put.names n ∙ g.unnamed n is;
     balance = λ by.
         let a = put.weighs by in
-        let b : weigh by (task_keys u) ≡ by name ds + weigh by (keys_by name (marks_of t)) = ap (λ ks. weigh by ks) u-keys ∙ ap (λ ms. weigh by (keys_by name ms)) marks in
+        let b : weigh by (task_keys u) ≡ by name ds + weigh by (keys_by name (marks_of t)) =
+        ap (λ ks. weigh by ks) u-keys ∙ ap (λ ms. weigh by (keys_by name ms)) marks in
         let c : weigh by (task_keys t) ≡ weigh by (keys_by name (marks_of t)) = ap (λ ks. weigh by ks) t-keys in
         let d = g.balance by in
         omega (arith, a, b, c, d);
     made = λ n known made. by_test (same_who n name)
         (λ e. let is : n ≡ name = same_who-path n name e in
-        let here : is_made u ≡ true = subst (λ (x : Task). is_made x ≡ true) put.is (subst (λ x. is_made (one_of tasks_behind agent_behind x) ≡ true) is made) in
+        let here : is_made u ≡ true =
+        subst (λ (x : Task). is_made x ≡ true) put.is (subst (λ x. is_made (one_of tasks_behind agent_behind x) ≡ true) is made) in
         absurd (false≢true (sym (live (subst (λ x. free x ≡ false) is known)) ∙ here)))
         (λ e. subst (λ (x : Task). marks_of x ≡ []) (sym (put.other n e)) (g.made n known (subst (λ (x : Task). is_made x ≡ true) (put.other n e) made)));
     bottom = λ n. by_name (λ x. bottomed (marks_of x) ≡ true) n
@@ -140,7 +148,8 @@ module _ {name : Who} {t u : Task} {tasks tasks_behind : List Task} {agent agent
 
   -- ---- a scope ends, with the mark that has it
 
-  pub ends-good : (free : Who → Bool) (keys : List Key) (dt ds k : ℕ) (task : Bool) → Good free tasks agent keys dt ds → marks_of t ≡ (k, task) ∷ marks_of u → (is_made u ≡ true → is_made t ≡ true) → Good free tasks_behind agent_behind (drop_number k keys) dt ds
+  pub ends-good : (free : Who → Bool) (keys : List Key) (dt ds k : ℕ) (task : Bool) → Good free tasks agent keys dt ds → marks_of t ≡ (k, task) ∷ marks_of u
+      → (is_made u ≡ true → is_made t ≡ true) → Good free tasks_behind agent_behind (drop_number k keys) dt ds
   ends-good free keys dt ds k task g marks made = record {
     once = λ j. let a = dropped-less (of_number j) k keys in let b = g.once j in omega (arith, a, b);
     fresh = λ j high. let a = dropped-less (of_number j) k keys in let b = g.fresh j high in omega (arith, a, b);
@@ -153,10 +162,13 @@ module _ {name : Who} {t u : Task} {tasks tasks_behind : List Task} {agent agent
         let one : eqb k k ≡ true = eq-eqb k k refl in
         let left : (x : Weights) → x name k + weigh x behind ≡ weigh x all =
         (λ x. let a = put.weighs x in
-        let b : weigh x (task_keys t) ≡ x name k + weigh x (keys_by name (marks_of u)) = ap (λ ks. weigh x ks) t-keys ∙ ap (λ ms. weigh x (keys_by name ms)) marks in
+        let b : weigh x (task_keys t) ≡ x name k + weigh x (keys_by name (marks_of u)) =
+        ap (λ ks. weigh x ks) t-keys ∙ ap (λ ms. weigh x (keys_by name ms)) marks in
         let c : weigh x (task_keys u) ≡ weigh x (keys_by name (marks_of u)) = ap (λ ks. weigh x ks) u-keys in
         omega (arith, a, b, c)) in
-        let none : weigh (of_number k) behind ≡ 0 = (let a = left (of_number k) in let b = g.balance (of_number k) in let c = g.once k in let d : bit (eqb k k) ≡ 1 = ap bit one in omega (arith, a, b, c, d)) in
+        let none : weigh (of_number k) behind ≡ 0 =
+        (let a = left (of_number k) in
+        let b = g.balance (of_number k) in let c = g.once k in let d : bit (eqb k k) ≡ 1 = ap bit one in omega (arith, a, b, c, d)) in
         let a = absent-weigh by k behind none in
         let b = left (except k by) in
         let c = g.balance (except k by) in
@@ -165,8 +177,11 @@ module _ {name : Who} {t u : Task} {tasks tasks_behind : List Task} {agent agent
         omega (arith, a, b, c, d, e);
     made = λ n known is. by_test (same_who n name)
         (λ e. let same : n ≡ name = same_who-path n name e in
-        let here : is_made u ≡ true = subst (λ (x : Task). is_made x ≡ true) put.is (subst (λ x. is_made (one_of tasks_behind agent_behind x) ≡ true) same is) in
-        let none : marks_of t ≡ [] = own-task (λ x. marks_of x ≡ []) (g.made name (subst (λ x. free x ≡ false) same known) (subst (λ (x : Task). is_made x ≡ true) (sym put.own) (made here))) in
+        let here : is_made u ≡ true =
+        subst (λ (x : Task). is_made x ≡ true) put.is (subst (λ x. is_made (one_of tasks_behind agent_behind x) ≡ true) same is) in
+        let none : marks_of t ≡ [] =
+        own-task (λ x. marks_of x ≡ [])
+        (g.made name (subst (λ x. free x ≡ false) same known) (subst (λ (x : Task). is_made x ≡ true) (sym put.own) (made here))) in
         absurd (let clash : (k, task) ∷ marks_of u ≡ [] = sym marks ∙ none in cc))
         (λ e. subst (λ (x : Task). marks_of x ≡ []) (sym (put.other n e)) (g.made n known (subst (λ (x : Task). is_made x ≡ true) (put.other n e) is)));
     bottom = λ n. by_name (λ x. bottomed (marks_of x) ≡ true) n
@@ -186,7 +201,8 @@ own-alone k task ms e h = alone-below k ms (subst (λ b. bottomed ((k, b) ∷ ms
 
 -- ---- who was only made becomes ready
 
-pub freed-good : (name : Who) (t u : Task) (tasks : List Task) (agent : Task) (tasks_behind : List Task) (agent_behind : Task) (keys : List Key) (dt ds : ℕ) → Put name t u tasks agent tasks_behind agent_behind
+pub freed-good : (name : Who) (t u : Task) (tasks : List Task) (agent : Task) (tasks_behind : List Task) (agent_behind : Task) (keys : List Key) (dt ds : ℕ)
+    → Put name t u tasks agent tasks_behind agent_behind
     → Good (λ n. same_who n name) tasks agent keys dt ds → Like t u → is_made u ≡ false → Good nobody_free tasks_behind agent_behind keys dt ds
 freed-good name t u tasks agent tasks_behind agent_behind keys dt ds put g like live = record {
   once = g.once;
@@ -209,7 +225,8 @@ freed-good name t u tasks agent tasks_behind agent_behind keys dt ds put g like 
   agent_live = put.agent_made g.agent_live;
 }
 
-pub weakened : (free : Who → Bool) (tasks : List Task) (agent : Task) (keys : List Key) (dt ds : ℕ) → Good nobody_free tasks agent keys dt ds → Good free tasks agent keys dt ds
+pub weakened : (free : Who → Bool) (tasks : List Task) (agent : Task) (keys : List Key) (dt ds : ℕ) → Good nobody_free tasks agent keys dt ds
+    → Good free tasks agent keys dt ds
 weakened free tasks agent keys dt ds g = record {
   once = g.once;
   fresh = g.fresh;
@@ -225,19 +242,28 @@ weakened free tasks agent keys dt ds g = record {
 
 -- ---- an edit that leaves the scopes of marks
 
-pub marks-good : (free : Who → Bool) (name : Who) (t u : Task) (tasks : List Task) (agent : Task) (tasks_behind : List Task) (agent_behind : Task) (keys : List Key) (dt ds : ℕ) → Put name t u tasks agent tasks_behind agent_behind
-    → Good free tasks agent keys dt ds → u.who ≡ t.who → marks_of u ≡ marks_of t → (is_made u ≡ true → is_made t ≡ true) → Good free tasks_behind agent_behind keys dt ds
+pub marks-good : (free : Who → Bool) (name : Who) (t u : Task) (tasks : List Task) (agent : Task) (tasks_behind : List Task) (agent_behind : Task)
+    (keys : List Key) (dt ds : ℕ)
+    → Put name t u tasks agent tasks_behind agent_behind
+    → Good free tasks agent keys dt ds → u.who ≡ t.who → marks_of u ≡ marks_of t → (is_made u ≡ true → is_made t ≡ true)
+    → Good free tasks_behind agent_behind keys dt ds
 marks-good free name t u tasks agent tasks_behind agent_behind keys dt ds put g same_name marks made = record {
   once = g.once;
   fresh = g.fresh;
   falls = g.falls;
   single = λ n. subst (λ m. m ≤ 1) (sym (put.names n)) (g.single n);
   unnamed = λ n is. put.names n ∙ g.unnamed n is;
-  balance = λ by. let a = put.weighs by in let b : weigh by (task_keys u) ≡ weigh by (task_keys t) = ap (λ n. weigh by (keys_by n (marks_of u))) same_name ∙ ap (λ ms. weigh by (keys_by t.who ms)) marks in let d = g.balance by in omega (arith, a, b, d);
+  balance =
+      λ by. let a = put.weighs by in
+      let b : weigh by (task_keys u) ≡ weigh by (task_keys t) =
+      ap (λ n. weigh by (keys_by n (marks_of u))) same_name ∙ ap (λ ms. weigh by (keys_by t.who ms)) marks in
+      let d = g.balance by in omega (arith, a, b, d);
   made = λ n known is. by_test (same_who n name)
       (λ e. let same : n ≡ name = same_who-path n name e in
       let here : is_made u ≡ true = subst (λ (x : Task). is_made x ≡ true) put.is (subst (λ x. is_made (one_of tasks_behind agent_behind x) ≡ true) same is) in
-      let there : marks_of t ≡ [] = subst (λ (x : Task). marks_of x ≡ []) put.own (g.made name (subst (λ x. free x ≡ false) same known) (subst (λ (x : Task). is_made x ≡ true) (sym put.own) (made here))) in
+      let there : marks_of t ≡ [] =
+      subst (λ (x : Task). marks_of x ≡ []) put.own
+      (g.made name (subst (λ x. free x ≡ false) same known) (subst (λ (x : Task). is_made x ≡ true) (sym put.own) (made here))) in
       subst (λ x. marks_of (one_of tasks_behind agent_behind x) ≡ []) (sym same) (subst (λ (x : Task). marks_of x ≡ []) (sym put.is) (marks ∙ there)))
       (λ e. subst (λ (x : Task). marks_of x ≡ []) (sym (put.other n e)) (g.made n known (subst (λ (x : Task). is_made x ≡ true) (put.other n e) is)));
   bottom = λ n. by_test (same_who n name)

@@ -30,7 +30,8 @@ pub record Lifts (G : GoodWorld) (M : WorldRelation) : Type 0 where
 
 module _ {G : GoodWorld} {M : WorldRelation} (lifts : Lifts G M) where
   placed : (lines : List Event) (a b : World) → M a b → M a (placed_by lines b)
-  placed lines a b h = lifts.goes_on a b (placed_by lines b) h (lifts.lift b (placed_by lines b) (lifts.behind a b h) (quiet.settles b b [] lines (same-self b)))
+  placed lines a b h =
+      lifts.goes_on a b (placed_by lines b) h (lifts.lift b (placed_by lines b) (lifts.behind a b h) (quiet.settles b b [] lines (same-self b)))
 
   pub lifted : FineMoves G Anybody Anybody (StepOf M) (MoveOf M)
   lifted = record {
@@ -47,7 +48,8 @@ module _ {G : GoodWorld} {M : WorldRelation} (lifts : Lifts G M) where
     awaits = λ name w g is. tt;
     stays = λ w g. lifts.lift w _ g (quiet.stays w tt);
     says = λ part line w g. lifts.lift w _ g (quiet.says part line w tt);
-    edits_task = λ name f w g same_who same_frames same_state same_master. lifts.lift w _ g (quiet.edits_task name f w tt same_who same_frames same_state same_master);
+    edits_task =
+        λ name f w g same_who same_frames same_state same_master. lifts.lift w _ g (quiet.edits_task name f w tt same_who same_frames same_state same_master);
     edits_frames = λ name f w g same. lifts.lift w _ g (quiet.edits_frames name f w tt same);
     pushes_on = λ name onward f g w good may top none. lifts.lift w _ good (quiet.pushes_on name onward f g w tt may top none);
     opens_abortable = λ name f w g o none. lifts.lift w _ g (quiet.opens_abortable name f w tt o none);
@@ -95,13 +97,15 @@ module _ {G : GoodWorld} {M : WorldRelation} (lifts : Lifts G M) where
   unfolding Kept
   kept-same w v said ys k = k.2
 
-  quietly-kept : (g : Step) (w : World) (said : List Said) (d : Done) → G w → Kept SameStep w said d → ((v : World) → Same w v → G v → From (StepOf M) v g) → Kept (StepOf M) w said (goes_on_with g d)
+  quietly-kept : (g : Step) (w : World) (said : List Said) (d : Done) → G w → Kept SameStep w said d → ((v : World) → Same w v → G v → From (StepOf M) v g)
+      → Kept (StepOf M) w said (goes_on_with g d)
   unfolding From
   quietly-kept g w said (done v ys) good k next =
       let same = kept-same w v said ys k in
       then-kept (chains lifted) w v said ys (g v ys) (quiet-kept w said (done v ys) good k) (next v same (lifts.behind w v (lifts.lift w v good same)) ys)
 
-  pub quietly_then-from : (f g : Step) (w : World) → G w → Keeps AnyWorld SameStep f → ((v : World) → Same w v → G v → From (StepOf M) v g) → From (StepOf M) w (f ▷ g)
+  pub quietly_then-from : (f g : Step) (w : World) → G w → Keeps AnyWorld SameStep f → ((v : World) → Same w v → G v → From (StepOf M) v g)
+      → From (StepOf M) w (f ▷ g)
   unfolding Keeps From
   quietly_then-from f g w good a next said = quietly-kept g w said (f w said) good (a w tt said) next
 
@@ -111,7 +115,8 @@ module _ {G : GoodWorld} {M : WorldRelation} (lifts : Lifts G M) where
 
 -- steps that are put together, each of its own relation
 module _ (M N L : WorldRelation) (joins : (a b c : World) → M a b → N b c → L a c) where
-  joined-kept : (g : Step) (w : World) (said : List Said) (d : Done) → Kept (StepOf M) w said d → ((v : World) → M w v → From (StepOf N) v g) → Kept (StepOf L) w said (goes_on_with g d)
+  joined-kept : (g : Step) (w : World) (said : List Said) (d : Done) → Kept (StepOf M) w said d → ((v : World) → M w v → From (StepOf N) v g)
+      → Kept (StepOf L) w said (goes_on_with g d)
   unfolding Kept From
   joined-kept g w said (done v ys) k next = both (g v ys) (next v k.2 ys) where
     both : (d : Done) → Kept (StepOf N) v ys d → Kept (StepOf L) w said d
@@ -122,7 +127,8 @@ module _ (M N L : WorldRelation) (joins : (a b c : World) → M a b → N b c �
   joined-from f g w a next said = joined-kept g w said (f w said) (a said) next
 
 -- what one relation says, another says
-weaker-kept : (M N : WorldRelation) (w : World) (said : List Said) (d : Done) → ((v : World) → M w v → N w v) → Kept (StepOf M) w said d → Kept (StepOf N) w said d
+weaker-kept : (M N : WorldRelation) (w : World) (said : List Said) (d : Done) → ((v : World) → M w v → N w v) → Kept (StepOf M) w said d
+    → Kept (StepOf N) w said d
 unfolding Kept
 weaker-kept M N w said (done v ys) k h = (h.0, h.1, k v h.2)
 

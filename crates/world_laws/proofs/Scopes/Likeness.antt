@@ -41,8 +41,14 @@ like-frames t fs e = record { who = refl; marks = ap owns_in e; shield = λ h. a
 pub like-opened : (t : Task) (f : Frame) → (nature f.mark).id ≡ None → Like t (with_frames (f ∷ t.frames) t)
 like-opened t f none = record { who = refl; marks = opened-owns f t.frames none; shield = λ h. opened-shielded f t.frames none h; made = λ h. h }
 
-pub like-popped : (t : Task) (f : Frame) → first_of t.frames ≡ Some f → is_protected f.mark ≡ false → id_in f.mark ≡ None → Like t (with_frames (rest_of t.frames) t)
-like-popped t f top plain none = record { who = refl; marks = popped-owns f t.frames top none; shield = λ h. popped-shielded f t.frames top plain none h; made = λ h. h }
+pub like-popped : (t : Task) (f : Frame) → first_of t.frames ≡ Some f → is_protected f.mark ≡ false → id_in f.mark ≡ None
+    → Like t (with_frames (rest_of t.frames) t)
+like-popped t f top plain none = record {
+  who = refl;
+  marks = popped-owns f t.frames top none;
+  shield = λ h. popped-shielded f t.frames top plain none h;
+  made = λ h. h;
+}
 
 -- ---- lists of tasks
 
@@ -63,7 +69,8 @@ all-then (t ∷ ts) [] vs a b = absurd a
 all-then (t ∷ ts) (u ∷ us) [] a b = b
 all-then (t ∷ ts) (u ∷ us) (v ∷ vs) a b = (like-then t u v a.0 b.0, all-then ts us vs a.1 b.1)
 
-set-step : (test : Task → Bool) (z t u : Task) (zs : List Task) (b : Bool) → cond b (Some z) (find test zs) ≡ Some t → Like t u → (find test zs ≡ Some t → AllLike zs (set_where test u zs)) → AllLike (z ∷ zs) (cond b (u ∷ zs) (z ∷ set_where test u zs))
+set-step : (test : Task → Bool) (z t u : Task) (zs : List Task) (b : Bool) → cond b (Some z) (find test zs) ≡ Some t → Like t u
+    → (find test zs ≡ Some t → AllLike zs (set_where test u zs)) → AllLike (z ∷ zs) (cond b (u ∷ zs) (z ∷ set_where test u zs))
 set-step test z t u zs true e like onward = let is : z ≡ t = cc in (subst (λ x. Like x u) (sym is) like, all-self zs)
 set-step test z t u zs false e like onward = (like-self z, onward e)
 
@@ -92,7 +99,8 @@ all-named n [] (u ∷ us) a = absurd a
 all-named n (t ∷ ts) [] a = absurd a
 all-named n (t ∷ ts) (u ∷ us) a = ap (λ k. bit (same_who n k) + named n us) a.0.who ∙ ap (λ m. bit (is_who n t) + m) (all-named n ts us a.1)
 
-found-step : (b : Bool) (t u : Task) (x y : Option Task) → Like t u → Like (unwrap_or x nobody) (unwrap_or y nobody) → Like (unwrap_or (cond b (Some t) x) nobody) (unwrap_or (cond b (Some u) y) nobody)
+found-step : (b : Bool) (t u : Task) (x y : Option Task) → Like t u → Like (unwrap_or x nobody) (unwrap_or y nobody)
+    → Like (unwrap_or (cond b (Some t) x) nobody) (unwrap_or (cond b (Some u) y) nobody)
 found-step true t u x y a b = a
 found-step false t u x y a b = b
 
@@ -130,10 +138,23 @@ pub like_at : (w v : World) (n : Who) → Same w v → Like (task_of w n) (task_
 like_at w v (who.Task n) a = all-found (who.Task n) w.tasks v.tasks a.tasks
 like_at w v who.Agent a = a.agent
 
-edited-found : (name : Who) (f : Task → Task) (w : World) (found : Option Task) → task_at w name ≡ found → ((t : Task) → found ≡ Some t → Like t (f t)) → Same w (edit_task_found name f w found)
+edited-found : (name : Who) (f : Task → Task) (w : World) (found : Option Task) → task_at w name ≡ found → ((t : Task) → found ≡ Some t → Like t (f t))
+    → Same w (edit_task_found name f w found)
 edited-found name f w None e like = record { tasks = all-self w.tasks; agent = like-self w.agent; scopes = refl; drawn_scopes = refl; drawn_tasks = refl }
-edited-found (who.Task n) f w (Some t) e like = record { tasks = all-set (is_who (who.Task n)) t (f t) w.tasks e (like t refl); agent = like-self w.agent; scopes = refl; drawn_scopes = refl; drawn_tasks = refl }
-edited-found who.Agent f w (Some t) e like = record { tasks = all-self w.tasks; agent = subst (λ x. Like x (f t)) (let is : t ≡ w.agent = cc in is) (like t refl); scopes = refl; drawn_scopes = refl; drawn_tasks = refl }
+edited-found (who.Task n) f w (Some t) e like = record {
+  tasks = all-set (is_who (who.Task n)) t (f t) w.tasks e (like t refl);
+  agent = like-self w.agent;
+  scopes = refl;
+  drawn_scopes = refl;
+  drawn_tasks = refl;
+}
+edited-found who.Agent f w (Some t) e like = record {
+  tasks = all-self w.tasks;
+  agent = subst (λ x. Like x (f t)) (let is : t ≡ w.agent = cc in is) (like t refl);
+  scopes = refl;
+  drawn_scopes = refl;
+  drawn_tasks = refl;
+}
 
 pub edited-same : (name : Who) (f : Task → Task) (w : World) → ((t : Task) → Like t (f t)) → Same w (edit_task name f w)
 edited-same name f w like = edited-found name f w (task_at w name) refl (λ t e. like t)

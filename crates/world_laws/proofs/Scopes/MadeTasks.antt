@@ -24,7 +24,8 @@ use Rattle.machine_laws.proofs.QueueLemmas.{by_test}
 abbrev pub Present : Who → World → Type 0
 Present n w = 0 < named n w.tasks
 
-found-step : (n : Who) (z : Task) (zs : List Task) (b : Bool) → is_who n z ≡ b → 0 < bit b + named n zs → (0 < named n zs → (t : Task) × (find (is_who n) zs ≡ Some t)) → (t : Task) × (cond b (Some z) (find (is_who n) zs) ≡ Some t)
+found-step : (n : Who) (z : Task) (zs : List Task) (b : Bool) → is_who n z ≡ b → 0 < bit b + named n zs
+    → (0 < named n zs → (t : Task) × (find (is_who n) zs ≡ Some t)) → (t : Task) × (cond b (Some z) (find (is_who n) zs) ≡ Some t)
 found-step n z zs true e more onward = (z, refl)
 found-step n z zs false e more onward = onward (omega (arith, more))
 
@@ -53,7 +54,8 @@ pub each-both : (P R S : Task → Type 0) (ts : List Task) → ((t : Task) → P
 each-both P R S [] k g h = tt
 each-both P R S (t ∷ ts) k g h = (k t g.0 h.0, each-both P R S ts k g.1 h.1)
 
-filter-step : (P : Task → Type 0) (test : Task → Bool) (t : Task) (ts : List Task) (b : Bool) → test t ≡ b → P t → Each (λ u. (test u ≡ true) × P u) ts → Each (λ u. (test u ≡ true) × P u) (cond b (t ∷ ts) ts)
+filter-step : (P : Task → Type 0) (test : Task → Bool) (t : Task) (ts : List Task) (b : Bool) → test t ≡ b → P t → Each (λ u. (test u ≡ true) × P u) ts
+    → Each (λ u. (test u ≡ true) × P u) (cond b (t ∷ ts) ts)
 filter-step P test t ts true e h each = ((e, h), each)
 filter-step P test t ts false e h each = each
 
@@ -66,14 +68,18 @@ abbrev pub Distinct : List Task → Type 0
 Distinct [] = Unit {0}
 Distinct (t ∷ ts) = Each (λ u. same_who u.who t.who ≡ false) ts × Distinct ts
 
-distinct-step : (test : Task → Bool) (t : Task) (ts left : List Task) (b : Bool) → Each (λ u. same_who u.who t.who ≡ false) left → Distinct left → Distinct (cond b (t ∷ left) left)
+distinct-step : (test : Task → Bool) (t : Task) (ts left : List Task) (b : Bool) → Each (λ u. same_who u.who t.who ≡ false) left → Distinct left
+    → Distinct (cond b (t ∷ left) left)
 distinct-step test t ts left true apart rest = (apart, rest)
 distinct-step test t ts left false apart rest = rest
 
 pub distinct-filter : (test : Task → Bool) (ts : List Task) → Distinct ts → Distinct (filter test ts)
 distinct-filter test [] h = tt
 distinct-filter test (t ∷ ts) h =
-    distinct-step test t ts (filter test ts) (test t) (each-on (λ u. (test u ≡ true) × (same_who u.who t.who ≡ false)) (λ u. same_who u.who t.who ≡ false) (filter test ts) (λ u k. k.1) (each-filter (λ u. same_who u.who t.who ≡ false) test ts h.0)) (distinct-filter test ts h.1)
+    distinct-step test t ts (filter test ts) (test t)
+    (each-on (λ u. (test u ≡ true) × (same_who u.who t.who ≡ false)) (λ u. same_who u.who t.who ≡ false) (filter test ts) (λ u k. k.1)
+    (each-filter (λ u. same_who u.who t.who ≡ false) test ts h.0))
+    (distinct-filter test ts h.1)
 
 no-bit : (b : Bool) (m : ℕ) → bit b + m ≡ 0 → (b ≡ false) × (m ≡ 0)
 no-bit true m e = absurd (omega (arith, e))
@@ -84,7 +90,9 @@ absent-apart n [] e = tt
 absent-apart n (t ∷ ts) e = let h = no-bit (is_who n t) (named n ts) e in (same_who-flip n t.who h.0, absent-apart n ts h.1)
 
 head-alone : (t : Task) (ts : List Task) → named t.who (t ∷ ts) ≤ 1 → named t.who ts ≡ 0
-head-alone t ts one = let self = ap bit (same_who-self t.who) in let k : bit (is_who t.who t) ≡ 1 = self in let l : bit (is_who t.who t) + named t.who ts ≤ 1 = one in omega (arith, k, l)
+head-alone t ts one =
+    let self = ap bit (same_who-self t.who) in
+    let k : bit (is_who t.who t) ≡ 1 = self in let l : bit (is_who t.who t) + named t.who ts ≤ 1 = one in omega (arith, k, l)
 
 tail-single : (n : Who) (t : Task) (ts : List Task) → named n (t ∷ ts) ≤ 1 → named n ts ≤ 1
 tail-single n t ts one = let l : bit (is_who n t) + named n ts ≤ 1 = one in omega (arith, l)
@@ -107,8 +115,11 @@ found-first t ts =
 
 each-found : (ts : List Task) → Distinct ts → Each (IsFound ts) ts
 each-found [] h = tt
-each-found (t ∷ ts) h =
-    (found-first t ts, each-both (λ u. same_who u.who t.who ≡ false) (IsFound ts) (IsFound (t ∷ ts)) ts (λ u apart found. found-later t u ts apart found) h.0 (each-found ts h.1))
+each-found (t ∷ ts) h = (
+  found-first t ts,
+  each-both (λ u. same_who u.who t.who ≡ false) (IsFound ts) (IsFound (t ∷ ts)) ts (λ u apart found. found-later t u ts apart found) h.0
+      (each-found ts h.1),
+)
 
 -- ---- those that are only made
 
@@ -138,7 +149,8 @@ made-is me w g t found apart =
         none = subst (λ (x : Task). marks_of x ≡ []) (one_of-is w t.who) (rules.made t.who refl (ap is_made (one_of-is w t.who ∙ is) ∙ made));
         present = found.1;
         other = by_test (same_who me t.who)
-            (λ e. absurd (let same : me ≡ t.who = same_who-path me t.who e in let live : is_made t ≡ false = subst (λ (x : Task). is_made x ≡ false) is (subst (λ x. Live x w) same g.1) in false≢true (sym live ∙ made)))
+            (λ e. absurd (let same : me ≡ t.who = same_who-path me t.who e in
+            let live : is_made t ≡ false = subst (λ (x : Task). is_made x ≡ false) is (subst (λ x. Live x w) same g.1) in false≢true (sym live ∙ made)))
             (λ e. e);
       };
     }

@@ -24,7 +24,8 @@ abbrev pub SameMove : MoveRelation
 SameMove w xs v = Same w v
 
 -- the same tasks, and scopes with the same keys
-pub same-lists : (w v : World) → v.tasks ≡ w.tasks → v.agent ≡ w.agent → scope_keys v.scopes ≡ scope_keys w.scopes → v.drawn.scopes ≡ w.drawn.scopes → v.drawn.tasks ≡ w.drawn.tasks → Same w v
+pub same-lists : (w v : World) → v.tasks ≡ w.tasks → v.agent ≡ w.agent → scope_keys v.scopes ≡ scope_keys w.scopes → v.drawn.scopes ≡ w.drawn.scopes
+    → v.drawn.tasks ≡ w.drawn.tasks → Same w v
 same-lists w v tasks agent scopes drawn_scopes drawn_tasks = record {
   tasks = subst (λ ts. AllLike w.tasks ts) (sym tasks) (all-self w.tasks);
   agent = subst (λ t. Like w.agent t) (sym agent) (like-self w.agent);
@@ -50,7 +51,9 @@ pub like-state : (t : Task) (state : State) → is_made_state state ≡ false �
 like-state t state other = record { who = refl; marks = refl; shield = λ e. e; made = λ e. absurd (false≢true (sym other ∙ e)) }
 
 pub gone-same : (name : Who) (onward : Option StatementNo) (w : World) → Same w (gone_on name onward w)
-gone-same name onward w = edited-same name (λ t. with_frames (edit_first (goes_on onward) t.frames) t) w (λ t. like-frames t (edit_first (goes_on onward) t.frames) (first-natures (goes_on onward) t.frames (λ x. refl)))
+gone-same name onward w =
+    edited-same name (λ t. with_frames (edit_first (goes_on onward) t.frames) t) w
+    (λ t. like-frames t (edit_first (goes_on onward) t.frames) (first-natures (goes_on onward) t.frames (λ x. refl)))
 
 pub quiet : FineMoves AnyWorld Anybody Anybody SameStep SameMove
 quiet = record {
@@ -67,9 +70,12 @@ quiet = record {
   task_other = λ n. tt;
   listed = λ w g. each-anybody w.tasks;
   awaits = λ name w g is. tt;
-  edits_task = λ name f w g same_who same_frames same_state same_master. edited-same name f w (λ t. like-edit t (f t) (same_who t) (same_frames t) (same_state t));
+  edits_task =
+      λ name f w g same_who same_frames same_state same_master. edited-same name f w (λ t. like-edit t (f t) (same_who t) (same_frames t) (same_state t));
   edits_frames = λ name f w g same. edited-same name (λ t. with_frames (f t.frames) t) w (λ t. like-frames t (f t.frames) (same t.frames));
-  pushes_on = λ name onward f g w good may top none. same-then w (gone_on name onward w) (push name f (gone_on name onward w)) (gone-same name onward w) (opened-same name f (gone_on name onward w) none);
+  pushes_on =
+      λ name onward f g w good may top none.
+      same-then w (gone_on name onward w) (push name f (gone_on name onward w)) (gone-same name onward w) (opened-same name f (gone_on name onward w) none);
   opens_abortable = λ name f w g o none. opened-same name f w none;
   pops = λ name f w g may top plain none. popped-same name f w top plain none;
   readies = λ name w g o. edited-same name (with_state Runnable) w (λ t. like-state t Runnable refl);

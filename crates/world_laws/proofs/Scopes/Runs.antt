@@ -48,7 +48,8 @@ environment-found : (P : Task → Type 0) (b : Bool) (t : Task) → P t → P no
 environment-found P true t own blank = own
 environment-found P false t own blank = blank
 
-blank-one : (P : Task → Type 0) (p : Image) (n : Who) → P (environment_task p) → P (agent_at_first p) → P nobody → P (one_of (environment_task p ∷ []) (agent_at_first p) n)
+blank-one : (P : Task → Type 0) (p : Image) (n : Who) → P (environment_task p) → P (agent_at_first p) → P nobody
+    → P (one_of (environment_task p ∷ []) (agent_at_first p) n)
 blank-one P p (who.Task k) own agent blank = environment-found P (is_who (who.Task k) (environment_task p)) (environment_task p) own blank
 blank-one P p who.Agent own agent blank = agent
 
@@ -86,14 +87,17 @@ unfolding opens environment-there
 opens-from p script =
     let w = blank_world p script in
     let z = open_scope p environment p.environment (plainly None) opened_for.Task w in
-    let out = opens-good nobody_free p environment p.environment (plainly None) opened_for.Task w (environment-there p script) (blank-good p script) (λ own. refl) (λ known. refl) in
+    let out =
+    opens-good nobody_free p environment p.environment (plainly None) opened_for.Task w (environment-there p script) (blank-good p script) (λ own. refl)
+    (λ known. refl) in
     changes_then-from (chains goodly) (open_scope p environment p.environment (plainly None) opened_for.Task) _ w out
     (keeps-from (chains goodly) _ z out
     (then-keeps (chains goodly) _ _ (says-keeps goodly Own (said_line.New (created.Task (record { 0 = 0 })) None p.main.priority))
     (then-keeps (chains goodly) _ _ (to_tail-keeps goodly p Own environment tt) (open_sequence-keeps goodly p Own environment tt))))
 
 opening-good : (p : Image) (script : List (ℤ × Item)) → GoodWorld (opening p script).0
-opening-good p script = settles-from (MoveOf ToGood) p (λ a b xs k. goodly.settles a b xs (lines_of p xs) k) (opens p) (blank_world p script) (opens-from p script)
+opening-good p script =
+    settles-from (MoveOf ToGood) p (λ a b xs k. goodly.settles a b xs (lines_of p xs) k) (opens p) (blank_world p script) (opens-from p script)
 
 -- ---- an instant
 
@@ -106,11 +110,16 @@ runnable-live (Blocked waiting) e = absurd (false≢true e)
 abbrev RunnerIsReady : World → Type 0
 RunnerIsReady w = (name : Who) → w.ran ≡ Some name → is_over (task_of w name).ticks_left ≡ true → is_runnable (task_of w name) ≡ true
 
-over-good : (p : Image) (name : Who) (w : World) (over : Bool) → (over ≡ true → is_runnable (task_of w name) ≡ true) → GoodWorld w → GoodWorld ((elim over as (λ _. Move) [ true ↦ settles p (effect p name) | false ↦ rests ]) w).0
-over-good p name w true ready g = settles-from (MoveOf ToGood) p (λ a b xs k. goodly.settles a b xs (lines_of p xs) k) (effect p name) w (effect-from p name w (g, runnable-live (task_of w name).state (ready refl)))
+over-good : (p : Image) (name : Who) (w : World) (over : Bool) → (over ≡ true → is_runnable (task_of w name) ≡ true) → GoodWorld w
+    → GoodWorld ((elim over as (λ _. Move) [ true ↦ settles p (effect p name) | false ↦ rests ]) w).0
+over-good p name w true ready g =
+    settles-from (MoveOf ToGood) p (λ a b xs k. goodly.settles a b xs (lines_of p xs) k) (effect p name) w
+    (effect-from p name w (g, runnable-live (task_of w name).state (ready refl)))
 over-good p name w false ready g = g
 
-runner-good : (p : Image) (by : Option Who) (w : World) → ((name : Who) → by ≡ Some name → is_over (task_of w name).ticks_left ≡ true → is_runnable (task_of w name) ≡ true) → GoodWorld w → GoodWorld (effect_of_runner p by w).0
+runner-good : (p : Image) (by : Option Who) (w : World)
+    → ((name : Who) → by ≡ Some name → is_over (task_of w name).ticks_left ≡ true → is_runnable (task_of w name) ≡ true) → GoodWorld w
+    → GoodWorld (effect_of_runner p by w).0
 runner-good p None w ready g = g
 runner-good p (Some name) w ready g = over-good p name w (is_over (task_of w name).ticks_left) (ready name refl) g
 
@@ -123,16 +132,20 @@ instant-good p w ready g = behind_action-leads goodly p (finish_action p w).0 (r
 tock-good : (p : Image) (w : World) → GoodWorld w → GoodWorld (tock p w).0
 unfolding Leads
 tock-good p w g =
-    let b : GoodWorld (before_tick p (choose w) w).0 = before_tick-leads goodly (λ event v h. h) (λ r rest v h. same-good nobody_free v (with_serving r rest v) (same-lists v (with_serving r rest v) refl refl refl refl refl) h) p (choose w) w g in
+    let b : GoodWorld (before_tick p (choose w) w).0 =
+    before_tick-leads goodly (λ event v h. h)
+    (λ r rest v h. same-good nobody_free v (with_serving r rest v) (same-lists v (with_serving r rest v) refl refl refl refl refl) h) p (choose w) w g in
     let x = (before_tick p (choose w) w).0 in
-    subst (λ (a : World × List Event). GoodWorld a.0) (sym (tock-parts p w)) (same-good nobody_free x (next_tick (choose w) x) (same-lists x (next_tick (choose w) x) refl refl refl refl refl) b)
+    subst (λ (a : World × List Event). GoodWorld a.0) (sym (tock-parts p w))
+    (same-good nobody_free x (next_tick (choose w) x) (same-lists x (next_tick (choose w) x) refl refl refl refl refl) b)
 
 -- ---- a run
 
 -- the lines up to a world before an instant
 pub told-lines : (p : Image) (script : List (ℤ × Item)) (bound : ℕ) (w : World) → Comes p script bound w → (lines : List Event) × Tells p script bound lines w
 told-lines p script bound _ opened = ((opening p script).1, told_first)
-told-lines p script bound _ (ticked w c e) = let t = told-lines p script bound w c in ((t.0 ++ (instant p w).1) ++ (tock p (instant p w).0).1, told_on t.0 w t.1 e)
+told-lines p script bound _ (ticked w c e) =
+    let t = told-lines p script bound w c in ((t.0 ++ (instant p w).1) ++ (tock p (instant p w).0).1, told_on t.0 w t.1 e)
 
 runner-ready : (p : Image) (script : List (ℤ × Item)) (bound : ℕ) (w : World) → Comes p script bound w → RunnerIsReady w
 runner-ready p script bound w c = let t = told-lines p script bound w c in let r = runs_show_who_is_ready p script bound t.0 w t.1 in r.1

@@ -37,7 +37,8 @@ abbrev pub drop_number : ℕ → List Key → List Key
 drop_number k [] = []
 drop_number k (x ∷ xs) = cond (eqb k x.1) (drop_number k xs) (x ∷ drop_number k xs)
 
-dropped-step : (by : Weights) (k : ℕ) (x : Key) (xs ys : List Key) (b : Bool) → weigh by ys ≡ weigh (except k by) xs → weigh by (cond b ys (x ∷ ys)) ≡ cond b 0 (by x.0 x.1) + weigh (except k by) xs
+dropped-step : (by : Weights) (k : ℕ) (x : Key) (xs ys : List Key) (b : Bool) → weigh by ys ≡ weigh (except k by) xs
+    → weigh by (cond b ys (x ∷ ys)) ≡ cond b 0 (by x.0 x.1) + weigh (except k by) xs
 dropped-step by k x xs ys true e = omega (arith, e)
 dropped-step by k x xs ys false e = omega (arith, e)
 
@@ -85,7 +86,8 @@ abbrev pub scope_keys : List ScopeInUse → List Key
 scope_keys [] = []
 scope_keys (s ∷ ss) = scope_key s ∷ scope_keys ss
 
-without-step : (id : ScopeId) (s : ScopeInUse) (left_over : List ScopeInUse) (ks : List Key) (b : Bool) → scope_keys left_over ≡ ks → scope_keys (cond (not b) (s ∷ left_over) left_over) ≡ cond b ks (scope_key s ∷ ks)
+without-step : (id : ScopeId) (s : ScopeInUse) (left_over : List ScopeInUse) (ks : List Key) (b : Bool) → scope_keys left_over ≡ ks
+    → scope_keys (cond (not b) (s ∷ left_over) left_over) ≡ cond b ks (scope_key s ∷ ks)
 without-step id s left_over ks true e = e
 without-step id s left_over ks false e = ap (λ xs. scope_key s ∷ xs) e
 
@@ -93,18 +95,22 @@ pub scope_keys-without : (id : ScopeId) (ss : List ScopeInUse) → scope_keys (w
 scope_keys-without id [] = refl
 scope_keys-without id (s ∷ ss) = without-step id s (without (is_id id) ss) (drop_number id.0 (scope_keys ss)) (is_id id s) (scope_keys-without id ss)
 
-set-step : (test : ScopeInUse → Bool) (z x u : ScopeInUse) (zs : List ScopeInUse) (b : Bool) → cond b (Some z) (find test zs) ≡ Some x → scope_key u ≡ scope_key x → (find test zs ≡ Some x → scope_keys (set_where test u zs) ≡ scope_keys zs)
+set-step : (test : ScopeInUse → Bool) (z x u : ScopeInUse) (zs : List ScopeInUse) (b : Bool) → cond b (Some z) (find test zs) ≡ Some x
+    → scope_key u ≡ scope_key x → (find test zs ≡ Some x → scope_keys (set_where test u zs) ≡ scope_keys zs)
     → scope_keys (cond b (u ∷ zs) (z ∷ set_where test u zs)) ≡ scope_key z ∷ scope_keys zs
 set-step test z x u zs true e same onward = let is : z ≡ x = cc in ap (λ k. k ∷ scope_keys zs) (same ∙ ap scope_key (sym is))
 set-step test z x u zs false e same onward = ap (λ ks. scope_key z ∷ ks) (onward e)
 
-scope_keys-set : (test : ScopeInUse → Bool) (x u : ScopeInUse) (ss : List ScopeInUse) → find test ss ≡ Some x → scope_key u ≡ scope_key x → scope_keys (set_where test u ss) ≡ scope_keys ss
+scope_keys-set : (test : ScopeInUse → Bool) (x u : ScopeInUse) (ss : List ScopeInUse) → find test ss ≡ Some x → scope_key u ≡ scope_key x
+    → scope_keys (set_where test u ss) ≡ scope_keys ss
 scope_keys-set test x u [] e same = absurd cc
 scope_keys-set test x u (z ∷ zs) e same = set-step test z x u zs (test z) e same (λ k. scope_keys-set test x u zs k same)
 
-edited-found : (f : List Value → List Value) (id : ScopeId) (ss : List ScopeInUse) (found : Option ScopeInUse) → find (is_id id) ss ≡ found → scope_keys (edit_found (is_id id) (with_cells f) ss found) ≡ scope_keys ss
+edited-found : (f : List Value → List Value) (id : ScopeId) (ss : List ScopeInUse) (found : Option ScopeInUse) → find (is_id id) ss ≡ found
+    → scope_keys (edit_found (is_id id) (with_cells f) ss found) ≡ scope_keys ss
 edited-found f id ss None e = refl
 edited-found f id ss (Some x) e = scope_keys-set (is_id id) x (with_cells f x) ss e refl
 
-pub scope_keys-edited : (f : List Value → List Value) (id : ScopeId) (ss : List ScopeInUse) → scope_keys (edit_where (is_id id) (with_cells f) ss) ≡ scope_keys ss
+pub scope_keys-edited : (f : List Value → List Value) (id : ScopeId) (ss : List ScopeInUse)
+    → scope_keys (edit_where (is_id id) (with_cells f) ss) ≡ scope_keys ss
 scope_keys-edited f id ss = edited-found f id ss (find (is_id id) ss) refl

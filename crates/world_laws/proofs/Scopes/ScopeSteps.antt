@@ -60,7 +60,8 @@ there-named free (who.Task k) w there g = sym (same_who-path (who.Task k) there.
 there-named free who.Agent w there g = let found = there.found in let is : w.agent ≡ there.task = cc in ap (λ (x : Task). x.who) (sym is) ∙ g.agent_named
 
 -- what an edit leaves of who is not only made
-pub put-live : (name : Who) (t u : Task) (tasks : List Task) (agent : Task) (tasks_behind : List Task) (agent_behind : Task) → Put name t u tasks agent tasks_behind agent_behind → (is_made t ≡ false → is_made u ≡ false)
+pub put-live : (name : Who) (t u : Task) (tasks : List Task) (agent : Task) (tasks_behind : List Task) (agent_behind : Task)
+    → Put name t u tasks agent tasks_behind agent_behind → (is_made t ≡ false → is_made u ≡ false)
     → (n : Who) → is_made (one_of tasks agent n) ≡ false → is_made (one_of tasks_behind agent_behind n) ≡ false
 put-live name t u tasks agent tasks_behind agent_behind put keeps n e =
     by_test (same_who n name)
@@ -92,7 +93,8 @@ begun-put name f w v there b =
     subst (λ ts. Put name t (with_frames (f ∷ t.frames) t) ts w.agent (push name f v).tasks (push name f v).agent) b.tasks
     (subst (λ a. Put name t (with_frames (f ∷ t.frames) t) v.tasks a (push name f v).tasks (push name f v).agent) b.agent p)
 
-pub begun-good : (free : Who → Bool) (name : Who) (f : Frame) (w v : World) (there : There name w) → GoodBut free w → Begun name w v → id_in f.mark ≡ Some (next_id w) → (is_task_mark f.mark ≡ true → marks_of there.task ≡ [])
+pub begun-good : (free : Who → Bool) (name : Who) (f : Frame) (w v : World) (there : There name w) → GoodBut free w → Begun name w v
+    → id_in f.mark ≡ Some (next_id w) → (is_task_mark f.mark ≡ true → marks_of there.task ≡ [])
     → (free name ≡ false → is_made there.task ≡ false) → GoodBut free (push name f v)
 begun-good free name f w v there g b id alone live =
     let t = there.task in
@@ -100,7 +102,9 @@ begun-good free name f w v there g b id alone live =
     let z = push name f v in
     let named = there-named free name w there g in
     let marks = with_own-some (id_in f.mark) (next_id w) (is_task_mark f.mark) (marks_of t) id in
-    let h = begins-good (begun-put name f w v there b) named named free (scope_keys w.scopes) w.drawn.tasks w.drawn.scopes (is_task_mark f.mark) g marks alone live in
+    let h =
+    begins-good (begun-put name f w v there b) named named free (scope_keys w.scopes) w.drawn.tasks w.drawn.scopes
+    (is_task_mark f.mark) g marks alone live in
     let rest = edited-rest name (λ x. with_frames (f ∷ x.frames) x) v in
     let keys : scope_keys z.scopes ≡ (name, w.drawn.scopes) ∷ scope_keys w.scopes = ap scope_keys rest.0 ∙ b.keys in
     let drawn_tasks : z.drawn.tasks ≡ w.drawn.tasks = ap (λ d. d.tasks) rest.1 ∙ b.drawn_tasks in
@@ -119,7 +123,8 @@ begun-live name f w v there b n e =
 scope-begun : (p : Image) (name : Who) (scope : ScopeNo) (b : Beginning) (w : World) → Begun name w (begin_scope p name scope b w)
 scope-begun p name scope b w = record { tasks = refl; agent = refl; keys = refl; drawn_tasks = refl; drawn_scopes = refl }
 
-region-begun : (kept : Bool) (p : Image) (name : Who) (scope : ScopeNo) (b : Beginning) (w : World) → Begun name w (draw_region kept (begin_scope p name scope b w))
+region-begun : (kept : Bool) (p : Image) (name : Who) (scope : ScopeNo) (b : Beginning) (w : World)
+    → Begun name w (draw_region kept (begin_scope p name scope b w))
 region-begun true p name scope b w = record { tasks = refl; agent = refl; keys = refl; drawn_tasks = refl; drawn_scopes = refl }
 region-begun false p name scope b w = scope-begun p name scope b w
 
@@ -127,52 +132,68 @@ region-begun false p name scope b w = scope-begun p name scope b w
 abbrev scope_frame : Image → ScopeNo → Purpose → World → Frame
 scope_frame p scope purpose w = new_frame (new_scope_mark (next_id w) (region_of_next (scope_of p scope).kept w) purpose) (scope_of p scope).first
 
-pub opens-good : (free : Who → Bool) (p : Image) (name : Who) (scope : ScopeNo) (b : Beginning) (purpose : Purpose) (w : World) (there : There name w) → GoodBut free w → (is_task_scope purpose ≡ true → marks_of there.task ≡ [])
+pub opens-good : (free : Who → Bool) (p : Image) (name : Who) (scope : ScopeNo) (b : Beginning) (purpose : Purpose) (w : World) (there : There name w)
+    → GoodBut free w → (is_task_scope purpose ≡ true → marks_of there.task ≡ [])
     → (free name ≡ false → is_made there.task ≡ false) → GoodBut free (open_scope p name scope b purpose w)
 opens-good free p name scope b purpose w there g alone live =
-    begun-good free name (scope_frame p scope purpose w) w (draw_region (scope_of p scope).kept (begin_scope p name scope b w)) there g (region-begun (scope_of p scope).kept p name scope b w) refl alone live
+    begun-good free name (scope_frame p scope purpose w) w (draw_region (scope_of p scope).kept (begin_scope p name scope b w)) there g
+    (region-begun (scope_of p scope).kept p name scope b w) refl alone live
 
-pub opens-live : (p : Image) (name : Who) (scope : ScopeNo) (b : Beginning) (purpose : Purpose) (w : World) → There name w → (n : Who) → Live n w → Live n (open_scope p name scope b purpose w)
+pub opens-live : (p : Image) (name : Who) (scope : ScopeNo) (b : Beginning) (purpose : Purpose) (w : World) → There name w → (n : Who) → Live n w
+    → Live n (open_scope p name scope b purpose w)
 opens-live p name scope b purpose w there =
-    begun-live name (scope_frame p scope purpose w) w (draw_region (scope_of p scope).kept (begin_scope p name scope b w)) there (region-begun (scope_of p scope).kept p name scope b w)
+    begun-live name (scope_frame p scope purpose w) w (draw_region (scope_of p scope).kept (begin_scope p name scope b w)) there
+    (region-begun (scope_of p scope).kept p name scope b w)
 
 pub opens-put : (p : Image) (name : Who) (scope : ScopeNo) (b : Beginning) (purpose : Purpose) (w : World) (there : There name w)
-    → let v = open_scope p name scope b purpose w in let f = scope_frame p scope purpose w in Put name there.task (with_frames (f ∷ there.task.frames) there.task) w.tasks w.agent v.tasks v.agent
+    →
+    let v = open_scope p name scope b purpose w in
+    let f = scope_frame p scope purpose w in Put name there.task (with_frames (f ∷ there.task.frames) there.task) w.tasks w.agent v.tasks v.agent
 opens-put p name scope b purpose w there =
-    begun-put name (scope_frame p scope purpose w) w (draw_region (scope_of p scope).kept (begin_scope p name scope b w)) there (region-begun (scope_of p scope).kept p name scope b w)
+    begun-put name (scope_frame p scope purpose w) w (draw_region (scope_of p scope).kept (begin_scope p name scope b w)) there
+    (region-begun (scope_of p scope).kept p name scope b w)
 
 abbrev accept_frame : Image → StatementNo → Call → World → Frame
-accept_frame p s c w = new_frame (InAccept (record { call = c.number; accept = s; within = next_id w; handles = None })) (scope_of p (accept_scope (form_of p s))).first
+accept_frame p s c w =
+    new_frame (InAccept (record { call = c.number; accept = s; within = next_id w; handles = None })) (scope_of p (accept_scope (form_of p s))).first
 
 abbrev accept_beginning : Image → Who → Call → World → Beginning
 accept_beginning p name c w = record (plainly (innermost w name)) { values = parameters_of p c }
 
-pub accepts-good : (free : Who → Bool) (p : Image) (name : Who) (s : StatementNo) (c : Call) (w : World) (there : There name w) → GoodBut free w → (free name ≡ false → is_made there.task ≡ false) → GoodBut free (open_accept p name s c w)
+pub accepts-good : (free : Who → Bool) (p : Image) (name : Who) (s : StatementNo) (c : Call) (w : World) (there : There name w) → GoodBut free w
+    → (free name ≡ false → is_made there.task ≡ false) → GoodBut free (open_accept p name s c w)
 accepts-good free p name s c w there g live =
-    begun-good free name (accept_frame p s c w) w (begin_scope p name (accept_scope (form_of p s)) (accept_beginning p name c w) w) there g (scope-begun p name (accept_scope (form_of p s)) (accept_beginning p name c w) w) refl (λ e. absurd (false≢true e)) live
+    begun-good free name (accept_frame p s c w) w (begin_scope p name (accept_scope (form_of p s)) (accept_beginning p name c w) w) there g
+    (scope-begun p name (accept_scope (form_of p s)) (accept_beginning p name c w) w) refl (λ e. absurd (false≢true e)) live
 
 pub accepts-live : (p : Image) (name : Who) (s : StatementNo) (c : Call) (w : World) → There name w → (n : Who) → Live n w → Live n (open_accept p name s c w)
 accepts-live p name s c w there =
-    begun-live name (accept_frame p s c w) w (begin_scope p name (accept_scope (form_of p s)) (accept_beginning p name c w) w) there (scope-begun p name (accept_scope (form_of p s)) (accept_beginning p name c w) w)
+    begun-live name (accept_frame p s c w) w (begin_scope p name (accept_scope (form_of p s)) (accept_beginning p name c w) w) there
+    (scope-begun p name (accept_scope (form_of p s)) (accept_beginning p name c w) w)
 
 -- ---- a scope ends
 
-pub popped-put : (name : Who) (w : World) (there : There name w) → let v = pop name w in Put name there.task (with_frames (rest_of there.task.frames) there.task) w.tasks w.agent v.tasks v.agent
+pub popped-put : (name : Who) (w : World) (there : There name w) →
+    let v = pop name w in
+    Put name there.task (with_frames (rest_of there.task.frames) there.task) w.tasks w.agent v.tasks v.agent
 popped-put name w there = put-edit name (λ u. with_frames (rest_of u.frames) u) w there.task there.found refl (λ h. h)
 
 there-top : (name : Who) (f : Frame) (w : World) (there : There name w) → top_of w name ≡ Some f → first_of there.task.frames ≡ Some f
 there-top name f w there top = subst (λ (x : Task). first_of x.frames ≡ Some f) (there-is name w there) top
 
-pub scope_ends-good : (free : Who → Bool) (name : Who) (f : Frame) (id : ScopeId) (w : World) → GoodBut free w → top_of w name ≡ Some f → id_in f.mark ≡ Some id → GoodBut free (end_scope id (pop name w))
+pub scope_ends-good : (free : Who → Bool) (name : Who) (f : Frame) (id : ScopeId) (w : World) → GoodBut free w → top_of w name ≡ Some f → id_in f.mark ≡ Some id
+    → GoodBut free (end_scope id (pop name w))
 scope_ends-good free name f id w g top is =
     let there = top-there name f w top in
     let t = there.task in
     let v = pop name w in
     let named = there-named free name w there g in
     let marks = ended-owns f id t.frames (there-top name f w there top) is in
-    let h = ends-good (popped-put name w there) named named free (scope_keys w.scopes) w.drawn.tasks w.drawn.scopes id.0 (is_task_mark f.mark) g marks (λ e. e) in
+    let h =
+    ends-good (popped-put name w there) named named free (scope_keys w.scopes) w.drawn.tasks w.drawn.scopes id.0 (is_task_mark f.mark) g marks (λ e. e) in
     let rest = edited-rest name (λ u. with_frames (rest_of u.frames) u) w in
-    let keys : scope_keys (end_scope id v).scopes ≡ drop_number id.0 (scope_keys w.scopes) = scope_keys-without id v.scopes ∙ ap (λ ss. drop_number id.0 (scope_keys ss)) rest.0 in
+    let keys : scope_keys (end_scope id v).scopes ≡ drop_number id.0 (scope_keys w.scopes) =
+    scope_keys-without id v.scopes ∙ ap (λ ss. drop_number id.0 (scope_keys ss)) rest.0 in
     let drawn_tasks : v.drawn.tasks ≡ w.drawn.tasks = ap (λ d. d.tasks) rest.1 in
     let drawn_scopes : v.drawn.scopes ≡ w.drawn.scopes = ap (λ d. d.scopes) rest.1 in
     subst (λ k. Good free v.tasks v.agent (scope_keys (end_scope id v).scopes) v.drawn.tasks k) (sym drawn_scopes)
@@ -188,7 +209,8 @@ scope_ends-live name f id w top n e =
     (subst (λ (x : Task). is_made x ≡ false) (sym (one_of-is w n)) e))
 
 -- below a task's own scope it has none
-pub own_ends-alone : (free : Who → Bool) (name : Who) (f : Frame) (id : ScopeId) (w : World) → GoodBut free w → top_of w name ≡ Some f → id_in f.mark ≡ Some id → is_task_mark f.mark ≡ true → marks_of (task_of (end_scope id (pop name w)) name) ≡ []
+pub own_ends-alone : (free : Who → Bool) (name : Who) (f : Frame) (id : ScopeId) (w : World) → GoodBut free w → top_of w name ≡ Some f → id_in f.mark ≡ Some id
+    → is_task_mark f.mark ≡ true → marks_of (task_of (end_scope id (pop name w)) name) ≡ []
 own_ends-alone free name f id w g top is own =
     let there = top-there name f w top in
     let t = there.task in

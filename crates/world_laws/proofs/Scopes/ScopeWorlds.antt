@@ -1,5 +1,6 @@
 -- A good world has the scopes of its marks: so each world that a run reaches has them.
-use Rattle.std.proofs.Common.{◌≡◌, ℕ, ◌+◌, ◌≤◌, ◌<◌, Bool, true, false, cond, eqb, ltb, ◌&&◌, List, [], ◌∷◌, ◌++◌, length, Option, Some, None, refl, sym, ap, subst, ◌∙◌, arith, eq-eqb}
+use Rattle.std.proofs.Common.{◌≡◌, ℕ, ◌+◌, ◌≤◌, ◌<◌, Bool, true, false, cond, eqb, ltb, ◌&&◌, List, [], ◌∷◌}
+use Rattle.std.proofs.Common.{◌++◌, length, Option, Some, None, refl, sym, ap, subst, ◌∙◌, arith, eq-eqb}
 use Rattle.std.specs.Prelude.{filter, find, is_some}
 use Rattle.std.specs.List.{list_all}
 use Rattle.std.proofs.lemmas.Bool.{and_from}
@@ -36,8 +37,10 @@ adjacent-keys (x ∷ y ∷ rest) = ap (λ b. ltb y.id.0 x.id.0 && b) (adjacent-k
 one : Weights
 one name n = 1
 
-counted-step : (name : Who) (f : Frame) (fs : List Frame) (id : Option ScopeId) → length (filter (λ g. is_some (id_in g.mark)) fs) ≡ weigh one (keys_by name (owns_in (natures fs)))
-    → length (cond (is_some id) (f ∷ filter (λ g. is_some (id_in g.mark)) fs) (filter (λ g. is_some (id_in g.mark)) fs)) ≡ weigh one (keys_by name (with_own id (is_task_mark f.mark) (owns_in (natures fs))))
+counted-step : (name : Who) (f : Frame) (fs : List Frame) (id : Option ScopeId)
+    → length (filter (λ g. is_some (id_in g.mark)) fs) ≡ weigh one (keys_by name (owns_in (natures fs)))
+    → length (cond (is_some id) (f ∷ filter (λ g. is_some (id_in g.mark)) fs) (filter (λ g. is_some (id_in g.mark)) fs))
+    ≡ weigh one (keys_by name (with_own id (is_task_mark f.mark) (owns_in (natures fs))))
 unfolding one
 counted-step name f fs None e = e
 counted-step name f fs (Some id) e = omega (arith, e)
@@ -102,7 +105,8 @@ owned-here m id s ss is own = record {
 owned-later : (m : Who) (id : ScopeId) (s : ScopeInUse) (ss : List ScopeInUse) → is_id id s ≡ false → Owned m id ss → Owned m id (s ∷ ss)
 owned-later m id s ss is o = record { scope = o.scope; found = ap (λ b. cond b (Some s) (find (is_id id) ss)) is ∙ o.found; own = o.own }
 
-owned-step : (m : Who) (id : ScopeId) (s : ScopeInUse) (ss : List ScopeInUse) (b : Bool) → is_id id s ≡ b → 0 < bit (b && same_who m s.owner) + weigh (of_both m id.0) (scope_keys ss) → bit b + weigh (of_number id.0) (scope_keys ss) ≤ 1
+owned-step : (m : Who) (id : ScopeId) (s : ScopeInUse) (ss : List ScopeInUse) (b : Bool) → is_id id s ≡ b
+    → 0 < bit (b && same_who m s.owner) + weigh (of_both m id.0) (scope_keys ss) → bit b + weigh (of_number id.0) (scope_keys ss) ≤ 1
     → (0 < weigh (of_both m id.0) (scope_keys ss) → weigh (of_number id.0) (scope_keys ss) ≤ 1 → Owned m id ss) → Owned m id (s ∷ ss)
 owned-step m id s ss true is more once onward =
     let fewer = fewer-both m id.0 (scope_keys ss) in
@@ -110,17 +114,20 @@ owned-step m id s ss true is more once onward =
     owned-here m id s ss is (is-true (same_who m s.owner) none)
 owned-step m id s ss false is more once onward = owned-later m id s ss is (onward (omega (arith, more)) (omega (arith, once)))
 
-owned-of : (m : Who) (id : ScopeId) (ss : List ScopeInUse) → 0 < weigh (of_both m id.0) (scope_keys ss) → weigh (of_number id.0) (scope_keys ss) ≤ 1 → Owned m id ss
+owned-of : (m : Who) (id : ScopeId) (ss : List ScopeInUse) → 0 < weigh (of_both m id.0) (scope_keys ss) → weigh (of_number id.0) (scope_keys ss) ≤ 1
+    → Owned m id ss
 unfolding of_both
 owned-of m id [] more once = absurd (omega (arith, more))
 owned-of m id (s ∷ ss) more once = owned-step m id s ss (is_id id s) refl more once (owned-of m id ss)
 
 -- what is found so passes the test
-found-test : (m : Who) (found : Option ScopeInUse) (s : ScopeInUse) → found ≡ Some s → same_who s.owner m ≡ true → elim found as (λ _. Bool) [ None ↦ false | Some x ↦ same_who x.owner m ] ≡ true
+found-test : (m : Who) (found : Option ScopeInUse) (s : ScopeInUse) → found ≡ Some s → same_who s.owner m ≡ true
+    → elim found as (λ _. Bool) [ None ↦ false | Some x ↦ same_who x.owner m ] ≡ true
 found-test m found s e own = ap (λ x. elim x as (λ _. Bool) [ None ↦ false | Some y ↦ same_who y.owner m ]) e ∙ own
 
 module _ (w : World) (g : GoodWorld w) where
-  mark-test : (m : Who) (id : Option ScopeId) (b : Bool) (fs : List Frame) → ((k : ℕ) → weigh (of_both m k) (keys_by m (with_own id b (owns_in (natures fs)))) ≤ weigh (of_both m k) (scope_keys w.scopes))
+  mark-test : (m : Who) (id : Option ScopeId) (b : Bool) (fs : List Frame)
+      → ((k : ℕ) → weigh (of_both m k) (keys_by m (with_own id b (owns_in (natures fs)))) ≤ weigh (of_both m k) (scope_keys w.scopes))
       → elim id as (λ _. Bool) [ None ↦ true | Some i ↦ elim (scope_in_use w i) as (λ _. Bool) [ None ↦ false | Some s ↦ same_who s.owner m ] ] ≡ true
   unfolding of_both
   mark-test m None b fs least = refl
@@ -131,25 +138,34 @@ module _ (w : World) (g : GoodWorld w) where
       let o = owned-of m i w.scopes more (g.once i.0) in
       found-test m (scope_in_use w i) o.scope o.found o.own
 
-  below-least : (m : Who) (k : ℕ) (id : Option ScopeId) (b : Bool) (fs : List Frame) → weigh (of_both m k) (keys_by m (owns_in (natures fs))) ≤ weigh (of_both m k) (keys_by m (with_own id b (owns_in (natures fs))))
+  below-least : (m : Who) (k : ℕ) (id : Option ScopeId) (b : Bool) (fs : List Frame)
+      → weigh (of_both m k) (keys_by m (owns_in (natures fs))) ≤ weigh (of_both m k) (keys_by m (with_own id b (owns_in (natures fs))))
   unfolding of_both
   below-least m k None b fs = omega arith
   below-least m k (Some i) b fs = omega arith
 
-  frames-test : (m : Who) (fs : List Frame) → ((k : ℕ) → weigh (of_both m k) (keys_by m (owns_in (natures fs))) ≤ weigh (of_both m k) (scope_keys w.scopes)) → list_all (has_scope w m) fs ≡ true
+  frames-test : (m : Who) (fs : List Frame) → ((k : ℕ) → weigh (of_both m k) (keys_by m (owns_in (natures fs))) ≤ weigh (of_both m k) (scope_keys w.scopes))
+      → list_all (has_scope w m) fs ≡ true
   frames-test m [] least = refl
   frames-test m (f ∷ fs) least =
       and_from (has_scope w m f) (list_all (has_scope w m) fs) (mark-test m (id_in f.mark) (is_task_mark f.mark) fs least)
       (frames-test m fs (λ k. let a = below-least m k (id_in f.mark) (is_task_mark f.mark) fs in let b = least k in omega (arith, a, b)))
 
   -- of each of everybody
-  all-test : (ts : List Task) (agent : Task) → ((by : Weights) → weigh by (everybody_keys ts agent) ≤ weigh by (scope_keys w.scopes)) → list_all (λ t. list_all (has_scope w t.who) t.frames) (ts ++ agent ∷ []) ≡ true
+  all-test : (ts : List Task) (agent : Task) → ((by : Weights) → weigh by (everybody_keys ts agent) ≤ weigh by (scope_keys w.scopes))
+      → list_all (λ t. list_all (has_scope w t.who) t.frames) (ts ++ agent ∷ []) ≡ true
   all-test [] agent least =
       and_from (list_all (has_scope w agent.who) agent.frames) true (frames-test agent.who agent.frames (λ k. least (of_both agent.who k))) refl
   all-test (t ∷ ts) agent least =
       and_from (list_all (has_scope w t.who) t.frames) (list_all (λ u. list_all (has_scope w u.who) u.frames) (ts ++ agent ∷ []))
-      (frames-test t.who t.frames (λ k. let a = least (of_both t.who k) in let b = weigh-append (of_both t.who k) (keys_of (t ∷ ts)) (task_keys agent) in let c = weigh-append (of_both t.who k) (task_keys t) (keys_of ts) in omega (arith, a, b, c)))
-      (all-test ts agent (λ by. let a = least by in let b = weigh-append by (keys_of (t ∷ ts)) (task_keys agent) in let c = weigh-append by (task_keys t) (keys_of ts) in let d = weigh-append by (keys_of ts) (task_keys agent) in omega (arith, a, b, c, d)))
+      (frames-test t.who t.frames
+      (λ k. let a = least (of_both t.who k) in
+      let b = weigh-append (of_both t.who k) (keys_of (t ∷ ts)) (task_keys agent) in
+      let c = weigh-append (of_both t.who k) (task_keys t) (keys_of ts) in omega (arith, a, b, c)))
+      (all-test ts agent
+      (λ by. let a = least by in
+      let b = weigh-append by (keys_of (t ∷ ts)) (task_keys agent) in
+      let c = weigh-append by (task_keys t) (keys_of ts) in let d = weigh-append by (keys_of ts) (task_keys agent) in omega (arith, a, b, c, d)))
 
   good-scopes : scopes_are_right w ≡ true
   good-scopes =

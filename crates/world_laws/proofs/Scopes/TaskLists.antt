@@ -15,7 +15,8 @@ use Rattle.line_laws.proofs.Exits.OpenCounts.{bit}
 
 -- ---- one that comes
 
-pub added : (P : Task → Type 0) (n : Who) (x : Task) (ts : List Task) (agent : Task) → P x → P nobody → P (one_of ts agent n) → P (one_of (ts ++ x ∷ []) agent n)
+pub added : (P : Task → Type 0) (n : Who) (x : Task) (ts : List Task) (agent : Task) → P x → P nobody → P (one_of ts agent n)
+    → P (one_of (ts ++ x ∷ []) agent n)
 added P (who.Task n) x ts agent new blank h = added-among P n x ts new blank h
 added P who.Agent x ts agent new blank h = h
 
@@ -55,7 +56,8 @@ unnamed-added : (m : ℕ) (b : Bool) → b ≡ false → m ≡ 0 → m + bit b �
 unnamed-added m true e h = absurd cc
 unnamed-added m false e h = omega (arith, h)
 
-pub adds-good : (free : Who → Bool) (x : Task) (tasks : List Task) (agent : Task) (keys : List Key) (dt ds : ℕ) → Good free tasks agent keys dt ds → x.who ≡ who.Task (record { 0 = dt }) → marks_of x ≡ [] → Good free (tasks ++ x ∷ []) agent keys (suc dt) ds
+pub adds-good : (free : Who → Bool) (x : Task) (tasks : List Task) (agent : Task) (keys : List Key) (dt ds : ℕ) → Good free tasks agent keys dt ds
+    → x.who ≡ who.Task (record { 0 = dt }) → marks_of x ≡ [] → Good free (tasks ++ x ∷ []) agent keys (suc dt) ds
 adds-good free x tasks agent keys dt ds g named_so none = record {
   once = g.once;
   fresh = g.fresh;
@@ -82,11 +84,13 @@ gone P (who.Task k) n ts agent blank h = left-where P (who.Task k) n ts (same_wh
 gone P who.Agent n ts agent blank h = h
 
 -- of another, whatever it is
-pub gone-other : (P : Task → Type 0) (m n : Who) (ts : List Task) (agent : Task) → same_who m n ≡ false → P (one_of ts agent m) → P (one_of (without (is_who n) ts) agent m)
+pub gone-other : (P : Task → Type 0) (m n : Who) (ts : List Task) (agent : Task) → same_who m n ≡ false → P (one_of ts agent m)
+    → P (one_of (without (is_who n) ts) agent m)
 gone-other P (who.Task k) n ts agent apart h = others-left P (who.Task k) n ts apart h
 gone-other P who.Agent n ts agent apart h = h
 
-fewer-step : (m : Who) (z : Task) (zs left : List Task) (b : Bool) → named m left ≤ named m zs → named m (cond (not b) (z ∷ left) left) ≤ bit (is_who m z) + named m zs
+fewer-step : (m : Who) (z : Task) (zs left : List Task) (b : Bool) → named m left ≤ named m zs
+    → named m (cond (not b) (z ∷ left) left) ≤ bit (is_who m z) + named m zs
 fewer-step m z zs left true e = omega (arith, e)
 fewer-step m z zs left false e = omega (arith, e)
 
@@ -94,7 +98,8 @@ fewer-named : (m n : Who) (ts : List Task) → named m (without (is_who n) ts) �
 fewer-named m n [] = omega arith
 fewer-named m n (z ∷ zs) = fewer-step m z zs (without (is_who n) zs) (is_who n z) (fewer-named m n zs)
 
-absent-step : (n : Who) (z : Task) (zs left : List Task) (b : Bool) → bit b + named n zs ≡ 0 → (named n zs ≡ 0 → left ≡ zs) → cond (not b) (z ∷ left) left ≡ z ∷ zs
+absent-step : (n : Who) (z : Task) (zs left : List Task) (b : Bool) → bit b + named n zs ≡ 0 → (named n zs ≡ 0 → left ≡ zs)
+    → cond (not b) (z ∷ left) left ≡ z ∷ zs
 absent-step n z zs left true e onward = absurd (omega (arith, e))
 absent-step n z zs left false e onward = ap (λ ts. z ∷ ts) (onward (omega (arith, e)))
 
@@ -102,7 +107,8 @@ absent-without : (n : Who) (ts : List Task) → named n ts ≡ 0 → without (is
 absent-without n [] e = refl
 absent-without n (z ∷ zs) e = absent-step n z zs (without (is_who n) zs) (is_who n z) e (absent-without n zs)
 
-gone-weigh-step : (by : Weights) (n : Who) (z : Task) (zs : List Task) (b : Bool) → bit b + named n zs ≤ 1 → marks_of (unwrap_or (cond b (Some z) (find (is_who n) zs)) nobody) ≡ []
+gone-weigh-step : (by : Weights) (n : Who) (z : Task) (zs : List Task) (b : Bool) → bit b + named n zs ≤ 1
+    → marks_of (unwrap_or (cond b (Some z) (find (is_who n) zs)) nobody) ≡ []
     → (named n zs ≤ 1 → marks_of (unwrap_or (find (is_who n) zs) nobody) ≡ [] → weigh by (keys_of (without (is_who n) zs)) ≡ weigh by (keys_of zs))
     → weigh by (keys_of (cond (not b) (z ∷ without (is_who n) zs) (without (is_who n) zs))) ≡ weigh by (task_keys z ++ keys_of zs)
 gone-weigh-step by n z zs true one none onward =
@@ -117,15 +123,18 @@ gone-weigh-step by n z zs false one none onward =
     let c = weigh-append by (task_keys z) (keys_of zs) in
     omega (arith, a, b, c)
 
-gone-weigh : (by : Weights) (n : Who) (ts : List Task) → named n ts ≤ 1 → marks_of (unwrap_or (find (is_who n) ts) nobody) ≡ [] → weigh by (keys_of (without (is_who n) ts)) ≡ weigh by (keys_of ts)
+gone-weigh : (by : Weights) (n : Who) (ts : List Task) → named n ts ≤ 1 → marks_of (unwrap_or (find (is_who n) ts) nobody) ≡ []
+    → weigh by (keys_of (without (is_who n) ts)) ≡ weigh by (keys_of ts)
 gone-weigh by n [] one none = refl
 gone-weigh by n (z ∷ zs) one none = gone-weigh-step by n z zs (is_who n z) one none (gone-weigh by n zs)
 
-gone-weigh-all : (free : Who → Bool) (by : Weights) (n : Who) (tasks : List Task) (agent : Task) (keys : List Key) (dt ds : ℕ) → Good free tasks agent keys dt ds → marks_of (one_of tasks agent n) ≡ [] → weigh by (keys_of (without (is_who n) tasks)) ≡ weigh by (keys_of tasks)
+gone-weigh-all : (free : Who → Bool) (by : Weights) (n : Who) (tasks : List Task) (agent : Task) (keys : List Key) (dt ds : ℕ)
+    → Good free tasks agent keys dt ds → marks_of (one_of tasks agent n) ≡ [] → weigh by (keys_of (without (is_who n) tasks)) ≡ weigh by (keys_of tasks)
 gone-weigh-all free by (who.Task k) tasks agent keys dt ds g none = gone-weigh by (who.Task k) tasks (g.single (who.Task k)) none
 gone-weigh-all free by who.Agent tasks agent keys dt ds g none = ap (λ ts. weigh by (keys_of ts)) (absent-without who.Agent tasks (g.unnamed who.Agent tt))
 
-pub forgets-good : (free : Who → Bool) (name : Who) (tasks : List Task) (agent : Task) (keys : List Key) (dt ds : ℕ) → Good free tasks agent keys dt ds → marks_of (one_of tasks agent name) ≡ [] → Good free (without (is_who name) tasks) agent keys dt ds
+pub forgets-good : (free : Who → Bool) (name : Who) (tasks : List Task) (agent : Task) (keys : List Key) (dt ds : ℕ) → Good free tasks agent keys dt ds
+    → marks_of (one_of tasks agent name) ≡ [] → Good free (without (is_who name) tasks) agent keys dt ds
 forgets-good free name tasks agent keys dt ds g none = record {
   once = g.once;
   fresh = g.fresh;
@@ -145,7 +154,8 @@ forgets-good free name tasks agent keys dt ds g none = record {
 }
 
 -- the others of them are as many
-named-other-step : (m n : Who) (z : Task) (zs left : List Task) (b : Bool) → is_who n z ≡ b → same_who m n ≡ false → named m left ≡ named m zs → named m (cond (not b) (z ∷ left) left) ≡ bit (is_who m z) + named m zs
+named-other-step : (m n : Who) (z : Task) (zs left : List Task) (b : Bool) → is_who n z ≡ b → same_who m n ≡ false → named m left ≡ named m zs
+    → named m (cond (not b) (z ∷ left) left) ≡ bit (is_who m z) + named m zs
 named-other-step m n z zs left true e apart onward = let k : bit (is_who m z) ≡ 0 = ap bit (apart-names m n z.who apart e) in omega (arith, onward, k)
 named-other-step m n z zs left false e apart onward = omega (arith, onward)
 

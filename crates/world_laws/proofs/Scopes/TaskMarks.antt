@@ -60,21 +60,25 @@ pub popped-owns : (f : Frame) (fs : List Frame) → first_of fs ≡ Some f → i
 popped-owns f [] top none = refl
 popped-owns f (g ∷ fs) top none = let same : g ≡ f = cc in sym (opened-owns g fs (ap (λ (x : Frame). id_in x.mark) same ∙ none))
 
-below-shielded : (action : Bool) (id : Option ScopeId) (rest : Bool) → action ≡ false → id ≡ None → cond action true (cond (is_some id) false rest) ≡ true → rest ≡ true
+below-shielded : (action : Bool) (id : Option ScopeId) (rest : Bool) → action ≡ false → id ≡ None → cond action true (cond (is_some id) false rest) ≡ true
+    → rest ≡ true
 below-shielded action id rest plain none e = sym (ap (λ a. cond a true (cond (is_some id) false rest)) plain ∙ ap (λ x. cond (is_some x) false rest) none) ∙ e
 
-pub popped-shielded : (f : Frame) (fs : List Frame) → first_of fs ≡ Some f → is_protected f.mark ≡ false → id_in f.mark ≡ None → shielded (natures fs) ≡ true → shielded (natures (rest_of fs)) ≡ true
+pub popped-shielded : (f : Frame) (fs : List Frame) → first_of fs ≡ Some f → is_protected f.mark ≡ false → id_in f.mark ≡ None → shielded (natures fs) ≡ true
+    → shielded (natures (rest_of fs)) ≡ true
 popped-shielded f [] top plain none e = e
 popped-shielded f (g ∷ fs) top plain none e =
     let same : g ≡ f = cc in
-    below-shielded (is_protected g.mark) (id_in g.mark) (shielded (natures fs)) (ap (λ (x : Frame). is_protected x.mark) same ∙ plain) (ap (λ (x : Frame). id_in x.mark) same ∙ none) e
+    below-shielded (is_protected g.mark) (id_in g.mark) (shielded (natures fs)) (ap (λ (x : Frame). is_protected x.mark) same ∙ plain)
+    (ap (λ (x : Frame). id_in x.mark) same ∙ none) e
 
 -- ---- where a mark with a scope begins and ends
 
 pub with_own-some : (x : Option ScopeId) (id : ScopeId) (b : Bool) (ms : List Own) → x ≡ Some id → with_own x b ms ≡ (id.0, b) ∷ ms
 with_own-some x id b ms e = ap (λ y. with_own y b ms) e
 
-pub ended-owns : (f : Frame) (id : ScopeId) (fs : List Frame) → first_of fs ≡ Some f → id_in f.mark ≡ Some id → owns_in (natures fs) ≡ (id.0, is_task_mark f.mark) ∷ owns_in (natures (rest_of fs))
+pub ended-owns : (f : Frame) (id : ScopeId) (fs : List Frame) → first_of fs ≡ Some f → id_in f.mark ≡ Some id
+    → owns_in (natures fs) ≡ (id.0, is_task_mark f.mark) ∷ owns_in (natures (rest_of fs))
 ended-owns f id [] top e = absurd cc
 ended-owns f id (g ∷ fs) top e =
     let same : g ≡ f = cc in

@@ -102,7 +102,10 @@ rooted-popped n [] action h = absurd (false≢true (sym action ∙ h.0))
 rooted-popped n (m ∷ ns) action h = h.2
 
 pub rooted_stacks : (May : Naming) → Stacks Rooted May
-rooted_stacks May = record { pushed = λ may n ns release abortable h. rooted-pushed n ns release abortable h; popped = λ may n ns action h. rooted-popped n ns action h }
+rooted_stacks May = record {
+  pushed = λ may n ns release abortable h. rooted-pushed n ns release abortable h;
+  popped = λ may n ns action h. rooted-popped n ns action h;
+}
 
 any-rest : (b c : Bool) → (b || c) ≡ false → c ≡ false
 any-rest true c e = absurd (false≢true (sym e))
@@ -159,7 +162,9 @@ acting_points a Q q = record {
   wakes = λ name. ((λ apart. rests_points.wakes name), (λ same. q.wakes));
   rises = λ n r g h. ((λ apart. rests_points.rises n r g (h.0 apart)), (λ same. q.rises (a_task a n same) r g (h.1 same)));
   agent_rises = λ s g h. ((λ apart. rests_points.agent_rises s g (h.0 apart)), (λ same. q.agent_rises (who-same a who.Agent same) s g (h.1 same)));
-  agent_waits = λ s g h. by_bool (same_who a who.Agent) (λ same. q.agent_waits (who-same a who.Agent same) s g (h.1 same)) (λ apart. rests_points.agent_waits s g (h.0 apart));
+  agent_waits =
+      λ s g h.
+      by_bool (same_who a who.Agent) (λ same. q.agent_waits (who-same a who.Agent same) s g (h.1 same)) (λ apart. rests_points.agent_waits s g (h.0 apart));
   begun = λ n. ((λ apart. rests_points.begun n), (λ same. q.begun (a_task a n same)));
 }
 
@@ -189,12 +194,40 @@ agent-waits : (s : State) → s ≡ Runnable → waits_for_activation (waiting_i
 agent-waits s is = ap (λ t. waits_for_activation (waiting_in t)) is
 
 pub acts_points : (a : Who) → ActingPoints a (Acts a)
-acts_points (who.Task n) = record { tight = λ s g h. h; wakes = refl; rises = λ t r g h. refl; agent_rises = λ is s g h. agent-task n is; agent_waits = λ is s g h. agent-task n is; begun = λ t. refl }
-acts_points who.Agent = record { tight = λ s g h. h; wakes = refl; rises = λ t r g h. absurd t; agent_rises = λ is s g h. refl; agent_waits = λ is s g h. agent-waits s h; begun = λ t. absurd t }
+acts_points (who.Task n) = record {
+  tight = λ s g h. h;
+  wakes = refl;
+  rises = λ t r g h. refl;
+  agent_rises = λ is s g h. agent-task n is;
+  agent_waits = λ is s g h. agent-task n is;
+  begun = λ t. refl;
+}
+acts_points who.Agent = record {
+  tight = λ s g h. h;
+  wakes = refl;
+  rises = λ t r g h. absurd t;
+  agent_rises = λ is s g h. refl;
+  agent_waits = λ is s g h. agent-waits s h;
+  begun = λ t. absurd t;
+}
 
 pub plainly_points : (a : Who) → ActingPoints a (ActsPlainly a)
-plainly_points (who.Task n) = record { tight = λ s g h. refl; wakes = refl; rises = λ t r g h. h; agent_rises = λ is s g h. agent-task n is; agent_waits = λ is s g h. agent-task n is; begun = λ t. refl }
-plainly_points who.Agent = record { tight = λ s g h. (h.0, refl); wakes = (refl, refl); rises = λ t r g h. absurd t; agent_rises = λ is s g h. (refl, h.1); agent_waits = λ is s g h. agent-waits s h.0; begun = λ t. absurd t }
+plainly_points (who.Task n) = record {
+  tight = λ s g h. refl;
+  wakes = refl;
+  rises = λ t r g h. h;
+  agent_rises = λ is s g h. agent-task n is;
+  agent_waits = λ is s g h. agent-task n is;
+  begun = λ t. refl;
+}
+plainly_points who.Agent = record {
+  tight = λ s g h. (h.0, refl);
+  wakes = (refl, refl);
+  rises = λ t r g h. absurd t;
+  agent_rises = λ is s g h. (refl, h.1);
+  agent_waits = λ is s g h. agent-waits s h.0;
+  begun = λ t. absurd t;
+}
 
 abbrev pub Is : Who → Naming
 Is a name = name ≡ a
@@ -240,11 +273,20 @@ any_callings = record { edited = λ c f n cs number caller h. tt; added = λ d n
 
 module _ {p : Image} {A B : Marking} {C D : Calling} (wide : (ns : List Nature) → A ns → B ns) (known : (n : ℕ) (cs : List Call) → C n cs → D n cs) where
   pub fine-wide : (P Q : Point) (w : World) → ((b : Who) (s : State) (g : Bool) → P b s g → Q b s g) → Fine p P A C w → Fine p Q B D w
-  fine-wide P Q w over h = record { agent = h.agent; apart = h.apart; below = h.below; units = h.units; calls = known w.drawn.calls w.calls h.calls; marks = wide (natures w.agent.frames) h.marks; points = λ b. over b (task_of w b).state (begins p w b) (h.points b) }
+  fine-wide P Q w over h = record {
+    agent = h.agent;
+    apart = h.apart;
+    below = h.below;
+    units = h.units;
+    calls = known w.drawn.calls w.calls h.calls;
+    marks = wide (natures w.agent.frames) h.marks;
+    points = λ b. over b (task_of w b).state (begins p w b) (h.points b);
+  }
 
 module _ {p : Image} {A B : Marking} {C : Calling} (wide : (ns : List Nature) → A ns → B ns) where
   pub acts-over : (a : Who) (w : World) → Fine p (Apart a (Acts a)) A C w → Fine p (Apart a (HasActed a)) B Any w
   acts-over a w h = fine-wide wide (λ n cs k. tt) (Apart a (Acts a)) (Apart a (HasActed a)) w (λ b s g k. (k.0, (λ same. acts-acted a s g (k.1 same)))) h
 
   pub plainly-over : (a : Who) (w : World) → Fine p (Apart a (ActsPlainly a)) A C w → Fine p (Apart a (HasActed a)) B Any w
-  plainly-over a w h = fine-wide wide (λ n cs k. tt) (Apart a (ActsPlainly a)) (Apart a (HasActed a)) w (λ b s g k. (k.0, (λ same. plainly-acted a s g (k.1 same)))) h
+  plainly-over a w h =
+      fine-wide wide (λ n cs k. tt) (Apart a (ActsPlainly a)) (Apart a (HasActed a)) w (λ b s g k. (k.0, (λ same. plainly-acted a s g (k.1 same)))) h

@@ -43,14 +43,19 @@ use Rattle.profile_machine.specs.Instant.{effect, is_over, effect_of_runner, fin
 use Rattle.profile_machine.specs.WellFormed.{begins_sequence}
 use Rattle.machine_laws.proofs.FineMoves.{GoodWorld, Nature, nature, natures, edit_task-drawn}
 use Rattle.world_laws.proofs.Sequences.FineMoves.{Fits, FineMoves, Nobody, Loosens, Again, chains}
-use Rattle.world_laws.proofs.Behind.{Behind, BehindMove, Turns, then-turns, then_turn-from, turns-from, looks-turns, look-from, wide-from, wide-turns, nothing-turns, changes-turns, branch-turns, says-turns, narrow-turns, changes_turn-from}
+use Rattle.world_laws.proofs.Behind.{Behind, BehindMove, Turns, then-turns, then_turn-from, turns-from, looks-turns, look-from, wide-from}
+use Rattle.world_laws.proofs.Behind.{wide-turns, nothing-turns, changes-turns, branch-turns, says-turns, narrow-turns, changes_turn-from}
 use Rattle.world_laws.proofs.Sequences.TaskEdits.{by_bool, who-same, edited-own}
 use Rattle.world_laws.proofs.Sequences.Points.{Marking, IsTask, Fine, begins, fine-edited, edited_found-calls}
 use Rattle.world_laws.proofs.Sequences.FineSteps.{fine_moves}
 use Rattle.world_laws.proofs.Sequences.Loosened.{fine_loosens, fine_again, loosening, loosened, Freed}
 use Rattle.world_laws.proofs.Sequences.Turned.{fine-turned}
-use Rattle.world_laws.proofs.Sequences.Actors.{Rests, rests_points, nobody_free, nobody_stacks, Rooted, Standing, rooted_stacks, rooted-last, Apart, acting_points, Acts, HasActed, acts_points, Is, acts_free, task_stacks, fine-wide, acts-over, of_agent, Any, any_callings}
-use Rattle.world_laws.proofs.Sequences.ActingRuns.{KnowingWorld, ActingWorld, PlainWorld, ActedWorld, JustSo, acting_moves, quiet_moves, task_openings, agent_openings, departing, task_ending, last_ending, inner_ending, acting_loose, still, plain-begins, no-natures}
+use Rattle.world_laws.proofs.Sequences.Actors.{Rests, rests_points, nobody_free, nobody_stacks, Rooted, Standing}
+use Rattle.world_laws.proofs.Sequences.Actors.{rooted_stacks, rooted-last, Apart, acting_points, Acts, HasActed, acts_points}
+use Rattle.world_laws.proofs.Sequences.Actors.{Is, acts_free, task_stacks, fine-wide, acts-over, of_agent, Any, any_callings}
+use Rattle.world_laws.proofs.Sequences.ActingRuns.{KnowingWorld, ActingWorld, PlainWorld, ActedWorld, JustSo, acting_moves}
+use Rattle.world_laws.proofs.Sequences.ActingRuns.{quiet_moves, task_openings, agent_openings, departing, task_ending}
+use Rattle.world_laws.proofs.Sequences.ActingRuns.{last_ending, inner_ending, acting_loose, still, plain-begins, no-natures}
 use Rattle.world_laws.proofs.Sequences.Kept.Woken.{opened-turns, opened_by-turns}
 use Rattle.world_laws.proofs.Sequences.Kept.Inheritance.{inherit_running-keeps}
 use Rattle.world_laws.proofs.Sequences.Kept.Protected.{opens_action-alters}
@@ -99,30 +104,42 @@ module _ {p : Image} (fits : Fits p) where
 
   -- ---- a task acts
 
-  task_without-turns : (n : TaskNo) (r : Option Release) → Turns (ActingWorld fits (who.Task n) Standing) (ActedWorld fits (who.Task n)) (act_without p (who.Task n) r)
+  task_without-turns : (n : TaskNo) (r : Option Release)
+      → Turns (ActingWorld fits (who.Task n) Standing) (ActedWorld fits (who.Task n)) (act_without p (who.Task n) r)
   unfolding act_without
-  task_without-turns n None = nothing-turns (ActingWorld fits (who.Task n) Standing) (ActedWorld fits (who.Task n)) (λ w g. acts-over (still fits) (who.Task n) w g)
-  task_without-turns n (Some r) = nothing-turns (ActingWorld fits (who.Task n) Standing) (ActedWorld fits (who.Task n)) (λ w g. acts-over (still fits) (who.Task n) w g)
+  task_without-turns n None =
+      nothing-turns (ActingWorld fits (who.Task n) Standing) (ActedWorld fits (who.Task n)) (λ w g. acts-over (still fits) (who.Task n) w g)
+  task_without-turns n (Some r) =
+      nothing-turns (ActingWorld fits (who.Task n) Standing) (ActedWorld fits (who.Task n)) (λ w g. acts-over (still fits) (who.Task n) w g)
 
-  task_again : (n : TaskNo) → Again p (ActingWorld fits (who.Task n) Standing) (Is (who.Task n)) IsTask (acting_loose fits (who.Task n) Standing (task_stacks Standing n))
+  task_again : (n : TaskNo)
+      → Again p (ActingWorld fits (who.Task n) Standing) (Is (who.Task n)) IsTask (acting_loose fits (who.Task n) Standing (task_stacks Standing n))
   unfolding acting_loose
-  task_again n = fine_again fits any_callings (Apart (who.Task n) (Acts (who.Task n))) (Is (who.Task n)) (acting_points (who.Task n) (Acts (who.Task n)) (acts_points (who.Task n))) (acts_free (who.Task n)) (task_stacks Standing n)
+  task_again n =
+      fine_again fits any_callings (Apart (who.Task n) (Acts (who.Task n))) (Is (who.Task n))
+      (acting_points (who.Task n) (Acts (who.Task n)) (acts_points (who.Task n))) (acts_free (who.Task n)) (task_stacks Standing n)
 
   -- who made the call that its action ends is known
   abbrev pub OwnKnown : Who → World → Type 0
   OwnKnown name w = (f : Frame) (m : ProtectedMark) → top_of w name ≡ Some f → f.mark ≡ InProtected m → Knows m.own_call name w.drawn.calls w.calls
 
-  task_ended : (n : TaskNo) (m : ProtectedMark) (leaving : Leaving) (w : World) → ActingWorld fits (who.Task n) Standing w → Knows m.own_call (who.Task n) w.drawn.calls w.calls → From (Behind (ActedWorld fits (who.Task n))) w (end_in_protected p (who.Task n) m leaving)
+  task_ended : (n : TaskNo) (m : ProtectedMark) (leaving : Leaving) (w : World) → ActingWorld fits (who.Task n) Standing w
+      → Knows m.own_call (who.Task n) w.drawn.calls w.calls → From (Behind (ActedWorld fits (who.Task n))) w (end_in_protected p (who.Task n) m leaving)
   unfolding task_ending
   task_ended n m leaving w g known =
-      turns-from (KnowingWorld fits (who.Task n) Standing (Knows m.own_call (who.Task n))) (ActedWorld fits (who.Task n)) _ w (record { agent = g.agent; apart = g.apart; below = g.below; units = g.units; calls = known; marks = g.marks; points = g.points })
+      turns-from (KnowingWorld fits (who.Task n) Standing (Knows m.own_call (who.Task n))) (ActedWorld fits (who.Task n)) _ w
+      (record { agent = g.agent; apart = g.apart; below = g.below; units = g.units; calls = known; marks = g.marks; points = g.points })
       (end_in_protected-turns (task_ending fits n m.release m.own_call) m leaving (refl, refl))
 
-  task_top-from : (n : TaskNo) (found : Option Frame) (w : World) → ActingWorld fits (who.Task n) Standing w → OwnKnown (who.Task n) w → top_of w (who.Task n) ≡ found → From (Behind (ActedWorld fits (who.Task n))) w (act_top p (who.Task n) found)
+  task_top-from : (n : TaskNo) (found : Option Frame) (w : World) → ActingWorld fits (who.Task n) Standing w → OwnKnown (who.Task n) w
+      → top_of w (who.Task n) ≡ found → From (Behind (ActedWorld fits (who.Task n))) w (act_top p (who.Task n) found)
   unfolding act_top
-  task_top-from n None w g known is = look-from (ActedWorld fits (who.Task n)) (λ v. act_without p (who.Task n) v.serving) w (turns-from (ActingWorld fits (who.Task n) Standing) (ActedWorld fits (who.Task n)) _ w g (task_without-turns n w.serving))
+  task_top-from n None w g known is =
+      look-from (ActedWorld fits (who.Task n)) (λ v. act_without p (who.Task n) v.serving) w
+      (turns-from (ActingWorld fits (who.Task n) Standing) (ActedWorld fits (who.Task n)) _ w g (task_without-turns n w.serving))
   task_top-from n (Some f) w g known is =
-      act_frame-from (acting_moves fits (who.Task n) Standing (task_stacks Standing n)) (acting_loose fits (who.Task n) Standing (task_stacks Standing n)) (task_again n) (task_openings fits n Standing Any any_callings)
+      act_frame-from (acting_moves fits (who.Task n) Standing (task_stacks Standing n)) (acting_loose fits (who.Task n) Standing (task_stacks Standing n))
+      (task_again n) (task_openings fits n Standing Any any_callings)
       (who.Task n) (ActedWorld fits (who.Task n)) (departing fits (who.Task n) Standing (still fits)) f f.onward w g refl is refl
       (λ m k. task_ended n m (leaving_of f) w g (known f m is k))
 
@@ -130,25 +147,36 @@ module _ {p : Image} (fits : Fits p) where
 
   agent_again : Again p (ActingWorld fits who.Agent Rooted) (Is who.Agent) IsTask (acting_loose fits who.Agent Rooted (rooted_stacks (Is who.Agent)))
   unfolding acting_loose
-  agent_again = fine_again fits any_callings (Apart who.Agent (Acts who.Agent)) (Is who.Agent) (acting_points who.Agent (Acts who.Agent) (acts_points who.Agent)) (acts_free who.Agent) (rooted_stacks (Is who.Agent))
+  agent_again =
+      fine_again fits any_callings (Apart who.Agent (Acts who.Agent)) (Is who.Agent) (acting_points who.Agent (Acts who.Agent) (acts_points who.Agent))
+      (acts_free who.Agent) (rooted_stacks (Is who.Agent))
 
-  agent_last_ended : (m : ProtectedMark) (leaving : Leaving) (w : World) (n : Nature) (r : ℕ) → m.release ≡ Some r → Rooted (n ∷ []) → ActingWorld fits who.Agent (JustSo fits (n ∷ [])) w → From (Behind (ActedWorld fits who.Agent)) w (end_in_protected p who.Agent m leaving)
+  agent_last_ended : (m : ProtectedMark) (leaving : Leaving) (w : World) (n : Nature) (r : ℕ) → m.release ≡ Some r → Rooted (n ∷ [])
+      → ActingWorld fits who.Agent (JustSo fits (n ∷ [])) w → From (Behind (ActedWorld fits who.Agent)) w (end_in_protected p who.Agent m leaving)
   unfolding last_ending
-  agent_last_ended m leaving w n r is root g = turns-from (ActingWorld fits who.Agent (JustSo fits (n ∷ []))) (ActedWorld fits who.Agent) _ w g (end_in_protected-turns (last_ending fits n r m.own_call root) m leaving (is, refl))
+  agent_last_ended m leaving w n r is root g =
+      turns-from (ActingWorld fits who.Agent (JustSo fits (n ∷ []))) (ActedWorld fits who.Agent) _ w g
+      (end_in_protected-turns (last_ending fits n r m.own_call root) m leaving (is, refl))
 
-  agent_inner_ended : (m : ProtectedMark) (leaving : Leaving) (w : World) (n : Nature) (ns : List Nature) → m.release ≡ None → n.release ≡ None → Rooted (n ∷ ns) → ActingWorld fits who.Agent (JustSo fits (n ∷ ns)) w → Knows m.own_call who.Agent w.drawn.calls w.calls → From (Behind (ActedWorld fits who.Agent)) w (end_in_protected p who.Agent m leaving)
+  agent_inner_ended : (m : ProtectedMark) (leaving : Leaving) (w : World) (n : Nature) (ns : List Nature) → m.release ≡ None → n.release ≡ None
+      → Rooted (n ∷ ns) → ActingWorld fits who.Agent (JustSo fits (n ∷ ns)) w → Knows m.own_call who.Agent w.drawn.calls w.calls
+      → From (Behind (ActedWorld fits who.Agent)) w (end_in_protected p who.Agent m leaving)
   unfolding inner_ending
   agent_inner_ended m leaving w n ns is none root g known =
-      turns-from (KnowingWorld fits who.Agent (JustSo fits (n ∷ ns)) (Knows m.own_call who.Agent)) (ActedWorld fits who.Agent) _ w (record { agent = g.agent; apart = g.apart; below = g.below; units = g.units; calls = known; marks = g.marks; points = g.points })
+      turns-from (KnowingWorld fits who.Agent (JustSo fits (n ∷ ns)) (Knows m.own_call who.Agent)) (ActedWorld fits who.Agent) _ w
+      (record { agent = g.agent; apart = g.apart; below = g.below; units = g.units; calls = known; marks = g.marks; points = g.points })
       (end_in_protected-turns (inner_ending fits n ns m.own_call none root) m leaving (is, refl))
 
-  agent_ends-by : (m : ProtectedMark) (leaving : Leaving) (w : World) (n : Nature) (ns : List Nature) (release : Option ℕ) → m.release ≡ release → n.release ≡ release → Rooted (n ∷ ns) → ActingWorld fits who.Agent (JustSo fits (n ∷ ns)) w → Knows m.own_call who.Agent w.drawn.calls w.calls → From (Behind (ActedWorld fits who.Agent)) w (end_in_protected p who.Agent m leaving)
+  agent_ends-by : (m : ProtectedMark) (leaving : Leaving) (w : World) (n : Nature) (ns : List Nature) (release : Option ℕ) → m.release ≡ release
+      → n.release ≡ release → Rooted (n ∷ ns) → ActingWorld fits who.Agent (JustSo fits (n ∷ ns)) w → Knows m.own_call who.Agent w.drawn.calls w.calls
+      → From (Behind (ActedWorld fits who.Agent)) w (end_in_protected p who.Agent m leaving)
   agent_ends-by m leaving w n ns (Some r) is same root g known =
       let last = rooted-last n ns r same root in
       agent_last_ended m leaving w n r is (subst (λ ms. Rooted (n ∷ ms)) last root) (subst (λ ms. ActingWorld fits who.Agent (JustSo fits (n ∷ ms)) w) last g)
   agent_ends-by m leaving w n ns None is same root g known = agent_inner_ended m leaving w n ns is same root g known
 
-  agent_ends-from : (m : ProtectedMark) (f : Frame) (leaving : Leaving) (w : World) → ActingWorld fits who.Agent Rooted w → OwnKnown who.Agent w → top_of w who.Agent ≡ Some f → f.mark ≡ InProtected m → From (Behind (ActedWorld fits who.Agent)) w (end_in_protected p who.Agent m leaving)
+  agent_ends-from : (m : ProtectedMark) (f : Frame) (leaving : Leaving) (w : World) → ActingWorld fits who.Agent Rooted w → OwnKnown who.Agent w
+      → top_of w who.Agent ≡ Some f → f.mark ≡ InProtected m → From (Behind (ActedWorld fits who.Agent)) w (end_in_protected p who.Agent m leaving)
   agent_ends-from m f leaving w g known top is =
       let shape = top-natures w.agent.frames f top in
       agent_ends-by m leaving w (nature f.mark) (natures (rest_of w.agent.frames)) m.release refl (ap (λ k. (nature k).release) is) (subst Rooted shape g.marks)
@@ -171,11 +199,13 @@ module _ {p : Image} (fits : Fits p) where
       narrow-turns Alone (PlainWorld fits who.Agent (JustSo fits [])) (ActedWorld fits who.Agent) (end_release r.number) alone_plain
       (end_release-turns (last_ending fits (handler_mark r) r.number None (refl, refl, refl)) r.number r.number refl)
 
-  pushed_alone : (r : Release) (w : World) → Alone w → ActingWorld fits who.Agent Rooted (push who.Agent (new_frame (new_protected_mark r.handler.object Write None (Some r.number)) None) w)
+  pushed_alone : (r : Release) (w : World) → Alone w
+      → ActingWorld fits who.Agent Rooted (push who.Agent (new_frame (new_protected_mark r.handler.object Write None (Some r.number)) None) w)
   pushed_alone r w g =
       let f = new_frame (new_protected_mark r.handler.object Write None (Some r.number)) None in
       let root : Rooted (nature f.mark ∷ natures w.agent.frames) = subst (λ ns. Rooted (nature f.mark ∷ ns)) (sym g.marks) (refl, refl, refl) in
-      fine-turned who.Agent (λ t. with_frames (f ∷ t.frames) t) w (λ m cs k. k) (λ t. refl) (λ t fit. fit) (λ is m. root) (λ apart m. absurd (false≢true (sym apart)))
+      fine-turned who.Agent (λ t. with_frames (f ∷ t.frames) t) w (λ m cs k. k) (λ t. refl) (λ t fit. fit) (λ is m. root)
+      (λ apart m. absurd (false≢true (sym apart)))
       (λ h. ((λ apart. absurd (false≢true (sym apart))), (λ same. h.1 same)))
       (λ is h. h)
       (λ b t k apart h. h) g
@@ -186,8 +216,11 @@ module _ {p : Image} (fits : Fits p) where
       let quiet = quiet_moves fits who.Agent (JustSo fits []) Any any_callings in
       let R = ActingWorld fits who.Agent Rooted in
       then-turns Alone Alone R (says Own (line.Enter who.Agent r.handler.object Write)) _ (says-turns Alone Own (line.Enter who.Agent r.handler.object Write))
-      (then-turns Alone Alone R (changes (open_action who.Agent r.handler.object Write)) _ (changes-keeps (chains quiet) _ (opens_action-alters quiet who.Agent r.handler.object Write))
-      (then-turns Alone Alone R (looks (λ w. inherit_running p who.Agent (inherited_by.Ceiling r.handler.object) (ceiling_of (object_of w r.handler.object)))) _ (looks-keeps (chains quiet) _ (λ w. inherit_running-keeps quiet who.Agent (inherited_by.Ceiling r.handler.object) (ceiling_of (object_of w r.handler.object))))
+      (then-turns Alone Alone R (changes (open_action who.Agent r.handler.object Write)) _
+      (changes-keeps (chains quiet) _ (opens_action-alters quiet who.Agent r.handler.object Write))
+      (then-turns Alone Alone R (looks (λ w. inherit_running p who.Agent (inherited_by.Ceiling r.handler.object) (ceiling_of (object_of w r.handler.object)))) _
+      (looks-keeps (chains quiet) _
+      (λ w. inherit_running-keeps quiet who.Agent (inherited_by.Ceiling r.handler.object) (ceiling_of (object_of w r.handler.object))))
       (changes-turns Alone R (push who.Agent (new_frame (new_protected_mark r.handler.object Write None (Some r.number)) None)) (λ w g. pushed_alone r w g))))
 
   begun_handler-turns : (r : Release) → Turns Alone (ActedWorld fits who.Agent) (begin_handler p r)
@@ -197,21 +230,28 @@ module _ {p : Image} (fits : Fits p) where
       let scope = (subprogram_of p r.handler.procedure).scope in
       then-turns Alone R (ActedWorld fits who.Agent) (begin_action_on p who.Agent r.handler.object Write None (Some r.number)) _ (begun_action-turns r)
       (looks-turns R (ActedWorld fits who.Agent) _ (λ w g. turns-from R (ActedWorld fits who.Agent) _ w g
-      (changes-turns R (ActedWorld fits who.Agent) _ (λ v h. acts-over (λ ns k. inr k) who.Agent (open_scope p who.Agent scope (body_of_object p w scope r.handler.object None (argument_values r.argument)) (opened_for.Subprogram [] bound_for.Nowhere) v)
-      ((agent_openings fits Any any_callings).opens_scope who.Agent scope (body_of_object p w scope r.handler.object None (argument_values r.argument)) (opened_for.Subprogram [] bound_for.Nowhere) v h refl)))))
+      (changes-turns R (ActedWorld fits who.Agent) _
+      (λ v h. acts-over (λ ns k. inr k) who.Agent
+      (open_scope p who.Agent scope (body_of_object p w scope r.handler.object None (argument_values r.argument))
+      (opened_for.Subprogram [] bound_for.Nowhere) v)
+      ((agent_openings fits Any any_callings).opens_scope who.Agent scope (body_of_object p w scope r.handler.object None (argument_values r.argument))
+      (opened_for.Subprogram [] bound_for.Nowhere) v h refl)))))
 
   begun_if_room-turns : (r : Release) → Turns Alone (ActedWorld fits who.Agent) (begin_handler_if_room p r)
   unfolding begin_handler_if_room
   begun_if_room-turns r =
       looks-turns Alone (ActedWorld fits who.Agent) _ (λ w g. turns-from Alone (ActedWorld fits who.Agent) _ w g
-      (branch-turns Alone (ActedWorld fits who.Agent) (has_room w who.Agent (1 + marks_of p (subprogram_of p r.handler.procedure).scope) (size_of_body p r.handler.procedure)) (begin_handler p r) (end_release r.number) (begun_handler-turns r) (served-turns r)))
+      (branch-turns Alone (ActedWorld fits who.Agent)
+      (has_room w who.Agent (1 + marks_of p (subprogram_of p r.handler.procedure).scope) (size_of_body p r.handler.procedure)) (begin_handler p r)
+      (end_release r.number) (begun_handler-turns r) (served-turns r)))
 
   held-turns : (r : Release) → Turns Alone (ActedWorld fits who.Agent) (find_held p who.Agent r.handler.object Write)
   unfolding find_held
   held-turns r =
       let quiet = quiet_moves fits who.Agent (JustSo fits []) Any any_callings in
       wide-turns Alone Alone (ActedWorld fits who.Agent) _ (λ w g. acts-over (λ ns is. inl is) who.Agent w g)
-      (then-keeps (chains quiet) (says Own (line.Held who.Agent r.handler.object Write)) (to_tail p ThePlacing who.Agent) (said-keeps (chains quiet) Own (line.Held who.Agent r.handler.object Write) (λ w g. g)) (to_tail-keeps quiet ThePlacing who.Agent))
+      (then-keeps (chains quiet) (says Own (line.Held who.Agent r.handler.object Write)) (to_tail p ThePlacing who.Agent)
+      (said-keeps (chains quiet) Own (line.Held who.Agent r.handler.object Write) (λ w g. g)) (to_tail-keeps quiet ThePlacing who.Agent))
 
   entered-turns : (r : Release) (is : Entering) → Turns Alone (ActedWorld fits who.Agent) (enter_handler p r is)
   unfolding enter_handler
@@ -222,7 +262,9 @@ module _ {p : Image} (fits : Fits p) where
 
   called-turns : (r : Release) → Turns Alone (ActedWorld fits who.Agent) (call_handler p r)
   unfolding call_handler
-  called-turns r = looks-turns Alone (ActedWorld fits who.Agent) _ (λ w g. turns-from Alone (ActedWorld fits who.Agent) _ w g (entered-turns r (entering p w who.Agent r.handler.object Write)))
+  called-turns r =
+      looks-turns Alone (ActedWorld fits who.Agent) _
+      (λ w g. turns-from Alone (ActedWorld fits who.Agent) _ w g (entered-turns r (entering p w who.Agent r.handler.object Write)))
 
   agent_without-turns : (r : Option Release) → Turns Alone (ActedWorld fits who.Agent) (act_without p who.Agent r)
   unfolding act_without
@@ -234,14 +276,35 @@ module _ {p : Image} (fits : Fits p) where
   standing-rooted (x ∷ xs) f e (inl is) = absurd (let never : nature x.mark ∷ natures xs ≡ [] = is in cc)
   standing-rooted (x ∷ xs) f e (inr h) = h
 
-  agent_top-from : (found : Option Frame) (w : World) → ActingWorld fits who.Agent Standing w → OwnKnown who.Agent w → top_of w who.Agent ≡ found → From (Behind (ActedWorld fits who.Agent)) w (act_top p who.Agent found)
+  agent_top-from : (found : Option Frame) (w : World) → ActingWorld fits who.Agent Standing w → OwnKnown who.Agent w → top_of w who.Agent ≡ found
+      → From (Behind (ActedWorld fits who.Agent)) w (act_top p who.Agent found)
   unfolding act_top
   agent_top-from None w g known is =
       look-from (ActedWorld fits who.Agent) (λ v. act_without p who.Agent v.serving) w
-      (turns-from Alone (ActedWorld fits who.Agent) _ w (record { agent = g.agent; apart = g.apart; below = g.below; units = g.units; calls = g.calls; marks = no-frames w.agent.frames is; points = g.points }) (agent_without-turns w.serving))
+      (turns-from Alone (ActedWorld fits who.Agent) _ w
+      (record {
+        agent = g.agent;
+        apart = g.apart;
+        below = g.below;
+        units = g.units;
+        calls = g.calls;
+        marks = no-frames w.agent.frames is;
+        points = g.points;
+      })
+      (agent_without-turns w.serving))
   agent_top-from (Some f) w g known is =
-      let rooted : ActingWorld fits who.Agent Rooted w = record { agent = g.agent; apart = g.apart; below = g.below; units = g.units; calls = g.calls; marks = standing-rooted w.agent.frames f is g.marks; points = g.points } in
-      act_frame-from (acting_moves fits who.Agent Rooted (rooted_stacks (Is who.Agent))) (acting_loose fits who.Agent Rooted (rooted_stacks (Is who.Agent))) agent_again (agent_openings fits Any any_callings)
+      let rooted : ActingWorld fits who.Agent Rooted w =
+      record {
+        agent = g.agent;
+        apart = g.apart;
+        below = g.below;
+        units = g.units;
+        calls = g.calls;
+        marks = standing-rooted w.agent.frames f is g.marks;
+        points = g.points;
+      } in
+      act_frame-from (acting_moves fits who.Agent Rooted (rooted_stacks (Is who.Agent)))
+      (acting_loose fits who.Agent Rooted (rooted_stacks (Is who.Agent))) agent_again (agent_openings fits Any any_callings)
       who.Agent (ActedWorld fits who.Agent) (departing fits who.Agent Rooted (λ ns h. inr h)) f f.onward w rooted refl is refl
       (λ m k. agent_ends-from m f (leaving_of f) w rooted known is k)
 
@@ -249,15 +312,26 @@ module _ {p : Image} (fits : Fits p) where
 
   acts-from : (name : Who) (w : World) → ActingWorld fits name Standing w → OwnKnown name w → From (Behind (ActedWorld fits name)) w (act p name)
   unfolding act
-  acts-from (who.Task n) w g known = look-from (ActedWorld fits (who.Task n)) (λ v. act_top p (who.Task n) (top_of v (who.Task n))) w (task_top-from n (top_of w (who.Task n)) w g known refl)
-  acts-from who.Agent w g known = look-from (ActedWorld fits who.Agent) (λ v. act_top p who.Agent (top_of v who.Agent)) w (agent_top-from (top_of w who.Agent) w g known refl)
+  acts-from (who.Task n) w g known =
+      look-from (ActedWorld fits (who.Task n)) (λ v. act_top p (who.Task n) (top_of v (who.Task n))) w (task_top-from n (top_of w (who.Task n)) w g known refl)
+  acts-from who.Agent w g known =
+      look-from (ActedWorld fits who.Agent) (λ v. act_top p who.Agent (top_of v who.Agent)) w (agent_top-from (top_of w who.Agent) w g known refl)
 
   -- who has acted and is not ready rests
   settled-point : (name b : Who) (s : State) (g : Bool) → (name ≡ b → is_runnable_state s ≡ false) → Apart name (HasActed name) b s g → Rests b s g
-  settled-point name b s g not_ready h = by_bool (same_who name b) (λ same. settled-own name b s g (who-same name b same) (not_ready (who-same name b same)) (h.1 same)) (λ apart. h.0 apart)
+  settled-point name b s g not_ready h =
+      by_bool (same_who name b) (λ same. settled-own name b s g (who-same name b same) (not_ready (who-same name b same)) (h.1 same)) (λ apart. h.0 apart)
 
   rested : (name : Who) (w : World) → is_runnable (task_of w name) ≡ false → ActedWorld fits name w → RestingWorld w
-  rested name w not_ready g = record { agent = g.agent; apart = g.apart; below = g.below; units = g.units; calls = g.calls; marks = g.marks; points = λ b. settled-point name b (task_of w b).state (begins p w b) (λ is. subst (λ n. is_runnable (task_of w n) ≡ false) is not_ready) (g.points b) }
+  rested name w not_ready g = record {
+    agent = g.agent;
+    apart = g.apart;
+    below = g.below;
+    units = g.units;
+    calls = g.calls;
+    marks = g.marks;
+    points = λ b. settled-point name b (task_of w b).state (begins p w b) (λ is. subst (λ n. is_runnable (task_of w n) ≡ false) is not_ready) (g.points b);
+  }
 
   loose-point : (name b : Who) (s : State) (g : Bool) → (name ≡ b → s ≡ Runnable) → Apart name (HasActed name) b s g → loosened Rests name b s g
   loose-point name b s g ready h =
@@ -266,35 +340,61 @@ module _ {p : Image} (fits : Fits p) where
       (λ apart. subst (λ c. Rests b s (not c && g)) (sym apart) (h.0 apart))
 
   module _ {A : Marking} where
-    loose_world : (name : Who) (w : World) → A (natures w.agent.frames) → is_runnable (task_of w name) ≡ true → ActedWorld fits name w → Fine p (loosened Rests name) A Any w
-    loose_world name w marks ready g = record { agent = g.agent; apart = g.apart; below = g.below; units = g.units; calls = g.calls; marks = marks; points = λ b. loose-point name b (task_of w b).state (begins p w b) (λ is. subst (λ n. (task_of w n).state ≡ Runnable) is (runs-so (task_of w name).state ready)) (g.points b) }
+    loose_world : (name : Who) (w : World) → A (natures w.agent.frames) → is_runnable (task_of w name) ≡ true → ActedWorld fits name w
+        → Fine p (loosened Rests name) A Any w
+    loose_world name w marks ready g = record {
+      agent = g.agent;
+      apart = g.apart;
+      below = g.below;
+      units = g.units;
+      calls = g.calls;
+      marks = marks;
+      points =
+          λ b. loose-point name b (task_of w b).state (begins p w b)
+          (λ is. subst (λ n. (task_of w n).state ≡ Runnable) is (runs-so (task_of w name).state ready)) (g.points b);
+    }
 
   none_opened-from : (w : World) (next : Option StatementNo) → next ≡ None → RestingWorld w → From (Behind RestingWorld) w (open_at p Own who.Agent next)
   unfolding open_at
   none_opened-from w None is g = turns-from RestingWorld RestingWorld nothing w g (nothing-turns RestingWorld RestingWorld (λ v h. h))
   none_opened-from w (Some s) is g = cc
 
-  alone-point : (w : World) → onward_of w who.Agent ≡ None → is_runnable (task_of w who.Agent) ≡ true → (b : Who) → Apart who.Agent (HasActed who.Agent) b (task_of w b).state (begins p w b) → Rests b (task_of w b).state (begins p w b)
+  alone-point : (w : World) → onward_of w who.Agent ≡ None → is_runnable (task_of w who.Agent) ≡ true → (b : Who)
+      → Apart who.Agent (HasActed who.Agent) b (task_of w b).state (begins p w b) → Rests b (task_of w b).state (begins p w b)
   alone-point w none ready (who.Task n) h = h.0 refl
   alone-point w none ready who.Agent h = (ap (begins_sequence p) none, ap of_agent (runs-so w.agent.state ready))
 
-  agent_opens-from : (w : World) → Standing (natures w.agent.frames) → is_runnable (task_of w who.Agent) ≡ true → ActedWorld fits who.Agent w → From (Behind RestingWorld) w (open_sequence p Own who.Agent)
+  agent_opens-from : (w : World) → Standing (natures w.agent.frames) → is_runnable (task_of w who.Agent) ≡ true → ActedWorld fits who.Agent w
+      → From (Behind RestingWorld) w (open_sequence p Own who.Agent)
   unfolding open_sequence loosening
   agent_opens-from w (inl alone) ready g =
       let none = no-natures w.agent.frames alone in
       look-from RestingWorld (λ v. open_at p Own who.Agent (onward_of v who.Agent)) w
-      (none_opened-from w (onward_of w who.Agent) none (record { agent = g.agent; apart = g.apart; below = g.below; units = g.units; calls = g.calls; marks = g.marks; points = λ b. alone-point w none ready b (g.points b) }))
+      (none_opened-from w (onward_of w who.Agent) none
+      (record {
+        agent = g.agent;
+        apart = g.apart;
+        below = g.below;
+        units = g.units;
+        calls = g.calls;
+        marks = g.marks;
+        points = λ b. alone-point w none ready b (g.points b);
+      }))
   agent_opens-from w (inr root) ready g =
-      wide-from (Fine p Rests Rooted Any) RestingWorld (open_sequence p Own who.Agent) w (λ v h. fine-wide (λ ns k. inr k) (λ m cs k. k) Rests Rests v (λ b s k h. h) h)
+      wide-from (Fine p Rests Rooted Any) RestingWorld (open_sequence p Own who.Agent) w
+      (λ v h. fine-wide (λ ns k. inr k) (λ m cs k. k) Rests Rests v (λ b s k h. h) h)
       (turns-from (Fine p (loosened Rests who.Agent) Rooted Any) (Fine p Rests Rooted Any) _ w (loose_world who.Agent w root ready g)
       (opened_by-turns (loosening fits any_callings Rests Nobody rests_points (nobody_free Rests) who.Agent (rooted_stacks (Freed Nobody who.Agent))) Own))
 
   opens-by : (name : Who) (w : World) → is_runnable (task_of w name) ≡ true → ActedWorld fits name w → From (Behind RestingWorld) w (open_sequence p Own name)
   unfolding resting_loose fine_loosens loosening
-  opens-by (who.Task n) w ready g = turns-from (Fine p (loosened Rests (who.Task n)) Standing Any) RestingWorld _ w (loose_world (who.Task n) w g.marks ready g) (opened-turns resting_moves resting_loose Own (who.Task n) tt)
+  opens-by (who.Task n) w ready g =
+      turns-from (Fine p (loosened Rests (who.Task n)) Standing Any) RestingWorld _ w (loose_world (who.Task n) w g.marks ready g)
+      (opened-turns resting_moves resting_loose Own (who.Task n) tt)
   opens-by who.Agent w ready g = agent_opens-from w g.marks ready g
 
-  opens_if-from : (name : Who) (b : Bool) (w : World) → is_runnable (task_of w name) ≡ b → ActedWorld fits name w → From (Behind RestingWorld) w (when b (open_sequence p Own name))
+  opens_if-from : (name : Who) (b : Bool) (w : World) → is_runnable (task_of w name) ≡ b → ActedWorld fits name w
+      → From (Behind RestingWorld) w (when b (open_sequence p Own name))
   opens_if-from name true w is g = opens-by name w is g
   opens_if-from name false w is g = turns-from RestingWorld RestingWorld nothing w (rested name w is g) (nothing-turns RestingWorld RestingWorld (λ v h. h))
 
@@ -310,21 +410,30 @@ module _ {p : Image} (fits : Fits p) where
     units = g.units;
     calls = g.calls;
     marks = g.marks;
-    points = λ b. ((λ apart. g.points b), (λ same. acts_so name (task_of w b).state (begins p w b) (subst (λ n. (task_of w n).state ≡ Runnable) (who-same name b same) (runs-so (task_of w name).state ready))));
+    points = λ b. (
+      (λ apart. g.points b),
+      (λ same. acts_so name (task_of w b).state (begins p w b)
+          (subst (λ n. (task_of w n).state ≡ Runnable) (who-same name b same) (runs-so (task_of w name).state ready))),
+    );
   }
 
   unticked : (name : Who) (w : World) → ActingWorld fits name Standing w → ActingWorld fits name Standing (edit_task name (with_ticks None) w)
   unticked name w g = fine-edited name (with_ticks None) w (λ t. refl) (λ t fit. fit) (λ is m. m) (λ h. h) g
 
-  known-edited : (name : Who) (v w : World) → v.calls ≡ w.calls → v.drawn ≡ w.drawn → (task_of v name ≡ with_ticks None (task_of w name)) ⊎ ((v ≡ w) × (task_of w name ≡ nobody)) → OwnKnown name w → OwnKnown name v
-  known-edited name v w calls drawn (inl is) known f m top mark = subst (λ d. Knows m.own_call name d.calls v.calls) (sym drawn) (subst (Knows m.own_call name w.drawn.calls) (sym calls) (known f m (sym (ap (λ t. first_of t.frames) is) ∙ top) mark))
+  known-edited : (name : Who) (v w : World) → v.calls ≡ w.calls → v.drawn ≡ w.drawn
+      → (task_of v name ≡ with_ticks None (task_of w name)) ⊎ ((v ≡ w) × (task_of w name ≡ nobody)) → OwnKnown name w → OwnKnown name v
+  known-edited name v w calls drawn (inl is) known f m top mark =
+      subst (λ d. Knows m.own_call name d.calls v.calls) (sym drawn)
+      (subst (Knows m.own_call name w.drawn.calls) (sym calls) (known f m (sym (ap (λ t. first_of t.frames) is) ∙ top) mark))
   known-edited name v w calls drawn (inr same) known f m top mark = (subst (OwnKnown name) (sym same.0) known) f m top mark
 
   unticked-known : (name : Who) (w : World) → OwnKnown name w → OwnKnown name (edit_task name (with_ticks None) w)
   unticked-known name w known =
-      known-edited name (edit_task name (with_ticks None) w) w (edited_found-calls name (with_ticks None) w (task_at w name)) (edit_task-drawn name (with_ticks None) w) (edited-own name (with_ticks None) w (λ t. refl)) known
+      known-edited name (edit_task name (with_ticks None) w) w (edited_found-calls name (with_ticks None) w (task_at w name))
+      (edit_task-drawn name (with_ticks None) w) (edited-own name (with_ticks None) w (λ t. refl)) known
 
-  pub effect-from : (name : Who) (w : World) → is_runnable (task_of w name) ≡ true → OwnKnown name w → RestingWorld w → From (Behind RestingWorld) w (effect p name)
+  pub effect-from : (name : Who) (w : World) → is_runnable (task_of w name) ≡ true → OwnKnown name w → RestingWorld w
+      → From (Behind RestingWorld) w (effect p name)
   unfolding effect
   effect-from name w ready known g =
       let Y = ActedWorld fits name in
@@ -333,18 +442,23 @@ module _ {p : Image} (fits : Fits p) where
       changes_turn-from Z (edit_task name (with_ticks None)) _ w
       (then_turn-from Y Z (act p name) _ v (acts-from name v (unticked name w (acting_first name w ready g)) (unticked-known name w known))
       (then-turns Y Z Z (open_if_ready p name) _ (open_if_ready-turns name)
-      (then-keeps (chains resting_moves) (take_terminates p name) (unwind_all p name) (take_terminates-keeps resting_moves resting_loose name) (unwind_all-keeps resting_moves resting_loose name))))
+      (then-keeps (chains resting_moves) (take_terminates p name) (unwind_all p name) (take_terminates-keeps resting_moves resting_loose name)
+      (unwind_all-keeps resting_moves resting_loose name))))
 
   -- ---- an instant, of which who ran and whose action is over is ready
 
   abbrev pub RunnerReady : World → Type 0
   RunnerReady w = (name : Who) → w.ran ≡ Some name → is_over (task_of w name).ticks_left ≡ true → is_runnable (task_of w name) ≡ true
 
-  acted-by : (name : Who) (b : Bool) (w : World) → is_over (task_of w name).ticks_left ≡ b → (is_over (task_of w name).ticks_left ≡ true → is_runnable (task_of w name) ≡ true) → OwnKnown name w → RestingWorld w → RestingWorld ((elim b as (λ _. Move) [ true ↦ settles p (effect p name) | false ↦ rests ]) w).0
-  acted-by name true w is ready known g = settles-from (BehindMove RestingWorld) p resting_moves.settles (effect p name) w (effect-from name w (ready is) known g)
+  acted-by : (name : Who) (b : Bool) (w : World) → is_over (task_of w name).ticks_left ≡ b
+      → (is_over (task_of w name).ticks_left ≡ true → is_runnable (task_of w name) ≡ true) → OwnKnown name w → RestingWorld w
+      → RestingWorld ((elim b as (λ _. Move) [ true ↦ settles p (effect p name) | false ↦ rests ]) w).0
+  acted-by name true w is ready known g =
+      settles-from (BehindMove RestingWorld) p resting_moves.settles (effect p name) w (effect-from name w (ready is) known g)
   acted-by name false w is ready known g = g
 
-  ran-by : (ran : Option Who) (w : World) → w.ran ≡ ran → RunnerReady w → ((name : Who) → OwnKnown name w) → RestingWorld w → RestingWorld (effect_of_runner p ran w).0
+  ran-by : (ran : Option Who) (w : World) → w.ran ≡ ran → RunnerReady w → ((name : Who) → OwnKnown name w) → RestingWorld w
+      → RestingWorld (effect_of_runner p ran w).0
   ran-by None w is ready known g = g
   ran-by (Some name) w is ready known g = acted-by name (is_over (task_of w name).ticks_left) w refl (ready name is) (known name) g
 

@@ -71,7 +71,8 @@ use Rattle.world_laws.proofs.Behind.{Behind, BehindMove}
 pub record Fits (p : Image) : Type 0 where
   pub handled : (s first : StatementNo) (handlers : List Handler) → form_of p s ≡ form.Handled handlers first → begins_sequence p (Some first) ≡ false
   pub abortable : (s : StatementNo) → begins_sequence p (abortable_in (form_of p s)) ≡ false
-  pub created : (s : StatementNo) (d : DeclNo) (part : ℕ) → form_of p s ≡ form.CreateTask d part → begins_sequence p (scope_of p (task_unit_of p (unit_of_declaration p d)).scope).first ≡ false
+  pub created : (s : StatementNo) (d : DeclNo) (part : ℕ) → form_of p s ≡ form.CreateTask d part
+      → begins_sequence p (scope_of p (task_unit_of p (unit_of_declaration p d)).scope).first ≡ false
 
 -- who is made begins plainly
 abbrev pub Fitting : Image → Task → Type 0
@@ -122,25 +123,32 @@ pub record FineMoves (p : Image) (G : GoodWorld) (May Other : Naming) : Type 0 w
   pub fitting : (w : World) → G w → AllFitting p w.tasks
   pub awaits : (name : Who) (w : World) → G w → waits_for_activation (waiting_of w name) ≡ true → Other name
   -- tasks: an edit of anybody that leaves alone who it is, its marks, its state and its unit; one of marks alone
-  pub edits_task : (name : Who) (f : Task → Task) (w : World) → G w → ((t : Task) → (f t).who ≡ t.who) → ((t : Task) → (f t).frames ≡ t.frames) → ((t : Task) → (f t).state ≡ t.state) → ((t : Task) → (f t).unit ≡ t.unit) → Behind G w [] (edit_task name f w)
-  pub edits_frames : (name : Who) (f : List Frame → List Frame) (w : World) → G w → ((fs : List Frame) → natures (f fs) ≡ natures fs) → ((fs : List Frame) → StaysOn (onward_in (f fs)) (onward_in fs)) → Behind G w [] (edit_task name (λ t. with_frames (f t.frames) t) w)
+  pub edits_task : (name : Who) (f : Task → Task) (w : World) → G w → ((t : Task) → (f t).who ≡ t.who) → ((t : Task) → (f t).frames ≡ t.frames)
+      → ((t : Task) → (f t).state ≡ t.state) → ((t : Task) → (f t).unit ≡ t.unit) → Behind G w [] (edit_task name f w)
+  pub edits_frames : (name : Who) (f : List Frame → List Frame) (w : World) → G w → ((fs : List Frame) → natures (f fs) ≡ natures fs)
+      → ((fs : List Frame) → StaysOn (onward_in (f fs)) (onward_in fs)) → Behind G w [] (edit_task name (λ t. with_frames (f t.frames) t) w)
   pub goes : (name : Who) (onward : Option StatementNo) (w : World) → G w → May name → Behind G w [] (gone_on name onward w)
   -- a mark is opened by who has one, behind its going on; by a task; and one that is no protected action ends
-  pub pushes : (name : Who) (f : Frame) (w : World) → G w → May name → (nature f.mark).release ≡ None → (nature f.mark).abortable ≡ false → Behind G w [] (push name f w)
+  pub pushes : (name : Who) (f : Frame) (w : World) → G w → May name → (nature f.mark).release ≡ None → (nature f.mark).abortable ≡ false
+      → Behind G w [] (push name f w)
   pub pushes_other : (name : Who) (f : Frame) (w : World) → G w → May name → Other name → Behind G w [] (push name f w)
   pub opens_abortable : (name : Who) (f : Frame) (w : World) → G w → Other name → begins_sequence p f.onward ≡ false → Behind G w [] (push name f w)
-  pub opens_task : (name : Who) (scope : ScopeNo) (b : Beginning) (w : World) → G w → Other name → begins_sequence p (scope_of p scope).first ≡ false → Behind G w [] (open_scope p name scope b opened_for.Task w)
+  pub opens_task : (name : Who) (scope : ScopeNo) (b : Beginning) (w : World) → G w → Other name → begins_sequence p (scope_of p scope).first ≡ false
+      → Behind G w [] (open_scope p name scope b opened_for.Task w)
   pub goes_plainly : (name : Who) (onward : Option StatementNo) (w : World) → G w → begins_sequence p onward ≡ false → Behind G w [] (gone_on name onward w)
   pub pops : (name : Who) (f : Frame) (w : World) → G w → May name → top_of w name ≡ Some f → is_protected f.mark ≡ false → Behind G w [] (pop name w)
   -- states, and places
   pub readies : (name : Who) (w : World) → G w → May name → Behind G w [] (edit_task name (with_state Runnable) w)
   pub readies_plainly : (name : Who) (w : World) → G w → begins_sequence p (onward_of w name) ≡ false → Behind G w [] (edit_task name (with_state Runnable) w)
   pub readies_agent : (w : World) → G w → Behind G w [] (edit_task who.Agent (with_state Runnable) w)
-  pub readies_master : (r : RegionNo) (t : Task) (w : World) → G w → find (waits_for_dependents r) w.tasks ≡ Some t → Behind G w [] (edit_task t.who (with_state Runnable) w)
+  pub readies_master : (r : RegionNo) (t : Task) (w : World) → G w → find (waits_for_dependents r) w.tasks ≡ Some t
+      → Behind G w [] (edit_task t.who (with_state Runnable) w)
   pub places : (part : Part) (name : Who) (end : QueueEnd) (w : World) → G w → Behind G w (ready_line p part name end w ∷ []) w
-  pub says_blocked : (part : Part) (name : Who) (waiting : Waiting) (w : World) → G w → Behind G w (record { part = part; line = said.Block name (word_of waiting) } ∷ []) w
+  pub says_blocked : (part : Part) (name : Who) (waiting : Waiting) (w : World) → G w
+      → Behind G w (record { part = part; line = said.Block name (word_of waiting) } ∷ []) w
   -- a new task has the next number and the region of its creator, which goes on first
-  pub adds_task : (t : Task) (w : World) → G w → t.who ≡ who.Task (record { 0 = w.drawn.tasks }) → t.frames ≡ [] → t.state ≡ Made → Fitting p t → Behind G w [] (add_task t w)
+  pub adds_task : (t : Task) (w : World) → G w → t.who ≡ who.Task (record { 0 = w.drawn.tasks }) → t.frames ≡ [] → t.state ≡ Made → Fitting p t
+      → Behind G w [] (add_task t w)
   pub forgets_task : (name : Who) (w : World) → G w → Behind G w [] (forget_task name w)
   pub sets_quantum : (level ticks : ℕ) (w : World) → G w → Behind G w [] (record w { quanta = edit_at level (λ _. ticks) w.quanta })
   pub ends_environment : (leaving : Leaving) (w : World) → G w → Behind G w [] (end_environment leaving w)
@@ -149,16 +157,20 @@ pub record FineMoves (p : Image) (G : GoodWorld) (May Other : Naming) : Type 0 w
   pub edits_cells : (id : ScopeId) (f : List Value → List Value) (w : World) → G w → Behind G w [] (edit_cells id f w)
   pub ends_scope : (id : ScopeId) (w : World) → G w → Behind G w [] (end_scope id w)
   -- calls: no edit changes the number or the caller
-  pub edits_call : (c : CallNo) (f : Call → Call) (w : World) → G w → ((d : Call) → (f d).number ≡ d.number) → ((d : Call) → (f d).caller ≡ d.caller) → Behind G w [] (edit_call c f w)
+  pub edits_call : (c : CallNo) (f : Call → Call) (w : World) → G w → ((d : Call) → (f d).number ≡ d.number) → ((d : Call) → (f d).caller ≡ d.caller)
+      → Behind G w [] (edit_call c f w)
   pub adds_call : (c : Call) (w : World) → G w → Behind G w [] (add_call c w)
   pub forgets_call : (c : CallNo) (w : World) → G w → Behind G w [] (forget_call c w)
   -- protected objects: no other edit changes the actions that are open
-  pub edits_object : (o : ObjectNo) (f : Object → Object) (w : World) → G w → ((x : Object) → (f x).number ≡ x.number) → ((x : Object) → (f x).actions ≡ x.actions) → Behind G w [] (edit_object o f w)
+  pub edits_object : (o : ObjectNo) (f : Object → Object) (w : World) → G w → ((x : Object) → (f x).number ≡ x.number)
+      → ((x : Object) → (f x).actions ≡ x.actions) → Behind G w [] (edit_object o f w)
   pub edits_any_object : (o : ObjectNo) (f : Object → Object) (w : World) → G w → Behind G w [] (edit_object o f w)
-  pub adds_object : (r : Image) (l : Located) (u : ProtectedUnitNo) (w : World) → G w → Behind G w [] (record w { objects = new_object r l u (suc w.drawn.objects) ∷ w.objects; drawn = object_drawn w.drawn })
+  pub adds_object : (r : Image) (l : Located) (u : ProtectedUnitNo) (w : World) → G w
+      → Behind G w [] (record w { objects = new_object r l u (suc w.drawn.objects) ∷ w.objects; drawn = object_drawn w.drawn })
   -- protected actions: one begins, one begins and ends at once round other lines and a change, and one may not begin
   pub enters : (name : Who) (o : ObjectNo) (mode : Mode) (w : World) → G w → Behind G w (own (said.Enter name o mode) ∷ []) (open_action name o mode w)
-  pub visits : (name : Who) (o : ObjectNo) (mode : Mode) (xs : List Said) (w v : World) → G w → Behind G w [] v → Behind G w (own (said.Enter name o mode) ∷ xs ++ own (said.Exit name o) ∷ []) v
+  pub visits : (name : Who) (o : ObjectNo) (mode : Mode) (xs : List Said) (w v : World) → G w → Behind G w [] v
+      → Behind G w (own (said.Enter name o mode) ∷ xs ++ own (said.Exit name o) ∷ []) v
   pub finds_held : (name : Who) (o : ObjectNo) (mode : Mode) (w : World) → G w → Behind G w (own (said.Held name o mode) ∷ []) w
   -- appointments: one that is set is later than now
   pub appoints : (due : Due) (moment : ℤ) (w : World) → G w → Behind G w [] (appoint due moment w)
@@ -184,12 +196,15 @@ pub record FineMoves (p : Image) (G : GoodWorld) (May Other : Naming) : Type 0 w
 
 -- who acts beside a protected action, or in an abortable part, is another
 pub record Openings (p : Image) (G : GoodWorld) (May Other : Naming) : Type 0 where
-  pub pushes : (name : Who) (f : Frame) (w : World) → G w → May name → (nature f.mark).region ≡ None → (nature f.mark).release ≡ None → (nature f.mark).abortable ≡ false → Behind G w [] (push name f w)
-  pub opens_scope : (name : Who) (scope : ScopeNo) (b : Beginning) (purpose : Purpose) (w : World) → G w → May name → Behind G w [] (open_scope p name scope b purpose w)
+  pub pushes : (name : Who) (f : Frame) (w : World) → G w → May name → (nature f.mark).region ≡ None → (nature f.mark).release ≡ None
+      → (nature f.mark).abortable ≡ false → Behind G w [] (push name f w)
+  pub opens_scope : (name : Who) (scope : ScopeNo) (b : Beginning) (purpose : Purpose) (w : World) → G w → May name
+      → Behind G w [] (open_scope p name scope b purpose w)
   pub outside : (name : Who) (w : World) → G w → May name → in_protected w name ≡ false → Other name
   pub within_part : (name : Who) (f : Frame) (w : World) → G w → May name → top_of w name ≡ Some f → is_abortable f.mark ≡ true → Other name
   -- who acts blocks, and for dependents last of all
-  pub blocks : (name : Who) (waiting : Waiting) (w : World) → G w → Other name → is_for_dependents waiting ≡ false → Behind G w [] (edit_task name (with_state (Blocked waiting)) w)
+  pub blocks : (name : Who) (waiting : Waiting) (w : World) → G w → Other name → is_for_dependents waiting ≡ false
+      → Behind G w [] (edit_task name (with_state (Blocked waiting)) w)
 
 -- ---- who is woken goes on freely until it has opened the sequence to which it has come, or leaves its mark
 

@@ -4,7 +4,8 @@ use Rattle.std.proofs.lemmas.Bool.{false≢true}
 use Rattle.world_laws.proofs.Sequences.TaskNames.{names, AllBelow, is_below, Listed, listed-found, find-listed}
 use Rattle.world_laws.proofs.Sequences.FineMoves.{FineMoves, Fits, onward_in}
 use Rattle.world_laws.proofs.Sequences.UnitFits.{fitting-alone}
-use Rattle.world_laws.proofs.Sequences.Points.{Point, Marking, IsTask, Fine, Points, Free, Stacks, begins, fine-plain, fine-edited, fine-added, fine-forgotten, fine-call_edited, fine-call_added, fine-call_forgotten, fine-frames, waits-so, rises_as, Callings, Calling}
+use Rattle.world_laws.proofs.Sequences.Points.{Point, Marking, IsTask, Fine, Points, Free, Stacks, begins, fine-plain, fine-edited, fine-added, fine-forgotten}
+use Rattle.world_laws.proofs.Sequences.Points.{fine-call_edited, fine-call_added, fine-call_forgotten, fine-frames, waits-so, rises_as, Callings, Calling}
 use Rattle.std.proofs.Common.{◌≡◌, ℕ, suc, Bool, true, false, List, [], ◌∷◌, Option, Some, None, find, refl, sym, ap, ◌∙◌, subst, inl, inr, unwrap_or}
 use Rattle.ann_base.specs.declared.identities.RegionNo.{RegionNo}
 use Rattle.trace_text.specs.declared.events.Who.{Who}
@@ -41,18 +42,25 @@ use Rattle.machine_laws.proofs.FineMoves.{Naming, nature, natures, EachIs, gone_
 
 -- ---- single changes
 
-alone_point : (p : Image) (P : Point) (name : Who) (t u : Task) → u.state ≡ t.state → u.frames ≡ t.frames → P name t.state (begins_sequence p (onward_in t.frames)) → P name u.state (begins_sequence p (onward_in u.frames))
-alone_point p P name t u state frames h = subst (λ s. P name s (begins_sequence p (onward_in u.frames))) (sym state) (subst (λ fs. P name t.state (begins_sequence p (onward_in fs))) (sym frames) h)
+alone_point : (p : Image) (P : Point) (name : Who) (t u : Task) → u.state ≡ t.state → u.frames ≡ t.frames
+    → P name t.state (begins_sequence p (onward_in t.frames)) → P name u.state (begins_sequence p (onward_in u.frames))
+alone_point p P name t u state frames h =
+    subst (λ s. P name s (begins_sequence p (onward_in u.frames))) (sym state) (subst (λ fs. P name t.state (begins_sequence p (onward_in fs))) (sym frames) h)
 
-plain_point : (p : Image) (P : Point) → Points P → (name : Who) (s : State) (next : Option StatementNo) (g : Bool) → begins_sequence p next ≡ false → P name s g → P name s (begins_sequence p next)
+plain_point : (p : Image) (P : Point) → Points P → (name : Who) (s : State) (next : Option StatementNo) (g : Bool) → begins_sequence p next ≡ false → P name s g
+    → P name s (begins_sequence p next)
 plain_point p P points name s next g plain h = subst (P name s) (sym plain) (points.tight name s g h)
 
-gone-plain : (p : Image) (onward : Option StatementNo) (fs : List Frame) → begins_sequence p onward ≡ false → begins_sequence p (onward_in (edit_first (goes_on onward) fs)) ≡ false
+gone-plain : (p : Image) (onward : Option StatementNo) (fs : List Frame) → begins_sequence p onward ≡ false
+    → begins_sequence p (onward_in (edit_first (goes_on onward) fs)) ≡ false
 gone-plain p onward [] plain = refl
 gone-plain p onward (f ∷ fs) plain = plain
 
-gone_plainly : (p : Image) (P : Point) → Points P → (name : Who) (t : Task) (onward : Option StatementNo) → begins_sequence p onward ≡ false → P name t.state (begins_sequence p (onward_in t.frames)) → P name t.state (begins_sequence p (onward_in (edit_first (goes_on onward) t.frames)))
-gone_plainly p P points name t onward plain h = plain_point p P points name t.state (onward_in (edit_first (goes_on onward) t.frames)) (begins_sequence p (onward_in t.frames)) (gone-plain p onward t.frames plain) h
+gone_plainly : (p : Image) (P : Point) → Points P → (name : Who) (t : Task) (onward : Option StatementNo) → begins_sequence p onward ≡ false
+    → P name t.state (begins_sequence p (onward_in t.frames)) → P name t.state (begins_sequence p (onward_in (edit_first (goes_on onward) t.frames)))
+gone_plainly p P points name t onward plain h =
+    plain_point p P points name t.state (onward_in (edit_first (goes_on onward) t.frames)) (begins_sequence p (onward_in t.frames))
+    (gone-plain p onward t.frames plain) h
 
 gone-natures : (onward : Option StatementNo) (fs : List Frame) → natures (edit_first (goes_on onward) fs) ≡ natures fs
 gone-natures onward [] = refl
@@ -61,7 +69,8 @@ gone-natures onward (f ∷ fs) = refl
 first-is : (x f : Frame) (xs : List Frame) → first_of (x ∷ xs) ≡ Some f → x ≡ f
 first-is x f xs e = cc
 
-popped-marks : (A : Marking) (May : Naming) → Stacks A May → May who.Agent → (fs : List Frame) (f : Frame) → first_of fs ≡ Some f → is_protected f.mark ≡ false → A (natures fs) → A (natures (rest_of fs))
+popped-marks : (A : Marking) (May : Naming) → Stacks A May → May who.Agent → (fs : List Frame) (f : Frame) → first_of fs ≡ Some f → is_protected f.mark ≡ false
+    → A (natures fs) → A (natures (rest_of fs))
 popped-marks A May stacks may [] f e free h = absurd (let never : None ≡ Some f = e in cc)
 popped-marks A May stacks may (x ∷ xs) f e free h = stacks.popped may (nature x.mark) (natures xs) (ap (λ g. is_protected g.mark) (first-is x f xs e) ∙ free) h
 
@@ -83,29 +92,43 @@ module _ {p : Image} {P : Point} {A : Marking} {C : Calling} where
   listed_is w t l g (who.Task n) is = ap (λ o. unwrap_or o nobody) (subst (λ k. find (is_who k) w.tasks ≡ Some t) (sym is) (listed-found t w.tasks l g.apart))
   listed_is w t l g who.Agent is = absurd (subst IsTask (sym is) (below-task w.drawn.tasks t.who (below-listed w.drawn.tasks t w.tasks l g.below)))
 
-  fine-gone : (name : Who) (onward : Option StatementNo) (w : World) → (P name (task_of w name).state (begins p w name) → P name (task_of w name).state (begins_sequence p (onward_in (edit_first (goes_on onward) (task_of w name).frames)))) → Fine p P A C w → Fine p P A C (gone_on name onward w)
-  fine-gone name onward w point g = fine-edited name (λ t. with_frames (edit_first (goes_on onward) t.frames) t) w (λ t. refl) (λ t fit. fit) (λ is a. subst A (sym (gone-natures onward w.agent.frames)) a) point g
+  fine-gone : (name : Who) (onward : Option StatementNo) (w : World)
+      → (P name (task_of w name).state (begins p w name)
+      → P name (task_of w name).state (begins_sequence p (onward_in (edit_first (goes_on onward) (task_of w name).frames))))
+      → Fine p P A C w
+      → Fine p P A C (gone_on name onward w)
+  fine-gone name onward w point g =
+      fine-edited name (λ t. with_frames (edit_first (goes_on onward) t.frames) t) w (λ t. refl) (λ t fit. fit)
+      (λ is a. subst A (sym (gone-natures onward w.agent.frames)) a) point g
 
-  fine-pushed : (name : Who) (f : Frame) (w : World) → (name ≡ who.Agent → A (natures w.agent.frames) → A (nature f.mark ∷ natures w.agent.frames)) → (P name (task_of w name).state (begins p w name) → P name (task_of w name).state (begins_sequence p f.onward)) → Fine p P A C w → Fine p P A C (push name f w)
+  fine-pushed : (name : Who) (f : Frame) (w : World) → (name ≡ who.Agent → A (natures w.agent.frames) → A (nature f.mark ∷ natures w.agent.frames))
+      → (P name (task_of w name).state (begins p w name) → P name (task_of w name).state (begins_sequence p f.onward)) → Fine p P A C w
+      → Fine p P A C (push name f w)
   fine-pushed name f w marks point g = fine-edited name (λ t. with_frames (f ∷ t.frames) t) w (λ t. refl) (λ t fit. fit) marks point g
 
-  pub fine-stated : (name : Who) (s : State) (w : World) → (s ≡ Made → ⊥) → (P name (task_of w name).state (begins p w name) → P name s (begins p w name)) → Fine p P A C w → Fine p P A C (edit_task name (with_state s) w)
+  pub fine-stated : (name : Who) (s : State) (w : World) → (s ≡ Made → ⊥) → (P name (task_of w name).state (begins p w name) → P name s (begins p w name))
+      → Fine p P A C w → Fine p P A C (edit_task name (with_state s) w)
   fine-stated name s w begun point g = fine-edited name (with_state s) w (λ t. refl) (λ t fit e. absurd (begun e)) (λ is a. a) point g
 
   drawn-fine : (kept : Bool) (w : World) → Fine p P A C w → Fine p P A C (draw_region kept w)
   drawn-fine true w g = fine-plain w (record w { drawn = region_drawn w.drawn }) refl refl refl refl refl g
   drawn-fine false w g = g
 
-  pub begun-fine : (name : Who) (scope : ScopeNo) (b : Beginning) (w : World) → Fine p P A C w → Fine p P A C (draw_region (scope_of p scope).kept (begin_scope p name scope b w))
-  begun-fine name scope b w g = drawn-fine (scope_of p scope).kept (begin_scope p name scope b w) (fine-plain w (begin_scope p name scope b w) refl refl refl refl refl g)
+  pub begun-fine : (name : Who) (scope : ScopeNo) (b : Beginning) (w : World) → Fine p P A C w
+      → Fine p P A C (draw_region (scope_of p scope).kept (begin_scope p name scope b w))
+  begun-fine name scope b w g =
+      drawn-fine (scope_of p scope).kept (begin_scope p name scope b w) (fine-plain w (begin_scope p name scope b w) refl refl refl refl refl g)
 
-  opened_task-fine : Points P → (name : Who) (scope : ScopeNo) (b : Beginning) (purpose : Purpose) (w : World) → Fine p P A C w → IsTask name → begins_sequence p (scope_of p scope).first ≡ false → Fine p P A C (open_scope p name scope b purpose w)
+  opened_task-fine : Points P → (name : Who) (scope : ScopeNo) (b : Beginning) (purpose : Purpose) (w : World) → Fine p P A C w → IsTask name
+      → begins_sequence p (scope_of p scope).first ≡ false → Fine p P A C (open_scope p name scope b purpose w)
   opened_task-fine points name scope b purpose w g other plain =
       let v = draw_region (scope_of p scope).kept (begin_scope p name scope b w) in
-      fine-pushed name (new_frame (new_scope_mark (next_id w) (region_of_next (scope_of p scope).kept w) purpose) (scope_of p scope).first) v (λ is a. absurd (subst IsTask is other))
+      fine-pushed name (new_frame (new_scope_mark (next_id w) (region_of_next (scope_of p scope).kept w) purpose) (scope_of p scope).first) v
+      (λ is a. absurd (subst IsTask is other))
       (λ h. plain_point p P points name (task_of v name).state (scope_of p scope).first (begins p v name) plain h) (begun-fine name scope b w g)
 
-  master_point : Points P → (r : RegionNo) (t : Task) (w : World) → Fine p P A C w → find (waits_for_dependents r) w.tasks ≡ Some t → P t.who (task_of w t.who).state (begins p w t.who) → P t.who Runnable (begins p w t.who)
+  master_point : Points P → (r : RegionNo) (t : Task) (w : World) → Fine p P A C w → find (waits_for_dependents r) w.tasks ≡ Some t
+      → P t.who (task_of w t.who).state (begins p w t.who) → P t.who Runnable (begins p w t.who)
   master_point points r t w g found h =
       let l = find-listed (waits_for_dependents r) w.tasks t found in
       let q = waits-so r t.state l.1 in
@@ -119,7 +142,8 @@ module _ {p : Image} {P : Point} {A : Marking} {C : Calling} where
     fine-freely : (name : Who) (w : World) (g : Bool) → May name → P name (task_of w name).state (begins p w name) → P name (task_of w name).state g
     fine-freely name w g may h = free.freely name (task_of w name).state g may (points.tight name (task_of w name).state (begins p w name) h)
 
-    fine-popped : (name : Who) (f : Frame) (w : World) → May name → top_of w name ≡ Some f → is_protected f.mark ≡ false → Fine p P A C w → Fine p P A C (pop name w)
+    fine-popped : (name : Who) (f : Frame) (w : World) → May name → top_of w name ≡ Some f → is_protected f.mark ≡ false → Fine p P A C w
+        → Fine p P A C (pop name w)
     fine-popped name f w may top free_mark g =
         fine-edited name (λ t. with_frames (rest_of t.frames) t) w (λ t. refl) (λ t fit. fit)
         (λ is a. popped-marks A May stacks (subst May is may) w.agent.frames f (subst (λ n. top_of w n ≡ Some f) is top) free_mark a)
@@ -141,12 +165,21 @@ module _ {p : Image} {P : Point} {A : Marking} {C : Calling} where
       listed = λ w g. listed-tasks w.tasks w.drawn.tasks g.below;
       fitting = λ w g. g.units;
       awaits = λ name w g is. awaits-task points name w g is;
-      edits_task = λ name f w g same_who same_frames same_state same_unit. fine-edited name f w same_who (λ t fit. fitting-alone p t (f t) (same_state t) (same_unit t) fit) (λ is a. subst (λ fs. A (natures fs)) (sym (same_frames w.agent)) a) (λ h. alone_point p P name (task_of w name) (f (task_of w name)) (same_state (task_of w name)) (same_frames (task_of w name)) h) g;
+      edits_task =
+          λ name f w g same_who same_frames same_state same_unit. fine-edited name f w same_who
+          (λ t fit. fitting-alone p t (f t) (same_state t) (same_unit t) fit) (λ is a. subst (λ fs. A (natures fs)) (sym (same_frames w.agent)) a)
+          (λ h. alone_point p P name (task_of w name) (f (task_of w name)) (same_state (task_of w name)) (same_frames (task_of w name)) h) g;
       edits_frames = λ name f w g same stays. fine-frames points name f w same stays g;
       goes = λ name onward w g may. fine-gone name onward w (λ h. fine-freely name w _ may h) g;
-      pushes = λ name f w g may release abortable. fine-pushed name f w (λ is a. stacks.pushed (subst May is may) (nature f.mark) (natures w.agent.frames) release abortable a) (λ h. fine-freely name w (begins_sequence p f.onward) may h) g;
-      pushes_other = λ name f w g may other. fine-pushed name f w (λ is a. absurd (subst IsTask is other)) (λ h. fine-freely name w (begins_sequence p f.onward) may h) g;
-      opens_abortable = λ name f w g other plain. fine-pushed name f w (λ is a. absurd (subst IsTask is other)) (λ h. plain_point p P points name (task_of w name).state f.onward (begins p w name) plain h) g;
+      pushes =
+          λ name f w g may release abortable. fine-pushed name f w
+          (λ is a. stacks.pushed (subst May is may) (nature f.mark) (natures w.agent.frames) release abortable a)
+          (λ h. fine-freely name w (begins_sequence p f.onward) may h) g;
+      pushes_other =
+          λ name f w g may other. fine-pushed name f w (λ is a. absurd (subst IsTask is other)) (λ h. fine-freely name w (begins_sequence p f.onward) may h) g;
+      opens_abortable =
+          λ name f w g other plain. fine-pushed name f w (λ is a. absurd (subst IsTask is other))
+          (λ h. plain_point p P points name (task_of w name).state f.onward (begins p w name) plain h) g;
       opens_task = λ name scope b w g other plain. opened_task-fine points name scope b opened_for.Task w g other plain;
       goes_plainly = λ name onward w g plain. fine-gone name onward w (λ h. gone_plainly p P points name (task_of w name) onward plain h) g;
       pops = λ name f w g may top free_mark. fine-popped name f w may top free_mark g;
@@ -168,7 +201,9 @@ module _ {p : Image} {P : Point} {A : Marking} {C : Calling} where
       forgets_call = λ c w g. fine-call_forgotten callings c w g;
       edits_object = λ o f w g h1 h2. fine-plain w (edit_object o f w) refl refl refl refl refl g;
       edits_any_object = λ o f w g. fine-plain w (edit_object o f w) refl refl refl refl refl g;
-      adds_object = λ r l u w g. fine-plain w (record w { objects = new_object r l u (suc w.drawn.objects) ∷ w.objects; drawn = object_drawn w.drawn }) refl refl refl refl refl g;
+      adds_object =
+          λ r l u w g.
+          fine-plain w (record w { objects = new_object r l u (suc w.drawn.objects) ∷ w.objects; drawn = object_drawn w.drawn }) refl refl refl refl refl g;
       enters = λ name o mode w g. fine-plain w (open_action name o mode w) refl refl refl refl refl g;
       visits = λ name o mode xs w v g h. h;
       finds_held = λ name o mode w g. g;
@@ -191,9 +226,12 @@ module _ {p : Image} {P : Point} {A : Marking} {C : Calling} where
       cuts_script = λ x rest w g. fine-plain w (with_script rest w) refl refl refl refl refl g;
     }
 
-    pub fine_pushes : (name : Who) (f : Frame) (w : World) → Fine p P A C w → May name → (nature f.mark).release ≡ None → (nature f.mark).abortable ≡ false → Fine p P A C (push name f w)
+    pub fine_pushes : (name : Who) (f : Frame) (w : World) → Fine p P A C w → May name → (nature f.mark).release ≡ None → (nature f.mark).abortable ≡ false
+        → Fine p P A C (push name f w)
     fine_pushes name f w g may release abortable = fine_moves.pushes name f w g may release abortable
 
-    pub fine_opens : (name : Who) (scope : ScopeNo) (b : Beginning) (purpose : Purpose) (w : World) → Fine p P A C w → May name → Fine p P A C (open_scope p name scope b purpose w)
+    pub fine_opens : (name : Who) (scope : ScopeNo) (b : Beginning) (purpose : Purpose) (w : World) → Fine p P A C w → May name
+        → Fine p P A C (open_scope p name scope b purpose w)
     fine_opens name scope b purpose w g may =
-        fine_moves.pushes name (new_frame (new_scope_mark (next_id w) (region_of_next (scope_of p scope).kept w) purpose) (scope_of p scope).first) (draw_region (scope_of p scope).kept (begin_scope p name scope b w)) (begun-fine name scope b w g) may refl refl
+        fine_moves.pushes name (new_frame (new_scope_mark (next_id w) (region_of_next (scope_of p scope).kept w) purpose) (scope_of p scope).first)
+        (draw_region (scope_of p scope).kept (begin_scope p name scope b w)) (begun-fine name scope b w g) may refl refl

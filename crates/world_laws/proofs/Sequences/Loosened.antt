@@ -77,13 +77,31 @@ module _ {p : Image} {A : Marking} {C : Calling} (fits : Fits p) (callings : Cal
   loosening P May points free c stacks = record {
     Loose = Fine p (loosened P c) A C;
     moves = fine_moves fits callings (points-loosened points c) (free-loosened points c free) stacks;
-    loosens = λ w g. record { agent = g.agent; apart = g.apart; below = g.below; units = g.units; calls = g.calls; marks = g.marks; points = λ name. loosens-point P points c name (task_of w name).state (begins p w name) (g.points name) };
-    tight = λ w g plain. record { agent = g.agent; apart = g.apart; below = g.below; units = g.units; calls = g.calls; marks = g.marks; points = λ name. tight-point P c name (task_of w name).state (begins p w name) (λ is. subst (λ n. begins p w n ≡ false) (sym is) plain) (g.points name) };
+    loosens = λ w g. record {
+      agent = g.agent;
+      apart = g.apart;
+      below = g.below;
+      units = g.units;
+      calls = g.calls;
+      marks = g.marks;
+      points = λ name. loosens-point P points c name (task_of w name).state (begins p w name) (g.points name);
+    };
+    tight = λ w g plain. record {
+      agent = g.agent;
+      apart = g.apart;
+      below = g.below;
+      units = g.units;
+      calls = g.calls;
+      marks = g.marks;
+      points = λ name. tight-point P c name (task_of w name).state (begins p w name) (λ is. subst (λ n. begins p w n ≡ false) (sym is) plain) (g.points name);
+    };
   }
 
   unfoldable pub fine_loosens : (P : Point) (May : Naming) → Points P → Free P May → Stacks A May → Loosens p (Fine p P A C) May IsTask
   fine_loosens P May points free stacks c other = loosening P May points free c (stacks-loosened stacks c other)
 
-  pub fine_again : (P : Point) (May : Naming) (points : Points P) (free : Free P May) (stacks : Stacks A May) → Again p (Fine p P A C) May IsTask (fine_loosens P May points free stacks)
+  pub fine_again : (P : Point) (May : Naming) (points : Points P) (free : Free P May) (stacks : Stacks A May)
+      → Again p (Fine p P A C) May IsTask (fine_loosens P May points free stacks)
   unfolding fine_loosens loosening
-  fine_again P May points free stacks c other = fine_loosens (loosened P c) (Freed May c) (points-loosened points c) (free-loosened points c free) (stacks-loosened stacks c other)
+  fine_again P May points free stacks c other =
+      fine_loosens (loosened P c) (Freed May c) (points-loosened points c) (free-loosened points c free) (stacks-loosened stacks c other)

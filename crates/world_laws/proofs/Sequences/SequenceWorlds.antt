@@ -1,5 +1,6 @@
 -- In every world that a run reaches, who is ready has opened the sequence with handlers to which it has come.
-use Rattle.std.proofs.Common.{◌≡◌, ℕ, ℤ, zero, suc, Bool, true, false, cond, not, ◌&&◌, List, [], ◌∷◌, ◌++◌, Option, Some, None, slice_index_or, refl, sym, ap, subst, ◌∙◌, inl, inr, unwrap_or}
+use Rattle.std.proofs.Common.{◌≡◌, ℕ, ℤ, zero, suc, Bool, true, false, cond, not, ◌&&◌, List, [], ◌∷◌, ◌++◌}
+use Rattle.std.proofs.Common.{Option, Some, None, slice_index_or, refl, sym, ap, subst, ◌∙◌, inl, inr, unwrap_or}
 use Rattle.std.specs.List.{list_all}
 use Rattle.std.proofs.lemmas.Bool.{and_parts, false≢true, not-true}
 use Rattle.trace_text.specs.declared.events.Created.TheVariants as created
@@ -35,7 +36,8 @@ use Rattle.profile_machine.specs.Tasking.{unit_of_declaration}
 use Rattle.profile_machine.specs.Cost.{cost}
 use Rattle.profile_machine.specs.Handlers.{charge}
 use Rattle.profile_machine.specs.Instant.{instant}
-use Rattle.profile_machine.specs.Run.{opens, opening, blank_world, environment, say, says_run, with_serving, serve_if_free, serve, begin_action, one_tick_less, spend_tick, next_tick, says_idle, tock, environment_task}
+use Rattle.profile_machine.specs.Run.{opens, opening, blank_world, environment, say, says_run, with_serving, serve_if_free, serve}
+use Rattle.profile_machine.specs.Run.{begin_action, one_tick_less, spend_tick, next_tick, says_idle, tock, environment_task}
 use Rattle.profile_machine.specs.WellFormed.{begins_sequence, has_opened}
 use Rattle.machine_laws.specs.Reached.{Comes, opened, ticked, Reached, before, behind}
 use Rattle.machine_laws.proofs.Kept.Run.{before_tick, tock-parts}
@@ -85,7 +87,9 @@ module _ (p : Image) (fit : sequences_fit p ≡ true) where
   fits = record {
     handled = handled-fits;
     abortable = λ s. abortable-by (form_of p s) (statement-fits s);
-    created = λ s d part is. not-true (begins_sequence p (scope_of p (task_unit_of p (unit_of_declaration p d)).scope).first) (subst (λ f. form_fits p f ≡ true) is (statement-fits s));
+    created =
+        λ s d part is. not-true (begins_sequence p (scope_of p (task_unit_of p (unit_of_declaration p d)).scope).first)
+        (subst (λ f. form_fits p f ≡ true) is (statement-fits s));
   }
 
   -- ---- the opening
@@ -99,14 +103,23 @@ module _ (p : Image) (fit : sequences_fit p ≡ true) where
   blank_point script who.Agent = (refl, refl)
 
   blank_rests : (script : List (ℤ × Item)) → RestingWorld fits (blank_world p script)
-  blank_rests script = record { agent = refl; apart = (tt, tt); below = (refl, tt); units = ((λ e. cc), tt); calls = tt; marks = inl refl; points = blank_point script }
+  blank_rests script = record {
+    agent = refl;
+    apart = (tt, tt);
+    below = (refl, tt);
+    units = ((λ e. cc), tt);
+    calls = tt;
+    marks = inl refl;
+    points = blank_point script;
+  }
 
   abbrev Loose : World → Type 0
   Loose = Fine p (loosened Rests environment) Standing Any
 
   scope_opened : (w : World) → Loose w → Loose (open_scope p environment p.environment (plainly None) opened_for.Task w)
   scope_opened w h =
-      fine_opens fits any_callings (points-loosened rests_points environment) (free-loosened rests_points environment (nobody_free Rests)) (stacks-loosened (nobody_stacks Standing) environment tt) environment p.environment (plainly None) opened_for.Task w h (inr refl)
+      fine_opens fits any_callings (points-loosened rests_points environment) (free-loosened rests_points environment (nobody_free Rests))
+      (stacks-loosened (nobody_stacks Standing) environment tt) environment p.environment (plainly None) opened_for.Task w h (inr refl)
 
   opens-turns : Turns (RestingWorld fits) (RestingWorld fits) (opens p)
   unfolding opens resting_loose fine_loosens loosening
@@ -115,15 +128,20 @@ module _ (p : Image) (fit : sequences_fit p ≡ true) where
       let Z = RestingWorld fits in
       then-turns Z l.Loose Z (changes (open_scope p environment p.environment (plainly None) opened_for.Task)) _
       (changes-turns Z l.Loose _ (λ w g. scope_opened w (l.loosens w g)))
-      (then-turns l.Loose l.Loose Z (says Own (said_line.New (created.Task (record { 0 = 0 })) None p.main.priority)) _ (says-turns l.Loose Own (said_line.New (created.Task (record { 0 = 0 })) None p.main.priority))
-      (then-turns l.Loose l.Loose Z (to_tail p Own environment) (open_sequence p Own environment) (to_tail-keeps l.moves Own environment) (opened-turns (resting_moves fits) (resting_loose fits) Own environment tt)))
+      (then-turns l.Loose l.Loose Z (says Own (said_line.New (created.Task (record { 0 = 0 })) None p.main.priority)) _
+      (says-turns l.Loose Own (said_line.New (created.Task (record { 0 = 0 })) None p.main.priority))
+      (then-turns l.Loose l.Loose Z (to_tail p Own environment) (open_sequence p Own environment) (to_tail-keeps l.moves Own environment)
+      (opened-turns (resting_moves fits) (resting_loose fits) Own environment tt)))
 
   opening_rests : (script : List (ℤ × Item)) → RestingWorld fits (opening p script).0
-  opening_rests script = settles-from (BehindMove (RestingWorld fits)) p (resting_moves fits).settles (opens p) (blank_world p script) (turns-from (RestingWorld fits) (RestingWorld fits) (opens p) (blank_world p script) (blank_rests script) opens-turns)
+  opening_rests script =
+      settles-from (BehindMove (RestingWorld fits)) p (resting_moves fits).settles (opens p) (blank_world p script)
+      (turns-from (RestingWorld fits) (RestingWorld fits) (opens p) (blank_world p script) (blank_rests script) opens-turns)
 
   -- ---- tocks
 
-  serve_if_free-rests : (serving : Option Release) (frames : List Frame) (releases : List Release) (w : World) → RestingWorld fits w → RestingWorld fits (serve_if_free serving frames releases w).0
+  serve_if_free-rests : (serving : Option Release) (frames : List Frame) (releases : List Release) (w : World) → RestingWorld fits w
+      → RestingWorld fits (serve_if_free serving frames releases w).0
   serve_if_free-rests None [] [] w g = g
   serve_if_free-rests None [] (r ∷ rest) w g = fine-plain w (with_serving r rest w) refl refl refl refl refl g
   serve_if_free-rests None (f ∷ fs) releases w g = g
@@ -134,7 +152,8 @@ module _ (p : Image) (fit : sequences_fit p ≡ true) where
   serve-rests who.Agent w g = serve_if_free-rests w.serving w.agent.frames w.releases w g
 
   begins-rests : (name : Who) (w : World) → RestingWorld fits w → RestingWorld fits (begin_action p name w)
-  begins-rests name w g = fine-edited name (with_ticks (Some (unwrap_or (task_of w name).ticks_left (cost p w name)))) w (λ t. refl) (λ t fit. fit) (λ is m. m) (λ h. h) g
+  begins-rests name w g =
+      fine-edited name (with_ticks (Some (unwrap_or (task_of w name).ticks_left (cost p w name)))) w (λ t. refl) (λ t fit. fit) (λ is m. m) (λ h. h) g
 
   spends-rests : (name : Who) (w : World) → RestingWorld fits w → RestingWorld fits (spend_tick name w)
   spends-rests name w g = fine-edited name (λ t. with_ticks (one_tick_less t.ticks_left) t) w (λ t. refl) (λ t fit. fit) (λ is m. m) (λ h. h) g
@@ -157,7 +176,8 @@ module _ (p : Image) (fit : sequences_fit p ≡ true) where
       let said = (says_run name w.ran w).0 in
       let served = (serve name said).0 in
       let begun = begin_action p name served in
-      spends-rests name (charge p name begun) (charged-rests name begun (begins-rests name served (serve-rests name said (says_run-rests (same_option same_who w.ran (Some name)) name w g))))
+      spends-rests name (charge p name begun)
+      (charged-rests name begun (begins-rests name served (serve-rests name said (says_run-rests (same_option same_who w.ran (Some name)) name w g))))
 
   tock_rests : (w : World) → RestingWorld fits w → RestingWorld fits (tock p w).0
   tock_rests w g =
@@ -175,18 +195,21 @@ module _ (p : Image) (fit : sequences_fit p ≡ true) where
   ready : (script : List (ℤ × Item)) (bound : ℕ) (lines : List Event) (w : World) → Tells p script bound lines w → RunnerReady fits w
   ready script bound lines w told = (runs_show_who_is_ready p script bound lines w told).1
 
-  known_by : (own_call : Option CallNo) (name : Who) (calls : List Call) (drawn : ℕ) → ((c : CallNo) → own_call ≡ Some c → CallerIn calls drawn c name) → Knows own_call name drawn calls
+  known_by : (own_call : Option CallNo) (name : Who) (calls : List Call) (drawn : ℕ) → ((c : CallNo) → own_call ≡ Some c → CallerIn calls drawn c name)
+      → Knows own_call name drawn calls
   known_by None name calls drawn k = tt
   known_by (Some c) name calls drawn k = let h = k c refl in (h.0, h.1)
 
-  known-first : (fs : List Frame) (f : Frame) (m : ProtectedMark) (name : Who) (calls : List Call) (drawn : ℕ) → OwnCalls calls drawn name fs → first_of fs ≡ Some f → f.mark ≡ InProtected m → Knows m.own_call name drawn calls
+  known-first : (fs : List Frame) (f : Frame) (m : ProtectedMark) (name : Who) (calls : List Call) (drawn : ℕ) → OwnCalls calls drawn name fs
+      → first_of fs ≡ Some f → f.mark ≡ InProtected m → Knows m.own_call name drawn calls
   known-first [] f m name calls drawn h e is = absurd (let never : None ≡ Some f = e in cc)
   known-first (x ∷ xs) f m name calls drawn h e is =
       let one : x ≡ f = cc in
       known_by m.own_call name calls drawn (λ c k. h.0 c (ap (λ g. own_call_of g.mark) one ∙ ap own_call_of is ∙ k))
 
   owners : (script : List (ℤ × Item)) (bound : ℕ) (w : World) → Comes p script bound w → (name : Who) → OwnKnown fits name w
-  owners script bound w c name f m top is = known-first (task_of w name).frames f m name w.calls w.drawn.calls (good-task name w (comes-awake p script bound w c).inv).own top is
+  owners script bound w c name f m top is =
+      known-first (task_of w name).frames f m name w.calls w.drawn.calls (good-task name w (comes-awake p script bound w c).inv).own top is
 
   comes : (script : List (ℤ × Item)) (bound : ℕ) (w : World) → Comes p script bound w → Come script bound w
   comes script bound _ opened = record { lines = (opening p script).1; told = told_first; rests = opening_rests script }
@@ -200,7 +223,8 @@ module _ (p : Image) (fit : sequences_fit p ≡ true) where
 
   reached_rests : (script : List (ℤ × Item)) (bound : ℕ) (w : World) → Reached p script bound w → RestingWorld fits w
   reached_rests script bound _ (before w c) = (comes script bound w c).rests
-  reached_rests script bound _ (behind w c) = let h = comes script bound w c in instant-rests fits w (ready script bound h.lines w h.told) (owners script bound w c) h.rests
+  reached_rests script bound _ (behind w c) =
+      let h = comes script bound w c in instant-rests fits w (ready script bound h.lines w h.told) (owners script bound w c) h.rests
 
   -- ---- each of everybody has opened it
 
@@ -227,7 +251,8 @@ module _ (p : Image) (fit : sequences_fit p ≡ true) where
       both-false (is_runnable w.agent) (begins_sequence p (onward_of w w.agent.who))
       (λ runs. subst (λ n. begins_sequence p (onward_of w n) ≡ false) (sym is) (g.points who.Agent).0)
 
-  all-opened : (w : World) (ts : List Task) → RestingWorld fits w → ((t : Task) → Listed t ts → Listed t w.tasks) → has_opened p w w.agent ≡ true → list_all (has_opened p w) (ts ++ w.agent ∷ []) ≡ true
+  all-opened : (w : World) (ts : List Task) → RestingWorld fits w → ((t : Task) → Listed t ts → Listed t w.tasks) → has_opened p w w.agent ≡ true
+      → list_all (has_opened p w) (ts ++ w.agent ∷ []) ≡ true
   all-opened w [] g among agent = ap (λ b. b && true) agent
   all-opened w (t ∷ ts) g among agent =
       ap (λ b. b && list_all (has_opened p w) (ts ++ w.agent ∷ [])) (opened_by w t g (listed_is w t (among t (inl refl)) g t.who refl))

@@ -1,5 +1,6 @@
 -- The names of a world's tasks: each stands there once, and below the number that is drawn next.
-use Rattle.std.proofs.Common.{◌≡◌, ℕ, suc, Bool, true, false, cond, not, List, [], ◌∷◌, ◌++◌, Option, Some, None, find, filter, ltb, eqb, refl, sym, ap, subst, ◌∙◌, ◌⊎◌, inl, inr, arith}
+use Rattle.std.proofs.Common.{◌≡◌, ℕ, suc, Bool, true, false, cond, not, List, [], ◌∷◌, ◌++◌, Option, Some}
+use Rattle.std.proofs.Common.{None, find, filter, ltb, eqb, refl, sym, ap, subst, ◌∙◌, ◌⊎◌, inl, inr, arith}
 use Rattle.std.proofs.lemmas.Bool.{false≢true}
 use Rattle.trace_text.specs.declared.events.Who.{Who}
 use Rattle.trace_text.specs.declared.events.Who.TheVariants as who
@@ -43,10 +44,13 @@ set-names : (n : Who) (x y : Task) (xs : List Task) → find (is_who n) xs ≡ S
 set-names n x y [] e same = refl
 set-names n x y (z ∷ zs) e same =
     by_bool (is_who n z)
-    (λ is. subst (λ b. names (cond b (y ∷ zs) (z ∷ set_where (is_who n) y zs)) ≡ names (z ∷ zs)) (sym is) (ap (λ m. m ∷ names zs) (same ∙ sym (ap (λ t. t.who) (found-first x z (find (is_who n) zs) (is_who n z) e is)))))
-    (λ none. subst (λ b. names (cond b (y ∷ zs) (z ∷ set_where (is_who n) y zs)) ≡ names (z ∷ zs)) (sym none) (ap (λ ns. z.who ∷ ns) (set-names n x y zs (found-later x z (find (is_who n) zs) (is_who n z) e none) same)))
+    (λ is. subst (λ b. names (cond b (y ∷ zs) (z ∷ set_where (is_who n) y zs)) ≡ names (z ∷ zs)) (sym is)
+    (ap (λ m. m ∷ names zs) (same ∙ sym (ap (λ t. t.who) (found-first x z (find (is_who n) zs) (is_who n z) e is)))))
+    (λ none. subst (λ b. names (cond b (y ∷ zs) (z ∷ set_where (is_who n) y zs)) ≡ names (z ∷ zs)) (sym none)
+    (ap (λ ns. z.who ∷ ns) (set-names n x y zs (found-later x z (find (is_who n) zs) (is_who n z) e none) same)))
 
-edited_found-names : (name : Who) (f : Task → Task) (w : World) (found : Option Task) → task_at w name ≡ found → ((t : Task) → (f t).who ≡ t.who) → names (edit_task_found name f w found).tasks ≡ names w.tasks
+edited_found-names : (name : Who) (f : Task → Task) (w : World) (found : Option Task) → task_at w name ≡ found → ((t : Task) → (f t).who ≡ t.who)
+    → names (edit_task_found name f w found).tasks ≡ names w.tasks
 edited_found-names name f w None is same = refl
 edited_found-names (who.Task n) f w (Some t) is same = set-names (who.Task n) t (f t) w.tasks is (same t)
 edited_found-names who.Agent f w (Some t) is same = refl
@@ -81,7 +85,8 @@ filter-below test d [] h = tt
 filter-below test d (t ∷ ts) h = rest-below (test t) d t (filter test ts) h.0 (filter-below test d ts h.1)
 
 -- who is forgotten is found no more, and others are found as before
-kept-find : (b : Bool) (n m : Who) (t : Task) (ts rest : List Task) → is_who n t ≡ b → (b ≡ true → is_who m t ≡ false) → find (is_who m) rest ≡ find (is_who m) ts → find (is_who m) (cond (not b) (t ∷ rest) rest) ≡ find (is_who m) (t ∷ ts)
+kept-find : (b : Bool) (n m : Who) (t : Task) (ts rest : List Task) → is_who n t ≡ b → (b ≡ true → is_who m t ≡ false)
+    → find (is_who m) rest ≡ find (is_who m) ts → find (is_who m) (cond (not b) (t ∷ rest) rest) ≡ find (is_who m) (t ∷ ts)
 kept-find true n m t ts rest is apart onward = onward ∙ sym (ap (λ c. cond c (Some t) (find (is_who m) ts)) (apart refl))
 kept-find false n m t ts rest is apart onward = ap (λ f. cond (is_who m t) (Some t) f) onward
 
@@ -93,9 +98,11 @@ apart-named n m t apart is =
 
 pub forgotten-other : (n m : Who) (ts : List Task) → same_who n m ≡ false → find (is_who m) (without (is_who n) ts) ≡ find (is_who m) ts
 forgotten-other n m [] apart = refl
-forgotten-other n m (t ∷ ts) apart = kept-find (is_who n t) n m t ts (without (is_who n) ts) refl (λ is. apart-named n m t apart is) (forgotten-other n m ts apart)
+forgotten-other n m (t ∷ ts) apart =
+    kept-find (is_who n t) n m t ts (without (is_who n) ts) refl (λ is. apart-named n m t apart is) (forgotten-other n m ts apart)
 
-gone-find : (b : Bool) (n : Who) (t : Task) (rest : List Task) → is_who n t ≡ b → find (is_who n) rest ≡ None → find (is_who n) (cond (not b) (t ∷ rest) rest) ≡ None
+gone-find : (b : Bool) (n : Who) (t : Task) (rest : List Task) → is_who n t ≡ b → find (is_who n) rest ≡ None
+    → find (is_who n) (cond (not b) (t ∷ rest) rest) ≡ None
 gone-find true n t rest is onward = onward
 gone-find false n t rest is onward = ap (λ c. cond c (Some t) (find (is_who n) rest)) is ∙ onward
 
@@ -122,11 +129,13 @@ apart-next : (d : ℕ) (n m : Who) → m ≡ who.Task (record { 0 = d }) → is_
 apart-next d (who.Task n) m is h = subst (λ k. same_who (who.Task n) k ≡ false) (sym is) (less-differ n.0 d h)
 apart-next d who.Agent m is h = absurd (false≢true h)
 
-added-apart : (d : ℕ) (n : Who) (t : Task) (ts : List Task) → t.who ≡ who.Task (record { 0 = d }) → is_below d n ≡ true → ApartFrom n (names ts) → ApartFrom n (names (ts ++ t ∷ []))
+added-apart : (d : ℕ) (n : Who) (t : Task) (ts : List Task) → t.who ≡ who.Task (record { 0 = d }) → is_below d n ≡ true → ApartFrom n (names ts)
+    → ApartFrom n (names (ts ++ t ∷ []))
 added-apart d n t [] is h rest = (apart-next d n t.who is h, tt)
 added-apart d n t (u ∷ us) is h rest = (rest.0, added-apart d n t us is h rest.1)
 
-pub added-all : (d : ℕ) (t : Task) (ts : List Task) → t.who ≡ who.Task (record { 0 = d }) → AllBelow d (names ts) → AllApart (names ts) → AllApart (names (ts ++ t ∷ []))
+pub added-all : (d : ℕ) (t : Task) (ts : List Task) → t.who ≡ who.Task (record { 0 = d }) → AllBelow d (names ts) → AllApart (names ts)
+    → AllApart (names (ts ++ t ∷ []))
 added-all d t [] is below h = (tt, tt)
 added-all d t (u ∷ us) is below h = (added-apart d u.who t us is below.0 h.0, added-all d t us is below.1 h.1)
 
@@ -138,15 +147,18 @@ added-below d t [] is h = (new-below d t.who is, tt)
 added-below d t (u ∷ us) is h = (below-later d u.who h.0, added-below d t us is h.1)
 
 -- who is found then was there, or is the new task
-added-step : (b : Bool) (u : Task) (a c : Option Task) (t : Task) → (a ≡ c) ⊎ ((c ≡ None) × (a ≡ Some t)) → (cond b (Some u) a ≡ cond b (Some u) c) ⊎ ((cond b (Some u) c ≡ None) × (cond b (Some u) a ≡ Some t))
+added-step : (b : Bool) (u : Task) (a c : Option Task) (t : Task) → (a ≡ c) ⊎ ((c ≡ None) × (a ≡ Some t))
+    → (cond b (Some u) a ≡ cond b (Some u) c) ⊎ ((cond b (Some u) c ≡ None) × (cond b (Some u) a ≡ Some t))
 added-step true u a c t h = inl refl
 added-step false u a c t h = h
 
-new-found : (b : Bool) (t : Task) (absent : Option Task) → absent ≡ None → (cond b (Some t) absent ≡ absent) ⊎ ((absent ≡ None) × (cond b (Some t) absent ≡ Some t))
+new-found : (b : Bool) (t : Task) (absent : Option Task) → absent ≡ None
+    → (cond b (Some t) absent ≡ absent) ⊎ ((absent ≡ None) × (cond b (Some t) absent ≡ Some t))
 new-found true t absent is = inr (is, refl)
 new-found false t absent is = inl refl
 
-pub added-find : (m : Who) (t : Task) (ts : List Task) → (find (is_who m) (ts ++ t ∷ []) ≡ find (is_who m) ts) ⊎ ((find (is_who m) ts ≡ None) × (find (is_who m) (ts ++ t ∷ []) ≡ Some t))
+pub added-find : (m : Who) (t : Task) (ts : List Task)
+    → (find (is_who m) (ts ++ t ∷ []) ≡ find (is_who m) ts) ⊎ ((find (is_who m) ts ≡ None) × (find (is_who m) (ts ++ t ∷ []) ≡ Some t))
 added-find m t [] = new-found (is_who m t) t (find (is_who m) []) refl
 added-find m t (u ∷ us) = added-step (is_who m u) u (find (is_who m) (us ++ t ∷ [])) (find (is_who m) us) t (added-find m t us)
 
@@ -173,7 +185,8 @@ listed-found u [] l h = absurd l
 listed-found u (t ∷ ts) (inl is) h = subst (λ k. find (is_who u.who) (k ∷ ts) ≡ Some u) is (ap (λ b. cond b (Some u) (find (is_who u.who) ts)) (who-self u.who))
 listed-found u (t ∷ ts) (inr l) h = first-named t u ts (flip-apart t.who u.who (apart-listed t.who u ts l h.0)) (listed-found u ts l h.1)
 
-find-step : (test : Task → Bool) (b : Bool) (t u : Task) (ts : List Task) → test t ≡ b → cond b (Some t) (find test ts) ≡ Some u → (find test ts ≡ Some u → Listed u ts × (test u ≡ true)) → Listed u (t ∷ ts) × (test u ≡ true)
+find-step : (test : Task → Bool) (b : Bool) (t u : Task) (ts : List Task) → test t ≡ b → cond b (Some t) (find test ts) ≡ Some u
+    → (find test ts ≡ Some u → Listed u ts × (test u ≡ true)) → Listed u (t ∷ ts) × (test u ≡ true)
 find-step test true t u ts is e onward = let one : t ≡ u = cc in (inl (sym one), subst (λ k. test k ≡ true) one is)
 find-step test false t u ts is e onward = let h = onward e in (inr h.0, h.1)
 

@@ -14,9 +14,11 @@ use Rattle.world_laws.proofs.Sequences.TaskEdits.{by_bool}
 use Rattle.world_laws.proofs.Sequences.TaskNames.{found-first, found-later}
 
 pub fitting-alone : (p : Image) (t u : Task) → u.state ≡ t.state → u.unit ≡ t.unit → Fitting p t → Fitting p u
-fitting-alone p t u state unit h = λ e. subst (λ n. begins_sequence p (scope_of p (task_unit_of p (unwrap_or n (record { 0 = 0 }))).scope).first ≡ false) (sym unit) (h (sym state ∙ e))
+fitting-alone p t u state unit h =
+    λ e. subst (λ n. begins_sequence p (scope_of p (task_unit_of p (unwrap_or n (record { 0 = 0 }))).scope).first ≡ false) (sym unit) (h (sym state ∙ e))
 
-set_fitting-step : (p : Image) (b : Bool) (y z : Task) (zs ys : List Task) → Fitting p y → Fitting p z → AllFitting p zs → AllFitting p ys → AllFitting p (cond b (y ∷ zs) (z ∷ ys))
+set_fitting-step : (p : Image) (b : Bool) (y z : Task) (zs ys : List Task) → Fitting p y → Fitting p z → AllFitting p zs → AllFitting p ys
+    → AllFitting p (cond b (y ∷ zs) (z ∷ ys))
 set_fitting-step p true y z zs ys new old rest set = (new, rest)
 set_fitting-step p false y z zs ys new old rest set = (old, set)
 
@@ -31,12 +33,15 @@ found_fitting p test (z ∷ zs) x e h =
     (λ is. subst (Fitting p) (found-first x z (find test zs) (test z) e is) h.0)
     (λ none. found_fitting p test zs x (found-later x z (find test zs) (test z) e none) h.1)
 
-edited_found-fitting : (p : Image) (name : Who) (f : Task → Task) (w : World) (found : Option Task) → task_at w name ≡ found → ((t : Task) → Fitting p t → Fitting p (f t)) → AllFitting p w.tasks → AllFitting p (edit_task_found name f w found).tasks
+edited_found-fitting : (p : Image) (name : Who) (f : Task → Task) (w : World) (found : Option Task) → task_at w name ≡ found
+    → ((t : Task) → Fitting p t → Fitting p (f t)) → AllFitting p w.tasks → AllFitting p (edit_task_found name f w found).tasks
 edited_found-fitting p name f w None is keeps h = h
-edited_found-fitting p (who.Task n) f w (Some t) is keeps h = set_fitting p (is_who (who.Task n)) (f t) w.tasks (keeps t (found_fitting p (is_who (who.Task n)) w.tasks t is h)) h
+edited_found-fitting p (who.Task n) f w (Some t) is keeps h =
+    set_fitting p (is_who (who.Task n)) (f t) w.tasks (keeps t (found_fitting p (is_who (who.Task n)) w.tasks t is h)) h
 edited_found-fitting p who.Agent f w (Some t) is keeps h = h
 
-pub edited-fitting : (p : Image) (name : Who) (f : Task → Task) (w : World) → ((t : Task) → Fitting p t → Fitting p (f t)) → AllFitting p w.tasks → AllFitting p (edit_task name f w).tasks
+pub edited-fitting : (p : Image) (name : Who) (f : Task → Task) (w : World) → ((t : Task) → Fitting p t → Fitting p (f t)) → AllFitting p w.tasks
+    → AllFitting p (edit_task name f w).tasks
 edited-fitting p name f w keeps h = edited_found-fitting p name f w (task_at w name) refl keeps h
 
 rest-fitting : (p : Image) (b : Bool) (t : Task) (ts : List Task) → Fitting p t → AllFitting p ts → AllFitting p (cond b (t ∷ ts) ts)

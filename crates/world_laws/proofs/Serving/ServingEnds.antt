@@ -34,7 +34,8 @@ use Rattle.profile_machine.specs.Calls.{call_of, edit_call, enqueue, with_call}
 use Rattle.profile_machine.specs.CallEnds.{deliver}
 use Rattle.profile_machine.specs.Protected.{edit_top_protected}
 use Rattle.profile_machine.specs.Sending.{sent_call, send_on}
-use Rattle.profile_machine.specs.Serving.{serve_calls, go_on_by_mode, with_body_left, not_left, end_operation, is_own_call, outcome_by, finish_raised, finish_well, finish_call, no_longer_serves, end_entry_body, end_in_protected_by, end_in_protected}
+use Rattle.profile_machine.specs.Serving.{serve_calls, go_on_by_mode, with_body_left, not_left, end_operation, is_own_call, outcome_by, finish_raised}
+use Rattle.profile_machine.specs.Serving.{finish_well, finish_call, no_longer_serves, end_entry_body, end_in_protected_by, end_in_protected}
 use Rattle.world_laws.specs.ServeLaws.{queues_are_its_own}
 use Rattle.world_laws.proofs.Counts.ServeCounts.{serves_end}
 use Rattle.world_laws.proofs.Queues.QueueWorlds.{all-from}
@@ -46,8 +47,10 @@ use Rattle.world_laws.proofs.Queues.Kept.Frames.{edit_top-alters}
 use Rattle.world_laws.proofs.Queues.Kept.Onward.{Onward, nothing-onward}
 use Rattle.world_laws.proofs.Queues.Kept.Queued.{enqueue_then-onward}
 use Rattle.world_laws.proofs.Queues.Kept.Sending.{no-steady, send_on_then-onward, sent-calm}
-use Rattle.world_laws.proofs.Queues.Standing.{Awake, Calm, Good, Idle, Kind, Out, any_kind, calm-awake, calm-good, calm-idle, calm-out, calm-then, natures, one_if, quiet_kind, served, served_in, service, Stands}
-use Rattle.world_laws.specs.ServingWorlds.{serve_calls_more, go_on_by_mode_more, end_operation_more, finish_raised_more, finish_well_more, finish_call_more, end_entry_body_more, end_in_protected_by_more, end_in_protected_more}
+use Rattle.world_laws.proofs.Queues.Standing.{Awake, Calm, Good, Idle, Kind, Out, any_kind, calm-awake, calm-good, calm-idle}
+use Rattle.world_laws.proofs.Queues.Standing.{calm-out, calm-then, natures, one_if, quiet_kind, served, served_in, service, Stands}
+use Rattle.world_laws.specs.ServingWorlds.{serve_calls_more, go_on_by_mode_more, end_operation_more, finish_raised_more, finish_well_more}
+use Rattle.world_laws.specs.ServingWorlds.{finish_call_more, end_entry_body_more, end_in_protected_by_more, end_in_protected_more}
 use Rattle.machine_laws.proofs.Kept.Combinators.{world_behind}
 
 -- ---- a step does and says in a world what another does and says
@@ -70,11 +73,13 @@ said_then-same part line f g w a = record { leads = λ said. a.leads (said ++ re
 pub looks_at-same : (f g : World → Step) (w : World) → Same w (f w) (g w) → Same w (looks f) (looks g)
 looks_at-same f g w a = record { leads = λ said. a.leads said }
 
-found-same : (c : CallNo) (found : Option Call) (f g : Call → Step) (w : World) → call_of w c ≡ found → ((d : Call) → call_of w c ≡ Some d → Same w (f d) (g d)) → Same w (for_some found f) (for_some found g)
+found-same : (c : CallNo) (found : Option Call) (f g : Call → Step) (w : World) → call_of w c ≡ found → ((d : Call) → call_of w c ≡ Some d → Same w (f d) (g d))
+    → Same w (for_some found f) (for_some found g)
 found-same c None f g w is a = same-step nothing w
 found-same c (Some d) f g w is a = a d is
 
-with_call-same : (c : CallNo) (f g : Call → Step) (w : World) → ((d : Call) → call_of w c ≡ Some d → Same w (f d) (g d)) → Same w (with_call c f) (with_call c g)
+with_call-same : (c : CallNo) (f g : Call → Step) (w : World) → ((d : Call) → call_of w c ≡ Some d → Same w (f d) (g d))
+    → Same w (with_call c f) (with_call c g)
 with_call-same c f g w a = looks_at-same (λ v. for_some (call_of v c) f) (λ v. for_some (call_of v c) g) w (found-same c (call_of w c) f g w refl a)
 
 -- in each good world
@@ -82,13 +87,16 @@ abbrev InGood : Image → Step → Step → Type 0
 InGood p f g = (v : World) → Good p v → Same v f g
 
 calm_then-same : {E : Kind} (p : Image) (h f g : Step) (w : World) → Good p w → From E w h → InGood p f g → Same w (h ▷ f) (h ▷ g)
-calm_then-same p h f g w good a b = record { leads = λ said. goes_on-same f g (h w said) (b (world_behind (h w said)) (calm-good p w (world_behind (h w said)) good (a.leads said))) }
+calm_then-same p h f g w good a b = record {
+  leads = λ said. goes_on-same f g (h w said) (b (world_behind (h w said)) (calm-good p w (world_behind (h w said)) good (a.leads said)));
+}
 
 -- behind two steps that lead to a good world
 behind-same : (p : Image) (f g : Step) (d : Done) → Good p (world_behind (goes_on_with nothing d)) → InGood p f g → goes_on_with f d ≡ goes_on_with g d
 behind-same p f g (done v said) good a = (a v good).leads said
 
-behind_two-same : (p : Image) (k f g : Step) (d : Done) → Good p (world_behind (goes_on_with (k ▷ nothing) d)) → InGood p f g → goes_on_with (k ▷ f) d ≡ goes_on_with (k ▷ g) d
+behind_two-same : (p : Image) (k f g : Step) (d : Done) → Good p (world_behind (goes_on_with (k ▷ nothing) d)) → InGood p f g
+    → goes_on_with (k ▷ f) d ≡ goes_on_with (k ▷ g) d
 behind_two-same p k f g (done v said) good a = behind-same p f g (k v said) good a
 
 two_then-same : (p : Image) (h k f g : Step) (w : World) → Onward p w (h ▷ k ▷ nothing) → InGood p f g → Same w (h ▷ k ▷ f) (h ▷ k ▷ g)
@@ -97,7 +105,8 @@ two_then-same p h k f g w a b = record { leads = λ said. behind_two-same p k f 
 -- ---- queued calls are served
 
 own-queues : (p : Image) (w : World) (o : ObjectNo) → Good p w → queues_are_its_own p w o ≡ true
-own-queues p w o good = all-from p w (owned_by.Object o) 0 (queues_of (object_of w o)) good (λ k c h. subst (λ n. Stands w (owned_by.Object o) n c) (omega arith) h)
+own-queues p w o good =
+    all-from p w (owned_by.Object o) 0 (queues_of (object_of w o)) good (λ k c h. subst (λ n. Stands w (owned_by.Object o) n c) (omega arith) h)
 
 module _ (more : ℕ) (p : Image) (name : Who) where
   serve_calls-same : (m : ProtectedMark) (sent : Option CallNo) → InGood p (serve_calls_more more p name m sent) (serve_calls p name m sent)
@@ -115,12 +124,15 @@ module _ (more : ℕ) (p : Image) (name : Who) where
   delivered-same m c outcome w good out idle =
       calm_then-same {E = any_kind} p _ _ _ w good (deliver-from p TheFinish c outcome w good refl out idle (no-steady w) (λ x. refl)) (serve_calls-same m None)
 
-  finish_raised-same : (m : ProtectedMark) (c : Call) (e : Raised) (w : World) → Good p w → Out c.number w → Idle c.number w → Same w (finish_raised_more more p name m c e) (finish_raised p name m c e)
+  finish_raised-same : (m : ProtectedMark) (c : Call) (e : Raised) (w : World) → Good p w → Out c.number w → Idle c.number w
+      → Same w (finish_raised_more more p name m c e) (finish_raised p name m c e)
   unfolding finish_raised_more finish_raised
   finish_raised-same m c e w good out idle =
-      said_then-same TheFinish (line.Finish name c.number (meeting.Raised e)) _ _ w (delivered-same m c.number (outcome_by (is_own_call name m.own_call c) e) w good out idle)
+      said_then-same TheFinish (line.Finish name c.number (meeting.Raised e)) _ _ w
+      (delivered-same m c.number (outcome_by (is_own_call name m.own_call c) e) w good out idle)
 
-  finish_well-same : (m : ProtectedMark) (c : Call) (sending : Option Sending) (w : World) → Good p w → Out c.number w → Idle c.number w → ((d : Call) → call_of w c.number ≡ Some d → is_none d.outcome ≡ true)
+  finish_well-same : (m : ProtectedMark) (c : Call) (sending : Option Sending) (w : World) → Good p w → Out c.number w → Idle c.number w
+      → ((d : Call) → call_of w c.number ≡ Some d → is_none d.outcome ≡ true)
       → Same w (finish_well_more more p name m c sending) (finish_well p name m c sending)
   unfolding finish_well_more finish_well
   finish_well-same m c None w good out idle none =
@@ -136,7 +148,8 @@ module _ (more : ℕ) (p : Image) (name : Who) where
       (λ v next queued idle_v directed frames. nothing-onward v next.good)))
       (serve_calls-same m (Some c.number)))
 
-  finish_call-same : (m : ProtectedMark) (leaving : Leaving) (c : Call) (w : World) → Good p w → Out c.number w → Idle c.number w → ((d : Call) → call_of w c.number ≡ Some d → is_none d.outcome ≡ true)
+  finish_call-same : (m : ProtectedMark) (leaving : Leaving) (c : Call) (w : World) → Good p w → Out c.number w → Idle c.number w
+      → ((d : Call) → call_of w c.number ≡ Some d → is_none d.outcome ≡ true)
       → Same w (finish_call_more more p name m leaving c) (finish_call p name m leaving c)
   unfolding finish_call_more finish_call
   finish_call-same m (how.Exception e) c w good out idle none = finish_raised-same m c e w good out idle
@@ -148,7 +161,8 @@ module _ (more : ℕ) (p : Image) (name : Who) where
 
   -- ---- the mark on top
 
-  module _ (m : ProtectedMark) (leaving : Leaving) (w : World) (f : Frame) (below : List Frame) (good : Good p w) (awake : Awake name w) (top : frames_of w name ≡ f ∷ below) (mark : f.mark ≡ InProtected m) where
+  module _ (m : ProtectedMark) (leaving : Leaving) (w : World) (f : Frame) (below : List Frame) (good : Good p w) (awake : Awake name w)
+      (top : frames_of w name ≡ f ∷ below) (mark : f.mark ≡ InProtected m) where
     end_operation-same : Same w (end_operation_more more p name m leaving) (end_operation p name m leaving)
     unfolding end_operation_more end_operation
     end_operation-same =
@@ -157,7 +171,8 @@ module _ (more : ℕ) (p : Image) (name : Who) where
         let first : Calm quiet_kind w u = unserving-calm (with_body_left leaving) (λ x. refl) (λ x. refl) name w awake in
         let second : Calm quiet_kind u v = (edit_top-alters name not_left (λ x. refl)).at u (calm-awake w u first name awake) in
         changes_then-same (edit_top_protected name (with_body_left leaving)) _ _ w
-        (changes_then-same (edit_top name not_left) _ _ u (go_on_by_mode-same (with_body_left leaving m) m.mode v (calm-good p w v good (calm-then w u v first second))))
+        (changes_then-same (edit_top name not_left) _ _ u
+        (go_on_by_mode-same (with_body_left leaving m) m.mode v (calm-good p w v good (calm-then w u v first second))))
 
     served-here : (c : CallNo) → m.serves ≡ Some c → 0 < served c w name
     served-here c serves =
@@ -183,12 +198,15 @@ module _ (more : ℕ) (p : Image) (name : Who) where
         let was = good.begun name c x.before serving x.found in
         let same = x.steady refl in
         let out = calm-out w v whole c (begun-out p w c x.before good x.found was.0) in
-        finish_call-same (no_longer_serves m) leaving d v (calm-good p w v good whole) (subst (λ n. Out n v) (sym number) out) (subst (λ n. Idle n v) (sym number) idle)
-        (λ y e. let y_is : d ≡ y = one-call d y (sym is ∙ subst (λ n. call_of v n ≡ Some y) number e) in ap (λ (z : Call). is_none z.outcome) (sym y_is) ∙ ap is_none same.1 ∙ was.1)))) where
+        finish_call-same (no_longer_serves m) leaving d v (calm-good p w v good whole) (subst (λ n. Out n v) (sym number) out)
+        (subst (λ n. Idle n v) (sym number) idle)
+        (λ y e. let y_is : d ≡ y = one-call d y (sym is ∙ subst (λ n. call_of v n ≡ Some y) number e) in
+        ap (λ (z : Call). is_none z.outcome) (sym y_is) ∙ ap is_none same.1 ∙ was.1)))) where
           one-call : (a b : Call) → Some a ≡ Some b → a ≡ b
           one-call a b e = cc
 
-    end_by-same : (serves : Option CallNo) → m.serves ≡ serves → Same w (end_in_protected_by_more more p name m leaving serves) (end_in_protected_by p name m leaving serves)
+    end_by-same : (serves : Option CallNo) → m.serves ≡ serves
+        → Same w (end_in_protected_by_more more p name m leaving serves) (end_in_protected_by p name m leaving serves)
     unfolding end_in_protected_by_more end_in_protected_by
     end_by-same None is = end_operation-same
     end_by-same (Some c) is = end_entry_body-same c is

@@ -9,7 +9,9 @@ use Rattle.commands.proofs.RunsTold.{headline, headline_under, load_told, accept
 use Rattle.commands.proofs.TablesTold.{table_told, beyond}
 use Rattle.commands.proofs.TracesTold.{trace_told, laws_told, report_told}
 use Rattle.commands.proofs.DoneTold.{known_status, done_told, law_told, run_told, law_told_where, printable_told, quiet}
-use Rattle.commands.proofs.FaultsTold.{refused_source, not_accepted, not_accepted_under, load_not_accepted, refused_script, no_script, kept, words, refused_words, note_words, read_fault, note_read, write_fault, prefix_told, note_tried, note_memory, breach, quiet_breach, refused_trace, kept_refused_trace, failure, quiet_failure, refused_table, kept_refused_table}
+use Rattle.commands.proofs.FaultsTold.{refused_source, not_accepted, not_accepted_under, load_not_accepted, refused_script, no_script, kept, words}
+use Rattle.commands.proofs.FaultsTold.{refused_words, note_words, read_fault, note_read, write_fault, prefix_told, note_tried, note_memory, breach}
+use Rattle.commands.proofs.FaultsTold.{quiet_breach, refused_trace, kept_refused_trace, failure, quiet_failure, refused_table, kept_refused_table}
 use Rattle.annexd.proofs.whole.top.Goals as goal
 
 pub returns : goal.returns
@@ -38,7 +40,8 @@ returns g c =
       dispatch = law_told DispatchOk c.runs_dispatch.ensures asked shelf out notes o status p n;
       ceilings =
           law_told_where (λ p. IsTrue (edf_is_below_interrupts p))
-          (λ bytes image fits. subst (λ p. IsTrue (edf_is_below_interrupts p)) (sym fits.numbered) (c.deadlines_are_below_interrupts.ensures fits.tree fits.unbroken))
+          (λ bytes image fits.
+          subst (λ p. IsTrue (edf_is_below_interrupts p)) (sym fits.numbered) (c.deadlines_are_below_interrupts.ensures fits.tree fits.unbroken))
           CeilingOk c.runs_keep_the_law_of_ceilings.ensures asked shelf out notes o status p n;
       exclusion = law_told ExclusiveOk c.runs_keep_exclusion.ensures asked shelf out notes o status p n;
       in_tick_order = law_told (λ lines. IsTrue (follows_tick_order lines)) c.runs_are_in_tick_order.ensures asked shelf out notes o status p n;

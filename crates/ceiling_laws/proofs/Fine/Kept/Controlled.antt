@@ -1,12 +1,19 @@
 -- Initialize, Finalize and assignment: each step keeps what its parts keep.
 use Rattle.ann_base.specs.declared.exceptions.Raised.TheVariants as exception
 use Rattle.ann_base.specs.declared.identities.RegionNo.{RegionNo}
-use Rattle.ceiling_laws.proofs.Fine.Kept.Frames.{edit_top-alters, given-keeps, goes-keeps, leaves-keeps, pass_on-keeps, pop-alters, push-alters, raises-keeps, with_room-keeps}
+use Rattle.ceiling_laws.proofs.Fine.Kept.Frames.{edit_top-alters, given-keeps, goes-keeps, leaves-keeps, pass_on-keeps}
+use Rattle.ceiling_laws.proofs.Fine.Kept.Frames.{pop-alters, push-alters, raises-keeps, with_room-keeps}
 use Rattle.ceiling_laws.proofs.Fine.Kept.Scopes.{open_scope-alters, write_cell-alters}
 use Rattle.ceiling_laws.proofs.Fine.Kept.Tasks.{plain-alters, says-keeps}
 use Rattle.ceiling_laws.proofs.Fine.LevelMoves.{Silences}
-use Rattle.ceiling_laws.proofs.Runs.Triples.{Alters, Keeps, State, branch-keeps, changes-keeps, cond-keeps, looks-keeps, nothing-keeps, sees-keeps, then-keeps, when-keeps}
-use Rattle.profile_machine.specs.Controlled.{adjust_by, assign_controlled, assign_located, assign_registered, begin_assignment, behind_finalize, copy_object, do_step, edit_assign, edit_scope_mark, edit_top_assign, edit_top_scope, end_in_assign, end_in_finalize, end_in_initialize, finalize_now, finalize, finalize_by, finalize_has_raised, finalize_target_by, first_place, has_room_to_adjust, has_room_to_finalize, initialize, initialize_by, is_assignment, leave_without_room, no_longer_registered, open_finalize, open_operation, register, registered_as, registered_object, registers, step_with, top_region}
+use Rattle.ceiling_laws.proofs.Runs.Triples.{Alters, Keeps, State, branch-keeps, changes-keeps, cond-keeps}
+use Rattle.ceiling_laws.proofs.Runs.Triples.{looks-keeps, nothing-keeps, sees-keeps, then-keeps, when-keeps}
+use Rattle.profile_machine.specs.Controlled.{adjust_by, assign_controlled, assign_located, assign_registered, begin_assignment, behind_finalize}
+use Rattle.profile_machine.specs.Controlled.{copy_object, do_step, edit_assign, edit_scope_mark, edit_top_assign, edit_top_scope, end_in_assign}
+use Rattle.profile_machine.specs.Controlled.{end_in_finalize, end_in_initialize, finalize_now, finalize, finalize_by, finalize_has_raised}
+use Rattle.profile_machine.specs.Controlled.{finalize_target_by, first_place, has_room_to_adjust, has_room_to_finalize, initialize}
+use Rattle.profile_machine.specs.Controlled.{initialize_by, is_assignment, leave_without_room, no_longer_registered, open_finalize}
+use Rattle.profile_machine.specs.Controlled.{open_operation, register, registered_as, registered_object, registers, step_with, top_region}
 use Rattle.profile_machine.specs.Frames.{pass_on, top_of, with_mark}
 use Rattle.profile_machine.specs.Steps.{changes}
 use Rattle.profile_image.specs.declared.image.Image.{Image}
@@ -37,7 +44,8 @@ module _ {X : State} (quiet : Silences X) where
   register-keeps p name l =
       looks-keeps _ (λ w. let n = suc w.drawn.controlled in
       then-keeps _ _ (changes-keeps _ (registered_as-alters n (top_region w name) l))
-      (then-keeps _ _ (changes-keeps _ (write_cell-alters quiet l.within (first_place p l) (Thing n))) (says-keeps quiet Own (line.Init name n (top_region w name) l.declared) refl)))
+      (then-keeps _ _ (changes-keeps _ (write_cell-alters quiet l.within (first_place p l) (Thing n)))
+      (says-keeps quiet Own (line.Init name n (top_region w name) l.declared) refl)))
 
   pub edit_top_scope-alters : (name : Who) (f : ScopeMark → ScopeMark) → Alters X (edit_top_scope name f)
   edit_top_scope-alters name f = edit_top-alters quiet name (λ x. with_mark (edit_scope_mark f x.mark) x)
@@ -57,11 +65,14 @@ module _ {X : State} (quiet : Silences X) where
 
   pub end_in_initialize-keeps : (p : Image) (name : Who) (l : Located) (leaving : Leaving) → Keeps X (end_in_initialize p name l leaving)
   unfolding end_in_initialize
-  end_in_initialize-keeps p name l leaving = then-keeps _ _ (changes-keeps _ (pop-alters quiet name)) (cond-keeps (registers leaving) (register p name l) (pass_on p name leaving) (register-keeps p name l) (pass_on-keeps quiet p name leaving))
+  end_in_initialize-keeps p name l leaving =
+      then-keeps _ _ (changes-keeps _ (pop-alters quiet name))
+      (cond-keeps (registers leaving) (register p name l) (pass_on p name leaving) (register-keeps p name l) (pass_on-keeps quiet p name leaving))
 
   pub end_in_finalize-keeps : (p : Image) (name : Who) (leaving : Leaving) → Keeps X (end_in_finalize p name leaving)
   unfolding end_in_finalize
-  end_in_finalize-keeps p name leaving = then-keeps _ _ (changes-keeps _ (pop-alters quiet name)) (looks-keeps _ (λ w. behind_finalize-keeps p name leaving (is_assignment (top_of w name))))
+  end_in_finalize-keeps p name leaving =
+      then-keeps _ _ (changes-keeps _ (pop-alters quiet name)) (looks-keeps _ (λ w. behind_finalize-keeps p name leaving (is_assignment (top_of w name))))
 
   pub edit_top_assign-alters : (name : Who) (f : AssignMark → AssignMark) → Alters X (edit_top_assign name f)
   edit_top_assign-alters name f = edit_top-alters quiet name (λ x. with_mark (edit_assign f x.mark) x)
@@ -93,7 +104,10 @@ module _ {X : State} (quiet : Silences X) where
   pub finalize_by-keeps : (p : Image) (name : Who) (r : Registered) (f : Option SubprogramNo) → Keeps X (finalize_by p name r f)
   unfolding finalize_by
   finalize_by-keeps p name r None = nothing-keeps
-  finalize_by-keeps p name r (Some f) = looks-keeps _ (λ w. branch-keeps (has_room_to_finalize p w name f) (open_finalize p name r.object r.located f) (changes (edit_top_scope name finalize_has_raised)) (open_finalize-keeps p name r.object r.located f) (changes-keeps _ (edit_top_scope-alters name finalize_has_raised)))
+  finalize_by-keeps p name r (Some f) =
+      looks-keeps _
+      (λ w. branch-keeps (has_room_to_finalize p w name f) (open_finalize p name r.object r.located f) (changes (edit_top_scope name finalize_has_raised))
+      (open_finalize-keeps p name r.object r.located f) (changes-keeps _ (edit_top_scope-alters name finalize_has_raised)))
 
   finalize_now-keeps : (p : Image) (name : Who) (r : Registered) → Keeps X (finalize_now p name r)
   unfolding finalize_now
@@ -107,7 +121,8 @@ module _ {X : State} (quiet : Silences X) where
   unfolding begin_assignment
   begin_assignment-keeps p name s target source = search (with_room-keeps, goes-keeps, then-keeps, says-keeps, changes-keeps, push-alters) depth 6
 
-  pub assign_registered-keeps : (p : Image) (name : Who) (s : StatementNo) (target source : Option Registered) → Keeps X (assign_registered p name s target source)
+  pub assign_registered-keeps : (p : Image) (name : Who) (s : StatementNo) (target source : Option Registered)
+      → Keeps X (assign_registered p name s target source)
   unfolding assign_registered
   assign_registered-keeps p name s (Some target) (Some source) = begin_assignment-keeps p name s target.object source.object
   assign_registered-keeps p name s (Some target) None = raises-keeps quiet Own name exception.Program
@@ -124,12 +139,18 @@ module _ {X : State} (quiet : Silences X) where
   pub finalize_target_by-keeps : (p : Image) (name : Who) (r : Registered) (f : Option SubprogramNo) → Keeps X (finalize_target_by p name r f)
   unfolding finalize_target_by
   finalize_target_by-keeps p name r None = nothing-keeps
-  finalize_target_by-keeps p name r (Some f) = looks-keeps _ (λ w. branch-keeps (has_room_to_finalize p w name f) (open_finalize p name r.object r.located f) (leave_without_room name) (open_finalize-keeps p name r.object r.located f) (leave_without_room-keeps name))
+  finalize_target_by-keeps p name r (Some f) =
+      looks-keeps _
+      (λ w. branch-keeps (has_room_to_finalize p w name f) (open_finalize p name r.object r.located f) (leave_without_room name)
+      (open_finalize-keeps p name r.object r.located f) (leave_without_room-keeps name))
 
   pub adjust_by-keeps : (p : Image) (name : Who) (r : Registered) (f : Option SubprogramNo) → Keeps X (adjust_by p name r f)
   unfolding adjust_by
   adjust_by-keeps p name r None = nothing-keeps
-  adjust_by-keeps p name r (Some f) = looks-keeps _ (λ w. branch-keeps (has_room_to_adjust p w name f) (open_operation p name f r.located) (leave_without_room name) (open_operation-keeps p name f r.located) (leave_without_room-keeps name))
+  adjust_by-keeps p name r (Some f) =
+      looks-keeps _
+      (λ w. branch-keeps (has_room_to_adjust p w name f) (open_operation p name f r.located) (leave_without_room name) (open_operation-keeps p name f r.located)
+      (leave_without_room-keeps name))
 
   do_step-keeps : (p : Image) (name : Who) (step : AssignStep) (target source : Registered) → Keeps X (do_step p name step target source)
   do_step-keeps p name assigning.FinalizeTarget target source = search (changes-keeps, edit_top_assign-alters, then-keeps, finalize_target_by-keeps)
@@ -144,5 +165,6 @@ module _ {X : State} (quiet : Silences X) where
 
   pub end_in_assign-keeps : (p : Image) (name : Who) (m : AssignMark) (leaving : Option Leaving) → Keeps X (end_in_assign p name m leaving)
   unfolding end_in_assign
-  end_in_assign-keeps p name m (Some (how.Exception e)) = then-keeps _ _ (changes-keeps _ (pop-alters quiet name)) (raises-keeps quiet Own name exception.Program)
+  end_in_assign-keeps p name m (Some (how.Exception e)) =
+      then-keeps _ _ (changes-keeps _ (pop-alters quiet name)) (raises-keeps quiet Own name exception.Program)
   end_in_assign-keeps p name m _ = looks-keeps _ (λ w. step_with-keeps p name m.step (registered_object w m.target) (registered_object w m.source))

@@ -9,7 +9,10 @@ use Rattle.ceiling_laws.proofs.Fine.SameLemmas.{same_self, same_then}
 use Rattle.ceiling_laws.proofs.Runs.Triples.{Keeps, State, looks-with, then-keeps}
 use Rattle.ceiling_laws.proofs.Fine.Cores.{Same}
 use Rattle.profile_machine.specs.CallEnds.{store}
-use Rattle.profile_machine.specs.Declarations.{budget_declared, components_initialized, controlled_declared, declare, declare_by, declare_protected, declare_quietly, declared, default_cells, event_declared, event_drawn, initial_of, initialized, located_here, object_declared, says_object, set_defaults, set_thing, timed_task, timer_declared, with_budget, with_object, with_timer}
+use Rattle.profile_machine.specs.Declarations.{budget_declared, components_initialized, controlled_declared, declare, declare_by}
+use Rattle.profile_machine.specs.Declarations.{declare_protected, declare_quietly, declared, default_cells, event_declared, event_drawn}
+use Rattle.profile_machine.specs.Declarations.{initial_of, initialized, located_here, object_declared, says_object, set_defaults}
+use Rattle.profile_machine.specs.Declarations.{set_thing, timed_task, timer_declared, with_budget, with_object, with_timer}
 use Rattle.profile_machine.specs.Frames.{goes}
 use Rattle.profile_machine.specs.Operators.{unless}
 use Rattle.profile_image.specs.Program.{controlled_of, declaration_of, next_of, protected_unit_of}
@@ -64,29 +67,40 @@ object_declared-gives q d i =
 controlled_declared-gives : (q : Seen) (d : DeclNo) (c : ControlledNo) → Gives q.world (controlled_declared q d c)
 controlled_declared-gives q d c =
     let components = (controlled_of q.program c).components in
-    bind-gives (located_here q d) (λ l. components_initialized q CONTROLLED_CELLS l components q.world >>= λ next. Ok (set_thing q.program l (Thing 0) next)) q.world (λ l.
+    bind-gives (located_here q d)
+    (λ l. components_initialized q CONTROLLED_CELLS l components q.world >>= λ next. Ok (set_thing q.program l (Thing 0) next)) q.world (λ l.
     next-gives (components_initialized q CONTROLLED_CELLS l components q.world) (λ next. Ok (set_thing q.program l (Thing 0) next)) q.world
     (components_initialized-gives q CONTROLLED_CELLS l components q.world)
     (λ next. ok-gives next (set_thing q.program l (Thing 0) next) (set_thing-same q.program l (Thing 0) next)))
 
 -- an object is located, and its first cell names it in a world that stands rightly to the one before
-thing_declared-gives : (q : Seen) (d : DeclNo) (v : Value) (next : World) → Same q.world next → Gives q.world (located_here q d >>= λ l. Ok (set_thing q.program l v next))
+thing_declared-gives : (q : Seen) (d : DeclNo) (v : Value) (next : World) → Same q.world next
+    → Gives q.world (located_here q d >>= λ l. Ok (set_thing q.program l v next))
 thing_declared-gives q d v next a =
     bind-gives (located_here q d) (λ l. Ok (set_thing q.program l v next)) q.world (λ l.
     ok-gives q.world (set_thing q.program l v next) (same_then q.world next (set_thing q.program l v next) a (set_thing-same q.program l v next)))
 
 event_declared-gives : (q : Seen) (d : DeclNo) → Gives q.world (event_declared q d)
-event_declared-gives q d = thing_declared-gives q d (Thing q.world.drawn.events) (record q.world { drawn = event_drawn q.world.drawn }) (record { tasks = refl; agent = refl; objects = refl; drawn_tasks = refl; drawn_objects = refl; callers = λ c n k. k; delays = λ t e. e })
+event_declared-gives q d =
+    thing_declared-gives q d (Thing q.world.drawn.events) (record q.world { drawn = event_drawn q.world.drawn })
+    (record { tasks = refl; agent = refl; objects = refl; drawn_tasks = refl; drawn_objects = refl; callers = λ c n k. k; delays = λ t e. e })
 
 budget_declared-gives : (q : Seen) (d : DeclNo) → Gives q.world (budget_declared q d)
-budget_declared-gives q d = thing_declared-gives q d (Thing (length q.world.budgets)) (with_budget q.world) (record { tasks = refl; agent = refl; objects = refl; drawn_tasks = refl; drawn_objects = refl; callers = λ c n k. k; delays = λ t e. e })
+budget_declared-gives q d =
+    thing_declared-gives q d (Thing (length q.world.budgets)) (with_budget q.world)
+    (record { tasks = refl; agent = refl; objects = refl; drawn_tasks = refl; drawn_objects = refl; callers = λ c n k. k; delays = λ t e. e })
 
 timer_declared-gives : (q : Seen) (d task : DeclNo) → Gives q.world (timer_declared q d task)
 timer_declared-gives q d task =
     let number = Thing (length q.world.timers) in
-    bind-gives (timed_task q task) (λ t. unless (not (leb 256 (length q.world.timers))) exception.TimerResource t >>= λ u. located_here q d >>= λ l. Ok (set_thing q.program l number (with_timer u q.world))) q.world (λ t.
-    bind-gives (unless (not (leb 256 (length q.world.timers))) exception.TimerResource t) (λ u. located_here q d >>= λ l. Ok (set_thing q.program l number (with_timer u q.world))) q.world (λ u.
-    thing_declared-gives q d number (with_timer u q.world) (record { tasks = refl; agent = refl; objects = refl; drawn_tasks = refl; drawn_objects = refl; callers = λ c n k. k; delays = λ t e. e })))
+    bind-gives (timed_task q task)
+    (λ t. unless (not (leb 256 (length q.world.timers))) exception.TimerResource t >>= λ u.
+    located_here q d >>= λ l. Ok (set_thing q.program l number (with_timer u q.world))) q.world
+    (λ t.
+    bind-gives (unless (not (leb 256 (length q.world.timers))) exception.TimerResource t)
+    (λ u. located_here q d >>= λ l. Ok (set_thing q.program l number (with_timer u q.world))) q.world (λ u.
+    thing_declared-gives q d number (with_timer u q.world)
+    (record { tasks = refl; agent = refl; objects = refl; drawn_tasks = refl; drawn_objects = refl; callers = λ c n k. k; delays = λ t e. e })))
 
 declared-gives : (q : Seen) (d : DeclNo) (kind : DeclarationKind) → Gives q.world (declared q d kind)
 declared-gives q d (kind.Object i) = object_declared-gives q d i
@@ -113,7 +127,8 @@ module _ {X : State} (quiet : Silences X) where
     declare_protected-keeps name s d u =
         looks-with _ (λ w said h. let q = seen_by p w name in
         given-leads_at quiet Own name w (located_here q d) _ (λ l.
-        given_world-keeps quiet Own name w (components_initialized q PROTECTED_CELLS l (protected_unit_of p u).components w) (λ _. goes name (next_of p s) ▷ changes (with_object p l u) ▷ says_object p l u)
+        given_world-keeps quiet Own name w (components_initialized q PROTECTED_CELLS l (protected_unit_of p u).components w)
+        (λ _. goes name (next_of p s) ▷ changes (with_object p l u) ▷ says_object p l u)
         (components_initialized-gives q PROTECTED_CELLS l (protected_unit_of p u).components w)
         (λ _. then-keeps _ _ (goes-keeps quiet name (next_of p s)) (makes l u))))
 

@@ -5,9 +5,11 @@ use Rattle.ann_base.specs.declared.exceptions.Raised.TheVariants as exception
 use Rattle.ceiling_laws.proofs.Fine.Kept.Tasks.{edit_task-alters, says-keeps}
 use Rattle.ceiling_laws.proofs.Fine.LevelMoves.{Silences}
 use Rattle.ceiling_laws.proofs.Fine.SameLemmas.{same_then}
-use Rattle.ceiling_laws.proofs.Runs.Triples.{Alters, At, Keeps, Leads, State, branch-keeps, branch-leads, changes-keeps, changes-leads, from-leads, from_at, looks-keeps, looks-leads, nothing-keeps, then-keeps, then-leads, to-leads, when-keeps}
+use Rattle.ceiling_laws.proofs.Runs.Triples.{Alters, At, Keeps, Leads, State, branch-keeps, branch-leads, changes-keeps, changes-leads, from-leads}
+use Rattle.ceiling_laws.proofs.Runs.Triples.{from_at, looks-keeps, looks-leads, nothing-keeps, then-keeps, then-leads, to-leads, when-keeps}
 use Rattle.ceiling_laws.proofs.Fine.Cores.{Same}
-use Rattle.profile_machine.specs.Frames.{edit_first, edit_top, exit_loop, given, goes, goes_on, has_room, leaves, left_so, new_frame, onward_of, open_at, open_handled, open_if_ready, open_sequence, pass_on, pop, push, raise_if, raises, stands_in, top_of, with_room}
+use Rattle.profile_machine.specs.Frames.{edit_first, edit_top, exit_loop, given, goes, goes_on, has_room, leaves, left_so, new_frame, onward_of, open_at}
+use Rattle.profile_machine.specs.Frames.{open_handled, open_if_ready, open_sequence, pass_on, pop, push, raise_if, raises, stands_in, top_of, with_room}
 use Rattle.profile_machine.specs.Operators.{Valued}
 use Rattle.profile_image.specs.Program.{form_of, next_of}
 use Rattle.profile_machine.specs.Steps.{Step, changes, ◌▷◌}
@@ -61,7 +63,10 @@ module _ {X : State} (quiet : Silences X) where
 
   pub exit_loop-keeps : (p : Image) (name : Who) (loop : StatementNo) → Keeps X (exit_loop p name loop)
   unfolding exit_loop
-  exit_loop-keeps p name loop = looks-keeps _ (λ w. branch-keeps (stands_in p loop (top_of w name)) (goes name (next_of p loop)) (leaves name (how.Exit loop)) (goes-keeps name (next_of p loop)) (leaves-keeps name (how.Exit loop)))
+  exit_loop-keeps p name loop =
+      looks-keeps _
+      (λ w. branch-keeps (stands_in p loop (top_of w name)) (goes name (next_of p loop)) (leaves name (how.Exit loop)) (goes-keeps name (next_of p loop))
+      (leaves-keeps name (how.Exit loop)))
 
   pub pass_on-keeps : (p : Image) (name : Who) (leaving : Leaving) → Keeps X (pass_on p name leaving)
   unfolding pass_on
@@ -77,8 +82,11 @@ module _ {X : State} (quiet : Silences X) where
   pub open_handled-keeps : (p : Image) (part : Part) (name : Who) (s : StatementNo) (form : StatementForm) → Keeps X (open_handled p part name s form)
   unfolding open_handled
   open_handled-keeps p part name s (form.Handled handlers first) =
-      looks-keeps _ (λ w. branch-keeps (has_room w name 1 0) (goes name (next_of p s) ▷ changes (push name (new_frame (Handled s) (Some first)))) (raises part name exception.Storage)
-      (then-keeps _ _ (goes-keeps name (next_of p s)) (changes-keeps _ (push-alters name (new_frame (Handled s) (Some first))))) (raises-keeps part name exception.Storage))
+      looks-keeps _
+      (λ w. branch-keeps (has_room w name 1 0) (goes name (next_of p s) ▷ changes (push name (new_frame (Handled s) (Some first))))
+      (raises part name exception.Storage)
+      (then-keeps _ _ (goes-keeps name (next_of p s)) (changes-keeps _ (push-alters name (new_frame (Handled s) (Some first)))))
+      (raises-keeps part name exception.Storage))
   open_handled-keeps p part name s _ = nothing-keeps
 
   pub open_at-keeps : (p : Image) (part : Part) (name : Who) (next : Option StatementNo) → Keeps X (open_at p part name next)
@@ -96,7 +104,8 @@ module _ {X : State} (quiet : Silences X) where
 
   -- ---- steps that may raise
 
-  pub given-keeps : {A : Type 0} (part : Part) (name : Who) (result : Result A Raised) (f : A → Step) → ((x : A) → Keeps X (f x)) → Keeps X (given part name result f)
+  pub given-keeps : {A : Type 0} (part : Part) (name : Who) (result : Result A Raised) (f : A → Step) → ((x : A) → Keeps X (f x))
+      → Keeps X (given part name result f)
   given-keeps part name (Ok x) f k = k x
   given-keeps part name (Err e) f k = raises-keeps part name e
 
@@ -105,21 +114,27 @@ module _ {X : State} (quiet : Silences X) where
   raise_if-keeps name false e step kept = kept
 
   pub with_room-keeps : (name : Who) (marks cells : ℕ) (step : Step) → Keeps X step → Keeps X (with_room name marks cells step)
-  with_room-keeps name marks cells step kept = looks-keeps _ (λ w. branch-keeps (has_room w name marks cells) step (raises Own name exception.Storage) kept (raises-keeps Own name exception.Storage))
+  with_room-keeps name marks cells step kept =
+      looks-keeps _ (λ w. branch-keeps (has_room w name marks cells) step (raises Own name exception.Storage) kept (raises-keeps Own name exception.Storage))
 
   -- the world that a value gives becomes the world
-  pub given_world-keeps : (part : Part) (name : Who) (v : World) (result : Valued World) (f : World → Step) → Gives v result → ((next : World) → Keeps X (f next)) → Leads (At X v) X (given part name result (λ next. changes (λ _. next) ▷ f next))
+  pub given_world-keeps : (part : Part) (name : Who) (v : World) (result : Valued World) (f : World → Step) → Gives v result
+      → ((next : World) → Keeps X (f next)) → Leads (At X v) X (given part name result (λ next. changes (λ _. next) ▷ f next))
   unfolding Gives
-  given_world-keeps part name v (Ok next) f a k = then-leads (changes (λ _. next)) (f next) (changes-leads (λ _. next) (λ w said h. quiet.silently w next said (subst (λ u. Same u next) (sym h.1) a) h.0)) (k next)
+  given_world-keeps part name v (Ok next) f a k =
+      then-leads (changes (λ _. next)) (f next) (changes-leads (λ _. next) (λ w said h. quiet.silently w next said (subst (λ u. Same u next) (sym h.1) a) h.0))
+      (k next)
   given_world-keeps part name v (Err e) f a k = from_at (raises part name e) (raises-keeps part name e)
 
-  pub becomes-keeps : (part : Part) (name : Who) (v : World) (result : Valued World) → Gives v result → Leads (At X v) X (given part name result (λ next. changes (λ _. next)))
+  pub becomes-keeps : (part : Part) (name : Who) (v : World) (result : Valued World) → Gives v result
+      → Leads (At X v) X (given part name result (λ next. changes (λ _. next)))
   unfolding Gives
   becomes-keeps part name v (Ok next) a = changes-leads (λ _. next) (λ w said h. quiet.silently w next said (subst (λ u. Same u next) (sym h.1) a) h.0)
   becomes-keeps part name v (Err e) a = from_at (raises part name e) (raises-keeps part name e)
 
   -- the same of a value in one world
-  pub given-leads_at : {A : Type 0} (part : Part) (name : Who) (v : World) (result : Result A Raised) (f : A → Step) → ((x : A) → Leads (At X v) X (f x)) → Leads (At X v) X (given part name result f)
+  pub given-leads_at : {A : Type 0} (part : Part) (name : Who) (v : World) (result : Result A Raised) (f : A → Step) → ((x : A) → Leads (At X v) X (f x))
+      → Leads (At X v) X (given part name result f)
   given-leads_at part name v (Ok x) f k = k x
   given-leads_at part name v (Err e) f k = from_at (raises part name e) (raises-keeps part name e)
 
@@ -132,7 +147,8 @@ module _ {X : State} (quiet : Silences X) where
     pub raises-through : (part : Part) (name : Who) (e : Raised) → Leads Z Y (raises part name e)
     raises-through part name e = from-leads (raises part name e) narrow (to-leads (raises part name e) (raises-keeps part name e) weak)
 
-    pub given-through : {A : Type 0} (part : Part) (name : Who) (result : Result A Raised) (f : A → Step) → ((x : A) → Leads Z Y (f x)) → Leads Z Y (given part name result f)
+    pub given-through : {A : Type 0} (part : Part) (name : Who) (result : Result A Raised) (f : A → Step) → ((x : A) → Leads Z Y (f x))
+        → Leads Z Y (given part name result f)
     given-through part name (Ok x) f k = k x
     given-through part name (Err e) f k = raises-through part name e
 
@@ -141,7 +157,9 @@ module _ {X : State} (quiet : Silences X) where
     raise_if-through name false e step kept = kept
 
     pub with_room-through : (name : Who) (marks cells : ℕ) (step : Step) → Leads Z Y step → Leads Z Y (with_room name marks cells step)
-    with_room-through name marks cells step kept = looks-leads _ (λ w. branch-leads (has_room w name marks cells) step (raises Own name exception.Storage) kept (raises-through Own name exception.Storage))
+    with_room-through name marks cells step kept =
+        looks-leads _
+        (λ w. branch-leads (has_room w name marks cells) step (raises Own name exception.Storage) kept (raises-through Own name exception.Storage))
 
 -- ---- worlds that may be exceptions
 

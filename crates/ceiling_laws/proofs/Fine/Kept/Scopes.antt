@@ -10,7 +10,8 @@ use Rattle.profile_machine.specs.Appointments.{appoint, drop_appointment, drop_d
 use Rattle.profile_machine.specs.Frames.{new_frame}
 use Rattle.profile_machine.specs.Notation.{scope}
 use Rattle.profile_image.specs.Program.{declaration_of, scope_of}
-use Rattle.profile_machine.specs.Scopes.{begin_scope, draw_region, edit_cells, end_scope, new_scope_mark, next_id, open_scope, region_of_next, write_cell, put_cells}
+use Rattle.profile_machine.specs.Scopes.{begin_scope, draw_region, edit_cells, end_scope, new_scope_mark}
+use Rattle.profile_machine.specs.Scopes.{next_id, open_scope, region_of_next, write_cell, put_cells}
 use Rattle.profile_machine.specs.Statements.{cells_from, copy_cells, put}
 use Rattle.profile_machine.specs.Values.{moment, value}
 use Rattle.profile_image.specs.Words.{without}
@@ -36,7 +37,8 @@ use Rattle.trace_text.specs.declared.events.Who.TheVariants as who
 pub or-step : (a b c : Bool) → b ≡ c → (a || b) ≡ (a || c)
 or-step a b c e = ap (λ x. a || x) e
 
-put-step : (test : Appointment → Bool) (y a : Appointment) (rest put : List Appointment) (b : Bool) → test y ≡ false → list_any test put ≡ list_any test rest → list_any test (cond b (y ∷ a ∷ rest) (a ∷ put)) ≡ list_any test (a ∷ rest)
+put-step : (test : Appointment → Bool) (y a : Appointment) (rest put : List Appointment) (b : Bool) → test y ≡ false → list_any test put ≡ list_any test rest
+    → list_any test (cond b (y ∷ a ∷ rest) (a ∷ put)) ≡ list_any test (a ∷ rest)
 put-step test y a rest put true other e = ap (λ x. x || list_any test (a ∷ rest)) other
 put-step test y a rest put false other e = or-step (test a) (list_any test put) (list_any test rest) e
 
@@ -49,7 +51,8 @@ or-true : (a b c : Bool) → (a || b) ≡ true → (b ≡ true → c ≡ true) �
 or-true true b c e onward = refl
 or-true false b c e onward = onward e
 
-fewer-step : (test : Appointment → Bool) (a : Appointment) (rest fewer : List Appointment) (b : Bool) → list_any test (cond (not b) (a ∷ fewer) fewer) ≡ true → (list_any test fewer ≡ true → list_any test rest ≡ true) → list_any test (a ∷ rest) ≡ true
+fewer-step : (test : Appointment → Bool) (a : Appointment) (rest fewer : List Appointment) (b : Bool) → list_any test (cond (not b) (a ∷ fewer) fewer) ≡ true
+    → (list_any test fewer ≡ true → list_any test rest ≡ true) → list_any test (a ∷ rest) ≡ true
 fewer-step test a rest fewer true e onward = or_right (test a) (list_any test rest) (onward e)
 fewer-step test a rest fewer false e onward = or-true (test a) (list_any test fewer) (list_any test rest) e onward
 
@@ -58,10 +61,26 @@ without-any test drops [] e = e
 without-any test drops (a ∷ rest) e = fewer-step test a rest (without drops rest) (drops a) e (without-any test drops rest)
 
 pub dropped-same : (test : Due → Bool) (w : World) → Same w (drop_appointment test w)
-dropped-same test w = record { tasks = refl; agent = refl; objects = refl; drawn_tasks = refl; drawn_objects = refl; callers = λ c n k. k; delays = λ t e. without-any (λ a. is_delay_of t a.due) (λ a. test a.due) w.appointments e }
+dropped-same test w = record {
+  tasks = refl;
+  agent = refl;
+  objects = refl;
+  drawn_tasks = refl;
+  drawn_objects = refl;
+  callers = λ c n k. k;
+  delays = λ t e. without-any (λ a. is_delay_of t a.due) (λ a. test a.due) w.appointments e;
+}
 
 pub draw_region-same : (kept : Bool) (w : World) → Same w (draw_region kept w)
-draw_region-same true w = record { tasks = refl; agent = refl; objects = refl; drawn_tasks = refl; drawn_objects = refl; callers = λ c n k. k; delays = λ t e. e }
+draw_region-same true w = record {
+  tasks = refl;
+  agent = refl;
+  objects = refl;
+  drawn_tasks = refl;
+  drawn_objects = refl;
+  callers = λ c n k. k;
+  delays = λ t e. e;
+}
 draw_region-same false w = same_self w
 
 module _ {X : State} (quiet : Silences X) where
@@ -83,7 +102,8 @@ module _ {X : State} (quiet : Silences X) where
         let begun = begin_scope p name scope b w in
         let drawn = draw_region (scope_of p scope).kept begun in
         let f = new_frame (new_scope_mark (next_id w) (region_of_next (scope_of p scope).kept w) purpose) (scope_of p scope).first in
-        (push-alters quiet name f).turns drawn said (quiet.silently begun drawn said (draw_region-same (scope_of p scope).kept begun) ((begin_scope-alters p name scope b).turns w said h));
+        (push-alters quiet name f).turns drawn said
+        (quiet.silently begun drawn said (draw_region-same (scope_of p scope).kept begun) ((begin_scope-alters p name scope b).turns w said h));
   }
 
   -- of what is no delay of a task

@@ -1,5 +1,6 @@
 -- Simple and compound statements: each step keeps what its parts keep.
-use Rattle.ceiling_laws.proofs.Fine.Kept.Frames.{Gives, bind-gives, exit_loop-keeps, given-keeps, given_world-keeps, goes-keeps, ok-gives, raises-keeps, with_room-keeps}
+use Rattle.ceiling_laws.proofs.Fine.Kept.Frames.{Gives, bind-gives, exit_loop-keeps, given-keeps, given_world-keeps}
+use Rattle.ceiling_laws.proofs.Fine.Kept.Frames.{goes-keeps, ok-gives, raises-keeps, with_room-keeps}
 use Rattle.ceiling_laws.proofs.Fine.Kept.Scopes.{cells-same, copy_cells-same, open_scope-alters, put-same, write_cell-alters}
 use Rattle.ceiling_laws.proofs.Fine.Kept.Tasks.{says-keeps}
 use Rattle.ceiling_laws.proofs.Fine.LevelMoves.{Silences}
@@ -10,7 +11,9 @@ use Rattle.profile_machine.specs.Frames.{goes}
 use Rattle.profile_machine.specs.Operators.{Valued, checked}
 use Rattle.profile_image.specs.Program.{declaration_of, next_of}
 use Rattle.profile_machine.specs.Scopes.{write_cell}
-use Rattle.profile_machine.specs.Statements.{advance, array_copied, assign, assign_array, block_statement, bounds_set, case_statement, copy_cells, exit_statement, exit_where, first_bound, first_turn, for_bounds, go_to_alternative, if_statement, last_bound, later_turn, loop_cell, null, put, put_line, raise_again, text_of_pieces, while_turn}
+use Rattle.profile_machine.specs.Statements.{advance, array_copied, assign, assign_array, block_statement, bounds_set, case_statement, copy_cells}
+use Rattle.profile_machine.specs.Statements.{exit_statement, exit_where, first_bound, first_turn, for_bounds, go_to_alternative, if_statement}
+use Rattle.profile_machine.specs.Statements.{last_bound, later_turn, loop_cell, null, put, put_line, raise_again, text_of_pieces, while_turn}
 use Rattle.profile_machine.specs.Values.{Seen, object_cell, seen_by, value, variable}
 use Rattle.profile_image.specs.declared.expressions.ObjectName.{ObjectName}
 use Rattle.profile_image.specs.declared.expressions.VariableName.{VariableName}
@@ -32,7 +35,9 @@ use Rattle.ann_base.specs.Results.{◌>>=◌}
 use Rattle.trace_text.specs.declared.events.Who.{Who}
 
 pub store-gives : (p : Image) (v : Variable) (value : Value) (w : World) → Gives w (store p v value w)
-store-gives p v value w = bind-gives (checked (declaration_of p v.declared).constraint value) (λ x. Ok (write_cell v.within v.place x w)) w (λ x. ok-gives w (write_cell v.within v.place x w) (cells-same v.within (λ cells. slice_set cells v.place x) w))
+store-gives p v value w =
+    bind-gives (checked (declaration_of p v.declared).constraint value) (λ x. Ok (write_cell v.within v.place x w)) w
+    (λ x. ok-gives w (write_cell v.within v.place x w) (cells-same v.within (λ cells. slice_set cells v.place x) w))
 
 array_copied-gives : (p : Image) (q : Seen) (target source : ObjectName) → Gives q.world (array_copied p q target source)
 array_copied-gives p q target source =
@@ -47,7 +52,9 @@ bounds_put-gives : (q : Seen) (reverse : Bool) (l h : Value) (x y : Variable) �
 unfolding bounds_put
 bounds_put-gives q reverse l h x y =
     let first = put x (first_bound reverse l h) q.world in
-    ok-gives q.world (put y (last_bound reverse l h) first) (same_then q.world first (put y (last_bound reverse l h) first) (put-same x (first_bound reverse l h) q.world) (put-same y (last_bound reverse l h) first))
+    ok-gives q.world (put y (last_bound reverse l h) first)
+    (same_then q.world first (put y (last_bound reverse l h) first) (put-same x (first_bound reverse l h) q.world)
+    (put-same y (last_bound reverse l h) first))
 
 bounds_set-gives : (q : Seen) (d : DeclNo) (reverse : Bool) (low high : ExprNo) → Gives q.world (bounds_set q d reverse low high)
 unfolding bounds_put
@@ -77,7 +84,8 @@ module _ {X : State} (quiet : Silences X) where
       given_world-keeps quiet Own name w (array_copied p (seen_by p w name) target source) (λ _. goes name (next_of p s))
       (array_copied-gives p (seen_by p w name) target source) (λ _. goes-keeps quiet name (next_of p s)))
 
-  pub if_statement-keeps : (p : Image) (name : Who) (e : ExprNo) (first : StatementNo) (otherwise : Option StatementNo) → Keeps X (if_statement p name e first otherwise)
+  pub if_statement-keeps : (p : Image) (name : Who) (e : ExprNo) (first : StatementNo) (otherwise : Option StatementNo)
+      → Keeps X (if_statement p name e first otherwise)
   unfolding if_statement
   if_statement-keeps p name e first otherwise = search (sees-keeps, given-keeps, goes-keeps) depth 6
 
@@ -94,23 +102,28 @@ module _ {X : State} (quiet : Silences X) where
   unfolding while_turn
   while_turn-keeps p name s e body = search (sees-keeps, given-keeps, goes-keeps) depth 6
 
-  pub for_bounds-keeps : (p : Image) (name : Who) (d : DeclNo) (reverse : Bool) (low high : ExprNo) (turn : StatementNo) → Keeps X (for_bounds p name d reverse low high turn)
+  pub for_bounds-keeps : (p : Image) (name : Who) (d : DeclNo) (reverse : Bool) (low high : ExprNo) (turn : StatementNo)
+      → Keeps X (for_bounds p name d reverse low high turn)
   unfolding for_bounds
   for_bounds-keeps p name d reverse low high turn =
       looks-with _ (λ w said h.
       given_world-keeps quiet Own name w (bounds_set (seen_by p w name) d reverse low high) (λ _. goes name (Some turn))
       (bounds_set-gives (seen_by p w name) d reverse low high) (λ _. goes-keeps quiet name (Some turn)))
 
-  pub first_turn-keeps : (p : Image) (name : Who) (s : StatementNo) (d : DeclNo) (reverse : Bool) (body : StatementNo) → Keeps X (first_turn p name s d reverse body)
+  pub first_turn-keeps : (p : Image) (name : Who) (s : StatementNo) (d : DeclNo) (reverse : Bool) (body : StatementNo)
+      → Keeps X (first_turn p name s d reverse body)
   unfolding first_turn
   first_turn-keeps p name s d reverse body = search (sees-keeps, given-keeps, goes-keeps) depth 6
 
-  pub advance-keeps : (name : Who) (x : Variable) (reverse : Bool) (v : Value) (body : StatementNo) (past : Option StatementNo) (test : Bool) → Keeps X (advance name x reverse v body past test)
+  pub advance-keeps : (name : Who) (x : Variable) (reverse : Bool) (v : Value) (body : StatementNo) (past : Option StatementNo) (test : Bool)
+      → Keeps X (advance name x reverse v body past test)
   unfolding advance
   advance-keeps name x reverse v body past true = search (goes-keeps)
-  advance-keeps name x reverse v body past false = then-keeps _ _ (changes-keeps _ (write_cell-alters quiet x.within x.place _)) (goes-keeps quiet name (Some body))
+  advance-keeps name x reverse v body past false =
+      then-keeps _ _ (changes-keeps _ (write_cell-alters quiet x.within x.place _)) (goes-keeps quiet name (Some body))
 
-  pub later_turn-keeps : (p : Image) (name : Who) (s : StatementNo) (d : DeclNo) (reverse : Bool) (body : StatementNo) → Keeps X (later_turn p name s d reverse body)
+  pub later_turn-keeps : (p : Image) (name : Who) (s : StatementNo) (d : DeclNo) (reverse : Bool) (body : StatementNo)
+      → Keeps X (later_turn p name s d reverse body)
   unfolding later_turn
   later_turn-keeps p name s d reverse body = search (sees-keeps, given-keeps, advance-keeps) depth 6
 
@@ -131,7 +144,9 @@ module _ {X : State} (quiet : Silences X) where
   pub put_line-keeps : (p : Image) (name : Who) (s : StatementNo) (pieces : List Piece) → Keeps X (put_line p name s pieces)
   unfolding put_line
   put_line-keeps p name s pieces =
-      sees-keeps p name _ (λ q. given-keeps quiet Own name (text_of_pieces q pieces) _ (λ text. then-keeps _ _ (goes-keeps quiet name (next_of p s)) (says-keeps quiet Own (line.Put name text) refl)))
+      sees-keeps p name _
+      (λ q. given-keeps quiet Own name (text_of_pieces q pieces) _
+      (λ text. then-keeps _ _ (goes-keeps quiet name (next_of p s)) (says-keeps quiet Own (line.Put name text) refl)))
 
   pub block_statement-keeps : (p : Image) (name : Who) (s : StatementNo) (scope : ScopeNo) → Keeps X (block_statement p name s scope)
   unfolding block_statement

@@ -3,25 +3,35 @@ use Rattle.ann_base.specs.declared.exceptions.Raised.{Raised}
 use Rattle.ceiling_laws.proofs.Runs.ActingMoves.{ActingMoves, Admitting, Either}
 use Rattle.ceiling_laws.proofs.Fine.Kept.CallEnds.{end_top_abortable-keeps}
 use Rattle.ceiling_laws.proofs.Fine.Kept.Calls.{attempt_with-keeps, with_call-keeps}
-use Rattle.ceiling_laws.proofs.Fine.Kept.Controlled.{assign_controlled-keeps, end_in_assign-keeps, end_in_finalize-keeps, end_in_initialize-keeps, initialize-keeps}
+use Rattle.ceiling_laws.proofs.Fine.Kept.Controlled.{assign_controlled-keeps, end_in_assign-keeps}
+use Rattle.ceiling_laws.proofs.Fine.Kept.Controlled.{end_in_finalize-keeps, end_in_initialize-keeps, initialize-keeps}
 use Rattle.ceiling_laws.proofs.Fine.Kept.Declarations.{declare-keeps}
 use Rattle.ceiling_laws.proofs.Runs.Kept.EntryCalls.{asynchronous_select-leads, entry_call-leads, requeue-keeps}
-use Rattle.ceiling_laws.proofs.Fine.Kept.Frames.{edit_top-alters, goes-keeps, open_if_ready-keeps, pass_on-keeps, pop-alters, raises-keeps, weakly, with_room-keeps}
-use Rattle.ceiling_laws.proofs.Runs.Kept.Handlers.{add_member-keeps, add_to_budget-keeps, call_handler-leads, cancel_budget-keeps, cancel_event-keeps, cancel_timer-keeps, remove_member-keeps, replenish-keeps, set_budget-keeps, set_event-keeps, set_timer-keeps}
+use Rattle.ceiling_laws.proofs.Fine.Kept.Frames.{edit_top-alters, goes-keeps, open_if_ready-keeps, pass_on-keeps}
+use Rattle.ceiling_laws.proofs.Fine.Kept.Frames.{pop-alters, raises-keeps, weakly, with_room-keeps}
+use Rattle.ceiling_laws.proofs.Runs.Kept.Handlers.{add_member-keeps, add_to_budget-keeps, call_handler-leads, cancel_budget-keeps, cancel_event-keeps}
+use Rattle.ceiling_laws.proofs.Runs.Kept.Handlers.{cancel_timer-keeps, remove_member-keeps, replenish-keeps, set_budget-keeps, set_event-keeps, set_timer-keeps}
 use Rattle.ceiling_laws.proofs.Runs.Kept.Masters.{fits_part}
-use Rattle.ceiling_laws.proofs.Runs.Kept.Priorities.{delay_and_set_deadline-keeps, delay_until-keeps, set_deadline_of-leads, set_priority-leads, set_quantum-keeps}
+use Rattle.ceiling_laws.proofs.Runs.Kept.Priorities.{delay_and_set_deadline-keeps, delay_until-keeps}
+use Rattle.ceiling_laws.proofs.Runs.Kept.Priorities.{set_deadline_of-leads, set_priority-leads, set_quantum-keeps}
 use Rattle.ceiling_laws.proofs.Runs.Kept.Protected.{call_operation-leads, call_own_operation-keeps}
 use Rattle.ceiling_laws.proofs.Runs.Kept.Rendezvous.{accept-keeps, end_in_accept-keeps, goes_later, not_later, selective_accept-leads}
 use Rattle.ceiling_laws.proofs.Fine.Kept.Scopes.{drop_appointment-alters, open_scope-alters}
 use Rattle.ceiling_laws.proofs.Runs.Kept.Serving.{end_in_protected-keeps}
-use Rattle.ceiling_laws.proofs.Fine.Kept.Statements.{assign-keeps, assign_array-keeps, block_statement-keeps, case_statement-keeps, exit_statement-keeps, first_turn-keeps, for_bounds-keeps, if_statement-keeps, later_turn-keeps, null-keeps, put_line-keeps, raise_again-keeps, while_turn-keeps}
+use Rattle.ceiling_laws.proofs.Fine.Kept.Statements.{assign-keeps, assign_array-keeps, block_statement-keeps, case_statement-keeps}
+use Rattle.ceiling_laws.proofs.Fine.Kept.Statements.{exit_statement-keeps, first_turn-keeps, for_bounds-keeps, if_statement-keeps}
+use Rattle.ceiling_laws.proofs.Fine.Kept.Statements.{later_turn-keeps, null-keeps, put_line-keeps, raise_again-keeps, while_turn-keeps}
 use Rattle.ceiling_laws.proofs.Fine.Kept.Subprograms.{call_subprogram-keeps, return-keeps, return_value-keeps}
-use Rattle.ceiling_laws.proofs.Runs.Kept.Tasking.{abort_statement-keeps, activate-keeps, create-leads, end_own_activation-keeps, end_scope_mark-leads, take_terminates-leads, unwind_all-keeps}
+use Rattle.ceiling_laws.proofs.Runs.Kept.Tasking.{abort_statement-keeps, activate-keeps, create-leads, end_own_activation-keeps}
+use Rattle.ceiling_laws.proofs.Runs.Kept.Tasking.{end_scope_mark-leads, take_terminates-leads, unwind_all-keeps}
 use Rattle.ceiling_laws.proofs.Runs.Kept.Tasks.{edit_task-alters}
 use Rattle.ceiling_laws.proofs.Runs.LevelMoves.{Fitting, Silences, Sleeping}
-use Rattle.ceiling_laws.proofs.Runs.Triples.{Alters, Ends, Keeps, Leads, State, changes-keeps, cond-keeps, from-leads, looks-keeps, looks-leads, nothing-keeps, option-keeps, sees-keeps, then-keeps, then-leads, to-leads, unchanged-alters}
+use Rattle.ceiling_laws.proofs.Runs.Triples.{Alters, Ends, Keeps, Leads, State, changes-keeps, cond-keeps, from-leads, looks-keeps, looks-leads}
+use Rattle.ceiling_laws.proofs.Runs.Triples.{nothing-keeps, option-keeps, sees-keeps, then-keeps, then-leads, to-leads, unchanged-alters}
 use Rattle.ceiling_laws.proofs.Runs.Finer.{fine}
-use Rattle.profile_machine.specs.Act.{act, act_frame, act_statement, act_top, act_without, behind_handled, below, call, call_main, drop_trigger, end_abortable_by, end_handled, end_in_abortable, end_mark, end_top, handle_or_pass, handler_for, keeping, wait_for_trigger, waiting_mark}
+use Rattle.profile_machine.specs.Act.{act, act_frame, act_statement, act_top, act_without, behind_handled, below, call}
+use Rattle.profile_machine.specs.Act.{call_main, drop_trigger, end_abortable_by, end_handled, end_in_abortable, end_mark}
+use Rattle.profile_machine.specs.Act.{end_top, handle_or_pass, handler_for, keeping, wait_for_trigger, waiting_mark}
 use Rattle.profile_machine.specs.Appointments.{is_trigger_of}
 use Rattle.profile_machine.specs.CallEnds.{edit_abortable}
 use Rattle.profile_machine.specs.Calls.{attempt_with, with_call}
@@ -65,7 +75,8 @@ module _ {X : State} (quiet : Silences X) where
   handle_or_pass-keeps : (p : Image) (name : Who) (e : Raised) (next : Option StatementNo) → Keeps X (handle_or_pass p name e next)
   unfolding handle_or_pass
   handle_or_pass-keeps p name e None = pass_on-keeps (fine quiet) p name (how.Exception e)
-  handle_or_pass-keeps p name e (Some first) = then-keeps _ _ (changes-keeps _ (edit_top-alters (fine quiet) name (λ f. with_mark (keeping e f.mark) f))) (goes-keeps (fine quiet) name (Some first))
+  handle_or_pass-keeps p name e (Some first) =
+      then-keeps _ _ (changes-keeps _ (edit_top-alters (fine quiet) name (λ f. with_mark (keeping e f.mark) f))) (goes-keeps (fine quiet) name (Some first))
 
   behind_handled-keeps : (p : Image) (name : Who) (s : StatementNo) (leaving : Leaving) → Keeps X (behind_handled p name s leaving)
   unfolding behind_handled
@@ -99,7 +110,9 @@ either_ends {X} {Y} {Z} step w said a b (inr h) = (to-leads {X = Y} {Y = Y} {Z =
 either-leads : {X Y Z : State} (step : Step) → Leads X Z step → Keeps Y step → Leads (Either X Y) (Either Z Y) step
 either-leads step a b = record { runs = λ w said h. either_ends step w said a b h }
 
-module _ {p : Image} {actor : Who} {Fits Narrow : Fitting} {Sleeps : Sleeping} {May : Admitting} {Listed Unmade : World → Naming} {F I J W Y D : State} {O N V U : World → State} {E : World → Who → State} (acting : ActingMoves p actor Fits Narrow Sleeps May Listed Unmade F I J W Y D O N V U E) where
+module _ {p : Image} {actor : Who} {Fits Narrow : Fitting} {Sleeps : Sleeping} {May : Admitting} {Listed Unmade : World → Naming} {F I J W Y D : State}
+    {O N V U : World → State} {E : World → Who → State}
+    (acting : ActingMoves p actor Fits Narrow Sleeps May Listed Unmade F I J W Y D O N V U E) where
   -- who acts goes on, comes to its select, or may have entered an object
   at_first : (step : Step) → Keeps F step → Leads F (Either W J) step
   at_first step kept = weakly (fine acting.fresh) (λ w said h. inl (not_later acting w said h)) step kept
@@ -122,18 +135,28 @@ module _ {p : Image} {actor : Who} {Fits Narrow : Fitting} {Sleeps : Sleeping} {
 
   wait_for_trigger-keeps : (c : Call) (leaving : Leaving) → Keeps I (wait_for_trigger actor c leaving)
   unfolding wait_for_trigger
-  wait_for_trigger-keeps c leaving = then-keeps _ _ (changes-keeps _ (edit_top-alters (fine acting.later.base.quiet) actor (λ f. with_mark (edit_abortable waiting_mark f.mark) (record f { left_as = Some leaving })))) (acting.later.blocks actor (waits_for.EndOfCall c.number))
+  wait_for_trigger-keeps c leaving =
+      then-keeps _ _
+      (changes-keeps _
+      (edit_top-alters (fine acting.later.base.quiet) actor (λ f. with_mark (edit_abortable waiting_mark f.mark) (record f { left_as = Some leaving }))))
+      (acting.later.blocks actor (waits_for.EndOfCall c.number))
 
   end_abortable_by-keeps : (m : AbortableMark) (leaving : Leaving) → Keeps I (end_abortable_by p actor m leaving)
   unfolding end_abortable_by
   end_abortable_by-keeps m leaving =
-      option-keeps m.call (looks (λ w. changes (drop_trigger actor (below (frames_of w actor)))) ▷ end_top p actor) (λ c. with_call c (λ d. attempt_with p Own d (end_top p actor) (wait_for_trigger actor d leaving)))
-      (then-keeps _ _ (looks-keeps _ (λ w. changes-keeps _ (drop_trigger-alters acting.later.base.quiet actor (below (frames_of w actor))))) (end_top-keeps acting.later.base.quiet p actor))
-      (λ c. with_call-keeps (fine acting.later.base.quiet) c _ (λ d. attempt_with-keeps (fine acting.later.base.quiet) p Own d (end_top p actor) (wait_for_trigger actor d leaving) (end_top-keeps acting.later.base.quiet p actor) (wait_for_trigger-keeps d leaving)))
+      option-keeps m.call (looks (λ w. changes (drop_trigger actor (below (frames_of w actor)))) ▷ end_top p actor)
+      (λ c. with_call c (λ d. attempt_with p Own d (end_top p actor) (wait_for_trigger actor d leaving)))
+      (then-keeps _ _ (looks-keeps _ (λ w. changes-keeps _ (drop_trigger-alters acting.later.base.quiet actor (below (frames_of w actor)))))
+      (end_top-keeps acting.later.base.quiet p actor))
+      (λ c. with_call-keeps (fine acting.later.base.quiet) c _
+      (λ d. attempt_with-keeps (fine acting.later.base.quiet) p Own d (end_top p actor) (wait_for_trigger actor d leaving)
+      (end_top-keeps acting.later.base.quiet p actor) (wait_for_trigger-keeps d leaving)))
 
   end_in_abortable-keeps : (m : AbortableMark) (leaving : Leaving) → Keeps I (end_in_abortable p actor m leaving)
   unfolding end_in_abortable
-  end_in_abortable-keeps m leaving = cond-keeps m.triggered (end_top p actor) (end_abortable_by p actor m leaving) (end_top-keeps acting.later.base.quiet p actor) (end_abortable_by-keeps m leaving)
+  end_in_abortable-keeps m leaving =
+      cond-keeps m.triggered (end_top p actor) (end_abortable_by p actor m leaving) (end_top-keeps acting.later.base.quiet p actor)
+      (end_abortable_by-keeps m leaving)
 
   call-leads : (s : StatementNo) (callee : Callee) (actuals : List Actual) (to : Destination) → Leads F (Either W J) (call p actor s callee actuals to)
   unfolding call
@@ -158,7 +181,8 @@ module _ {p : Image} {actor : Who} {Fits Narrow : Fitting} {Sleeps : Sleeping} {
   act_statement-leads s (form.Case selector alternatives) = at_first _ (case_statement-keeps (fine acting.fresh) p actor selector alternatives)
   act_statement-leads s (form.Loop body within) = at_first _ (goes-keeps (fine acting.fresh) actor (Some body))
   act_statement-leads s (form.While condition body within) = at_first _ (while_turn-keeps (fine acting.fresh) p actor s condition body)
-  act_statement-leads s (form.For parameter reverse low high turn within) = at_first _ (for_bounds-keeps (fine acting.fresh) p actor parameter reverse low high turn)
+  act_statement-leads s (form.For parameter reverse low high turn within) =
+      at_first _ (for_bounds-keeps (fine acting.fresh) p actor parameter reverse low high turn)
   act_statement-leads s (form.FirstTurn parameter reverse body) = at_first _ (first_turn-keeps (fine acting.fresh) p actor s parameter reverse body)
   act_statement-leads s (form.LaterTurn parameter reverse body) = at_first _ (later_turn-keeps (fine acting.fresh) p actor s parameter reverse body)
   act_statement-leads s (form.Exit condition of_loop) = at_first _ (exit_statement-keeps (fine acting.fresh) p actor s of_loop condition)
@@ -179,9 +203,11 @@ module _ {p : Image} {actor : Who} {Fits Narrow : Fitting} {Sleeps : Sleeping} {
   act_statement-leads s (form.SelectiveAccept alternatives otherwise) = at_select _ (selective_accept-leads acting s alternatives otherwise)
   act_statement-leads s (form.Abort tasks) = later_on _ (abort_statement-keeps acting s tasks)
   act_statement-leads s (form.Requeue entry owner with_abort) = at_first _ (requeue-keeps acting.fresh p actor entry owner with_abort)
-  act_statement-leads s (form.SetEvent event set handler) = later_on _ (set_event-keeps acting.later.base (acting.later.fits_own who.Agent) actor s event set handler)
+  act_statement-leads s (form.SetEvent event set handler) =
+      later_on _ (set_event-keeps acting.later.base (acting.later.fits_own who.Agent) actor s event set handler)
   act_statement-leads s (form.CancelEvent event cancelled) = at_first _ (cancel_event-keeps acting.fresh p actor s event cancelled)
-  act_statement-leads s (form.SetTimer timer set handler) = later_on _ (set_timer-keeps acting.later.base (acting.later.fits_own who.Agent) actor s timer set handler)
+  act_statement-leads s (form.SetTimer timer set handler) =
+      later_on _ (set_timer-keeps acting.later.base (acting.later.fits_own who.Agent) actor s timer set handler)
   act_statement-leads s (form.CancelTimer timer cancelled) = at_first _ (cancel_timer-keeps acting.fresh p actor s timer cancelled)
   act_statement-leads s (form.AddTask budget task) = at_first _ (add_member-keeps acting.fresh p actor s budget task)
   act_statement-leads s (form.RemoveTask budget task) = at_first _ (remove_member-keeps acting.fresh p actor s budget task)

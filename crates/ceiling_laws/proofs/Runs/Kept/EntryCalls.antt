@@ -7,8 +7,10 @@ use Rattle.ann_base.specs.declared.identities.TaskNo.{TaskNo}
 use Rattle.ceiling_laws.proofs.Runs.ActingMoves.{ActingMoves, Admitting, Either}
 use Rattle.ceiling_laws.proofs.Fine.Kept.CallEnds.{gone-keeps}
 use Rattle.ceiling_laws.proofs.Fine.Kept.Calls.{edit_call-alters, enqueue-keeps, forget_call-alters, says_call-keeps}
-use Rattle.ceiling_laws.proofs.Fine.Kept.Frames.{given-keeps, given-through, goes-keeps, leaves-keeps, raise_if-keeps, raise_if-through, raises-keeps, weakly, with_room-keeps, with_room-through}
-use Rattle.ceiling_laws.proofs.Runs.Kept.Protected.{Admitted, admitted_changes, admitted_says, begin_action_on-leads, goes_without, has_entered, not_yet, serve_call-keeps, where_let_inside-leads}
+use Rattle.ceiling_laws.proofs.Fine.Kept.Frames.{given-keeps, given-through, goes-keeps, leaves-keeps, raise_if-keeps}
+use Rattle.ceiling_laws.proofs.Fine.Kept.Frames.{raise_if-through, raises-keeps, weakly, with_room-keeps, with_room-through}
+use Rattle.ceiling_laws.proofs.Runs.Kept.Protected.{Admitted, admitted_changes, admitted_says, begin_action_on-leads}
+use Rattle.ceiling_laws.proofs.Runs.Kept.Protected.{goes_without, has_entered, not_yet, serve_call-keeps, where_let_inside-leads}
 use Rattle.ceiling_laws.proofs.Runs.Kept.Rendezvous.{accepting_sleeps, meet-leads, meet_without_room-leads}
 use Rattle.ceiling_laws.proofs.Fine.Kept.Scopes.{appoint-alters}
 use Rattle.ceiling_laws.proofs.Runs.Kept.Sending.{not_accepted-keeps, open_abortable-alters}
@@ -16,11 +18,16 @@ use Rattle.ceiling_laws.proofs.Runs.Kept.Tasks.{plain-alters, says-keeps}
 use Rattle.ceiling_laws.proofs.Runs.Kept.Waking.{asleep_at, asleep_quiet}
 use Rattle.ceiling_laws.proofs.Runs.LevelMoves.{Fitting, Silences, Sleeping}
 use Rattle.ceiling_laws.proofs.Runs.SameLemmas.{edit_task-same}
-use Rattle.ceiling_laws.proofs.Runs.Triples.{Alters, At, Keeps, Leads, State, With, branch-leads, changes-keeps, from-leads, from_at, looks-keeps, looks-leads, looks-with, nothing-keeps, sees-keeps, sees-leads, then-keeps, then-leads, unchanged-alters}
+use Rattle.ceiling_laws.proofs.Runs.Triples.{Alters, At, Keeps, Leads, State, With, branch-leads, changes-keeps, from-leads, from_at, looks-keeps}
+use Rattle.ceiling_laws.proofs.Runs.Triples.{looks-leads, looks-with, nothing-keeps, sees-keeps, sees-leads, then-keeps, then-leads, unchanged-alters}
 use Rattle.ceiling_laws.proofs.Runs.Finer.{fine}
 use Rattle.profile_machine.specs.Calls.{is_full, says_call}
 use Rattle.profile_machine.specs.Dispatching.{active_of, block}
-use Rattle.profile_machine.specs.EntryCalls.{add_call, appoint_trigger, async_by_trigger, async_delay, asynchronous_select, call_accepted_by, call_by_barrier, call_callable, call_closed, call_gone, call_meets, call_named, call_not_met, call_object, call_owner, call_passes, call_queues, call_refused, call_runs, call_runs_if_room, call_task, call_without_room, end_at_once, entry_call, entry_parameters, has_room_for_action, is_forbidden, make_call, mark_sending, marks_if_queued, named_call, new_call, numbered, owner_of_entry, requeue, timed_moment, trigger_delay, with_sending}
+use Rattle.profile_machine.specs.EntryCalls.{add_call, appoint_trigger, async_by_trigger, async_delay, asynchronous_select, call_accepted_by, call_by_barrier}
+use Rattle.profile_machine.specs.EntryCalls.{call_callable, call_closed, call_gone, call_meets, call_named, call_not_met, call_object, call_owner}
+use Rattle.profile_machine.specs.EntryCalls.{call_passes, call_queues, call_refused, call_runs, call_runs_if_room, call_task, call_without_room, end_at_once}
+use Rattle.profile_machine.specs.EntryCalls.{entry_call, entry_parameters, has_room_for_action, is_forbidden, make_call, mark_sending, marks_if_queued}
+use Rattle.profile_machine.specs.EntryCalls.{named_call, new_call, numbered, owner_of_entry, requeue, timed_moment, trigger_delay, with_sending}
 use Rattle.profile_machine.specs.Frames.{edit_first, edit_top, frames_of, goes, goes_on, raises, with_room}
 use Rattle.profile_image.specs.Program.{entry_of, form_of, next_of}
 use Rattle.profile_machine.specs.Protected.{begin_action_on, is_barrier_open, where_let_inside}
@@ -61,7 +68,8 @@ module _ {X : State} (quiet : Silences X) where
 
   pub end_at_once-keeps : (part : Part) (c : Call) (e : Raised) → Keeps X (end_at_once part c e)
   unfolding end_at_once
-  end_at_once-keeps part c e = then-keeps _ _ (changes-keeps _ (forget_call-alters (fine quiet) c.number)) (raises-keeps (fine quiet) part (who.Task c.caller) e)
+  end_at_once-keeps part c e =
+      then-keeps _ _ (changes-keeps _ (forget_call-alters (fine quiet) c.number)) (raises-keeps (fine quiet) part (who.Task c.caller) e)
 
   pub call_gone-keeps : (p : Image) (c : Call) → Keeps X (call_gone p c)
   unfolding call_gone
@@ -75,12 +83,18 @@ module _ {X : State} (quiet : Silences X) where
   unfolding trigger_delay
   trigger_delay-keeps p name s trigger m false = goes-keeps (fine quiet) name (next_of p trigger)
   trigger_delay-keeps p name s trigger m true =
-      with_room-keeps (fine quiet) name 1 0 _ (then-keeps _ _ (goes-keeps (fine quiet) name (next_of p s)) (looks-keeps _ (λ w. then-keeps _ _ (changes-keeps _ (open_abortable-alters quiet p name s None)) (changes-keeps _ (appoint_trigger-alters name (length (frames_of w name)) m)))))
+      with_room-keeps (fine quiet) name 1 0 _
+      (then-keeps _ _ (goes-keeps (fine quiet) name (next_of p s))
+      (looks-keeps _
+      (λ w. then-keeps _ _ (changes-keeps _ (open_abortable-alters quiet p name s None))
+      (changes-keeps _ (appoint_trigger-alters name (length (frames_of w name)) m)))))
 
   pub async_delay-keeps : (p : Image) (name : Who) (s trigger : StatementNo) → Keeps X (async_delay p name s trigger)
   unfolding async_delay
   async_delay-keeps p name s trigger =
-      sees-keeps p name _ (λ q. raise_if-keeps (fine quiet) name (is_forbidden q.world name call_kind.Triggering) exception.Program _ (given-keeps (fine quiet) Own name (delay_moment q trigger) _ (λ m. trigger_delay-keeps p name s trigger m (int_lt (pos q.world.time) m))))
+      sees-keeps p name _
+      (λ q. raise_if-keeps (fine quiet) name (is_forbidden q.world name call_kind.Triggering) exception.Program _
+      (given-keeps (fine quiet) Own name (delay_moment q trigger) _ (λ m. trigger_delay-keeps p name s trigger m (int_lt (pos q.world.time) m))))
 
   pub mark_sending-alters : (c : Option CallNo) (o : Owner) (e : EntryNo) (with_abort : Bool) → Alters X (mark_sending c o e with_abort)
   mark_sending-alters None o e with_abort = unchanged-alters
@@ -89,15 +103,22 @@ module _ {X : State} (quiet : Silences X) where
   pub requeue-keeps : (p : Image) (name : Who) (e : EntryNo) (o : EntryOwner) (with_abort : Bool) → Keeps X (requeue p name e o with_abort)
   unfolding requeue
   requeue-keeps p name e o with_abort =
-      sees-keeps p name _ (λ q. given-keeps (fine quiet) Own name (owner_of_entry q e o) _ (λ target. then-keeps _ _ (changes-keeps _ (mark_sending-alters (call_that_returns (frames_of q.world name)) target e with_abort)) (leaves-keeps (fine quiet) name how.Return)))
+      sees-keeps p name _
+      (λ q. given-keeps (fine quiet) Own name (owner_of_entry q e o) _
+      (λ target. then-keeps _ _ (changes-keeps _ (mark_sending-alters (call_that_returns (frames_of q.world name)) target e with_abort))
+      (leaves-keeps (fine quiet) name how.Return)))
 
 -- ---- by who acts
 
-module _ {p : Image} {actor : Who} {Fits Narrow : Fitting} {Sleeps : Sleeping} {May : Admitting} {Listed Unmade : World → Naming} {F I J W Y D : State} {O N V U : World → State} {E : World → Who → State} (acting : ActingMoves p actor Fits Narrow Sleeps May Listed Unmade F I J W Y D O N V U E) where
+module _ {p : Image} {actor : Who} {Fits Narrow : Fitting} {Sleeps : Sleeping} {May : Admitting} {Listed Unmade : World → Naming} {F I J W Y D : State}
+    {O N V U : World → State} {E : World → Who → State}
+    (acting : ActingMoves p actor Fits Narrow Sleeps May Listed Unmade F I J W Y D O N V U E) where
   make_call-keeps : (c : Call) (step : Call → Step) → ((x : Call) → Keeps I (step x)) → Keeps I (make_call p c step)
   make_call-keeps c step kept =
       then-keeps _ _ (goes-keeps (fine acting.later.base.quiet) (who.Task c.caller) (next_of p c.statement))
-      (looks-keeps _ (λ w. then-keeps _ _ (changes-keeps _ (add_call-alters acting.later.base.quiet c)) (then-keeps _ _ (says_call-keeps (fine acting.later.base.quiet) TheCall (numbered (suc w.drawn.calls) c)) (kept (numbered (suc w.drawn.calls) c)))))
+      (looks-keeps _
+      (λ w. then-keeps _ _ (changes-keeps _ (add_call-alters acting.later.base.quiet c))
+      (then-keeps _ _ (says_call-keeps (fine acting.later.base.quiet) TheCall (numbered (suc w.drawn.calls) c)) (kept (numbered (suc w.drawn.calls) c)))))
 
   -- ---- of a task's entry
 
@@ -105,15 +126,18 @@ module _ {p : Image} {actor : Who} {Fits Narrow : Fitting} {Sleeps : Sleeping} {
   call_meets-leads : (t : TaskNo) (s : StatementNo) (c : Call) → Leads (With I (λ w. Sleeps w (who.Task t))) I (call_meets p t s c)
   unfolding call_meets
   call_meets-leads t s c =
-      meet-leads acting.later.base (OfOther (who.Task t)) (who.Task t) s c (block TheBlock (who.Task c.caller) (waits_for.Call c.number)) (end_at_once TheFinish c exception.Storage) (acting.later.fits_other (who.Task t)) (acting.later.blocks (who.Task c.caller) (waits_for.Call c.number))
-      (meet_without_room-leads acting.later.base (OfOther (who.Task t)) (who.Task t) s c (end_at_once TheFinish c exception.Storage) (acting.later.fits_other (who.Task t)) (end_at_once-keeps (asleep_quiet acting.later.base (who.Task t)) TheFinish c exception.Storage))
+      meet-leads acting.later.base (OfOther (who.Task t)) (who.Task t) s c (block TheBlock (who.Task c.caller) (waits_for.Call c.number))
+      (end_at_once TheFinish c exception.Storage) (acting.later.fits_other (who.Task t)) (acting.later.blocks (who.Task c.caller) (waits_for.Call c.number))
+      (meet_without_room-leads acting.later.base (OfOther (who.Task t)) (who.Task t) s c (end_at_once TheFinish c exception.Storage)
+      (acting.later.fits_other (who.Task t)) (end_at_once-keeps (asleep_quiet acting.later.base (who.Task t)) TheFinish c exception.Storage))
 
   make_meeting-leads : (t : TaskNo) (s : StatementNo) (c : Call) → Leads (With I (λ w. Sleeps w (who.Task t))) I (make_call p c (call_meets p t s))
   make_meeting-leads t s c =
       let quiet = asleep_quiet acting.later.base (who.Task t) in
       then-leads (goes (who.Task c.caller) (next_of p c.statement)) _ (goes-keeps (fine quiet) (who.Task c.caller) (next_of p c.statement))
       (looks-leads _ (λ w. then-leads (changes (add_call c)) _ (changes-keeps _ (add_call-alters quiet c))
-      (then-leads (says_call TheCall (numbered (suc w.drawn.calls) c)) _ (says_call-keeps (fine quiet) TheCall (numbered (suc w.drawn.calls) c)) (call_meets-leads t s (numbered (suc w.drawn.calls) c)))))
+      (then-leads (says_call TheCall (numbered (suc w.drawn.calls) c)) _ (says_call-keeps (fine quiet) TheCall (numbered (suc w.drawn.calls) c))
+      (call_meets-leads t s (numbered (suc w.drawn.calls) c)))))
 
   call_queues-keeps : (c : Call) → Keeps I (call_queues p c)
   unfolding call_queues
@@ -122,11 +146,14 @@ module _ {p : Image} {actor : Who} {Fits Narrow : Fitting} {Sleeps : Sleeping} {
   call_not_met-keeps : (c : Call) (test : Bool) → Keeps I (call_not_met p c test)
   unfolding call_not_met
   call_not_met-keeps c true = make_call-keeps c _ (λ d. end_at_once-keeps acting.later.base.quiet Own d exception.Program)
-  call_not_met-keeps c false = with_room-keeps (fine acting.later.base.quiet) (who.Task c.caller) (marks_if_queued c.kind) 0 _ (make_call-keeps c _ call_queues-keeps)
+  call_not_met-keeps c false =
+      with_room-keeps (fine acting.later.base.quiet) (who.Task c.caller) (marks_if_queued c.kind) 0 _ (make_call-keeps c _ call_queues-keeps)
 
-  call_accepted_by-at : (v : World) (t : TaskNo) (c : Call) (next : Option StatementNo) → accept_for p c.entry (waiting_of v (who.Task t)) ≡ next → Leads (At I v) I (call_accepted_by p t c next)
+  call_accepted_by-at : (v : World) (t : TaskNo) (c : Call) (next : Option StatementNo) → accept_for p c.entry (waiting_of v (who.Task t)) ≡ next
+      → Leads (At I v) I (call_accepted_by p t c next)
   unfolding call_accepted_by
-  call_accepted_by-at v t c (Some s) is = asleep_at acting.later.base (who.Task t) v _ (accepting_sleeps acting.later.base v c.entry (who.Task t) s is) (make_meeting-leads t s c)
+  call_accepted_by-at v t c (Some s) is =
+      asleep_at acting.later.base (who.Task t) v _ (accepting_sleeps acting.later.base v c.entry (who.Task t) s is) (make_meeting-leads t s c)
   call_accepted_by-at v t c None is = from_at _ (looks-keeps _ (λ w. call_not_met-keeps c (is_full p w c.owner c.entry)))
 
   call_callable-keeps : (t : TaskNo) (c : Call) (test : Bool) → Keeps I (call_callable p t c test)
@@ -143,18 +170,27 @@ module _ {p : Image} {actor : Who} {Fits Narrow : Fitting} {Sleeps : Sleeping} {
   enters_as : (o : ObjectNo) (name : Who) → name ≡ actor → Leads (Admitted acting o) J (says Own (line.Enter name o Write))
   enters_as o name is = subst (λ n. Leads (Admitted acting o) J (says Own (line.Enter n o Write))) (sym is) (acting.enters o Write)
 
-  make_entering-leads : {Y : State} (o : ObjectNo) (c : Call) (step : Call → Step) → ((n : ℕ) → Leads (Admitted acting o) Y (step (numbered n c))) → Leads (Admitted acting o) Y (make_call p c step)
+  make_entering-leads : {Y : State} (o : ObjectNo) (c : Call) (step : Call → Step) → ((n : ℕ) → Leads (Admitted acting o) Y (step (numbered n c)))
+      → Leads (Admitted acting o) Y (make_call p c step)
   unfolding goes says_call
   make_entering-leads o c step kept =
-      then-leads (changes (edit_top (who.Task c.caller) (goes_on (next_of p c.statement)))) _ (admitted_changes acting o _ (λ w. edit_task-same (who.Task c.caller) (λ t. with_frames (edit_first (goes_on (next_of p c.statement)) t.frames) t) w (λ t. refl)))
-      (looks-leads _ (λ w. then-leads (changes (add_call c)) _ (admitted_changes acting o (add_call c) (λ v. record { tasks = refl; agent = refl; objects = refl; drawn_tasks = refl; drawn_objects = refl; delays = λ t e. e }))
-      (let d = numbered (suc w.drawn.calls) c in then-leads (says TheCall (line.Call d.caller d.number d.owner d.entry d.priority)) _ (admitted_says acting o TheCall (line.Call d.caller d.number d.owner d.entry d.priority) refl) (kept (suc w.drawn.calls)))))
+      then-leads (changes (edit_top (who.Task c.caller) (goes_on (next_of p c.statement)))) _
+      (admitted_changes acting o _
+      (λ w. edit_task-same (who.Task c.caller) (λ t. with_frames (edit_first (goes_on (next_of p c.statement)) t.frames) t) w (λ t. refl)))
+      (looks-leads _
+      (λ w. then-leads (changes (add_call c)) _
+      (admitted_changes acting o (add_call c)
+      (λ v. record { tasks = refl; agent = refl; objects = refl; drawn_tasks = refl; drawn_objects = refl; delays = λ t e. e }))
+      (let d = numbered (suc w.drawn.calls) c in
+      then-leads (says TheCall (line.Call d.caller d.number d.owner d.entry d.priority)) _
+      (admitted_says acting o TheCall (line.Call d.caller d.number d.owner d.entry d.priority) refl) (kept (suc w.drawn.calls)))))
 
   call_runs-leads : (o : ObjectNo) (c : Call) → who.Task c.caller ≡ actor → Leads (Admitted acting o) J (call_runs p o c)
   unfolding call_runs
   call_runs-leads o c is =
       then-leads (begin_action_on p (who.Task c.caller) o Write (Some c.number) None) _
-      (subst (λ n. Leads (Admitted acting o) J (begin_action_on p n o Write (Some c.number) None)) (sym is) (begin_action_on-leads acting o Write (Some c.number) None))
+      (subst (λ n. Leads (Admitted acting o) J (begin_action_on p n o Write (Some c.number) None)) (sym is)
+      (begin_action_on-leads acting o Write (Some c.number) None))
       (serve_call-keeps acting.entered.base.quiet p Own (who.Task c.caller) o c nothing nothing nothing-keeps nothing-keeps)
 
   call_without_room-leads : (o : ObjectNo) (c : Call) → who.Task c.caller ≡ actor → Leads (Admitted acting o) J (call_without_room o c)
@@ -169,37 +205,50 @@ module _ {p : Image} {actor : Who} {Fits Narrow : Fitting} {Sleeps : Sleeping} {
 
   call_runs_if_room-leads : (o : ObjectNo) (c : Call) → who.Task c.caller ≡ actor → Leads (Admitted acting o) J (call_runs_if_room p o c)
   unfolding call_runs_if_room
-  call_runs_if_room-leads o c is = looks-leads _ (λ w. branch-leads (has_room_for_action p w c) (call_runs p o c) (call_without_room o c) (call_runs-leads o c is) (call_without_room-leads o c is))
+  call_runs_if_room-leads o c is =
+      looks-leads _
+      (λ w. branch-leads (has_room_for_action p w c) (call_runs p o c) (call_without_room o c) (call_runs-leads o c is) (call_without_room-leads o c is))
 
   call_passes-leads : (o : ObjectNo) (c : Call) → who.Task c.caller ≡ actor → Leads (Admitted acting o) J (call_passes p o c)
   unfolding call_passes
   call_passes-leads o c is =
       then-leads (says Own (line.Enter (who.Task c.caller) o Write)) _ (enters_as o (who.Task c.caller) is)
-      (then-keeps _ _ (enqueue-keeps (fine acting.entered.base.quiet) p c.number) (then-keeps _ _ (says-keeps acting.entered.base.quiet Own (line.Exit (who.Task c.caller) o) refl) (not_accepted-keeps acting.entered Own c c.kind)))
+      (then-keeps _ _ (enqueue-keeps (fine acting.entered.base.quiet) p c.number)
+      (then-keeps _ _ (says-keeps acting.entered.base.quiet Own (line.Exit (who.Task c.caller) o) refl) (not_accepted-keeps acting.entered Own c c.kind)))
 
   call_refused-leads : (o : ObjectNo) (c : Call) → who.Task c.caller ≡ actor → Leads (Admitted acting o) J (call_refused o c)
   unfolding call_refused
   call_refused-leads o c is =
       then-leads (says Own (line.Enter (who.Task c.caller) o Write)) _ (enters_as o (who.Task c.caller) is)
-      (then-keeps _ _ (says-keeps acting.entered.base.quiet Own (line.Exit (who.Task c.caller) o) refl) (end_at_once-keeps acting.entered.base.quiet Own c exception.Program))
+      (then-keeps _ _ (says-keeps acting.entered.base.quiet Own (line.Exit (who.Task c.caller) o) refl)
+      (end_at_once-keeps acting.entered.base.quiet Own c exception.Program))
 
-  room_admitted : (o : ObjectNo) (name : Who) (marks cells : ℕ) (step : Step) → Leads (Admitted acting o) (Either I J) step → Leads (Admitted acting o) (Either I J) (with_room name marks cells step)
+  room_admitted : (o : ObjectNo) (name : Who) (marks cells : ℕ) (step : Step) → Leads (Admitted acting o) (Either I J) step
+      → Leads (Admitted acting o) (Either I J) (with_room name marks cells step)
   room_admitted o name marks cells step kept = with_room-through (fine acting.fresh) (λ w k h. h.0) (not_yet acting) name marks cells step kept
 
   call_closed-leads : (o : ObjectNo) (c : Call) (test : Bool) → who.Task c.caller ≡ actor → Leads (Admitted acting o) (Either I J) (call_closed p o c test)
   unfolding call_closed
-  call_closed-leads o c true is = has_entered acting (make_call p c (call_refused o)) (make_entering-leads o c (call_refused o) (λ n. call_refused-leads o (numbered n c) is))
-  call_closed-leads o c false is = room_admitted o (who.Task c.caller) (marks_if_queued c.kind) 0 _ (has_entered acting (make_call p c (call_passes p o)) (make_entering-leads o c (call_passes p o) (λ n. call_passes-leads o (numbered n c) is)))
+  call_closed-leads o c true is =
+      has_entered acting (make_call p c (call_refused o)) (make_entering-leads o c (call_refused o) (λ n. call_refused-leads o (numbered n c) is))
+  call_closed-leads o c false is =
+      room_admitted o (who.Task c.caller) (marks_if_queued c.kind) 0 _
+      (has_entered acting (make_call p c (call_passes p o)) (make_entering-leads o c (call_passes p o) (λ n. call_passes-leads o (numbered n c) is)))
 
-  call_by_barrier-leads : (o : ObjectNo) (c : Call) (test : Bool) → who.Task c.caller ≡ actor → Leads (Admitted acting o) (Either I J) (call_by_barrier p o c test)
+  call_by_barrier-leads : (o : ObjectNo) (c : Call) (test : Bool) → who.Task c.caller ≡ actor
+      → Leads (Admitted acting o) (Either I J) (call_by_barrier p o c test)
   unfolding call_by_barrier
-  call_by_barrier-leads o c true is = room_admitted o (who.Task c.caller) 1 0 _ (has_entered acting (make_call p c (call_runs_if_room p o)) (make_entering-leads o c (call_runs_if_room p o) (λ n. call_runs_if_room-leads o (numbered n c) is)))
+  call_by_barrier-leads o c true is =
+      room_admitted o (who.Task c.caller) 1 0 _
+      (has_entered acting (make_call p c (call_runs_if_room p o))
+      (make_entering-leads o c (call_runs_if_room p o) (λ n. call_runs_if_room-leads o (numbered n c) is)))
   call_by_barrier-leads o c false is = looks-leads _ (λ w. call_closed-leads o c (is_full p w c.owner c.entry) is)
 
   call_object-leads : (o : ObjectNo) (c : Call) → who.Task c.caller ≡ actor → Leads F (Either I J) (call_object p o c)
   unfolding call_object
   call_object-leads o c is =
-      subst (λ n. Leads F (Either I J) (where_let_inside p n o Write (looks (λ w. call_by_barrier p o c (is_barrier_open p w (who.Task c.caller) o c.entry))))) (sym is)
+      subst (λ n. Leads F (Either I J) (where_let_inside p n o Write (looks (λ w. call_by_barrier p o c (is_barrier_open p w (who.Task c.caller) o c.entry)))))
+      (sym is)
       (where_let_inside-leads acting o Write _ (looks-leads _ (λ w. call_by_barrier-leads o c (is_barrier_open p w (who.Task c.caller) o c.entry) is)))
 
   call_owner-leads : (c : Call) (owner : Owner) → who.Task c.caller ≡ actor → Leads F (Either I J) (call_owner p c owner)
@@ -212,13 +261,19 @@ module _ {p : Image} {actor : Who} {Fits Narrow : Fitting} {Sleeps : Sleeping} {
   call_named-leads t kind s n is =
       sees-leads p (who.Task t) _ (λ q.
       given-through (fine acting.fresh) (λ w k h. h) (not_yet acting) Own (who.Task t) (owner_of_entry q n.entry n.owner) _ (λ o.
-      given-through (fine acting.fresh) (λ w k h. h) (not_yet acting) Own (who.Task t) (entry_parameters q (entry_of p n.entry).formals n.actuals) _ (λ parameters.
-      given-through (fine acting.fresh) (λ w k h. h) (not_yet acting) Own (who.Task t) (timed_moment q (form_of p s)) _ (λ m. call_owner-leads (new_call t kind s n o (active_of p q.world (who.Task t)) parameters m) o is))))
+      given-through (fine acting.fresh) (λ w k h. h) (not_yet acting) Own (who.Task t) (entry_parameters q (entry_of p n.entry).formals n.actuals) _
+      (λ parameters.
+      given-through (fine acting.fresh) (λ w k h. h) (not_yet acting) Own (who.Task t) (timed_moment q (form_of p s)) _
+      (λ m. call_owner-leads (new_call t kind s n o (active_of p q.world (who.Task t)) parameters m) o is))))
 
   entry_call_by : (name : Who) (kind : CallKind) (s : StatementNo) → name ≡ actor → Leads F (Either I J) (entry_call p name kind s)
   unfolding entry_call
-  entry_call_by (who.Task t) kind s is = looks-leads _ (λ w. raise_if-through (fine acting.fresh) (λ v k h. h) (not_yet acting) (who.Task t) (is_forbidden w (who.Task t) kind) exception.Program _ (call_named-leads t kind s (named_call p s) is))
-  entry_call_by who.Agent kind s is = weakly (fine acting.fresh) (not_yet acting) (raises Own who.Agent exception.Program) (raises-keeps (fine acting.fresh) Own who.Agent exception.Program)
+  entry_call_by (who.Task t) kind s is =
+      looks-leads _
+      (λ w. raise_if-through (fine acting.fresh) (λ v k h. h) (not_yet acting) (who.Task t) (is_forbidden w (who.Task t) kind) exception.Program _
+      (call_named-leads t kind s (named_call p s) is))
+  entry_call_by who.Agent kind s is =
+      weakly (fine acting.fresh) (not_yet acting) (raises Own who.Agent exception.Program) (raises-keeps (fine acting.fresh) Own who.Agent exception.Program)
 
   pub entry_call-leads : (kind : CallKind) (s : StatementNo) → Leads F (Either I J) (entry_call p actor kind s)
   entry_call-leads kind s = entry_call_by actor kind s refl
@@ -226,7 +281,8 @@ module _ {p : Image} {actor : Who} {Fits Narrow : Fitting} {Sleeps : Sleeping} {
   async_by_trigger-leads : (s trigger : StatementNo) (form : StatementForm) → Leads F (Either I J) (async_by_trigger p actor s trigger form)
   unfolding async_by_trigger
   async_by_trigger-leads s trigger (form.EntryCall entry owner actuals) = entry_call-leads call_kind.Triggering s
-  async_by_trigger-leads s trigger _ = weakly (fine acting.fresh) (not_yet acting) (async_delay p actor s trigger) (async_delay-keeps acting.fresh p actor s trigger)
+  async_by_trigger-leads s trigger _ =
+      weakly (fine acting.fresh) (not_yet acting) (async_delay p actor s trigger) (async_delay-keeps acting.fresh p actor s trigger)
 
   pub asynchronous_select-leads : (s trigger : StatementNo) → Leads F (Either I J) (asynchronous_select p actor s trigger)
   unfolding asynchronous_select

@@ -8,12 +8,16 @@ use Rattle.ceiling_laws.proofs.Fine.Kept.Scopes.{drop_delay-alters}
 use Rattle.ceiling_laws.proofs.Runs.Kept.Tasks.{edit_task-alters}
 use Rattle.ceiling_laws.proofs.Runs.Kept.Waking.{asleep_at, found-each, ready-at, waiting-blocked, who-is}
 use Rattle.ceiling_laws.proofs.Runs.LevelMoves.{BaseMoves, EachTask, Fitting, Sleeping, is_blocked}
-use Rattle.ceiling_laws.proofs.Runs.Triples.{At, Keeps, Leads, State, With, changes-keeps, for_each-keeps, for_some-keeps, from_at, looks-keeps, looks-leads, looks-with, nothing-keeps, then-keeps, then-leads, when-keeps, when-leads}
+use Rattle.ceiling_laws.proofs.Runs.Triples.{At, Keeps, Leads, State, With, changes-keeps, for_each-keeps, for_some-keeps, from_at, looks-keeps}
+use Rattle.ceiling_laws.proofs.Runs.Triples.{looks-leads, looks-with, nothing-keeps, then-keeps, then-leads, when-keeps, when-leads}
 use Rattle.ceiling_laws.proofs.Runs.Finer.{fine, fine_base}
 use Rattle.profile_machine.specs.Appointments.{drop_delay}
 use Rattle.profile_machine.specs.Dispatching.{ready}
 use Rattle.profile_machine.specs.Inheritance.{lose}
-use Rattle.profile_machine.specs.Masters.{complete, complete_with, completed_task, end_activation, end_activation_by, end_group, forget_task, gone_by_completion, has_activating, has_dependents, has_failed, leave_by_terminate, not_activating, part_of, queued_calls, terminate, waits_for_activation, waits_for_dependents, waits_in, wake_activator, wake_master, with_failure}
+use Rattle.profile_machine.specs.Masters.{complete, complete_with, completed_task, end_activation, end_activation_by, end_group}
+use Rattle.profile_machine.specs.Masters.{forget_task, gone_by_completion, has_activating, has_dependents, has_failed}
+use Rattle.profile_machine.specs.Masters.{leave_by_terminate, not_activating, part_of, queued_calls, terminate, waits_for_activation}
+use Rattle.profile_machine.specs.Masters.{waits_for_dependents, waits_in, wake_activator, wake_master, with_failure}
 use Rattle.profile_machine.specs.Steps.{changes, for_some, nothing}
 use Rattle.profile_machine.specs.Tasks.{edit_task, task_of, waiting_of, with_state}
 use Rattle.profile_image.specs.Words.{same_who}
@@ -34,22 +38,30 @@ use Rattle.trace_text.specs.declared.events.Who.{Who}
 use Rattle.trace_text.specs.declared.events.Who.TheVariants as who
 use Rattle.machine_laws.proofs.FineMoves.{Naming}
 
-module _ {p : Image} {Fits : Fitting} {Sleeps : Sleeping} {X : State} (moves : BaseMoves p Fits Sleeps X) (actor : Who) (fits : (name : Who) → Fits (part_of actor name) name) where
+module _ {p : Image} {Fits : Fitting} {Sleeps : Sleeping} {X : State} (moves : BaseMoves p Fits Sleeps X) (actor : Who)
+    (fits : (name : Who) → Fits (part_of actor name) name) where
   pub gone_by_completion-keeps : (c : Call) → Keeps X (gone_by_completion p actor c)
   unfolding gone_by_completion
-  gone_by_completion-keeps c = then-keeps _ _ (gone-keeps (fine moves.quiet) p (part_of actor (who.Task c.caller)) c) (end_call-keeps (fine_base moves) (part_of actor (who.Task c.caller)) c (call_ended.ToRaise exception.Tasking) (fits (who.Task c.caller)))
+  gone_by_completion-keeps c =
+      then-keeps _ _ (gone-keeps (fine moves.quiet) p (part_of actor (who.Task c.caller)) c)
+      (end_call-keeps (fine_base moves) (part_of actor (who.Task c.caller)) c (call_ended.ToRaise exception.Tasking) (fits (who.Task c.caller)))
 
   wake_activator-leads : (name : Who) → Leads (With X (λ w. Sleeps w name)) X (wake_activator p (part_of actor name) name)
   unfolding wake_activator
   wake_activator-leads name =
       looks-leads _ (λ w. then-leads (ready p (part_of actor name) name) _ (moves.wakes (part_of actor name) name (fits name))
-      (then-keeps _ _ (when-keeps (task_of w name).group_failed _ (raises-keeps (fine moves.quiet) (part_of actor name) name exception.Tasking)) (open_sequence-keeps (fine moves.quiet) p (part_of actor name) name)))
+      (then-keeps _ _ (when-keeps (task_of w name).group_failed _ (raises-keeps (fine moves.quiet) (part_of actor name) name exception.Tasking))
+      (open_sequence-keeps (fine moves.quiet) p (part_of actor name) name)))
 
   pub end_group-keeps : (activator : Who) → Keeps X (end_group p actor activator)
   unfolding end_group
   end_group-keeps activator =
       looks-with _ (λ v said h. when-leads (not (has_activating v activator) && waits_for_activation (waiting_of v activator)) _
-      (λ is. asleep_at moves activator v _ (moves.sleeps v activator (waiting-blocked waits_for_activation refl (task_of v activator).state ((and_parts (not (has_activating v activator)) (waits_for_activation (waiting_of v activator)) is).1))) (wake_activator-leads activator))
+      (λ is. asleep_at moves activator v _
+      (moves.sleeps v activator
+      (waiting-blocked waits_for_activation refl (task_of v activator).state
+      ((and_parts (not (has_activating v activator)) (waits_for_activation (waiting_of v activator)) is).1)))
+      (wake_activator-leads activator))
       (λ w s k. k.0))
 
   module _ (name : Who) (loses : (w : World) (said : List Said) → X w said → X (lose name inherited_by.Activation w) said) where
@@ -73,7 +85,8 @@ module _ {p : Image} {Fits : Fitting} {Sleeps : Sleeping} {X : State} (moves : B
 
     pub complete-keeps : Keeps X (complete p actor name)
     unfolding complete
-    complete-keeps = looks-keeps _ (λ w. when-keeps (not (task_of w name).completed) _ (complete_with-keeps (queued_calls w (task_of w name)) (has_failed (task_of w name))))
+    complete-keeps =
+        looks-keeps _ (λ w. when-keeps (not (task_of w name).completed) _ (complete_with-keeps (queued_calls w (task_of w name)) (has_failed (task_of w name))))
 
 -- ---- by who acts
 
@@ -87,7 +100,8 @@ module _ {p : Image} {actor : Who} {Fits : Fitting} {Sleeps : Sleeping} {X : Sta
 
 -- who waits at a terminate alternative leaves its select
 module _ {p : Image} {actor : Who} {Listed : World → Naming} {W Y : State} {V : World → State} (choosing : SelectMoves p actor Listed W Y V) where
-  leaves_or_ready : (v : World) (name : Who) (b : Bool) → same_who actor name ≡ b → Listed v name → Keeps (V v) (cond b (changes (edit_task name (with_state Runnable))) (ready p (OfOther name) name))
+  leaves_or_ready : (v : World) (name : Who) (b : Bool) → same_who actor name ≡ b → Listed v name
+      → Keeps (V v) (cond b (changes (edit_task name (with_state Runnable))) (ready p (OfOther name) name))
   leaves_or_ready v name true is listed = subst (λ n. Keeps (V v) (changes (edit_task n (with_state Runnable)))) (who-is actor name is) (choosing.runs_on v)
   leaves_or_ready v name false is listed = choosing.begins v name is listed
 
@@ -99,8 +113,11 @@ module _ {p : Image} {actor : Who} {Listed : World → Naming} {W Y : State} {V 
 
 -- ---- a task is no longer there
 
-module _ {p : Image} {Fits : Fitting} {Sleeps : Sleeping} {X : State} (moves : BaseMoves p Fits Sleeps X) (actor : Who) (fits : (name : Who) → Fits (part_of actor name) name) (found_asleep : (w : World) (said : List Said) → X w said → EachTask (λ t. is_blocked t.state ≡ true → Sleeps w t.who) w.tasks) where
-  ready_master-at : (v : World) (found : Option Task) → ((t : Task) → found ≡ Some t → Sleeps v t.who) → Leads (At X v) X (for_some found (λ t. ready p (part_of actor t.who) t.who))
+module _ {p : Image} {Fits : Fitting} {Sleeps : Sleeping} {X : State} (moves : BaseMoves p Fits Sleeps X) (actor : Who)
+    (fits : (name : Who) → Fits (part_of actor name) name)
+    (found_asleep : (w : World) (said : List Said) → X w said → EachTask (λ t. is_blocked t.state ≡ true → Sleeps w t.who) w.tasks) where
+  ready_master-at : (v : World) (found : Option Task) → ((t : Task) → found ≡ Some t → Sleeps v t.who)
+      → Leads (At X v) X (for_some found (λ t. ready p (part_of actor t.who) t.who))
   ready_master-at v None sleeps = from_at nothing nothing-keeps
   ready_master-at v (Some t) sleeps = ready-at moves (part_of actor t.who) t.who v (fits t.who) (sleeps t refl)
 
@@ -114,7 +131,9 @@ module _ {p : Image} {Fits : Fitting} {Sleeps : Sleeping} {X : State} (moves : B
       (λ w s k. k.0))
 
   -- it was completed before, if it was not yet
-  pub terminate-leads : {Z : State} (dying : BaseMoves p Fits Sleeps Z) (name : Who) → ((w : World) (said : List Said) → Z w said → Z (lose name inherited_by.Activation w) said) → Leads Z X (changes (forget_task name)) → Leads Z X (terminate p actor name)
+  pub terminate-leads : {Z : State} (dying : BaseMoves p Fits Sleeps Z) (name : Who)
+      → ((w : World) (said : List Said) → Z w said → Z (lose name inherited_by.Activation w) said) → Leads Z X (changes (forget_task name))
+      → Leads Z X (terminate p actor name)
   unfolding terminate
   terminate-leads dying name loses forgets =
       looks-leads _ (λ v. then-leads (complete p actor name) _ (complete-keeps dying actor fits name loses)

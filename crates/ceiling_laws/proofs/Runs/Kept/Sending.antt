@@ -8,7 +8,8 @@ use Rattle.ceiling_laws.proofs.Fine.Kept.Scopes.{appoint-alters}
 use Rattle.ceiling_laws.proofs.Runs.Kept.Tasks.{says-keeps}
 use Rattle.ceiling_laws.proofs.Runs.Kept.Waking.{asleep_at, asleep_quiet, waiting-blocked}
 use Rattle.ceiling_laws.proofs.Runs.LevelMoves.{Fitting, Silences, Sleeping}
-use Rattle.ceiling_laws.proofs.Runs.Triples.{Alters, At, Keeps, Leads, State, changes-keeps, from_at, looks-keeps, looks-with, nothing-keeps, then-keeps, then-leads, unchanged-alters}
+use Rattle.ceiling_laws.proofs.Runs.Triples.{Alters, At, Keeps, Leads, State, changes-keeps, from_at, looks-keeps}
+use Rattle.ceiling_laws.proofs.Runs.Triples.{looks-with, nothing-keeps, then-keeps, then-leads, unchanged-alters}
 use Rattle.ceiling_laws.proofs.Runs.Finer.{fine, fine_base}
 use Rattle.profile_machine.specs.Act.{call}
 use Rattle.profile_machine.specs.CallEnds.{abortable_depth, resume, waits_for_call}
@@ -17,7 +18,9 @@ use Rattle.profile_machine.specs.Frames.{has_room, new_frame}
 use Rattle.profile_image.specs.Program.{form_of}
 use Rattle.profile_machine.specs.Calls.{call_of}
 use Rattle.profile_machine.specs.Appointments.{appoint}
-use Rattle.profile_machine.specs.Sending.{abortable_in, appoint_timeout, begin_abortable, cancel_at_once, cancel_sent, is_not_future, is_to_be_cancelled, is_triggering, may_begin_abortable, new_abortable_mark, not_accepted, open_abortable, send_on, sent_call, sent_not_begun, sent_not_begun_by, timeout_again, wait_for_call, wait_or_cancel, may_time_out}
+use Rattle.profile_machine.specs.Sending.{abortable_in, appoint_timeout, begin_abortable, cancel_at_once, cancel_sent, is_not_future, is_to_be_cancelled}
+use Rattle.profile_machine.specs.Sending.{is_triggering, may_begin_abortable, new_abortable_mark, not_accepted, open_abortable, send_on, sent_call}
+use Rattle.profile_machine.specs.Sending.{sent_not_begun, sent_not_begun_by, timeout_again, wait_for_call, wait_or_cancel, may_time_out}
 use Rattle.profile_machine.specs.Steps.{changes, nothing, when, ◌▷◌}
 use Rattle.profile_machine.specs.Tasks.{task_of, waiting_of}
 use Rattle.profile_machine.specs.Values.{moment}
@@ -48,7 +51,9 @@ module _ {X : State} (quiet : Silences X) where
 
   pub cancel_at_once-keeps : (p : Image) (part : Part) (c : Call) → Keeps X (cancel_at_once p part c)
   unfolding cancel_at_once
-  cancel_at_once-keeps p part c = attempt_with-keeps (fine quiet) p part c (resume p part c call_ended.Cancelled) nothing (resume-keeps (fine quiet) p part c call_ended.Cancelled) nothing-keeps
+  cancel_at_once-keeps p part c =
+      attempt_with-keeps (fine quiet) p part c (resume p part c call_ended.Cancelled) nothing
+      (resume-keeps (fine quiet) p part c call_ended.Cancelled) nothing-keeps
 
   pub appoint_timeout-alters : (p : Image) (c : CallNo) (moment : Option ℤ) → Alters X (appoint_timeout p c moment)
   appoint_timeout-alters p c None = unchanged-alters
@@ -66,7 +71,9 @@ module _ {X : State} (quiet : Silences X) where
 
   pub send_on-keeps : (c : CallNo) (s : Sending) → Keeps X (send_on c s)
   unfolding send_on
-  send_on-keeps c s = then-keeps _ _ (changes-keeps _ (edit_call-alters (fine quiet) c (sent_call s) (λ d. refl) (λ d. refl))) (with_call-keeps (fine quiet) c _ (says_call-keeps (fine quiet) TheFinish))
+  send_on-keeps c s =
+      then-keeps _ _ (changes-keeps _ (edit_call-alters (fine quiet) c (sent_call s) (λ d. refl) (λ d. refl)))
+      (with_call-keeps (fine quiet) c _ (says_call-keeps (fine quiet) TheFinish))
 
 module _ {p : Image} {actor : Who} {Fits : Fitting} {Sleeps : Sleeping} {X : State} (later : LaterMoves p actor Fits Sleeps X) where
   pub wait_for_call-keeps : (c : Call) → Keeps X (wait_for_call c)
@@ -85,22 +92,29 @@ module _ {p : Image} {actor : Who} {Fits : Fitting} {Sleeps : Sleeping} {X : Sta
   not_accepted-keeps part c call_kind.Timed = looks-keeps _ (λ w. wait_or_cancel-keeps part c (is_not_future w.time c.moment))
   not_accepted-keeps part c call_kind.Triggering = changes-keeps _ (open_abortable-alters later.base.quiet p (who.Task c.caller) c.statement (Some c.number))
 
-module _ {p : Image} {actor : Who} {Fits Narrow : Fitting} {Sleeps : Sleeping} {May : Admitting} {Listed Unmade : World → Naming} {F I J W Y D : State} {O N V U : World → State} {E : World → Who → State} (acting : ActingMoves p actor Fits Narrow Sleeps May Listed Unmade F I J W Y D O N V U E) where
+module _ {p : Image} {actor : Who} {Fits Narrow : Fitting} {Sleeps : Sleeping} {May : Admitting} {Listed Unmade : World → Naming} {F I J W Y D : State}
+    {O N V U : World → State} {E : World → Who → State}
+    (acting : ActingMoves p actor Fits Narrow Sleeps May Listed Unmade F I J W Y D O N V U E) where
   cancel_sent-keeps : (c : Call) → Keeps I (cancel_sent p c)
   unfolding cancel_sent
   cancel_sent-keeps c =
       then-keeps _ _ (changes-keeps _ (unqueued-alters (fine acting.later.base.quiet) p c))
-      (then-keeps _ _ (says-keeps acting.later.base.quiet TheFinish (line.Cancel c.caller c.number) refl) (deliver-keeps (fine_base acting.later.base) TheFinish c.number call_ended.Cancelled acting.fits_finish))
+      (then-keeps _ _ (says-keeps acting.later.base.quiet TheFinish (line.Cancel c.caller c.number) refl)
+      (deliver-keeps (fine_base acting.later.base) TheFinish c.number call_ended.Cancelled acting.fits_finish))
 
   -- where it waits for the call its abortable part opens
-  opens_at : (v : World) (d : Call) (test : Bool) → may_begin_abortable v d ≡ test → Leads (At I v) I (when test (changes (open_abortable p (who.Task d.caller) d.statement (Some d.number)) ▷ ready p TheFinish (who.Task d.caller)))
+  opens_at : (v : World) (d : Call) (test : Bool) → may_begin_abortable v d ≡ test
+      → Leads (At I v) I (when test (changes (open_abortable p (who.Task d.caller) d.statement (Some d.number)) ▷ ready p TheFinish (who.Task d.caller)))
   opens_at v d false is = from_at nothing nothing-keeps
   opens_at v d true is =
       let name = who.Task d.caller in
       let few = is_triggering d.kind && is_none (abortable_depth v d) && not d.firm && not d.attempted && is_none d.outcome in
-      let waits : waits_for_call d.number (waiting_of v name) ≡ true = (and_parts few (waits_for_call d.number (waiting_of v name)) ((and_parts (few && waits_for_call d.number (waiting_of v name)) (has_room v name 1 0) is).0)).1 in
+      let waits : waits_for_call d.number (waiting_of v name) ≡ true =
+      (and_parts few (waits_for_call d.number (waiting_of v name))
+      ((and_parts (few && waits_for_call d.number (waiting_of v name)) (has_room v name 1 0) is).0)).1 in
       asleep_at acting.later.base name v _ (acting.later.base.sleeps v name (waiting-blocked (waits_for_call d.number) refl (task_of v name).state waits))
-      (then-leads _ (ready p TheFinish name) (changes-keeps _ (open_abortable-alters (asleep_quiet acting.later.base name) p name d.statement (Some d.number))) (acting.later.base.wakes TheFinish name (acting.fits_finish name)))
+      (then-leads _ (ready p TheFinish name) (changes-keeps _ (open_abortable-alters (asleep_quiet acting.later.base name) p name d.statement (Some d.number)))
+      (acting.later.base.wakes TheFinish name (acting.fits_finish name)))
 
   pub begin_abortable-keeps : (c : CallNo) → Keeps I (begin_abortable p c)
   unfolding begin_abortable
@@ -113,4 +127,5 @@ module _ {p : Image} {actor : Who} {Fits Narrow : Fitting} {Sleeps : Sleeping} {
 
   pub sent_not_begun-keeps : (c : CallNo) → Keeps I (sent_not_begun p c)
   unfolding sent_not_begun
-  sent_not_begun-keeps c = with_call-keeps (fine acting.later.base.quiet) c _ (λ d. looks-keeps _ (λ w. sent_not_begun_by-keeps d (is_to_be_cancelled w.time d)))
+  sent_not_begun-keeps c =
+      with_call-keeps (fine acting.later.base.quiet) c _ (λ d. looks-keeps _ (λ w. sent_not_begun_by-keeps d (is_to_be_cancelled w.time d)))

@@ -5,7 +5,8 @@ use Rattle.ann_base.specs.declared.identities.CallNo.{CallNo}
 use Rattle.ann_base.specs.declared.identities.ObjectNo.{ObjectNo}
 use Rattle.ceiling_laws.proofs.Runs.ActingMoves.{ActingMoves, Admitting}
 use Rattle.ceiling_laws.proofs.Fine.Kept.CallEnds.{deliver-keeps, resume-keeps}
-use Rattle.ceiling_laws.proofs.Fine.Kept.Calls.{attempt_with-keeps, edit_call-alters, enqueue-keeps, forget_call-alters, with_call-keeps, keeps_sending-number, keeps_sending-caller}
+use Rattle.ceiling_laws.proofs.Fine.Kept.Calls.{attempt_with-keeps, edit_call-alters, enqueue-keeps, forget_call-alters}
+use Rattle.ceiling_laws.proofs.Fine.Kept.Calls.{with_call-keeps, keeps_sending-number, keeps_sending-caller}
 use Rattle.ceiling_laws.proofs.Fine.Kept.Frames.{edit_top-alters, leaves-keeps, pass_on-keeps, pop-alters}
 use Rattle.ceiling_laws.proofs.Runs.Kept.Protected.{edit_top_protected-alters, serve_call-keeps}
 use Rattle.ceiling_laws.proofs.Runs.Kept.Sending.{begin_abortable-keeps, open_abortable-alters, send_on-keeps, sent_not_begun-keeps, wait_for_call-keeps}
@@ -20,7 +21,11 @@ use Rattle.profile_machine.specs.Frames.{frames_of, leaves}
 use Rattle.profile_machine.specs.Handlers.{release}
 use Rattle.profile_machine.specs.Protected.{is_action_of, served_next}
 use Rattle.profile_machine.specs.Sending.{wait_for_call}
-use Rattle.profile_machine.specs.Serving.{begins_part, behind_action, chosen_is_sent, close_action, end_body_of_entry, end_entry_body, end_in_protected, end_in_protected_by, end_operation, end_release, finish_call, finish_raised, finish_well, go_on_by_mode, is_own_call, is_served_now, keep_values, keeps_sending, may_open_abortable, no_longer_serves, not_left, outcome_by, part_of_start, release_object, resume_own, serve_calls, serve_chosen, serve_ends, serve_next, serves_nothing, settle_sent, wait_for_own, wait_or_unwind, with_body_left, with_values}
+use Rattle.profile_machine.specs.Serving.{begins_part, behind_action, chosen_is_sent, close_action, end_body_of_entry, end_entry_body}
+use Rattle.profile_machine.specs.Serving.{end_in_protected, end_in_protected_by, end_operation, end_release, finish_call, finish_raised, finish_well}
+use Rattle.profile_machine.specs.Serving.{go_on_by_mode, is_own_call, is_served_now, keep_values, keeps_sending, may_open_abortable, no_longer_serves}
+use Rattle.profile_machine.specs.Serving.{not_left, outcome_by, part_of_start, release_object, resume_own, serve_calls, serve_chosen, serve_ends}
+use Rattle.profile_machine.specs.Serving.{serve_next, serves_nothing, settle_sent, wait_for_own, wait_or_unwind, with_body_left, with_values}
 use Rattle.profile_machine.specs.Steps.{Step, changes, ◌▷◌}
 use Rattle.profile_machine.specs.Unwinding.{may_unwind}
 use Rattle.profile_machine.specs.Values.{object_of}
@@ -52,11 +57,14 @@ use Rattle.machine_laws.proofs.FineMoves.{Naming}
 module _ {X : State} (quiet : Silences X) where
   pub keep_values-keeps : (p : Image) (c : CallNo) (cells : List Value) → Keeps X (keep_values p c cells)
   unfolding keep_values
-  keep_values-keeps p c cells = with_call-keeps (fine quiet) c _ (λ d. changes-keeps _ (edit_call-alters (fine quiet) c (with_values cells (formals_count p d)) (λ d. refl) (λ d. refl)))
+  keep_values-keeps p c cells =
+      with_call-keeps (fine quiet) c _ (λ d. changes-keeps _ (edit_call-alters (fine quiet) c (with_values cells (formals_count p d)) (λ d. refl) (λ d. refl)))
 
   pub end_body_of_entry-keeps : (p : Image) (c : CallNo) (cells : List Value) (leaving : Leaving) → Keeps X (end_body_of_entry p c cells leaving)
   unfolding end_body_of_entry
-  end_body_of_entry-keeps p c cells leaving = then-keeps _ _ (changes-keeps _ (edit_call-alters (fine quiet) c (keeps_sending leaving) (keeps_sending-number leaving) (keeps_sending-caller leaving))) (keep_values-keeps p c cells)
+  end_body_of_entry-keeps p c cells leaving =
+      then-keeps _ _ (changes-keeps _ (edit_call-alters (fine quiet) c (keeps_sending leaving) (keeps_sending-number leaving) (keeps_sending-caller leaving)))
+      (keep_values-keeps p c cells)
 
   pub close_action-alters : (name : Who) (o : ObjectNo) → Alters X (close_action name o)
   close_action-alters name o = edit_object-alters quiet o (λ x. record x { actions = without (is_action_of name) x.actions }) (λ x. refl)
@@ -68,18 +76,23 @@ module _ {X : State} (quiet : Silences X) where
     serve_ends-keeps : (n : ℕ) → Keeps X (serve_ends n)
     unfolding serve_ends
     serve_ends-keeps n =
-        then-keeps _ _ (says-keeps quiet Own (line.Served n) refl) (then-keeps _ _ (changes-keeps _ serves_nothing-alters) (looks-keeps _ (λ w. when-keeps (is_empty w.releases) _ blocks)))
+        then-keeps _ _ (says-keeps quiet Own (line.Served n) refl)
+        (then-keeps _ _ (changes-keeps _ serves_nothing-alters) (looks-keeps _ (λ w. when-keeps (is_empty w.releases) _ blocks)))
 
     pub end_release-keeps : (n : ℕ) → Keeps X (end_release n)
     unfolding end_release
     end_release-keeps n = looks-keeps _ (λ w. when-keeps (is_served_now n w.serving) _ (serve_ends-keeps n))
 
-module _ {p : Image} {actor : Who} {Fits Narrow : Fitting} {Sleeps : Sleeping} {May : Admitting} {Listed Unmade : World → Naming} {F I J W Y D : State} {O N V U : World → State} {E : World → Who → State} (acting : ActingMoves p actor Fits Narrow Sleeps May Listed Unmade F I J W Y D O N V U E) where
+module _ {p : Image} {actor : Who} {Fits Narrow : Fitting} {Sleeps : Sleeping} {May : Admitting} {Listed Unmade : World → Naming} {F I J W Y D : State}
+    {O N V U : World → State} {E : World → Who → State}
+    (acting : ActingMoves p actor Fits Narrow Sleeps May Listed Unmade F I J W Y D O N V U E) where
   wait_or_unwind-keeps : (c : Call) (test : Bool) → Keeps I (wait_or_unwind p actor c test)
   unfolding wait_or_unwind
   wait_or_unwind-keeps c true =
       attempt_with-keeps (fine acting.later.base.quiet) p Own c (changes (forget_call c.number) ▷ leaves actor how.Abort) (wait_for_call c)
-      (then-keeps _ _ (changes-keeps _ (forget_call-alters (fine acting.later.base.quiet) c.number)) (leaves-keeps (fine acting.later.base.quiet) actor how.Abort)) (wait_for_call-keeps acting.later c)
+      (then-keeps _ _ (changes-keeps _ (forget_call-alters (fine acting.later.base.quiet) c.number))
+      (leaves-keeps (fine acting.later.base.quiet) actor how.Abort))
+      (wait_for_call-keeps acting.later c)
   wait_or_unwind-keeps c false = wait_for_call-keeps acting.later c
 
   wait_for_own-keeps : (c : Call) (test : Bool) → Keeps I (wait_for_own p actor c test)
@@ -121,18 +134,22 @@ module _ {p : Image} {actor : Who} {Fits Narrow : Fitting} {Sleeps : Sleeping} {
   fits_start true = acting.fits_finish
   fits_start false = acting.later.fits_own
 
-  serve_chosen-keeps : (m : ProtectedMark) (is_sent : Bool) (again : Step) (c : Option CallNo) → Keeps I again → Keeps I (serve_chosen p actor m is_sent again c)
+  serve_chosen-keeps : (m : ProtectedMark) (is_sent : Bool) (again : Step) (c : Option CallNo) → Keeps I again
+      → Keeps I (serve_chosen p actor m is_sent again c)
   serve_chosen-keeps m is_sent again None kept = release_object-keeps m
   serve_chosen-keeps m is_sent again (Some c) kept =
-      with_call-keeps (fine acting.later.base.quiet) c _ (λ d. serve_call-keeps acting.later.base.quiet p (part_of_start is_sent) actor m.object d (begins_part p is_sent c) _ (begins_part-keeps is_sent c)
-      (then-keeps _ again (deliver-keeps (fine_base acting.later.base) (part_of_start is_sent) c (call_ended.ToRaise exception.Storage) (fits_start is_sent)) kept))
+      with_call-keeps (fine acting.later.base.quiet) c _
+      (λ d. serve_call-keeps acting.later.base.quiet p (part_of_start is_sent) actor m.object d (begins_part p is_sent c) _ (begins_part-keeps is_sent c)
+      (then-keeps _ again
+      (deliver-keeps (fine_base acting.later.base) (part_of_start is_sent) c (call_ended.ToRaise exception.Storage) (fits_start is_sent)) kept))
 
   serve_next-keeps : (fuel : ℕ) (m : ProtectedMark) (sent : Option CallNo) → Keeps I (serve_next fuel p actor m sent)
   unfolding serve_next
   serve_next-keeps zero m sent = release_object-keeps m
   serve_next-keeps (suc fuel) m sent =
       looks-keeps _ (λ w. let chosen = served_next p w actor (object_of w m.object) in
-      then-keeps _ _ (settle_sent-keeps sent (chosen_is_sent sent chosen)) (serve_chosen-keeps m (chosen_is_sent sent chosen) (serve_next fuel p actor m None) chosen (serve_next-keeps fuel m None)))
+      then-keeps _ _ (settle_sent-keeps sent (chosen_is_sent sent chosen))
+      (serve_chosen-keeps m (chosen_is_sent sent chosen) (serve_next fuel p actor m None) chosen (serve_next-keeps fuel m None)))
 
   serve_calls-keeps : (m : ProtectedMark) (sent : Option CallNo) → Keeps I (serve_calls p actor m sent)
   unfolding serve_calls
@@ -153,7 +170,8 @@ module _ {p : Image} {actor : Who} {Fits Narrow : Fitting} {Sleeps : Sleeping} {
   unfolding finish_raised
   finish_raised-keeps m c e =
       then-keeps _ _ (says-keeps acting.later.base.quiet TheFinish (line.Finish actor c.number (meeting.Raised e)) refl)
-      (then-keeps _ _ (deliver-keeps (fine_base acting.later.base) TheFinish c.number (outcome_by (is_own_call actor m.own_call c) e) acting.fits_finish) (serve_calls-keeps m None))
+      (then-keeps _ _ (deliver-keeps (fine_base acting.later.base) TheFinish c.number (outcome_by (is_own_call actor m.own_call c) e) acting.fits_finish)
+      (serve_calls-keeps m None))
 
   finish_well-keeps : (m : ProtectedMark) (c : Call) (sending : Option Sending) → Keeps I (finish_well p actor m c sending)
   unfolding finish_well
@@ -162,7 +180,8 @@ module _ {p : Image} {actor : Who} {Fits Narrow : Fitting} {Sleeps : Sleeping} {
       (then-keeps _ _ (deliver-keeps (fine_base acting.later.base) TheFinish c.number call_ended.Finished acting.fits_finish) (serve_calls-keeps m None))
   finish_well-keeps m c (Some s) =
       then-keeps _ _ (says-keeps acting.later.base.quiet TheFinish (line.Finish actor c.number meeting.Requeue) refl)
-      (then-keeps _ _ (send_on-keeps acting.later.base.quiet c.number s) (then-keeps _ _ (enqueue-keeps (fine acting.later.base.quiet) p c.number) (serve_calls-keeps m (Some c.number))))
+      (then-keeps _ _ (send_on-keeps acting.later.base.quiet c.number s)
+      (then-keeps _ _ (enqueue-keeps (fine acting.later.base.quiet) p c.number) (serve_calls-keeps m (Some c.number))))
 
   finish_call-keeps : (m : ProtectedMark) (leaving : Leaving) (c : Call) → Keeps I (finish_call p actor m leaving c)
   unfolding finish_call
@@ -177,7 +196,8 @@ module _ {p : Image} {actor : Who} {Fits Narrow : Fitting} {Sleeps : Sleeping} {
   unfolding end_entry_body
   end_entry_body-keeps m leaving c =
       then-keeps _ _ (changes-keeps _ (edit_top_protected-alters acting.later.base.quiet actor no_longer_serves))
-      (then-keeps _ _ (changes-keeps _ (edit_top-alters (fine acting.later.base.quiet) actor not_left)) (with_call-keeps (fine acting.later.base.quiet) c _ (finish_call-keeps (no_longer_serves m) leaving)))
+      (then-keeps _ _ (changes-keeps _ (edit_top-alters (fine acting.later.base.quiet) actor not_left))
+      (with_call-keeps (fine acting.later.base.quiet) c _ (finish_call-keeps (no_longer_serves m) leaving)))
 
   end_in_protected_by-keeps : (m : ProtectedMark) (leaving : Leaving) (c : Option CallNo) → Keeps I (end_in_protected_by p actor m leaving c)
   unfolding end_in_protected_by

@@ -3,7 +3,8 @@ use Rattle.ann_base.specs.declared.exceptions.Raised.TheVariants as exception
 use Rattle.ann_base.specs.declared.identities.RegionNo.{RegionNo}
 use Rattle.ceiling_laws.proofs.Runs.ActingMoves.{ActingMoves, Admitting, IsNew, SelectMoves}
 use Rattle.ceiling_laws.proofs.Fine.Kept.Controlled.{edit_top_scope-alters, finalize-keeps}
-use Rattle.ceiling_laws.proofs.Fine.Kept.Frames.{edit_top-alters, given-keeps, given-through, goes-keeps, pass_on-keeps, pop-alters, raise_if-keeps, raise_if-through, raises-keeps, weakly}
+use Rattle.ceiling_laws.proofs.Fine.Kept.Frames.{edit_top-alters, given-keeps, given-through, goes-keeps, pass_on-keeps}
+use Rattle.ceiling_laws.proofs.Fine.Kept.Frames.{pop-alters, raise_if-keeps, raise_if-through, raises-keeps, weakly}
 use Rattle.ceiling_laws.proofs.Runs.Kept.Masters.{complete-keeps, end_activation-keeps, fits_part, leave_by_terminate-keeps, terminate-leads}
 use Rattle.ceiling_laws.proofs.Fine.Kept.Scopes.{end_scope-alters, open_scope-alters}
 use Rattle.ceiling_laws.proofs.Runs.Kept.Serving.{end_body_of_entry-keeps}
@@ -12,18 +13,27 @@ use Rattle.ceiling_laws.proofs.Runs.Kept.Tasks.{edit_task-alters, plain-alters, 
 use Rattle.ceiling_laws.proofs.Fine.Kept.Unwinding.{strike_outermost-alters, unwind-keeps}
 use Rattle.ceiling_laws.proofs.Runs.Kept.Waking.{each-both, filter-each, filter-tested, for_each_task-keeps}
 use Rattle.ceiling_laws.proofs.Runs.LevelMoves.{BaseMoves, EachTask, Fitting, Silences, Sleeping}
-use Rattle.ceiling_laws.proofs.Runs.Triples.{Alters, At, Keeps, Leads, State, branch-keeps, changes-keeps, for_each-keeps, for_some-keeps, from-leads, from_at, looks-keeps, looks-leads, looks-with, nothing-keeps, nothing-leads, sees-keeps, then-keeps, then-leads, to-leads, when-keeps, when-leads}
+use Rattle.ceiling_laws.proofs.Runs.Triples.{Alters, At, Keeps, Leads, State, branch-keeps, changes-keeps, for_each-keeps}
+use Rattle.ceiling_laws.proofs.Runs.Triples.{for_some-keeps, from-leads, from_at, looks-keeps, looks-leads, looks-with, nothing-keeps}
+use Rattle.ceiling_laws.proofs.Runs.Triples.{nothing-leads, sees-keeps, then-keeps, then-leads, to-leads, when-keeps, when-leads}
 use Rattle.ceiling_laws.proofs.Runs.Finer.{fine, fine_base}
 use Rattle.profile_machine.specs.Controlled.{finalize, next_to_finalize}
 use Rattle.profile_machine.specs.Dispatching.{active_of, says_block}
 use Rattle.profile_machine.specs.Frames.{goes, has_room, in_protected, is_deferred, pass_on, pop}
-use Rattle.profile_machine.specs.Masters.{complete, end_activation, has_activating, has_dependents, leave_by_terminate, may_terminate, part_of, terminate, waits_at_terminate}
+use Rattle.profile_machine.specs.Masters.{complete, end_activation, has_activating, has_dependents}
+use Rattle.profile_machine.specs.Masters.{leave_by_terminate, may_terminate, part_of, terminate, waits_at_terminate}
 use Rattle.profile_image.specs.Program.{declaration_of, next_of, scope_of, task_unit_of}
 use Rattle.profile_machine.specs.Scopes.{cells_of, end_scope, home, plainly, scope_in_use}
 use Rattle.profile_machine.specs.Serving.{end_body_of_entry}
 use Rattle.profile_machine.specs.Steps.{Step, changes, for_each, looks, says, when}
 use Rattle.profile_machine.specs.Subprograms.{end_subprogram}
-use Rattle.profile_machine.specs.Tasking.{abnormal_task, abort_all, abort_one, abort_statement, activate, activate_group, activate_one, activated_task, await_group, begin_task, behind_scope, being_left_mark, block_at_terminate, complete_if_task, create, create_task, created_task, end_body, end_environment, end_made, end_of_scope, end_own_activation, end_scope_mark, end_scope_mark_of, end_task, fail_to_begin, fails_by, fall_from, go_on_leaving, group_fails, is_environment, is_made_in, is_normal, is_task_scope, is_to_abort, is_to_activate, leave_region, leaves_as, left_by, left_so_frame, named_tasks, no_failure, optional_span, raises_behind, says_abort, says_done, says_left, take_terminates, top_region_of_scope, unit_of_declaration, unit_of_task, unwind_all, unwind_by, unwind_one, wait_for_dependents}
+use Rattle.profile_machine.specs.Tasking.{abnormal_task, abort_all, abort_one, abort_statement, activate, activate_group, activate_one, activated_task}
+use Rattle.profile_machine.specs.Tasking.{await_group, begin_task, behind_scope, being_left_mark, block_at_terminate, complete_if_task, create, create_task}
+use Rattle.profile_machine.specs.Tasking.{created_task, end_body, end_environment, end_made, end_of_scope, end_own_activation, end_scope_mark}
+use Rattle.profile_machine.specs.Tasking.{end_scope_mark_of, end_task, fail_to_begin, fails_by, fall_from, go_on_leaving, group_fails, is_environment}
+use Rattle.profile_machine.specs.Tasking.{is_made_in, is_normal, is_task_scope, is_to_abort, is_to_activate, leave_region, leaves_as, left_by, left_so_frame}
+use Rattle.profile_machine.specs.Tasking.{named_tasks, no_failure, optional_span, raises_behind, says_abort, says_done, says_left, take_terminates}
+use Rattle.profile_machine.specs.Tasking.{top_region_of_scope, unit_of_declaration, unit_of_task, unwind_all, unwind_by, unwind_one, wait_for_dependents}
 use Rattle.profile_machine.specs.Tasks.{edit_task, is_made, is_runnable, task_of, waiting_of}
 use Rattle.profile_machine.specs.Unwinding.{any_struck, strike_outermost}
 use Rattle.profile_machine.specs.Values.{seen_by}
@@ -57,7 +67,8 @@ module _ {X : State} (quiet : Silences X) where
   pub says_left-keeps : (name : Who) (m : ScopeMark) (leaving : Leaving) → Keeps X (says_left name m leaving)
   unfolding says_left
   says_left-keeps name m leaving =
-      then-keeps _ _ (for_some-keeps m.region _ (λ r. says-keeps quiet Own (line.Left name r) refl)) (when-keeps (raises_behind m leaving) _ (says-keeps quiet Own (line.Raise name exception.Program) refl))
+      then-keeps _ _ (for_some-keeps m.region _ (λ r. says-keeps quiet Own (line.Left name r) refl))
+      (when-keeps (raises_behind m leaving) _ (says-keeps quiet Own (line.Raise name exception.Program) refl))
 
   pub says_abort-keeps : (actor name : Who) → Keeps X (says_abort actor name)
   unfolding says_abort
@@ -68,7 +79,8 @@ module _ {X : State} (quiet : Silences X) where
   pub end_environment-alters : (leaving : Leaving) → Alters X (end_environment leaving)
   end_environment-alters leaving = plain-alters quiet (end_environment leaving) (λ w. refl) (λ w. refl) (λ w. refl) (λ w. refl) (λ w. refl) (λ w t e. e)
 
-module _ {p : Image} {Fits : Fitting} {Sleeps : Sleeping} {X : State} (moves : BaseMoves p Fits Sleeps X) (actor : Who) (fits : (name : Who) → Fits (part_of actor name) name) where
+module _ {p : Image} {Fits : Fitting} {Sleeps : Sleeping} {X : State} (moves : BaseMoves p Fits Sleeps X) (actor : Who)
+    (fits : (name : Who) → Fits (part_of actor name) name) where
   unwind_by-keeps : (name : Who) (acts : Bool) → Fits (cond acts Own (OfOther name)) name → Keeps X (unwind_by p name acts)
   unfolding unwind_by
   unwind_by-keeps name false fit = unwind-keeps (fine_base moves) (OfOther name) name fit
@@ -91,7 +103,8 @@ module _ {p : Image} {actor : Who} {Listed : World → Naming} {W Y : State} {V 
   settled_at : (v w : World) (said : List Said) → waits_at_terminate (waiting_of v actor) ≡ false → At W v w said → Y w said
   settled_at v w said is h = choosing.settles w said (ap (λ u. waits_at_terminate (waiting_of u actor)) h.1 ∙ is) h.0
 
-  block_if-leads : (v : World) (waiting : Waiting) (test : Bool) → waits_at_terminate (waiting_of v actor) ≡ test → Leads (At W v) Y (when test (says_block TheBlock actor waiting))
+  block_if-leads : (v : World) (waiting : Waiting) (test : Bool) → waits_at_terminate (waiting_of v actor) ≡ test
+      → Leads (At W v) Y (when test (says_block TheBlock actor waiting))
   block_if-leads v waiting true is = from_at (says_block TheBlock actor waiting) (choosing.says_blocked waiting)
   block_if-leads v waiting false is = nothing-leads (λ w said h. settled_at v w said is h)
 
@@ -104,7 +117,9 @@ module _ {p : Image} {actor : Who} {Listed : World → Naming} {W Y : State} {V 
   leave_each-leads v said h =
       let tasks = filter (may_terminate v) v.tasks in
       from-leads _ (λ w more k. subst (λ u. V v u more) (sym k.1) (choosing.looks_at v more (subst (λ u. W u more) k.1 k.0)))
-      (to-leads _ (for_each_task-keeps (λ t. Listed v t.who) tasks (leave_by_terminate p actor) (filter-each (λ t. Listed v t.who) (may_terminate v) v.tasks (choosing.listed v said h)) (leave_by_terminate-keeps choosing v)) (λ w more k. choosing.looked v w more k))
+      (to-leads _ (for_each_task-keeps (λ t. Listed v t.who) tasks (leave_by_terminate p actor)
+      (filter-each (λ t. Listed v t.who) (may_terminate v) v.tasks (choosing.listed v said h)) (leave_by_terminate-keeps choosing v))
+      (λ w more k. choosing.looked v w more k))
 
   pub take_terminates-leads : Leads W Y (take_terminates p actor)
   unfolding take_terminates
@@ -112,9 +127,13 @@ module _ {p : Image} {actor : Who} {Listed : World → Naming} {W Y : State} {V 
       then-leads (looks (λ w. for_each (filter (may_terminate w) w.tasks) (leave_by_terminate p actor))) _ (looks-with _ leave_each-leads)
       (looks-with _ (λ v said h. block_at_terminate-leads v (waiting_of v actor) refl))
 
-module _ {p : Image} {actor : Who} {Fits Narrow : Fitting} {Sleeps : Sleeping} {May : Admitting} {Listed Unmade : World → Naming} {F I J W Y D : State} {O N V U : World → State} {E : World → Who → State} (acting : ActingMoves p actor Fits Narrow Sleeps May Listed Unmade F I J W Y D O N V U E) where
-  create_task-at : (v : World) (s : StatementNo) (d : DeclNo) (id : Option ScopeId) (t : world.Task) → IsNew p t v → Leads (At F v) I (create_task p actor s d id t)
-  create_task-at v s d id t new = from-leads (create_task p actor s d id t) (λ w said h. (h.0, subst (λ u. IsNew p t u) (sym h.1) new)) (acting.creates s d id t)
+module _ {p : Image} {actor : Who} {Fits Narrow : Fitting} {Sleeps : Sleeping} {May : Admitting} {Listed Unmade : World → Naming} {F I J W Y D : State}
+    {O N V U : World → State} {E : World → Who → State}
+    (acting : ActingMoves p actor Fits Narrow Sleeps May Listed Unmade F I J W Y D O N V U E) where
+  create_task-at : (v : World) (s : StatementNo) (d : DeclNo) (id : Option ScopeId) (t : world.Task) → IsNew p t v
+      → Leads (At F v) I (create_task p actor s d id t)
+  create_task-at v s d id t new =
+      from-leads (create_task p actor s d id t) (λ w said h. (h.0, subst (λ u. IsNew p t u) (sym h.1) new)) (acting.creates s d id t)
 
   pub create-leads : (s : StatementNo) (d : DeclNo) (part : ℕ) → Leads F I (create p actor s d part)
   unfolding create
@@ -122,32 +141,43 @@ module _ {p : Image} {actor : Who} {Fits Narrow : Fitting} {Sleeps : Sleeping} {
       looks-with _ (λ v said h. let q = seen_by p v actor in
       raise_if-through (fine acting.fresh) (λ w k m. m.0) acting.starts actor (in_protected v actor || is_deferred v actor) exception.Program _
       (raise_if-through (fine acting.fresh) (λ w k m. m.0) acting.starts actor (leb 256 (length v.tasks)) exception.Storage _
-      (given-through (fine acting.fresh) (λ w k m. m.0) acting.starts Own actor (optional_span q (task_unit_of p (unit_of_declaration p d)).relative_deadline) _ (λ span.
-      create_task-at v s d (home v (declaration_of p d).scope q.within) (created_task q d (unit_of_declaration p d) part span v.drawn.tasks) (record { numbered = refl; made = refl; undeferred = refl })))))
+      (given-through (fine acting.fresh) (λ w k m. m.0) acting.starts Own actor (optional_span q (task_unit_of p (unit_of_declaration p d)).relative_deadline) _
+      (λ span.
+      create_task-at v s d (home v (declaration_of p d).scope q.within) (created_task q d (unit_of_declaration p d) part span v.drawn.tasks)
+      (record { numbered = refl; made = refl; undeferred = refl })))))
 
   -- ---- activation
 
   -- a task that was made since a world has ended
   end_one-leads : (v : World) (name : Who) → Leads (E v name) (N v) (terminate p actor name)
-  end_one-leads v name = terminate-leads (acting.since v) actor (fits_part acting.later) (acting.found_since v) (acting.ending v name) name (acting.loses_ended v name) (acting.forgets v name)
+  end_one-leads v name =
+      terminate-leads (acting.since v) actor (fits_part acting.later) (acting.found_since v) (acting.ending v name) name (acting.loses_ended v name)
+      (acting.forgets v name)
 
   fail_to_begin-keeps : (v : World) (t : world.Task) → Unmade v t.who → Keeps (N v) (fail_to_begin p actor t)
   unfolding fail_to_begin
   fail_to_begin-keeps v t other =
-      then-leads (says (OfOther t.who) (line.Raise t.who exception.Storage)) _ (says-keeps (acting.since v).quiet (OfOther t.who) (line.Raise t.who exception.Storage) refl)
+      then-leads (says (OfOther t.who) (line.Raise t.who exception.Storage)) _
+      (says-keeps (acting.since v).quiet (OfOther t.who) (line.Raise t.who exception.Storage) refl)
       (then-leads (says_done (OfOther t.who) t.who) _ (acting.ends_other v t.who other)
-      (then-leads (changes (edit_task actor group_fails)) _ (changes-keeps _ (edit_task-alters (acting.ending v t.who).quiet actor group_fails (λ u. refl))) (end_one-leads v t.who)))
+      (then-leads (changes (edit_task actor group_fails)) _ (changes-keeps _ (edit_task-alters (acting.ending v t.who).quiet actor group_fails (λ u. refl)))
+      (end_one-leads v t.who)))
 
   begin_task-keeps : (v : World) (level : ℕ) (t : world.Task) → Unmade v t.who → Keeps (N v) (begin_task p actor level t)
   unfolding begin_task
   begin_task-keeps v level t other =
-      looks-keeps _ (λ w. then-keeps _ _ (changes-keeps _ (open_scope-alters (fine (acting.since v).quiet) p t.who (unit_of_task p t).scope (plainly t.outer) opened_for.Task))
+      looks-keeps _
+      (λ w.
+      then-keeps _ _ (changes-keeps _ (open_scope-alters (fine (acting.since v).quiet) p t.who (unit_of_task p t).scope (plainly t.outer) opened_for.Task))
       (then-keeps _ _ (changes-keeps _ (edit_task-alters (acting.since v).quiet t.who (activated_task actor w.time) (λ u. refl)))
       (then-keeps _ _ (changes-keeps _ (acting.inherits_activation v t.who level other)) (acting.activates v t.who other))))
 
   activate_one-keeps : (v : World) (level : ℕ) (t : world.Task) → Unmade v t.who → Keeps (N v) (activate_one p actor level t)
   unfolding activate_one
-  activate_one-keeps v level t other = looks-keeps _ (λ w. branch-keeps (has_room w t.who 1 (scope_of p (unit_of_task p t).scope).size) (begin_task p actor level t) (fail_to_begin p actor t) (begin_task-keeps v level t other) (fail_to_begin-keeps v t other))
+  activate_one-keeps v level t other =
+      looks-keeps _
+      (λ w. branch-keeps (has_room w t.who 1 (scope_of p (unit_of_task p t).scope).size) (begin_task p actor level t) (fail_to_begin p actor t)
+      (begin_task-keeps v level t other) (fail_to_begin-keeps v t other))
 
   await_group-keeps : (begins failed : Bool) → Keeps I (await_group actor begins failed)
   unfolding await_group
@@ -156,7 +186,8 @@ module _ {p : Image} {actor : Who} {Fits Narrow : Fitting} {Sleeps : Sleeping} {
   await_group-keeps false false = nothing-keeps
 
   -- of the tasks of a list those that are made are others
-  made_each : (v : World) (said : List Said) → I v said → (test : world.Task → Bool) → ((t : world.Task) → test t ≡ true → is_made t ≡ true) → EachTask (λ t. Unmade v t.who) (filter test v.tasks)
+  made_each : (v : World) (said : List Said) → I v said → (test : world.Task → Bool) → ((t : world.Task) → test t ≡ true → is_made t ≡ true)
+      → EachTask (λ t. Unmade v t.who) (filter test v.tasks)
   made_each v said h test made =
       each-both (λ t. is_made t ≡ true → Unmade v t.who) (λ t. test t ≡ true) (λ t. Unmade v t.who) (filter test v.tasks) (λ t f e. f (made t e))
       (filter-each (λ t. is_made t ≡ true → Unmade v t.who) test v.tasks (acting.made_differ v said h)) (filter-tested test v.tasks)
@@ -164,7 +195,8 @@ module _ {p : Image} {actor : Who} {Fits Narrow : Fitting} {Sleeps : Sleeping} {
   -- what is kept since a world, from that world on
   since_at : (v : World) (step : Step) → Keeps (N v) step → Leads (At I v) I step
   since_at v step kept =
-      from-leads step (λ w said h. subst (λ u. N v u said) (sym h.1) (acting.since_now v said (subst (λ u. I u said) h.1 h.0))) (to-leads step kept (λ w said h. acting.since_then v w said h))
+      from-leads step (λ w said h. subst (λ u. N v u said) (sym h.1) (acting.since_now v said (subst (λ u. I u said) h.1 h.0)))
+      (to-leads step kept (λ w said h. acting.since_then v w said h))
 
   activate_group-keeps : (s : StatementNo) (part : ℕ) → Keeps I (activate_group p actor s part)
   unfolding activate_group
@@ -174,12 +206,15 @@ module _ {p : Image} {actor : Who} {Fits Narrow : Fitting} {Sleeps : Sleeping} {
       since_at v _ (then-keeps (goes actor (next_of p s)) _ (goes-keeps (fine (acting.since v).quiet) actor (next_of p s))
       (then-keeps (changes (edit_task actor no_failure)) _ (changes-keeps _ (edit_task-alters (acting.since v).quiet actor no_failure (λ u. refl)))
       (for_each_task-keeps (λ t. Unmade v t.who) (filter test v.tasks) (activate_one p actor (active_of p v actor))
-      (made_each v said h test (λ t e. first_of_three (is_made t) (is_the same_region t.master (top_region_of_scope v actor)) (eqb t.declarative_part part) e)) (activate_one-keeps v (active_of p v actor)))))))
+      (made_each v said h test (λ t e. first_of_three (is_made t) (is_the same_region t.master (top_region_of_scope v actor)) (eqb t.declarative_part part) e))
+      (activate_one-keeps v (active_of p v actor)))))))
       (looks-keeps _ (λ w. await_group-keeps (has_activating w actor) (task_of w actor).group_failed))
 
   pub activate-keeps : (s : StatementNo) (part : ℕ) → Keeps I (activate p actor s part)
   unfolding activate
-  activate-keeps s part = looks-keeps _ (λ w. raise_if-keeps (fine acting.later.base.quiet) actor (in_protected w actor || is_deferred w actor) exception.Program _ (activate_group-keeps s part))
+  activate-keeps s part =
+      looks-keeps _
+      (λ w. raise_if-keeps (fine acting.later.base.quiet) actor (in_protected w actor || is_deferred w actor) exception.Program _ (activate_group-keeps s part))
 
   -- ---- who acts may have fallen
 
@@ -191,14 +226,16 @@ module _ {p : Image} {actor : Who} {Fits Narrow : Fitting} {Sleeps : Sleeping} {
   end_own_activation-keeps s =
       looks-with _ (λ v said h. let base = acting.owing v in
       from-leads _ (owing_at v) (then-leads (goes actor (next_of p s)) _ (goes-keeps (fine base.quiet) actor (next_of p s))
-      (then-leads (end_activation p actor actor false) (fall_from p actor v) (end_activation-keeps base actor (fits_part acting.later) actor (acting.loses_owed v) false) (acting.pays v))))
+      (then-leads (end_activation p actor actor false) (fall_from p actor v)
+      (end_activation-keeps base actor (fits_part acting.later) actor (acting.loses_owed v) false) (acting.pays v))))
 
   complete_if_task-keeps : (purpose : Purpose) → Keeps I (complete_if_task p actor purpose)
   unfolding complete_if_task
   complete_if_task-keeps purpose =
       looks-with _ (λ v said h. let base = acting.owing v in
       when-leads (is_task_scope purpose) _ (λ is. from-leads _ (owing_at v)
-      (then-leads (complete p actor actor) (fall_from p actor v) (complete-keeps base actor (fits_part acting.later) actor (acting.loses_owed v)) (acting.pays v)))
+      (then-leads (complete p actor actor) (fall_from p actor v) (complete-keeps base actor (fits_part acting.later) actor (acting.loses_owed v))
+      (acting.pays v)))
       (λ w k m. m.0))
 
   -- ---- a scope is left
@@ -217,15 +254,21 @@ module _ {p : Image} {actor : Who} {Fits Narrow : Fitting} {Sleeps : Sleeping} {
       then-keeps _ _ (changes-keeps _ (edit_top_scope-alters (fine acting.later.base.quiet) actor being_left_mark))
       (then-keeps _ _ (changes-keeps _ (edit_top-alters (fine acting.later.base.quiet) actor (left_so_frame leaving)))
       (then-keeps _ _ (says-keeps acting.later.base.quiet Own (line.Leave actor r (leaves_as leaving)) refl)
-      (then-keeps _ _ (looks-with _ (λ v said h. since_at v _ (for_each_task-keeps (λ t. Unmade v t.who) (filter (is_made_in r) v.tasks) (end_made p actor) (made_each v said h (is_made_in r) (λ t e. (and_parts (is_made t) (is_the same_region t.master r) e).0)) (end_made-keeps v))))
+      (then-keeps _ _
+      (looks-with _
+      (λ v said h. since_at v _
+      (for_each_task-keeps (λ t. Unmade v t.who) (filter (is_made_in r) v.tasks) (end_made p actor)
+      (made_each v said h (is_made_in r) (λ t e. (and_parts (is_made t) (is_the same_region t.master r) e).0)) (end_made-keeps v))))
       (then-keeps _ _ (complete_if_task-keeps m.purpose) (wait_for_dependents-keeps r)))))
 
   end_task-leads : (leaving : Leaving) → Leads F W (end_task p actor leaving)
   unfolding end_task
   end_task-leads leaving =
       then-leads (says_done Own actor) _ acting.ends
-      (then-leads (looks (λ w. end_activation p actor actor (fails_by w actor leaving))) _ (looks-keeps _ (λ w. end_activation-keeps acting.dying actor (fits_part acting.later) actor acting.loses_last (fails_by w actor leaving)))
-      (then-leads (terminate p actor actor) _ (terminate-leads acting.over actor (fits_part acting.later) acting.found_asleep acting.dying actor acting.loses_last acting.forgets_actor)
+      (then-leads (looks (λ w. end_activation p actor actor (fails_by w actor leaving))) _
+      (looks-keeps _ (λ w. end_activation-keeps acting.dying actor (fits_part acting.later) actor acting.loses_last (fails_by w actor leaving)))
+      (then-leads (terminate p actor actor) _
+      (terminate-leads acting.over actor (fits_part acting.later) acting.found_asleep acting.dying actor acting.loses_last acting.forgets_actor)
       (to-leads _ (when-keeps (is_environment actor) _ (changes-keeps _ (end_environment-alters acting.over.quiet leaving))) acting.rests)))
 
   -- what holds at first holds where who acts has said nothing more
@@ -236,13 +279,17 @@ module _ {p : Image} {actor : Who} {Fits Narrow : Fitting} {Sleeps : Sleeping} {
   at_first step kept = weakly (fine acting.fresh) not_left step kept
 
   end_body-keeps : (leaving : Leaving) (normally : Step) → Keeps F normally → Leads F W (end_body p actor leaving normally)
-  end_body-keeps leaving normally kept = at_first (end_body p actor leaving normally) (branch-keeps (is_normal leaving) normally (pass_on p actor leaving) kept (pass_on-keeps (fine acting.fresh) p actor leaving))
+  end_body-keeps leaving normally kept =
+      at_first (end_body p actor leaving normally)
+      (branch-keeps (is_normal leaving) normally (pass_on p actor leaving) kept (pass_on-keeps (fine acting.fresh) p actor leaving))
 
   behind_scope-leads : (purpose : Purpose) (cells : List Value) (leaving : Leaving) → Leads F W (behind_scope p actor purpose cells leaving)
   unfolding behind_scope
   behind_scope-leads (opened_for.Block s) cells leaving = at_first (pass_on p actor leaving) (pass_on-keeps (fine acting.fresh) p actor leaving)
-  behind_scope-leads (opened_for.Subprogram back to) cells leaving = end_body-keeps leaving (end_subprogram p actor cells back to leaving) (end_subprogram-keeps (fine acting.fresh) p actor cells back to leaving)
-  behind_scope-leads (opened_for.EntryBody c) cells leaving = end_body-keeps leaving (end_body_of_entry p c cells leaving) (end_body_of_entry-keeps acting.fresh p c cells leaving)
+  behind_scope-leads (opened_for.Subprogram back to) cells leaving =
+      end_body-keeps leaving (end_subprogram p actor cells back to leaving) (end_subprogram-keeps (fine acting.fresh) p actor cells back to leaving)
+  behind_scope-leads (opened_for.EntryBody c) cells leaving =
+      end_body-keeps leaving (end_body_of_entry p c cells leaving) (end_body_of_entry-keeps acting.fresh p c cells leaving)
   behind_scope-leads opened_for.Task cells leaving = end_task-leads leaving
 
   end_of_scope-leads : (m : ScopeMark) (leaving : Leaving) → Leads F W (end_of_scope p actor m leaving)
@@ -250,16 +297,19 @@ module _ {p : Image} {actor : Who} {Fits Narrow : Fitting} {Sleeps : Sleeping} {
   end_of_scope-leads m leaving =
       looks-leads _ (λ w. then-leads (changes (pop actor)) _ (changes-keeps _ (pop-alters (fine acting.fresh) actor))
       (then-leads (changes (end_scope m.within)) _ (changes-keeps _ (end_scope-alters (fine acting.fresh) m.within))
-      (then-leads (says_left actor m leaving) _ (says_left-keeps acting.fresh actor m leaving) (behind_scope-leads m.purpose (cells_of (scope_in_use w m.within)) (left_by m leaving)))))
+      (then-leads (says_left actor m leaving) _ (says_left-keeps acting.fresh actor m leaving)
+      (behind_scope-leads m.purpose (cells_of (scope_in_use w m.within)) (left_by m leaving)))))
 
-  next_finalized-leads : (m : ScopeMark) (leaving : Leaving) (found : Option Registered) → Leads F W (elim found as (λ _. Step) [ None ↦ end_of_scope p actor m leaving | Some x ↦ finalize p actor x ])
+  next_finalized-leads : (m : ScopeMark) (leaving : Leaving) (found : Option Registered)
+      → Leads F W (elim found as (λ _. Step) [ None ↦ end_of_scope p actor m leaving | Some x ↦ finalize p actor x ])
   next_finalized-leads m leaving None = end_of_scope-leads m leaving
   next_finalized-leads m leaving (Some x) = at_first (finalize p actor x) (finalize-keeps (fine acting.fresh) p actor x)
 
   go_on_leaving-leads : (m : ScopeMark) (leaving : Leaving) (r : RegionNo) (test : Bool) → Leads F W (go_on_leaving p actor m leaving r test)
   unfolding go_on_leaving
   go_on_leaving-leads m leaving r false =
-      to-leads (leave_region p actor m leaving r) (from-leads (leave_region p actor m leaving r) acting.starts (leave_region-keeps m leaving r)) (λ w said h. acting.rests w said (acting.ceases w said h))
+      to-leads (leave_region p actor m leaving r) (from-leads (leave_region p actor m leaving r) acting.starts (leave_region-keeps m leaving r))
+      (λ w said h. acting.rests w said (acting.ceases w said h))
   go_on_leaving-leads m leaving r true = looks-leads _ (λ w. next_finalized-leads m leaving (next_to_finalize w r))
 
   end_scope_mark_of-leads : (m : ScopeMark) (leaving : Leaving) (r : Option RegionNo) → Leads F W (end_scope_mark_of p actor m leaving r)
@@ -273,7 +323,8 @@ module _ {p : Image} {actor : Who} {Fits Narrow : Fitting} {Sleeps : Sleeping} {
 
   -- ---- abort
 
-  struck_or_ended : (v : World) (t : world.Task) (b : Bool) → (b ≡ true → Unmade v t.who) → Keeps (N v) (cond b (end_made p actor t) (changes (strike_outermost t.who)))
+  struck_or_ended : (v : World) (t : world.Task) (b : Bool) → (b ≡ true → Unmade v t.who)
+      → Keeps (N v) (cond b (end_made p actor t) (changes (strike_outermost t.who)))
   struck_or_ended v t true other = end_made-keeps v t (other refl)
   struck_or_ended v t false other = changes-keeps _ (strike_outermost-alters (fine (acting.since v).quiet) t.who)
 
@@ -285,11 +336,17 @@ module _ {p : Image} {actor : Who} {Fits Narrow : Fitting} {Sleeps : Sleeping} {
   unfolding abort_all
   abort_all-keeps v tasks others =
       then-keeps _ _ (for_each-keeps tasks _ (λ t. changes-keeps _ (edit_task-alters (acting.since v).quiet t.who abnormal_task (λ u. refl))))
-      (then-keeps _ _ (for_each_task-keeps (λ t. is_made t ≡ true → Unmade v t.who) tasks (abort_one p actor) others (abort_one-keeps v)) (unwind_each-keeps (acting.since v) actor (fits_part acting.later) tasks))
+      (then-keeps _ _ (for_each_task-keeps (λ t. is_made t ≡ true → Unmade v t.who) tasks (abort_one p actor) others (abort_one-keeps v))
+      (unwind_each-keeps (acting.since v) actor (fits_part acting.later) tasks))
 
   pub abort_statement-keeps : (s : StatementNo) (tasks : List DeclNo) → Keeps I (abort_statement p actor s tasks)
   unfolding abort_statement
   abort_statement-keeps s tasks =
-      sees-keeps p actor _ (λ q. raise_if-keeps (fine acting.later.base.quiet) actor (in_protected q.world actor) exception.Program _ (given-keeps (fine acting.later.base.quiet) Own actor (named_tasks q tasks) _ (λ aborted.
+      sees-keeps p actor _
+      (λ q. raise_if-keeps (fine acting.later.base.quiet) actor (in_protected q.world actor) exception.Program _
+      (given-keeps (fine acting.later.base.quiet) Own actor (named_tasks q tasks) _ (λ aborted.
       then-keeps _ _ (goes-keeps (fine acting.later.base.quiet) actor (next_of p s))
-      (looks-with _ (λ v said h. since_at v _ (abort_all-keeps v (filter (is_to_abort v aborted) v.tasks) (filter-each (λ t. is_made t ≡ true → Unmade v t.who) (is_to_abort v aborted) v.tasks (acting.made_differ v said h))))))))
+      (looks-with _
+      (λ v said h. since_at v _
+      (abort_all-keeps v (filter (is_to_abort v aborted) v.tasks)
+      (filter-each (λ t. is_made t ≡ true → Unmade v t.who) (is_to_abort v aborted) v.tasks (acting.made_differ v said h))))))))

@@ -23,10 +23,19 @@ module _ {X : State} (quiet : Silences X) where
   same-alters f same = record { turns = λ w said h. quiet.silently w (f w) said (same w) h }
 
   -- the change touches none of these lists
-  pub plain-alters : (f : World → World) → ((w : World) → (f w).tasks ≡ w.tasks) → ((w : World) → (f w).agent ≡ w.agent) → ((w : World) → (f w).objects ≡ w.objects) → ((w : World) → (f w).drawn.tasks ≡ w.drawn.tasks) → ((w : World) → (f w).drawn.objects ≡ w.drawn.objects)
+  pub plain-alters : (f : World → World) → ((w : World) → (f w).tasks ≡ w.tasks) → ((w : World) → (f w).agent ≡ w.agent)
+      → ((w : World) → (f w).objects ≡ w.objects) → ((w : World) → (f w).drawn.tasks ≡ w.drawn.tasks) → ((w : World) → (f w).drawn.objects ≡ w.drawn.objects)
       → ((w : World) (t : TaskNo) → is_delayed t (f w) ≡ true → is_delayed t w ≡ true) → Alters X f
   plain-alters f tasks agent objects drawn_tasks drawn_objects delays =
-      same-alters f (λ w. record { tasks = ap (map core) (tasks w); agent = ap core (agent w); objects = ap (map ceiling_in) (objects w); drawn_tasks = drawn_tasks w; drawn_objects = drawn_objects w; delays = delays w })
+      same-alters f
+      (λ w. record {
+        tasks = ap (map core) (tasks w);
+        agent = ap core (agent w);
+        objects = ap (map ceiling_in) (objects w);
+        drawn_tasks = drawn_tasks w;
+        drawn_objects = drawn_objects w;
+        delays = delays w;
+      })
 
   pub edit_task-alters : (name : Who) (f : Task → Task) → ((t : Task) → core (f t) ≡ core t) → Alters X (edit_task name f)
   edit_task-alters name f same = same-alters (edit_task name f) (λ w. edit_task-same name f w same)

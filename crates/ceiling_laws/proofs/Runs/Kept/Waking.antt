@@ -29,7 +29,8 @@ waiting-blocked test none Runnable e = let never : false ≡ true = sym none ∙
 waiting-blocked test none (Blocked waiting) e = refl
 
 -- what holds of each task of a list holds of one that is found, and the test does
-pub found-step : (P : Task → Type 0) (test : Task → Bool) (t u : Task) (rest : Option Task) (b : Bool) → test t ≡ b → cond b (Some t) rest ≡ Some u → P t → (rest ≡ Some u → P u × (test u ≡ true)) → P u × (test u ≡ true)
+pub found-step : (P : Task → Type 0) (test : Task → Bool) (t u : Task) (rest : Option Task) (b : Bool) → test t ≡ b → cond b (Some t) rest ≡ Some u → P t
+    → (rest ≡ Some u → P u × (test u ≡ true)) → P u × (test u ≡ true)
 found-step P test t u rest true is e a onward = let one : t ≡ u = cc in subst (λ v. P v × (test v ≡ true)) one (a, is)
 found-step P test t u rest false is e a onward = onward e
 
@@ -46,7 +47,8 @@ filter-each P test [] each = tt
 filter-each P test (t ∷ ts) each = filtered P (test t) t (filter test ts) each.0 (filter-each P test ts each.1)
 
 -- the tests of a list hold of each that is left
-tested : (test : Task → Bool) (b : Bool) (t : Task) (ts : List Task) → test t ≡ b → EachTask (λ u. test u ≡ true) ts → EachTask (λ u. test u ≡ true) (cond b (t ∷ ts) ts)
+tested : (test : Task → Bool) (b : Bool) (t : Task) (ts : List Task) → test t ≡ b → EachTask (λ u. test u ≡ true) ts
+    → EachTask (λ u. test u ≡ true) (cond b (t ∷ ts) ts)
 tested test true t ts is each = (is, each)
 tested test false t ts is each = each
 
@@ -58,7 +60,8 @@ pub each-both : (P Q R : Task → Type 0) (ts : List Task) → ((t : Task) → P
 each-both P Q R [] f a b = tt
 each-both P Q R (t ∷ ts) f a b = (f t a.0 b.0, each-both P Q R ts f a.1 b.1)
 
-pub for_each_task-keeps : {X : State} (P : Task → Type 0) (ts : List Task) (f : Task → Step) → EachTask P ts → ((t : Task) → P t → Keeps X (f t)) → Keeps X (for_each ts f)
+pub for_each_task-keeps : {X : State} (P : Task → Type 0) (ts : List Task) (f : Task → Step) → EachTask P ts → ((t : Task) → P t → Keeps X (f t))
+    → Keeps X (for_each ts f)
 for_each_task-keeps P [] f each a = nothing-keeps
 for_each_task-keeps P (t ∷ ts) f each a = then-keeps (f t) (for_each ts f) (a t each.0) (for_each_task-keeps P ts f each.1 a)
 

@@ -1,5 +1,6 @@
 -- The laws of single steps, as they are proved of the definitions.
-use Rattle.ceiling_laws.proofs.Places.ActingLemmas.{base_leaves_low, block_leaves_low, done_leaves_low, inheritance_leaves_low, loss_leaves_low, placing_leaves_low, ready_leaves_low}
+use Rattle.ceiling_laws.proofs.Places.ActingLemmas.{base_leaves_low, block_leaves_low, done_leaves_low, inheritance_leaves_low}
+use Rattle.ceiling_laws.proofs.Places.ActingLemmas.{loss_leaves_low, placing_leaves_low, ready_leaves_low}
 use Rattle.ceiling_laws.proofs.ceiling_places.steps_of_effects_place_nobody_above.Goals as goal
 
 pub returns-clause-ready : goal.returns-clause-ready

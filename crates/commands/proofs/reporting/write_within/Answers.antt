@@ -10,11 +10,13 @@ returns-in_err-write_words-clause-prefix g c =
     let line = codes "busy " ++ (busy_text c.args.busy ++ 10 ∷ []) in
     subst (λ text. OnErr c.from_residual.result (HoldsPrefix (g.K.Sink.held c.args.out.now) (g.K.Sink.held c.write_words.new.sink) text))
     (within_text c.as_bytes.result.now line (c.as_bytes.ensures.value ∙ c.format.ensures.text))
-    (err-first c.from_residual.result (g.K.Sink.held c.args.out.now) (g.K.Sink.held c.write_words.new.sink) (codes "within" ++ 32 ∷ (c.as_bytes.result.now ++ 10 ∷ [])) line c.in_err-write_words.ensures.prefix)
+    (err-first c.from_residual.result (g.K.Sink.held c.args.out.now) (g.K.Sink.held c.write_words.new.sink)
+    (codes "within" ++ 32 ∷ (c.as_bytes.result.now ++ 10 ∷ [])) line c.in_err-write_words.ensures.prefix)
 
 pub returns-clause-prefix : goal.returns-clause-prefix
 returns-clause-prefix g c =
     let line = codes "busy " ++ (busy_text c.args.busy ++ 10 ∷ []) in
     subst (λ text. OnErr c.write_busy.result (HoldsPrefix (g.K.Sink.held c.args.out.now) (g.K.Sink.held c.write_busy.new.out) text))
     (within_text c.as_bytes.result.now line (c.as_bytes.ensures.value ∙ c.format.ensures.text))
-    (err-second c.write_busy.result (g.K.Sink.held c.args.out.now) (g.K.Sink.held c.write_words.new.sink) (g.K.Sink.held c.write_busy.new.out) (codes "within" ++ 32 ∷ (c.as_bytes.result.now ++ 10 ∷ [])) line c.in_ok-write_words.ensures.written c.write_busy.ensures.prefix)
+    (err-second c.write_busy.result (g.K.Sink.held c.args.out.now) (g.K.Sink.held c.write_words.new.sink) (g.K.Sink.held c.write_busy.new.out)
+    (codes "within" ++ 32 ∷ (c.as_bytes.result.now ++ 10 ∷ [])) line c.in_ok-write_words.ensures.written c.write_busy.ensures.prefix)

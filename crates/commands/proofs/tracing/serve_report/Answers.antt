@@ -11,4 +11,5 @@ returns-in-Ok-clause-performed g c =
     let out = sink_of g.K.Sink.held g.K.Sink.faults c.args.out.now c.tell_report.new.out in
     let tells = c.accounts_tell.ensures in
     answer_told c.args.trace.now question.Report shelf out (file_answer c.in-Ok.reported) c.tell_report.result
-    (reported_told tells.accounts tells.agent_run tells.idle tells.ticks (told (g.S.Shelf.files c.args.shelf.now) c.args.trace.now) c.in-Ok.reported c.in-Ok.ensures.reported) c.tell_report.ensures.told
+    (reported_told tells.accounts tells.agent_run tells.idle tells.ticks
+    (told (g.S.Shelf.files c.args.shelf.now) c.args.trace.now) c.in-Ok.reported c.in-Ok.ensures.reported) c.tell_report.ensures.told

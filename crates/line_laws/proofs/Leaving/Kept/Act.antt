@@ -40,13 +40,15 @@ use Rattle.line_laws.proofs.Leaving.Kept.Rendezvous.{accept-keeps, selective_acc
 use Rattle.line_laws.proofs.Leaving.Kept.EntryCalls.{entry_call-keeps, asynchronous_select-keeps, requeue-keeps}
 use Rattle.line_laws.proofs.Leaving.Kept.Controlled.{initialize-keeps, assign_controlled-keeps}
 use Rattle.line_laws.proofs.Leaving.Kept.Tasking.{create-keeps, activate-keeps, end_own_activation-keeps, abort_statement-keeps}
-use Rattle.line_laws.proofs.Leaving.Kept.Handlers.{set_event-keeps, cancel_event-keeps, set_timer-keeps, cancel_timer-keeps, add_member-keeps, remove_member-keeps, replenish-keeps, add_to_budget-keeps, set_budget-keeps, cancel_budget-keeps}
+use Rattle.line_laws.proofs.Leaving.Kept.Handlers.{set_event-keeps, cancel_event-keeps, set_timer-keeps, cancel_timer-keeps, add_member-keeps}
+use Rattle.line_laws.proofs.Leaving.Kept.Handlers.{remove_member-keeps, replenish-keeps, add_to_budget-keeps, set_budget-keeps, cancel_budget-keeps}
 use Rattle.line_laws.proofs.Leaving.Kept.CallEnds.{abortable-nature}
 use Rattle.profile_machine.specs.CallEnds.{edit_abortable}
 use Rattle.machine_laws.proofs.FineMoves.{GoodWorld, Naming}
 use Rattle.machine_laws.proofs.Kept.Combinators.{Alters, Keeps, changes-keeps, looks-keeps, nothing-keeps, sees-keeps, then-keeps, unchanged-alters}
 use Rattle.machine_laws.proofs.Plain.Frames.{raises-keeps, pass_on-keeps, with_room-keeps}
-use Rattle.machine_laws.proofs.Plain.Statements.{null-keeps, assign-keeps, assign_array-keeps, if_statement-keeps, case_statement-keeps, while_turn-keeps, for_bounds-keeps, first_turn-keeps, later_turn-keeps, exit_statement-keeps, raise_again-keeps}
+use Rattle.machine_laws.proofs.Plain.Statements.{null-keeps, assign-keeps, assign_array-keeps, if_statement-keeps, case_statement-keeps, while_turn-keeps}
+use Rattle.machine_laws.proofs.Plain.Statements.{for_bounds-keeps, first_turn-keeps, later_turn-keeps, exit_statement-keeps, raise_again-keeps}
 use Rattle.machine_laws.proofs.Plain.Subprograms.{return_value-keeps, return-keeps}
 use Rattle.machine_laws.proofs.Plain.Declarations.{declare-keeps}
 
@@ -71,7 +73,9 @@ module _ {G : GoodWorld} {May Acts Pushes : Naming} {Stops : Type 0} {R : StepRe
   pub handle_or_pass-keeps : (p : Image) (name : Who) (e : Raised) (next : Option StatementNo) → May name → Keeps G R (handle_or_pass p name e next)
   unfolding handle_or_pass
   handle_or_pass-keeps p name e None may = search (pass_on-keeps, plain_steps)
-  handle_or_pass-keeps p name e (Some first) may = then-keeps (chains moves) (changes (edit_top name (λ f. with_mark (keeping e f.mark) f))) (goes name (Some first)) (changes-keeps (chains moves) _ (keeping-alters name e)) (goes-keeps moves name (Some first) may)
+  handle_or_pass-keeps p name e (Some first) may =
+      then-keeps (chains moves) (changes (edit_top name (λ f. with_mark (keeping e f.mark) f))) (goes name (Some first))
+      (changes-keeps (chains moves) _ (keeping-alters name e)) (goes-keeps moves name (Some first) may)
 
   pub behind_handled-keeps : (p : Image) (name : Who) (s : StatementNo) (leaving : Leaving) → May name → Keeps G R (behind_handled p name s leaving)
   unfolding behind_handled
@@ -82,12 +86,17 @@ module _ {G : GoodWorld} {May Acts Pushes : Naming} {Stops : Type 0} {R : StepRe
   behind_handled-keeps p name s how.Abort may = search (pass_on-keeps, plain_steps)
   behind_handled-keeps p name s how.Terminate may = search (pass_on-keeps, plain_steps)
 
-  waiting-alters : (name : Who) (leaving : Leaving) → Alters G R (edit_top name (λ f. with_mark (edit_abortable waiting_mark f.mark) (record f { left_as = Some leaving })))
-  waiting-alters name leaving = edit_top-alters moves name (λ f. with_mark (edit_abortable waiting_mark f.mark) (record f { left_as = Some leaving })) waiting-nature (λ f. refl)
+  waiting-alters : (name : Who) (leaving : Leaving)
+      → Alters G R (edit_top name (λ f. with_mark (edit_abortable waiting_mark f.mark) (record f { left_as = Some leaving })))
+  waiting-alters name leaving =
+      edit_top-alters moves name (λ f. with_mark (edit_abortable waiting_mark f.mark) (record f { left_as = Some leaving })) waiting-nature (λ f. refl)
 
   pub wait_for_trigger-keeps : (name : Who) (c : Call) (leaving : Leaving) → May name → Keeps G R (wait_for_trigger name c leaving)
   unfolding wait_for_trigger
-  wait_for_trigger-keeps name c leaving may = then-keeps (chains moves) (changes (edit_top name (λ f. with_mark (edit_abortable waiting_mark f.mark) (record f { left_as = Some leaving })))) (block TheBlock name (waits_for.EndOfCall c.number)) (changes-keeps (chains moves) _ (waiting-alters name leaving)) (block-keeps moves name (waits_for.EndOfCall c.number) may)
+  wait_for_trigger-keeps name c leaving may =
+      then-keeps (chains moves) (changes (edit_top name (λ f. with_mark (edit_abortable waiting_mark f.mark) (record f { left_as = Some leaving }))))
+      (block TheBlock name (waits_for.EndOfCall c.number)) (changes-keeps (chains moves) _ (waiting-alters name leaving))
+      (block-keeps moves name (waits_for.EndOfCall c.number) may)
 
   pub drop_trigger-alters : (name : Who) (depth : ℕ) → Alters G R (drop_trigger name depth)
   drop_trigger-alters (who.Task t) depth = search (drop_appointment-alters)
@@ -97,13 +106,15 @@ module _ {G : GoodWorld} {May Acts Pushes : Naming} {Stops : Type 0} {R : StepRe
   unfolding call_main
   call_main-keeps p name s may = search (with_room-keeps, goes-keeps, then-keeps, looks-keeps, changes-keeps, open_scope-alters, chains, plain_steps)
 
-  pub call-keeps : (p : Image) (name : Who) (s : StatementNo) (callee : Callee) (actuals : List Actual) (to : Destination) → May name → Keeps G R (call p name s callee actuals to)
+  pub call-keeps : (p : Image) (name : Who) (s : StatementNo) (callee : Callee) (actuals : List Actual) (to : Destination) → May name
+      → Keeps G R (call p name s callee actuals to)
   unfolding call
   call-keeps p name s (callee.Subprogram f) actuals to may = search (call_subprogram-keeps)
   call-keeps p name s (callee.Operation d f) actuals to may = search (call_operation-keeps)
   call-keeps p name s (callee.OwnOperation f) actuals to may = search (call_own_operation-keeps)
 
-  pub act_statement-keeps : (p : Image) → Puts G R p → (name : Who) (s : StatementNo) (form : StatementForm) → May name → Stops → form_of p s ≡ form → Keeps G R (act_statement p name s form)
+  pub act_statement-keeps : (p : Image) → Puts G R p → (name : Who) (s : StatementNo) (form : StatementForm) → May name → Stops → form_of p s ≡ form
+      → Keeps G R (act_statement p name s form)
   unfolding act_statement
   act_statement-keeps p puts name s (form.Declare object) may stops is = search (declare-keeps, plain_steps)
   act_statement-keeps p puts name s (form.Initialize object) may stops is = search (initialize-keeps)

@@ -17,7 +17,8 @@ module _ {G : GoodWorld} {May Acts Pushes : Naming} {Stops : Type 0} {R : StepRe
   when-from false f w good a = keeps-from (chains moves) nothing w good (nothing-keeps (chains moves))
 
   -- steps in another grouping
-  regrouped-kept : (g h : Step) (w : World) (said : List Said) (d : Done) → Kept R w said (goes_on_with (g ▷ h) d) → Kept R w said (goes_on_with h (goes_on_with g d))
+  regrouped-kept : (g h : Step) (w : World) (said : List Said) (d : Done) → Kept R w said (goes_on_with (g ▷ h) d)
+      → Kept R w said (goes_on_with h (goes_on_with g d))
   regrouped-kept g h w said (done v ys) a = a
 
   pub regrouped-from : (f g h : Step) (w : World) → From R w (f ▷ (g ▷ h)) → From R w ((f ▷ g) ▷ h)
@@ -29,5 +30,6 @@ module _ {G : GoodWorld} {May Acts Pushes : Naming} {Stops : Type 0} {R : StepRe
   free_then-from name f g w free a k = after-from (chains moves) f g w a (λ v xs h. k v (moves.behind w v h) (moves.still_free name w v h free))
 
   -- of the tasks for which a test holds
-  pub listed-keeps : (test : World → Task → Bool) (f : World → Task → Step) → ((w : World) (t : Task) → Keeps G R (f w t)) → Keeps G R (looks (λ w. for_each (filter (test w) w.tasks) (f w)))
+  pub listed-keeps : (test : World → Task → Bool) (f : World → Task → Step) → ((w : World) (t : Task) → Keeps G R (f w t))
+      → Keeps G R (looks (λ w. for_each (filter (test w) w.tasks) (f w)))
   listed-keeps test f a = looks-keeps (chains moves) _ (λ w. for_each-keeps (chains moves) (filter (test w) w.tasks) (f w) (a w))

@@ -21,7 +21,12 @@ use Rattle.profile_machine.specs.declared.world.lines.Part.TheVariants.{Own}
 use Rattle.profile_machine.specs.Steps.{says, changes, ◌▷◌, when, nothing}
 use Rattle.profile_machine.specs.Scopes.{write_cell, put_cells}
 use Rattle.profile_machine.specs.Statements.{cells_from}
-use Rattle.profile_machine.specs.Controlled.{first_place, open_operation, operation_beginning, top_region, registered_as, register, initialize_by, initialize, edit_top_scope, finalize_has_raised, open_finalize, has_room_to_finalize, finalize_by, no_longer_registered, is_being_assigned, finalize_now, finalize, behind_finalize, begin_assignment, assign_registered, assign_located, assign_controlled, edit_top_assign, leave_without_room, finalize_target_by, has_room_to_adjust, adjust_by, copy_components_of, copy_object, do_step, edit_scope_mark, edit_assign, registered_at, is_located, same_located, new_assign_mark, next_to_finalize, type_of}
+use Rattle.profile_machine.specs.Controlled.{first_place, open_operation, operation_beginning, top_region, registered_as, register, initialize_by}
+use Rattle.profile_machine.specs.Controlled.{initialize, edit_top_scope, finalize_has_raised, open_finalize, has_room_to_finalize, finalize_by}
+use Rattle.profile_machine.specs.Controlled.{no_longer_registered, is_being_assigned, finalize_now, finalize, behind_finalize, begin_assignment}
+use Rattle.profile_machine.specs.Controlled.{assign_registered, assign_located, assign_controlled, edit_top_assign, leave_without_room}
+use Rattle.profile_machine.specs.Controlled.{finalize_target_by, has_room_to_adjust, adjust_by, copy_components_of, copy_object, do_step, edit_scope_mark}
+use Rattle.profile_machine.specs.Controlled.{edit_assign, registered_at, is_located, same_located, new_assign_mark, next_to_finalize, type_of}
 use Rattle.machine_laws.proofs.Moves.{StepRelation, MoveRelation, own}
 use Rattle.line_laws.proofs.Leaving.FineMoves.{FineMoves, nature, chains}
 use Rattle.line_laws.proofs.Leaving.Kept.Frames.{edit_top-alters, goes-keeps, push-alters, leaves-keeps, goes_then-from, plain_steps}
@@ -43,12 +48,15 @@ use Rattle.profile_machine.specs.declared.world.marks.Mark.TheVariants.{Scope, H
 use Rattle.profile_machine.specs.Frames.{top_of, with_mark, pass_on, goes, goes_on, edit_first, edit_top, push, new_frame}
 use Rattle.machine_laws.proofs.FineMoves.{GoodWorld, Naming}
 use Rattle.machine_laws.proofs.Kept.Controlled.{edit_task-registered}
-use Rattle.machine_laws.proofs.Kept.Combinators.{Alters, From, Keeps, Kept, branch-keeps, changes-from, changes-keeps, changes_then-from, cond-keeps, from-keeps, keeps-from, looks-from, looks-keeps, looks_at-from, nothing-keeps, said_then-from, sees-keeps, then-keeps, told_change-from}
+use Rattle.machine_laws.proofs.Kept.Combinators.{Alters, From, Keeps, Kept, branch-keeps, changes-from, changes-keeps}
+use Rattle.machine_laws.proofs.Kept.Combinators.{changes_then-from, cond-keeps, from-keeps, keeps-from, looks-from, looks-keeps}
+use Rattle.machine_laws.proofs.Kept.Combinators.{looks_at-from, nothing-keeps, said_then-from, sees-keeps, then-keeps, told_change-from}
 use Rattle.machine_laws.proofs.Plain.Frames.{raises-keeps, given-keeps, with_room-keeps, with_room-from}
 use Rattle.machine_laws.proofs.Plain.Cells.{write_cell-alters}
 
 -- the region of a scope's mark is not edited, nor what another mark is
-scope-nature : (f : ScopeMark → ScopeMark) → ((m : ScopeMark) → nature (Scope (f m)) ≡ nature (Scope m)) → (mark : Mark) → nature (edit_scope_mark f mark) ≡ nature mark
+scope-nature : (f : ScopeMark → ScopeMark) → ((m : ScopeMark) → nature (Scope (f m)) ≡ nature (Scope m)) → (mark : Mark)
+    → nature (edit_scope_mark f mark) ≡ nature mark
 scope-nature f same (Scope m) = same m
 scope-nature f same (Handled s) = refl
 scope-nature f same (InProtected m) = refl
@@ -71,20 +79,27 @@ assign-nature f (InAssign m) = refl
 module _ {G : GoodWorld} {May Acts Pushes : Naming} {Stops : Type 0} {R : StepRelation} {Q : MoveRelation} (moves : FineMoves G May Acts Pushes Stops R Q) where
   -- the object is registered, and told, whose cell then has its number
   told_register-from : (p : Image) (name : Who) (l : Located) (w : World) → G w → Free name w
-      → From R w (changes (registered_as (suc w.drawn.controlled) (top_region w name) l) ▷ changes (write_cell l.within (first_place p l) (Thing (suc w.drawn.controlled))) ▷ says Own (line.Init name (suc w.drawn.controlled) (top_region w name) l.declared))
+      → From R w (changes (registered_as (suc w.drawn.controlled) (top_region w name) l)
+      ▷ changes (write_cell l.within (first_place p l) (Thing (suc w.drawn.controlled)))
+      ▷ says Own (line.Init name (suc w.drawn.controlled) (top_region w name) l.declared))
   unfolding From Kept Alters
   told_register-from p name l w good free said =
       let n = suc w.drawn.controlled in
       let v = registered_as n (top_region w name) l w in
       let told = own (line.Init name n (top_region w name) l.declared) ∷ [] in
-      let first = moves.registers name l w good free in
-      (told, refl, moves.goes_on w v (write_cell l.within (first_place p l) (Thing n) v) {xs = told} {ys = []} first (write_cell-alters (plain_steps moves) l.within (first_place p l) (Thing n) v (moves.behind w v first)))
+      let first = moves.registers name l w good free in (
+        told,
+        refl,
+        moves.goes_on w v (write_cell l.within (first_place p l) (Thing n) v) {xs = told} {ys = []} first
+            (write_cell-alters (plain_steps moves) l.within (first_place p l) (Thing n) v (moves.behind w v first)),
+      )
 
   pub register-keeps : (p : Image) (name : Who) (l : Located) → May name → Keeps G R (register p name l)
   unfolding register
   register-keeps p name l may = looks-from (chains moves) _ (λ w good. told_register-from p name l w good (moves.may_free name w good may))
 
-  pub edit_top_scope-alters : (name : Who) (f : ScopeMark → ScopeMark) → ((m : ScopeMark) → nature (Scope (f m)) ≡ nature (Scope m)) → Alters G R (edit_top_scope name f)
+  pub edit_top_scope-alters : (name : Who) (f : ScopeMark → ScopeMark) → ((m : ScopeMark) → nature (Scope (f m)) ≡ nature (Scope m))
+      → Alters G R (edit_top_scope name f)
   edit_top_scope-alters name f same = edit_top-alters moves name (λ x. with_mark (edit_scope_mark f x.mark) x) (λ x. scope-nature f same x.mark) (λ x. refl)
 
   pub behind_finalize-keeps : (p : Image) (name : Who) (leaving : Leaving) (test : Bool) → Keeps G R (behind_finalize p name leaving test)
@@ -116,21 +131,26 @@ module _ {G : GoodWorld} {May Acts Pushes : Naming} {Stops : Type 0} {R : StepRe
   unfolding open_operation
   open_operation-keeps p name f l may = search (looks-keeps, changes-keeps, open_scope-alters, chains)
 
-  pub initialize_by-keeps : (p : Image) (name : Who) (s : StatementNo) (l : Located) (f : Option SubprogramNo) → May name → Keeps G R (initialize_by p name s l f)
+  pub initialize_by-keeps : (p : Image) (name : Who) (s : StatementNo) (l : Located) (f : Option SubprogramNo) → May name
+      → Keeps G R (initialize_by p name s l f)
   unfolding initialize_by
   initialize_by-keeps p name s l None may = search (goes-keeps, then-keeps, register-keeps, chains)
-  initialize_by-keeps p name s l (Some f) may = search (with_room-keeps, goes-keeps, then-keeps, changes-keeps, push-alters, open_operation-keeps, chains, plain_steps)
+  initialize_by-keeps p name s l (Some f) may =
+      search (with_room-keeps, goes-keeps, then-keeps, changes-keeps, push-alters, open_operation-keeps, chains, plain_steps)
 
   pub initialize-keeps : (p : Image) (name : Who) (s : StatementNo) (d : DeclNo) → May name → Keeps G R (initialize p name s d)
   unfolding initialize
   initialize-keeps p name s d may = search (sees-keeps, given-keeps, initialize_by-keeps, chains, plain_steps) depth 8
 
   -- above any mark
-  open_operation-from : (p : Image) (name : Who) (f : SubprogramNo) (l : Located) (w : World) → G w → Pushes name → Free name w → From R w (open_operation p name f l)
+  open_operation-from : (p : Image) (name : Who) (f : SubprogramNo) (l : Located) (w : World) → G w → Pushes name → Free name w
+      → From R w (open_operation p name f l)
   unfolding open_operation
   open_operation-from p name f l w good pushes free =
-      looks_at-from (chains moves) (λ v. changes (open_scope p name (subprogram_of p f).scope (operation_beginning p v name f l) (opened_for.Subprogram [] bound_for.Nowhere))) w
-      (changes-from (chains moves) (open_scope p name (subprogram_of p f).scope (operation_beginning p w name f l) (opened_for.Subprogram [] bound_for.Nowhere)) w
+      looks_at-from (chains moves)
+      (λ v. changes (open_scope p name (subprogram_of p f).scope (operation_beginning p v name f l) (opened_for.Subprogram [] bound_for.Nowhere))) w
+      (changes-from (chains moves)
+      (open_scope p name (subprogram_of p f).scope (operation_beginning p w name f l) (opened_for.Subprogram [] bound_for.Nowhere)) w
       (moves.opens_scope p name (subprogram_of p f).scope (operation_beginning p w name f l) (opened_for.Subprogram [] bound_for.Nowhere) w good pushes free))
 
   pub open_finalize-keeps : (p : Image) (name : Who) (n : ℕ) (l : Located) (f : SubprogramNo) → Pushes name → Keeps G R (open_finalize p name n l f)
@@ -139,45 +159,60 @@ module _ {G : GoodWorld} {May Acts Pushes : Naming} {Stops : Type 0} {R : StepRe
       from-keeps (chains moves) _ (λ w good.
       let x = new_frame (InFinalize n) None in
       let opened = moves.pushes_special name x w good pushes refl refl refl refl in
-      changes_then-from (chains moves) (push name x) (open_operation p name f l) w opened (open_operation-from p name f l (push name x w) (moves.behind w (push name x w) opened) pushes (pushed-free name x w refl)))
+      changes_then-from (chains moves) (push name x) (open_operation p name f l) w opened
+      (open_operation-from p name f l (push name x w) (moves.behind w (push name x w) opened) pushes (pushed-free name x w refl)))
 
   pub finalize_by-keeps : (p : Image) (name : Who) (r : Registered) (f : Option SubprogramNo) → Pushes name → Keeps G R (finalize_by p name r f)
   unfolding finalize_by
   finalize_by-keeps p name r None pushes = search (nothing-keeps, chains)
-  finalize_by-keeps p name r (Some f) pushes = looks-keeps (chains moves) _ (λ w. branch-keeps (chains moves) (has_room_to_finalize p w name f) (open_finalize p name r.object r.located f) (changes (edit_top_scope name finalize_has_raised)) (search (open_finalize-keeps)) (search (changes-keeps, edit_top_scope-alters, chains)))
+  finalize_by-keeps p name r (Some f) pushes =
+      looks-keeps (chains moves) _
+      (λ w. branch-keeps (chains moves) (has_room_to_finalize p w name f) (open_finalize p name r.object r.located f)
+      (changes (edit_top_scope name finalize_has_raised)) (search (open_finalize-keeps)) (search (changes-keeps, edit_top_scope-alters, chains)))
 
   -- the newest object of a region that is being left
-  finalize_now-from : (p : Image) (name : Who) (f : Frame) (m : ScopeMark) (r : RegionNo) (x : Registered) (w : World) → G w → Pushes name → top_of w name ≡ Some f → f.mark ≡ Scope m → m.region ≡ Some r → m.being_left ≡ true → next_to_finalize w r ≡ Some x
+  finalize_now-from : (p : Image) (name : Who) (f : Frame) (m : ScopeMark) (r : RegionNo) (x : Registered) (w : World) → G w → Pushes name
+      → top_of w name ≡ Some f → f.mark ≡ Scope m → m.region ≡ Some r → m.being_left ≡ true → next_to_finalize w r ≡ Some x
       → From R w (finalize_now p name x)
   unfolding finalize_now
   finalize_now-from p name f m r x w good pushes top is region left next =
       told_change-from (chains moves) Own (line.Final name x.object) (no_longer_registered x.object) (finalize_by p name x (type_of p x.located).finalize) w
       (moves.finalizes name f m r x w good top is region left next) (finalize_by-keeps p name x (type_of p x.located).finalize pushes)
 
-  pub finalize-from : (p : Image) (name : Who) (f : Frame) (m : ScopeMark) (r : RegionNo) (x : Registered) (w : World) → G w → Pushes name → top_of w name ≡ Some f → f.mark ≡ Scope m → m.region ≡ Some r → m.being_left ≡ true → next_to_finalize w r ≡ Some x
+  pub finalize-from : (p : Image) (name : Who) (f : Frame) (m : ScopeMark) (r : RegionNo) (x : Registered) (w : World) → G w → Pushes name
+      → top_of w name ≡ Some f → f.mark ≡ Scope m → m.region ≡ Some r → m.being_left ≡ true → next_to_finalize w r ≡ Some x
       → From R w (finalize p name x)
   unfolding finalize
-  finalize-from p name f m r x w good pushes top is region left next = looks_at-from (chains moves) (λ v. when (not (is_being_assigned v x.object)) (finalize_now p name x)) w (free-from (not (is_being_assigned w x.object))) where
-    free-from : (free : Bool) → From R w (when free (finalize_now p name x))
-    free-from true = finalize_now-from p name f m r x w good pushes top is region left next
-    free-from false = keeps-from (chains moves) nothing w good (nothing-keeps (chains moves))
+  finalize-from p name f m r x w good pushes top is region left next =
+      looks_at-from (chains moves) (λ v. when (not (is_being_assigned v x.object)) (finalize_now p name x)) w
+      (free-from (not (is_being_assigned w x.object))) where
+        free-from : (free : Bool) → From R w (when free (finalize_now p name x))
+        free-from true = finalize_now-from p name f m r x w good pushes top is region left next
+        free-from false = keeps-from (chains moves) nothing w good (nothing-keeps (chains moves))
 
   -- an object that is registered is assigned to
-  begin_assignment-from : (p : Image) (name : Who) (s : StatementNo) (l : Located) (x : Registered) (source : ℕ) (w : World) → G w → May name → registered_at w l ≡ Some x → From R w (begin_assignment p name s x.object source)
+  begin_assignment-from : (p : Image) (name : Who) (s : StatementNo) (l : Located) (x : Registered) (source : ℕ) (w : World) → G w → May name
+      → registered_at w l ≡ Some x → From R w (begin_assignment p name s x.object source)
   unfolding begin_assignment
   begin_assignment-from p name s l x source w good may found =
       with_room-from (plain_steps moves) name 1 0 _ w good
       (goes_then-from moves name (next_of p s) _ w good may (λ good_onward.
       let gone = edit_top name (goes_on (next_of p s)) w in
-      let still : registered_at gone l ≡ Some x = ap (find (is_located l)) (edit_task-registered name (λ t. with_frames (edit_first (goes_on (next_of p s)) t.frames) t) w) ∙ found in
-      said_then-from (chains moves) Own (line.Replace name x.object) (changes (push name (new_frame (new_assign_mark x.object source) None))) gone (moves.replaces name l x gone good_onward still)
-      (keeps-from (chains moves) (changes (push name (new_frame (new_assign_mark x.object source) None))) gone good_onward (search (changes-keeps, push-alters, chains)))))
+      let still : registered_at gone l ≡ Some x =
+      ap (find (is_located l)) (edit_task-registered name (λ t. with_frames (edit_first (goes_on (next_of p s)) t.frames) t) w) ∙ found in
+      said_then-from (chains moves) Own (line.Replace name x.object) (changes (push name (new_frame (new_assign_mark x.object source) None))) gone
+      (moves.replaces name l x gone good_onward still)
+      (keeps-from (chains moves) (changes (push name (new_frame (new_assign_mark x.object source) None))) gone good_onward
+      (search (changes-keeps, push-alters, chains)))))
 
-  assign_registered-from : (p : Image) (name : Who) (s : StatementNo) (l : Located) (target source : Option Registered) (w : World) → G w → May name → registered_at w l ≡ target → From R w (assign_registered p name s target source)
+  assign_registered-from : (p : Image) (name : Who) (s : StatementNo) (l : Located) (target source : Option Registered) (w : World) → G w → May name
+      → registered_at w l ≡ target → From R w (assign_registered p name s target source)
   unfolding assign_registered
   assign_registered-from p name s l (Some target) (Some source) w good may found = begin_assignment-from p name s l target source.object w good may found
-  assign_registered-from p name s l (Some target) None w good may found = keeps-from (chains moves) _ w good (raises-keeps (plain_steps moves) Own name exception.Program)
-  assign_registered-from p name s l None source w good may found = keeps-from (chains moves) _ w good (raises-keeps (plain_steps moves) Own name exception.Program)
+  assign_registered-from p name s l (Some target) None w good may found =
+      keeps-from (chains moves) _ w good (raises-keeps (plain_steps moves) Own name exception.Program)
+  assign_registered-from p name s l None source w good may found =
+      keeps-from (chains moves) _ w good (raises-keeps (plain_steps moves) Own name exception.Program)
 
   pub assign_located-keeps : (p : Image) (name : Who) (s : StatementNo) (target source : Located) → May name → Keeps G R (assign_located p name s target source)
   unfolding assign_located
@@ -185,23 +220,32 @@ module _ {G : GoodWorld} {May Acts Pushes : Naming} {Stops : Type 0} {R : StepRe
       cond-keeps (chains moves) (same_located target source) (goes name (next_of p s)) _ (goes-keeps moves name (next_of p s) may)
       (looks-from (chains moves) _ (λ w good. assign_registered-from p name s target (registered_at w target) (registered_at w source) w good may refl))
 
-  pub assign_controlled-keeps : (p : Image) (name : Who) (s : StatementNo) (target source : DeclNo) → May name → Keeps G R (assign_controlled p name s target source)
+  pub assign_controlled-keeps : (p : Image) (name : Who) (s : StatementNo) (target source : DeclNo) → May name
+      → Keeps G R (assign_controlled p name s target source)
   unfolding assign_controlled
   assign_controlled-keeps p name s target source may = search (sees-keeps, given-keeps, assign_located-keeps, chains, plain_steps) depth 8
 
   pub finalize_target_by-keeps : (p : Image) (name : Who) (r : Registered) (f : Option SubprogramNo) → May name → Keeps G R (finalize_target_by p name r f)
   unfolding finalize_target_by
   finalize_target_by-keeps p name r None may = search (nothing-keeps, chains)
-  finalize_target_by-keeps p name r (Some f) may = looks-keeps (chains moves) _ (λ w. branch-keeps (chains moves) (has_room_to_finalize p w name f) (open_finalize p name r.object r.located f) (leave_without_room name) (search (open_finalize-keeps, moves.may_pushes)) (search (leave_without_room-keeps)))
+  finalize_target_by-keeps p name r (Some f) may =
+      looks-keeps (chains moves) _
+      (λ w. branch-keeps (chains moves) (has_room_to_finalize p w name f) (open_finalize p name r.object r.located f) (leave_without_room name)
+      (search (open_finalize-keeps, moves.may_pushes)) (search (leave_without_room-keeps)))
 
   pub adjust_by-keeps : (p : Image) (name : Who) (r : Registered) (f : Option SubprogramNo) → May name → Keeps G R (adjust_by p name r f)
   unfolding adjust_by
   adjust_by-keeps p name r None may = search (nothing-keeps, chains)
-  adjust_by-keeps p name r (Some f) may = looks-keeps (chains moves) _ (λ w. branch-keeps (chains moves) (has_room_to_adjust p w name f) (open_operation p name f r.located) (leave_without_room name) (search (open_operation-keeps)) (search (leave_without_room-keeps)))
+  adjust_by-keeps p name r (Some f) may =
+      looks-keeps (chains moves) _
+      (λ w. branch-keeps (chains moves) (has_room_to_adjust p w name f) (open_operation p name f r.located) (leave_without_room name)
+      (search (open_operation-keeps)) (search (leave_without_room-keeps)))
 
   -- every step of an assignment but its end
-  pub do_step-keeps : (p : Image) (name : Who) (step : AssignStep) (target source : Registered) → May name → ((step ≡ assigning.Assigned) → ⊥) → Keeps G R (do_step p name step target source)
-  do_step-keeps p name assigning.FinalizeTarget target source may other = search (changes-keeps, edit_top_assign-alters, then-keeps, finalize_target_by-keeps, chains)
+  pub do_step-keeps : (p : Image) (name : Who) (step : AssignStep) (target source : Registered) → May name → ((step ≡ assigning.Assigned) → ⊥)
+      → Keeps G R (do_step p name step target source)
+  do_step-keeps p name assigning.FinalizeTarget target source may other =
+      search (changes-keeps, edit_top_assign-alters, then-keeps, finalize_target_by-keeps, chains)
   do_step-keeps p name assigning.CopyComponents target source may other = search (changes-keeps, edit_top_assign-alters, then-keeps, copy_object-alters, chains)
   do_step-keeps p name assigning.AdjustTarget target source may other = search (changes-keeps, edit_top_assign-alters, then-keeps, adjust_by-keeps, chains)
   do_step-keeps p name assigning.Assigned target source may other = absurd (other refl)

@@ -14,7 +14,8 @@ use Rattle.profile_machine.specs.declared.world.lines.Part.{Part}
 use Rattle.profile_machine.specs.declared.world.lines.Part.TheVariants.{ThePlacing, TheBlock}
 use Rattle.profile_machine.specs.Steps.{Step, changes, says, ◌▷◌}
 use Rattle.profile_machine.specs.Tasks.{task_of, edit_task, with_state}
-use Rattle.profile_machine.specs.Dispatching.{active, level_kept_by, keep_level, deadline_shown, says_ready, granted, grant_quantum, to_tail, to_head, ready, says_block, block}
+use Rattle.profile_machine.specs.Dispatching.{active, level_kept_by, keep_level, deadline_shown, says_ready}
+use Rattle.profile_machine.specs.Dispatching.{granted, grant_quantum, to_tail, to_head, ready, says_block, block}
 use Rattle.std.proofs.Common.{◌≡◌, List, [], ◌∷◌, ◌++◌, Some, refl}
 use Rattle.std.specs.Prelude.{false}
 use Rattle.machine_laws.proofs.Moves.{StepRelation, MoveRelation}
@@ -22,7 +23,8 @@ use Rattle.line_laws.proofs.Leaving.FineMoves.{FineMoves, Awake, waits, ready_wo
 use Rattle.line_laws.proofs.Leaving.TaskLemmas.{awake-edited, awake-own}
 use Rattle.machine_laws.proofs.FineMoves.{GoodWorld, Naming, ready_line}
 use Rattle.machine_laws.proofs.Kept.Dispatching.{full_quantum-frames, full_quantum-state, full_quantum-who}
-use Rattle.machine_laws.proofs.Kept.Combinators.{Alters, From, Keeps, Kept, changes-keeps, changes_then-from, from-keeps, looks_at-from, said-from, then-keeps, then-kept}
+use Rattle.machine_laws.proofs.Kept.Combinators.{Alters, From, Keeps, Kept, changes-keeps, changes_then-from}
+use Rattle.machine_laws.proofs.Kept.Combinators.{from-keeps, looks_at-from, said-from, then-keeps, then-kept}
 
 pub granted-who : (p : Image) (quanta : List ℕ) (t : Task) → (granted p quanta t).who ≡ t.who
 granted-who p quanta t = full_quantum-who (eqb (active p t) t.base && is_robin_level p t.base) (slice_index_or quanta t.base 0) t
@@ -36,7 +38,8 @@ ready-awake p name w =
     let woken = edit_task name (with_state Runnable) w in
     let first : Awake name woken = awake-own name (with_state Runnable) w (λ t. refl) (λ t. refl) in
     let kept = keep_level p name woken in
-    let second : Awake name kept = awake-edited name name (λ t. record t { kept_level = level_kept_by p woken t (edf_low p t.base) }) woken (λ t. refl) (λ t. refl) first in
+    let second : Awake name kept =
+    awake-edited name name (λ t. record t { kept_level = level_kept_by p woken t (edf_low p t.base) }) woken (λ t. refl) (λ t. refl) first in
     awake-edited name name (granted p kept.quanta) kept (granted-who p kept.quanta) (granted-state p kept.quanta) second
 
 module _ {G : GoodWorld} {May Acts Pushes : Naming} {Stops : Type 0} {R : StepRelation} {Q : MoveRelation} (moves : FineMoves G May Acts Pushes Stops R Q) where
@@ -51,7 +54,10 @@ module _ {G : GoodWorld} {May Acts Pushes : Naming} {Stops : Type 0} {R : StepRe
   says_acting-keeps : (p : Image) (name : Who) (end : QueueEnd) → Acts name → Keeps G R (says_ready p ThePlacing name end)
   unfolding says_ready
   says_acting-keeps p name end acts =
-      from-keeps (chains moves) _ (λ w good. looks_at-from (chains moves) (λ v. says ThePlacing (line.Ready name (active p (task_of v name)) end (deadline_shown p (task_of v name)))) w (said-from (chains moves) ThePlacing (line.Ready name (active p (task_of w name)) end (deadline_shown p (task_of w name))) w (moves.places_acting p name end w good acts)))
+      from-keeps (chains moves) _
+      (λ w good. looks_at-from (chains moves) (λ v. says ThePlacing (line.Ready name (active p (task_of v name)) end (deadline_shown p (task_of v name)))) w
+      (said-from (chains moves) ThePlacing (line.Ready name (active p (task_of w name)) end (deadline_shown p (task_of w name))) w
+      (moves.places_acting p name end w good acts)))
 
   -- who acts goes to the tail, or to the head
   pub to_tail-keeps : (p : Image) (name : Who) → Acts name → Keeps G R (to_tail p ThePlacing name)
@@ -71,7 +77,9 @@ module _ {G : GoodWorld} {May Acts Pushes : Naming} {Stops : Type 0} {R : StepRe
       let still : Awake name granted_world = awake-edited name name (granted p w.quanta) w (granted-who p w.quanta) (granted-state p w.quanta) awake in
       changes_then-from (chains moves) (grant_quantum p name) _ w first
       (looks_at-from (chains moves) (λ v. says part (line.Ready name (active p (task_of v name)) Tail (deadline_shown p (task_of v name)))) granted_world
-      (said-from (chains moves) part (line.Ready name (active p (task_of granted_world name)) Tail (deadline_shown p (task_of granted_world name))) granted_world (moves.places_awake p part name Tail granted_world (moves.behind w granted_world first) still)))
+      (said-from (chains moves) part
+      (line.Ready name (active p (task_of granted_world name)) Tail (deadline_shown p (task_of granted_world name))) granted_world
+      (moves.places_awake p part name Tail granted_world (moves.behind w granted_world first) still)))
 
   -- ---- somebody becomes ready, or blocks
 
@@ -87,15 +95,18 @@ module _ {G : GoodWorld} {May Acts Pushes : Naming} {Stops : Type 0} {R : StepRe
   ready-keeps p part name = from-keeps (chains moves) (ready p part name) (λ w good. ready-from p part name w good)
 
   -- a step behind, from the world in which it is ready
-  pub ready_then-from : (p : Image) (part : Part) (name : Who) (g : Step) (w : World) → G w → (G (ready_world p name w) → Awake name (ready_world p name w) → From R (ready_world p name w) g) → From R w (ready p part name ▷ g)
+  pub ready_then-from : (p : Image) (part : Part) (name : Who) (g : Step) (w : World) → G w
+      → (G (ready_world p name w) → Awake name (ready_world p name w) → From R (ready_world p name w) g) → From R w (ready p part name ▷ g)
   unfolding ready to_tail says_ready From Kept
   ready_then-from p part name g w good k said =
       let v = ready_world p name w in
       let told = ready_line p part name Tail v ∷ [] in
       let first = moves.becomes_ready p part name w good in
-      then-kept (chains moves) w v said (said ++ told) (g v (said ++ told)) (told, refl, first) (k (moves.behind w v first) (ready-awake p name w) (said ++ told))
+      then-kept (chains moves) w v said (said ++ told) (g v (said ++ told)) (told, refl, first)
+      (k (moves.behind w v first) (ready-awake p name w) (said ++ told))
 
-  block-told : (name : Who) (waiting : Waiting) → ((w : World) → G w → R w (block_line name waiting ∷ []) (blocked_world name waiting w)) → Keeps G R (block TheBlock name waiting)
+  block-told : (name : Who) (waiting : Waiting) → ((w : World) → G w → R w (block_line name waiting ∷ []) (blocked_world name waiting w))
+      → Keeps G R (block TheBlock name waiting)
   unfolding block says_block Keeps Kept
   block-told name waiting k w good said = (block_line name waiting ∷ [], refl, k w good)
 

@@ -35,7 +35,11 @@ use Rattle.profile_machine.specs.Tasks.{with_frames}
 use Rattle.profile_machine.specs.Calls.{call_of, says_call, enqueued, enqueue, is_full}
 use Rattle.profile_machine.specs.Protected.{begin_action_on, is_barrier_open, new_protected_mark}
 use Rattle.profile_machine.specs.Sending.{open_abortable, not_accepted}
-use Rattle.profile_machine.specs.EntryCalls.{numbered, marks_if_queued, add_call, make_call, end_at_once, call_gone, call_meets, call_queues, call_not_met, call_accepted_by, call_callable, call_task, call_runs, call_without_room, has_room_for_action, call_runs_if_room, call_passes, call_refused, call_closed, call_by_barrier, call_object, call_owner, call_named, entry_call, appoint_trigger, trigger_delay, async_delay, async_by_trigger, asynchronous_select, mark_sending, requeue, is_forbidden}
+use Rattle.profile_machine.specs.EntryCalls.{numbered, marks_if_queued, add_call, make_call, end_at_once, call_gone, call_meets, call_queues}
+use Rattle.profile_machine.specs.EntryCalls.{call_not_met, call_accepted_by, call_callable, call_task, call_runs, call_without_room}
+use Rattle.profile_machine.specs.EntryCalls.{has_room_for_action, call_runs_if_room, call_passes, call_refused, call_closed, call_by_barrier}
+use Rattle.profile_machine.specs.EntryCalls.{call_object, call_owner, call_named, entry_call, appoint_trigger, trigger_delay, async_delay}
+use Rattle.profile_machine.specs.EntryCalls.{async_by_trigger, asynchronous_select, mark_sending, requeue, is_forbidden}
 use Rattle.profile_machine.specs.Rendezvous.{accept_for}
 use Rattle.profile_machine.specs.Frames.{goes}
 use Rattle.profile_machine.specs.declared.world.tasks.Waiting.TheVariants as waits_for
@@ -60,7 +64,8 @@ use Rattle.line_laws.proofs.Leaving.Kept.Rendezvous.{meet-from, accept-waits}
 use Rattle.profile_machine.specs.Rendezvous.{delay_moment}
 use Rattle.profile_machine.specs.Values.{seen_by}
 use Rattle.machine_laws.proofs.FineMoves.{GoodWorld, Naming}
-use Rattle.machine_laws.proofs.Kept.Combinators.{Alters, From, Keeps, Kept, changes-keeps, changes_then-from, either-from, keeps-from, looks-from, looks-keeps, looks_at-from, nothing-keeps, said_then-from, sees-keeps, then-from, then-keeps, unchanged-alters}
+use Rattle.machine_laws.proofs.Kept.Combinators.{Alters, From, Keeps, Kept, changes-keeps, changes_then-from, either-from, keeps-from, looks-from, looks-keeps}
+use Rattle.machine_laws.proofs.Kept.Combinators.{looks_at-from, nothing-keeps, said_then-from, sees-keeps, then-from, then-keeps, unchanged-alters}
 use Rattle.machine_laws.proofs.Plain.Frames.{raises-keeps, given-from, given-keeps, raise_if-from, raise_if-keeps, with_room-from, with_room-keeps}
 use Rattle.machine_laws.proofs.Plain.Calls.{edit_call-alters, forget_call-alters, says_call-keeps, enqueued-alters, enqueue-keeps}
 
@@ -72,7 +77,12 @@ newest-found n c calls = ap (λ t. cond t (Some (numbered n c)) (find (is_call (
 
 -- a call that was made just now is there, with its caller
 new-caller : (c : Call) (w : World) → Caller (record { 0 = suc w.drawn.calls }) (who.Task c.caller) (add_call c w)
-new-caller c w = (omega arith, λ d e. let same : numbered (suc w.drawn.calls) c ≡ d = some_call (numbered (suc w.drawn.calls) c) d (sym (newest-found (suc w.drawn.calls) c w.calls) ∙ e) in ap (λ (x : Call). who.Task x.caller) (sym same), tt)
+new-caller c w = (
+  omega arith,
+  λ d e. let same : numbered (suc w.drawn.calls) c ≡ d = some_call (numbered (suc w.drawn.calls) c) d (sym (newest-found (suc w.drawn.calls) c w.calls) ∙ e) in
+      ap (λ (x : Call). who.Task x.caller) (sym same),
+  tt,
+)
 
 own_number : (c n : CallNo) (name : Who) (w : World) → Caller c name w → Some c ≡ Some n → Caller n name w
 own_number c n name w h e = let same : c ≡ n = cc in subst (λ k. Caller k name w) same h
@@ -82,7 +92,8 @@ module _ {G : GoodWorld} {May Acts Pushes : Naming} {Stops : Type 0} {R : StepRe
   unfolding Alters
   add_call-alters c w good = moves.adds_call c w good
 
-  pub make_call-keeps : (p : Image) (c : Call) (step : Call → Step) → ((n : ℕ) → Keeps G R (step (numbered n c))) → May (who.Task c.caller) → Keeps G R (make_call p c step)
+  pub make_call-keeps : (p : Image) (c : Call) (step : Call → Step) → ((n : ℕ) → Keeps G R (step (numbered n c))) → May (who.Task c.caller)
+      → Keeps G R (make_call p c step)
   make_call-keeps p c step kept may = search (goes-keeps, then-keeps, looks-keeps, changes-keeps, add_call-alters, says_call-keeps, chains, plain_steps) depth 9
 
   pub end_at_once-keeps : (part : Part) (c : Call) (e : Raised) → Keeps G R (end_at_once part c e)
@@ -94,23 +105,28 @@ module _ {G : GoodWorld} {May Acts Pushes : Naming} {Stops : Type 0} {R : StepRe
   call_gone-keeps p c = search (gone-keeps, then-keeps, end_at_once-keeps, chains)
 
   -- a call is made while somebody stays free
-  make_call_free-from : (p : Image) (c : Call) (step : Call → Step) (name : Who) (w : World) → G w → May (who.Task c.caller) → Free name w → ((n : ℕ) (v : World) → G v → Free name v → From R v (step (numbered n c))) → From R w (make_call p c step)
+  make_call_free-from : (p : Image) (c : Call) (step : Call → Step) (name : Who) (w : World) → G w → May (who.Task c.caller) → Free name w
+      → ((n : ℕ) (v : World) → G v → Free name v → From R v (step (numbered n c))) → From R w (make_call p c step)
   unfolding says_call
   make_call_free-from p c step name w good may free kept =
-      free_then-from moves name (goes (who.Task c.caller) (next_of p c.statement)) _ w free (keeps-from (chains moves) _ w good (goes-keeps moves (who.Task c.caller) (next_of p c.statement) may)) (λ v good_v free_v.
+      free_then-from moves name (goes (who.Task c.caller) (next_of p c.statement)) _ w free
+      (keeps-from (chains moves) _ w good (goes-keeps moves (who.Task c.caller) (next_of p c.statement) may)) (λ v good_v free_v.
       let d = numbered (suc v.drawn.calls) c in
       let made = add_call c v in
       let added = moves.adds_call c v good_v in
       let good_made = moves.behind v made added in
       looks_at-from (chains moves) (λ u. changes (add_call c) ▷ says_call TheCall (numbered (suc u.drawn.calls) c) ▷ step (numbered (suc u.drawn.calls) c)) v
       (changes_then-from (chains moves) (add_call c) _ v added
-      (said_then-from (chains moves) TheCall (line.Call d.caller d.number d.owner d.entry d.priority) (step d) made (moves.says TheCall (line.Call d.caller d.number d.owner d.entry d.priority) made good_made refl)
+      (said_then-from (chains moves) TheCall (line.Call d.caller d.number d.owner d.entry d.priority) (step d) made
+      (moves.says TheCall (line.Call d.caller d.number d.owner d.entry d.priority) made good_made refl)
       (kept (suc v.drawn.calls) made good_made (moves.still_free name v made added free_v)))))
 
-  call_meets-from : (p : Image) (t : TaskNo) (s : StatementNo) (c : Call) (w : World) → G w → May (who.Task c.caller) → Pushes (who.Task t) → Free (who.Task t) w → From R w (call_meets p t s c)
+  call_meets-from : (p : Image) (t : TaskNo) (s : StatementNo) (c : Call) (w : World) → G w → May (who.Task c.caller) → Pushes (who.Task t)
+      → Free (who.Task t) w → From R w (call_meets p t s c)
   unfolding call_meets
   call_meets-from p t s c w good may pushes free =
-      meet-from moves p (OfOther (who.Task t)) (who.Task t) s c _ _ w good pushes free (block-keeps moves (who.Task c.caller) (waits_for.Call c.number) may) (end_at_once-keeps TheFinish c exception.Storage)
+      meet-from moves p (OfOther (who.Task t)) (who.Task t) s c _ _ w good pushes free (block-keeps moves (who.Task c.caller) (waits_for.Call c.number) may)
+      (end_at_once-keeps TheFinish c exception.Storage)
 
   pub call_queues-keeps : (p : Image) (c : Call) → May (who.Task c.caller) → Keeps G R (call_queues p c)
   unfolding call_queues
@@ -121,18 +137,21 @@ module _ {G : GoodWorld} {May Acts Pushes : Naming} {Stops : Type 0} {R : StepRe
   call_not_met-keeps p c true may = search (make_call-keeps, end_at_once-keeps)
   call_not_met-keeps p c false may = search (with_room-keeps, make_call-keeps, call_queues-keeps, plain_steps)
 
-  call_accepted_by-from : (p : Image) (t : TaskNo) (c : Call) (next : Option StatementNo) (w : World) → G w → May (who.Task c.caller) → accept_for p c.entry (waiting_of w (who.Task t)) ≡ next → From R w (call_accepted_by p t c next)
+  call_accepted_by-from : (p : Image) (t : TaskNo) (c : Call) (next : Option StatementNo) (w : World) → G w → May (who.Task c.caller)
+      → accept_for p c.entry (waiting_of w (who.Task t)) ≡ next → From R w (call_accepted_by p t c next)
   unfolding call_accepted_by
   call_accepted_by-from p t c (Some s) w good may is =
       let waiting = accept-waits moves p c.entry (waiting_of w (who.Task t)) s is in
       let pushes = moves.waiting_pushes (who.Task t) w good waiting in
-      make_call_free-from p c (call_meets p t s) (who.Task t) w good may (moves.waiting_free (who.Task t) w good waiting) (λ n v good_v free_v. call_meets-from p t s (numbered n c) v good_v may pushes free_v)
+      make_call_free-from p c (call_meets p t s) (who.Task t) w good may (moves.waiting_free (who.Task t) w good waiting)
+      (λ n v good_v free_v. call_meets-from p t s (numbered n c) v good_v may pushes free_v)
   call_accepted_by-from p t c None w good may is = keeps-from (chains moves) _ w good (search (looks-keeps, call_not_met-keeps, chains))
 
   pub call_callable-keeps : (p : Image) (t : TaskNo) (c : Call) (test : Bool) → May (who.Task c.caller) → Keeps G R (call_callable p t c test)
   unfolding call_callable
   call_callable-keeps p t c false may = search (make_call-keeps, call_gone-keeps)
-  call_callable-keeps p t c true may = looks-from (chains moves) _ (λ w good. call_accepted_by-from p t c (accept_for p c.entry (waiting_of w (who.Task t))) w good may refl)
+  call_callable-keeps p t c true may =
+      looks-from (chains moves) _ (λ w good. call_accepted_by-from p t c (accept_for p c.entry (waiting_of w (who.Task t))) w good may refl)
 
   pub call_task-keeps : (p : Image) (t : TaskNo) (c : Call) → May (who.Task c.caller) → Keeps G R (call_task p t c)
   unfolding call_task
@@ -141,24 +160,31 @@ module _ {G : GoodWorld} {May Acts Pushes : Naming} {Stops : Type 0} {R : StepRe
   -- ---- a call of a protected entry, whose caller is let in
 
   -- the call is made, and the caller is let in still
-  make_call-from : (p : Image) (o : ObjectNo) (c : Call) (step : Call → Step) (w : World) → G w → May (who.Task c.caller) → LetsIn (who.Task c.caller) o Write w → ((n : ℕ) (v : World) → G v → LetsIn (who.Task c.caller) o Write v → Caller (record { 0 = n }) (who.Task c.caller) v → From R v (step (numbered n c))) → From R w (make_call p c step)
+  make_call-from : (p : Image) (o : ObjectNo) (c : Call) (step : Call → Step) (w : World) → G w → May (who.Task c.caller) → LetsIn (who.Task c.caller) o Write w
+      → ((n : ℕ) (v : World) → G v → LetsIn (who.Task c.caller) o Write v → Caller (record { 0 = n }) (who.Task c.caller) v → From R v (step (numbered n c)))
+      → From R w (make_call p c step)
   unfolding says_call
   make_call-from p o c step w good may h kept =
       let name = who.Task c.caller in
       let onward = edit_top name (goes_on (next_of p c.statement)) w in
       let made = add_call c onward in
       let d = numbered (suc onward.drawn.calls) c in
-      let still : LetsIn name o Write made = LetsIn-same name o Write w made (edit_task-objects name (λ t. with_frames (edit_first (goes_on (next_of p c.statement)) t.frames) t) w) h in
+      let still : LetsIn name o Write made =
+      LetsIn-same name o Write w made (edit_task-objects name (λ t. with_frames (edit_first (goes_on (next_of p c.statement)) t.frames) t) w) h in
       goes_then-from moves name (next_of p c.statement) _ w good may (λ good_onward.
       let added = moves.adds_call c onward good_onward in
       let good_made = moves.behind onward made added in
-      looks_at-from (chains moves) (λ v. changes (add_call c) ▷ says_call TheCall (numbered (suc v.drawn.calls) c) ▷ step (numbered (suc v.drawn.calls) c)) onward
+      looks_at-from (chains moves)
+      (λ v. changes (add_call c) ▷ says_call TheCall (numbered (suc v.drawn.calls) c) ▷ step (numbered (suc v.drawn.calls) c)) onward
       (changes_then-from (chains moves) (add_call c) _ onward added
-      (said_then-from (chains moves) TheCall (line.Call d.caller d.number d.owner d.entry d.priority) (step d) made (moves.says TheCall (line.Call d.caller d.number d.owner d.entry d.priority) made good_made refl) (kept (suc onward.drawn.calls) made good_made still (new-caller c onward)))))
+      (said_then-from (chains moves) TheCall (line.Call d.caller d.number d.owner d.entry d.priority) (step d) made
+      (moves.says TheCall (line.Call d.caller d.number d.owner d.entry d.priority) made good_made refl)
+      (kept (suc onward.drawn.calls) made good_made still (new-caller c onward)))))
 
   -- the action ends at once, without room
   told_without_room-from : (o : ObjectNo) (c : Call) (w : World) → G w → LetsIn (who.Task c.caller) o Write w
-      → From R w (says Own (line.Enter (who.Task c.caller) o Write) ▷ says Own (line.Start (who.Task c.caller) c.number) ▷ says Own (line.Finish (who.Task c.caller) c.number (meeting.Raised exception.Storage)) ▷ says Own (line.Exit (who.Task c.caller) o))
+      → From R w (says Own (line.Enter (who.Task c.caller) o Write) ▷ says Own (line.Start (who.Task c.caller) c.number)
+      ▷ says Own (line.Finish (who.Task c.caller) c.number (meeting.Raised exception.Storage)) ▷ says Own (line.Exit (who.Task c.caller) o))
   unfolding From Kept
   told_without_room-from o c w good h said =
       let name = who.Task c.caller in
@@ -167,49 +193,74 @@ module _ {G : GoodWorld} {May Acts Pushes : Naming} {Stops : Type 0} {R : StepRe
       let d = own (line.Finish name c.number (meeting.Raised exception.Storage)) in
       let e = own (line.Exit name o) in (
         a ∷ b ∷ d ∷ e ∷ [],
-        ap (λ xs. xs ++ e ∷ []) (ap (λ xs. xs ++ d ∷ []) (append_assoc said (a ∷ []) (b ∷ [])) ∙ append_assoc said (a ∷ b ∷ []) (d ∷ [])) ∙ append_assoc said (a ∷ b ∷ d ∷ []) (e ∷ []),
+        ap (λ xs. xs ++ e ∷ []) (ap (λ xs. xs ++ d ∷ []) (append_assoc said (a ∷ []) (b ∷ [])) ∙ append_assoc said (a ∷ b ∷ []) (d ∷ []))
+            ∙ append_assoc said (a ∷ b ∷ d ∷ []) (e ∷ []),
         moves.visits name o Write (b ∷ d ∷ []) w w good h (refl, (refl, tt)) (moves.stays w good),
       )
 
   call_without_room-from : (o : ObjectNo) (c : Call) (w : World) → G w → LetsIn (who.Task c.caller) o Write w → From R w (call_without_room o c)
   unfolding call_without_room
-  call_without_room-from o c w good h = then-from (chains moves) (says Own (line.Enter (who.Task c.caller) o Write) ▷ says Own (line.Start (who.Task c.caller) c.number) ▷ says Own (line.Finish (who.Task c.caller) c.number (meeting.Raised exception.Storage)) ▷ says Own (line.Exit (who.Task c.caller) o)) (end_at_once Own c exception.Storage) w (told_without_room-from o c w good h) (end_at_once-keeps Own c exception.Storage)
+  call_without_room-from o c w good h =
+      then-from (chains moves)
+      (says Own (line.Enter (who.Task c.caller) o Write) ▷ says Own (line.Start (who.Task c.caller) c.number)
+      ▷ says Own (line.Finish (who.Task c.caller) c.number (meeting.Raised exception.Storage)) ▷ says Own (line.Exit (who.Task c.caller) o))
+      (end_at_once Own c exception.Storage) w
+      (told_without_room-from o c w good h)
+      (end_at_once-keeps Own c exception.Storage)
 
-  told_refused-from : (o : ObjectNo) (c : Call) (w : World) → G w → LetsIn (who.Task c.caller) o Write w → From R w (says Own (line.Enter (who.Task c.caller) o Write) ▷ says Own (line.Exit (who.Task c.caller) o))
+  told_refused-from : (o : ObjectNo) (c : Call) (w : World) → G w → LetsIn (who.Task c.caller) o Write w
+      → From R w (says Own (line.Enter (who.Task c.caller) o Write) ▷ says Own (line.Exit (who.Task c.caller) o))
   unfolding From Kept
   told_refused-from o c w good h said =
-      let name = who.Task c.caller in
-      (own (line.Enter name o Write) ∷ own (line.Exit name o) ∷ [], append_assoc said (own (line.Enter name o Write) ∷ []) (own (line.Exit name o) ∷ []), moves.visits name o Write [] w w good h tt (moves.stays w good))
+      let name = who.Task c.caller in (
+        own (line.Enter name o Write) ∷ own (line.Exit name o) ∷ [],
+        append_assoc said (own (line.Enter name o Write) ∷ []) (own (line.Exit name o) ∷ []),
+        moves.visits name o Write [] w w good h tt (moves.stays w good),
+      )
 
   -- it is queued in the action
-  told_queued-from : (p : Image) (o : ObjectNo) (c d : Call) (w : World) → G w → LetsIn (who.Task c.caller) o Write w → From R w (says Own (line.Enter (who.Task c.caller) o Write) ▷ changes (enqueued p d) ▷ says Own (line.Exit (who.Task c.caller) o))
+  told_queued-from : (p : Image) (o : ObjectNo) (c d : Call) (w : World) → G w → LetsIn (who.Task c.caller) o Write w
+      → From R w (says Own (line.Enter (who.Task c.caller) o Write) ▷ changes (enqueued p d) ▷ says Own (line.Exit (who.Task c.caller) o))
   unfolding From Kept Alters
   told_queued-from p o c d w good h said =
-      let name = who.Task c.caller in
-      (own (line.Enter name o Write) ∷ own (line.Exit name o) ∷ [], append_assoc said (own (line.Enter name o Write) ∷ []) (own (line.Exit name o) ∷ []), moves.visits name o Write [] w (enqueued p d w) good h tt (enqueued-alters (plain_steps moves) p d w good))
+      let name = who.Task c.caller in (
+        own (line.Enter name o Write) ∷ own (line.Exit name o) ∷ [],
+        append_assoc said (own (line.Enter name o Write) ∷ []) (own (line.Exit name o) ∷ []),
+        moves.visits name o Write [] w (enqueued p d w) good h tt (enqueued-alters (plain_steps moves) p d w good),
+      )
 
-  passes_found-kept : (p : Image) (o : ObjectNo) (c : Call) (w : World) (found : Option Call) (said : List Said) → G w → May (who.Task c.caller) → LetsIn (who.Task c.caller) o Write w
-      → Kept R w said (goes_on_with (says Own (line.Exit (who.Task c.caller) o) ▷ not_accepted p Own c c.kind) (for_some found (λ d. changes (enqueued p d)) w (said ++ own (line.Enter (who.Task c.caller) o Write) ∷ [])))
+  passes_found-kept : (p : Image) (o : ObjectNo) (c : Call) (w : World) (found : Option Call) (said : List Said) → G w → May (who.Task c.caller)
+      → LetsIn (who.Task c.caller) o Write w
+      → Kept R w said
+      (goes_on_with (says Own (line.Exit (who.Task c.caller) o) ▷ not_accepted p Own c c.kind)
+      (for_some found (λ d. changes (enqueued p d)) w (said ++ own (line.Enter (who.Task c.caller) o Write) ∷ [])))
   unfolding From
   passes_found-kept p o c w None said good may h =
-      then-from (chains moves) (says Own (line.Enter (who.Task c.caller) o Write) ▷ says Own (line.Exit (who.Task c.caller) o)) (not_accepted p Own c c.kind) w (told_refused-from o c w good h) (not_accepted-keeps moves p Own c c.kind may) said
+      then-from (chains moves) (says Own (line.Enter (who.Task c.caller) o Write) ▷ says Own (line.Exit (who.Task c.caller) o)) (not_accepted p Own c c.kind) w
+      (told_refused-from o c w good h) (not_accepted-keeps moves p Own c c.kind may) said
   passes_found-kept p o c w (Some d) said good may h =
-      then-from (chains moves) (says Own (line.Enter (who.Task c.caller) o Write) ▷ changes (enqueued p d) ▷ says Own (line.Exit (who.Task c.caller) o)) (not_accepted p Own c c.kind) w (told_queued-from p o c d w good h) (not_accepted-keeps moves p Own c c.kind may) said
+      then-from (chains moves) (says Own (line.Enter (who.Task c.caller) o Write) ▷ changes (enqueued p d) ▷ says Own (line.Exit (who.Task c.caller) o))
+      (not_accepted p Own c c.kind) w (told_queued-from p o c d w good h) (not_accepted-keeps moves p Own c c.kind may) said
 
-  call_passes-from : (p : Image) (o : ObjectNo) (c : Call) (w : World) → G w → May (who.Task c.caller) → LetsIn (who.Task c.caller) o Write w → From R w (call_passes p o c)
+  call_passes-from : (p : Image) (o : ObjectNo) (c : Call) (w : World) → G w → May (who.Task c.caller) → LetsIn (who.Task c.caller) o Write w
+      → From R w (call_passes p o c)
   unfolding call_passes From enqueue
   call_passes-from p o c w good may h said = passes_found-kept p o c w (call_of w c.number) said good may h
 
   call_refused-from : (o : ObjectNo) (c : Call) (w : World) → G w → LetsIn (who.Task c.caller) o Write w → From R w (call_refused o c)
   unfolding call_refused
-  call_refused-from o c w good h = then-from (chains moves) (says Own (line.Enter (who.Task c.caller) o Write) ▷ says Own (line.Exit (who.Task c.caller) o)) (end_at_once Own c exception.Program) w (told_refused-from o c w good h) (end_at_once-keeps Own c exception.Program)
+  call_refused-from o c w good h =
+      then-from (chains moves) (says Own (line.Enter (who.Task c.caller) o Write) ▷ says Own (line.Exit (who.Task c.caller) o))
+      (end_at_once Own c exception.Program) w (told_refused-from o c w good h) (end_at_once-keeps Own c exception.Program)
 
   appoint_trigger-from : (name : Who) (depth : ℕ) (m : ℤ) (w : World) → G w → From R w (changes (appoint_trigger name depth m))
   appoint_trigger-from (who.Task t) depth m w good = appoint-from moves (due_for.Trigger t depth) m w good
-  appoint_trigger-from who.Agent depth m w good = keeps-from (chains moves) (changes (λ v. v)) w good (changes-keeps (chains moves) (λ v. v) (unchanged-alters (chains moves)))
+  appoint_trigger-from who.Agent depth m w good =
+      keeps-from (chains moves) (changes (λ v. v)) w good (changes-keeps (chains moves) (λ v. v) (unchanged-alters (chains moves)))
 
   -- the abortable part opens, and the moment is set
-  opens_until : (p : Image) (name : Who) (s : StatementNo) (m : ℤ) (w : World) → G w → May name → From R w (looks (λ v. changes (open_abortable p name s None) ▷ changes (appoint_trigger name (length (frames_of v name)) m)))
+  opens_until : (p : Image) (name : Who) (s : StatementNo) (m : ℤ) (w : World) → G w → May name
+      → From R w (looks (λ v. changes (open_abortable p name s None) ▷ changes (appoint_trigger name (length (frames_of v name)) m)))
   unfolding Alters
   opens_until p name s m w good may =
       let opened = open_abortable-alters moves p name s None may w good in
@@ -217,7 +268,8 @@ module _ {G : GoodWorld} {May Acts Pushes : Naming} {Stops : Type 0} {R : StepRe
       (changes_then-from (chains moves) (open_abortable p name s None) _ w opened
       (appoint_trigger-from name (length (frames_of w name)) m _ (moves.behind w (open_abortable p name s None w) opened)))
 
-  trigger_delay-from : (p : Image) (name : Who) (s trigger : StatementNo) (m : ℤ) (test : Bool) (w : World) → G w → May name → From R w (trigger_delay p name s trigger m test)
+  trigger_delay-from : (p : Image) (name : Who) (s trigger : StatementNo) (m : ℤ) (test : Bool) (w : World) → G w → May name
+      → From R w (trigger_delay p name s trigger m test)
   unfolding trigger_delay
   trigger_delay-from p name s trigger m false w good may = keeps-from (chains moves) _ w good (search (goes-keeps))
   trigger_delay-from p name s trigger m true w good may =
@@ -231,43 +283,61 @@ module _ {G : GoodWorld} {May Acts Pushes : Naming} {Stops : Type 0} {R : StepRe
 
   pub requeue-keeps : (p : Image) (name : Who) (e : EntryNo) (o : EntryOwner) (with_abort : Bool) → Keeps G R (requeue p name e o with_abort)
   unfolding requeue
-  requeue-keeps p name e o with_abort = search (sees-keeps, given-keeps, changes-keeps, mark_sending-alters, then-keeps, leaves-keeps, chains, plain_steps) depth 10
+  requeue-keeps p name e o with_abort =
+      search (sees-keeps, given-keeps, changes-keeps, mark_sending-alters, then-keeps, leaves-keeps, chains, plain_steps) depth 10
 
 module _ {G : GoodWorld} {May Acts Pushes : Naming} {Stops : Type 0} {R : StepRelation} {Q : MoveRelation} (moves : FineMoves G May Acts Pushes Stops R Q) where
-  call_runs-from : (p : Image) (o : ObjectNo) (c : Call) (w : World) → G w → May (who.Task c.caller) → LetsIn (who.Task c.caller) o Write w → Caller c.number (who.Task c.caller) w → From R w (call_runs p o c)
+  call_runs-from : (p : Image) (o : ObjectNo) (c : Call) (w : World) → G w → May (who.Task c.caller) → LetsIn (who.Task c.caller) o Write w
+      → Caller c.number (who.Task c.caller) w → From R w (call_runs p o c)
   unfolding call_runs
   call_runs-from p o c w good may h own =
-      then-from (chains moves) (begin_action_on p (who.Task c.caller) o Write (Some c.number) None) _ w (begin_action_on-from moves p (who.Task c.caller) o Write (Some c.number) None w good (moves.may_acts (who.Task c.caller) may) (λ v xs k. moves.pushes (who.Task c.caller) (new_frame (new_protected_mark o Write (Some c.number) None) None) v (moves.behind w v k) (moves.may_pushes (who.Task c.caller) may) (moves.may_free (who.Task c.caller) v (moves.behind w v k) may) refl refl (λ n e. moves.still_called n (who.Task c.caller) w v k (own_number c.number n (who.Task c.caller) w own e))) h)
+      then-from (chains moves) (begin_action_on p (who.Task c.caller) o Write (Some c.number) None) _ w
+      (begin_action_on-from moves p (who.Task c.caller) o Write (Some c.number) None w good (moves.may_acts (who.Task c.caller) may)
+      (λ v xs k. moves.pushes (who.Task c.caller) (new_frame (new_protected_mark o Write (Some c.number) None) None) v (moves.behind w v k)
+      (moves.may_pushes (who.Task c.caller) may) (moves.may_free (who.Task c.caller) v (moves.behind w v k) may) refl refl
+      (λ n e. moves.still_called n (who.Task c.caller) w v k (own_number c.number n (who.Task c.caller) w own e))) h)
       (serve_call-keeps moves p Own (who.Task c.caller) o c nothing nothing may (nothing-keeps (chains moves)) (nothing-keeps (chains moves)))
 
-  call_runs_if_room-from : (p : Image) (o : ObjectNo) (c : Call) (w : World) → G w → May (who.Task c.caller) → LetsIn (who.Task c.caller) o Write w → Caller c.number (who.Task c.caller) w → From R w (call_runs_if_room p o c)
+  call_runs_if_room-from : (p : Image) (o : ObjectNo) (c : Call) (w : World) → G w → May (who.Task c.caller) → LetsIn (who.Task c.caller) o Write w
+      → Caller c.number (who.Task c.caller) w → From R w (call_runs_if_room p o c)
   unfolding call_runs_if_room
   call_runs_if_room-from p o c w good may h own =
-      looks_at-from (chains moves) (λ v. elim (has_room_for_action p v c) as (λ _. Step) [ true ↦ call_runs p o c | false ↦ call_without_room o c ]) w (either-from (chains moves) (has_room_for_action p w c) (call_runs p o c) (call_without_room o c) w (call_runs-from p o c w good may h own) (call_without_room-from moves o c w good h))
+      looks_at-from (chains moves) (λ v. elim (has_room_for_action p v c) as (λ _. Step) [ true ↦ call_runs p o c | false ↦ call_without_room o c ]) w
+      (either-from (chains moves) (has_room_for_action p w c) (call_runs p o c) (call_without_room o c) w (call_runs-from p o c w good may h own)
+      (call_without_room-from moves o c w good h))
 
-  call_closed-from : (p : Image) (o : ObjectNo) (c : Call) (test : Bool) (w : World) → G w → May (who.Task c.caller) → LetsIn (who.Task c.caller) o Write w → From R w (call_closed p o c test)
+  call_closed-from : (p : Image) (o : ObjectNo) (c : Call) (test : Bool) (w : World) → G w → May (who.Task c.caller) → LetsIn (who.Task c.caller) o Write w
+      → From R w (call_closed p o c test)
   unfolding call_closed
-  call_closed-from p o c true w good may h = make_call-from moves p o c (call_refused o) w good may h (λ n v g k own. call_refused-from moves o (numbered n c) v g k)
+  call_closed-from p o c true w good may h =
+      make_call-from moves p o c (call_refused o) w good may h (λ n v g k own. call_refused-from moves o (numbered n c) v g k)
   call_closed-from p o c false w good may h =
-      with_room-from (plain_steps moves) (who.Task c.caller) (marks_if_queued c.kind) 0 (make_call p c (call_passes p o)) w good (make_call-from moves p o c (call_passes p o) w good may h (λ n v g k own. call_passes-from moves p o (numbered n c) v g may k))
+      with_room-from (plain_steps moves) (who.Task c.caller) (marks_if_queued c.kind) 0 (make_call p c (call_passes p o)) w good
+      (make_call-from moves p o c (call_passes p o) w good may h (λ n v g k own. call_passes-from moves p o (numbered n c) v g may k))
 
-  call_by_barrier-from : (p : Image) (o : ObjectNo) (c : Call) (test : Bool) (w : World) → G w → May (who.Task c.caller) → LetsIn (who.Task c.caller) o Write w → From R w (call_by_barrier p o c test)
+  call_by_barrier-from : (p : Image) (o : ObjectNo) (c : Call) (test : Bool) (w : World) → G w → May (who.Task c.caller) → LetsIn (who.Task c.caller) o Write w
+      → From R w (call_by_barrier p o c test)
   unfolding call_by_barrier
   call_by_barrier-from p o c true w good may h =
-      with_room-from (plain_steps moves) (who.Task c.caller) 1 0 (make_call p c (call_runs_if_room p o)) w good (make_call-from moves p o c (call_runs_if_room p o) w good may h (λ n v g k own. call_runs_if_room-from p o (numbered n c) v g may k own))
-  call_by_barrier-from p o c false w good may h = looks_at-from (chains moves) (λ v. call_closed p o c (is_full p v c.owner c.entry)) w (call_closed-from p o c (is_full p w c.owner c.entry) w good may h)
+      with_room-from (plain_steps moves) (who.Task c.caller) 1 0 (make_call p c (call_runs_if_room p o)) w good
+      (make_call-from moves p o c (call_runs_if_room p o) w good may h (λ n v g k own. call_runs_if_room-from p o (numbered n c) v g may k own))
+  call_by_barrier-from p o c false w good may h =
+      looks_at-from (chains moves) (λ v. call_closed p o c (is_full p v c.owner c.entry)) w (call_closed-from p o c (is_full p w c.owner c.entry) w good may h)
 
   pub call_object-keeps : (p : Image) (o : ObjectNo) (c : Call) → May (who.Task c.caller) → Keeps G R (call_object p o c)
   unfolding call_object
   call_object-keeps p o c may =
-      where_let_inside-keeps moves p (who.Task c.caller) o Write _ (moves.may_acts (who.Task c.caller) may) (λ w good h. looks_at-from (chains moves) (λ v. call_by_barrier p o c (is_barrier_open p v (who.Task c.caller) o c.entry)) w (call_by_barrier-from p o c (is_barrier_open p w (who.Task c.caller) o c.entry) w good may h))
+      where_let_inside-keeps moves p (who.Task c.caller) o Write _ (moves.may_acts (who.Task c.caller) may)
+      (λ w good h. looks_at-from (chains moves) (λ v. call_by_barrier p o c (is_barrier_open p v (who.Task c.caller) o c.entry)) w
+      (call_by_barrier-from p o c (is_barrier_open p w (who.Task c.caller) o c.entry) w good may h))
 
   pub call_owner-keeps : (p : Image) (c : Call) (owner : Owner) → May (who.Task c.caller) → Keeps G R (call_owner p c owner)
   unfolding call_owner
   call_owner-keeps p c (owned_by.Task t) may = search (call_task-keeps)
   call_owner-keeps p c (owned_by.Object o) may = search (call_object-keeps)
 
-  pub call_named-keeps : (p : Image) (t : TaskNo) (kind : CallKind) (s : StatementNo) (n : EntryCallNamed) → May (who.Task t) → Keeps G R (call_named p t kind s n)
+  pub call_named-keeps : (p : Image) (t : TaskNo) (kind : CallKind) (s : StatementNo) (n : EntryCallNamed) → May (who.Task t)
+      → Keeps G R (call_named p t kind s n)
   unfolding call_named
   call_named-keeps p t kind s n may = search (sees-keeps, given-keeps, call_owner-keeps, chains, plain_steps) depth 8
 
@@ -279,12 +349,15 @@ module _ {G : GoodWorld} {May Acts Pushes : Naming} {Stops : Type 0} {R : StepRe
   pub async_delay-keeps : (p : Image) (name : Who) (s trigger : StatementNo) → May name → Keeps G R (async_delay p name s trigger)
   unfolding async_delay
   async_delay-keeps p name s trigger may =
-      looks-from (chains moves) (λ v. raise_if name (is_forbidden v name call_kind.Triggering) exception.Program (given Own name (delay_moment (seen_by p v name) trigger) (λ m. trigger_delay p name s trigger m (int_lt (pos v.time) m))))
+      looks-from (chains moves)
+      (λ v. raise_if name (is_forbidden v name call_kind.Triggering) exception.Program
+      (given Own name (delay_moment (seen_by p v name) trigger) (λ m. trigger_delay p name s trigger m (int_lt (pos v.time) m))))
       (λ w good. raise_if-from (plain_steps moves) name (is_forbidden w name call_kind.Triggering) exception.Program _ w good (λ allowed.
       given-from (plain_steps moves) Own name (delay_moment (seen_by p w name) trigger) _ w good (λ m.
       trigger_delay-from moves p name s trigger m (int_lt (pos w.time) m) w good may)))
 
-  pub async_by_trigger-keeps : (p : Image) (name : Who) (s trigger : StatementNo) (form : StatementForm) → May name → Keeps G R (async_by_trigger p name s trigger form)
+  pub async_by_trigger-keeps : (p : Image) (name : Who) (s trigger : StatementNo) (form : StatementForm) → May name
+      → Keeps G R (async_by_trigger p name s trigger form)
   unfolding async_by_trigger
   async_by_trigger-keeps p name s trigger (form.EntryCall entry owner actuals) may = search (entry_call-keeps)
   async_by_trigger-keeps p name s trigger _ may = search (async_delay-keeps)

@@ -34,7 +34,12 @@ use Rattle.profile_machine.specs.CallEnds.{store}
 use Rattle.trace_text.specs.declared.events.Mode.TheVariants.{Write}
 use Rattle.profile_machine.specs.Protected.{entering, begin_action_on, new_protected_mark}
 use Rattle.profile_machine.specs.Serving.{end_release}
-use Rattle.profile_machine.specs.Handlers.{argument_values, add_release, says_release, wake_agent, release, with_room_for_release, begin_handler, begin_handler_if_room, enter_handler, call_handler, interrupt, setting_of, answer, cancel_event_setting, appoint_event, event_set_to, set_event, cancel_event, clear_timer, with_timer_set, timer_set_beyond, timer_set_to, set_timer, cancel_timer, edit_budget, change_member, add_member, remove_member, fill_budget, replenish, add_to_budget, set_budget, cancel_budget, clock_risen, due_by_tick, charge_budget, timers_reached, quantum_spent_by, charge_clock, charge_group, charge_task, charge, handler_attached}
+use Rattle.profile_machine.specs.Handlers.{argument_values, add_release, says_release, wake_agent, release, with_room_for_release, begin_handler}
+use Rattle.profile_machine.specs.Handlers.{begin_handler_if_room, enter_handler, call_handler, interrupt, setting_of, answer, cancel_event_setting}
+use Rattle.profile_machine.specs.Handlers.{appoint_event, event_set_to, set_event, cancel_event, clear_timer, with_timer_set, timer_set_beyond}
+use Rattle.profile_machine.specs.Handlers.{timer_set_to, set_timer, cancel_timer, edit_budget, change_member, add_member, remove_member, fill_budget}
+use Rattle.profile_machine.specs.Handlers.{replenish, add_to_budget, set_budget, cancel_budget, clock_risen, due_by_tick, charge_budget}
+use Rattle.profile_machine.specs.Handlers.{timers_reached, quantum_spent_by, charge_clock, charge_group, charge_task, charge, handler_attached}
 use Rattle.std.proofs.Common.{◌≡◌, refl}
 use Rattle.std.specs.Prelude.{Bool}
 use Rattle.line_laws.proofs.Leaving.TaskLemmas.{pushed-free}
@@ -62,7 +67,9 @@ use Rattle.machine_laws.proofs.Kept.Entering.{entering-inside, entering-held}
 use Rattle.line_laws.proofs.Leaving.Kept.Serving.{end_release-keeps}
 use Rattle.machine_laws.proofs.FineMoves.{GoodWorld, Naming}
 use Rattle.machine_laws.proofs.Kept.Handlers.{spent-frames, spent-state, spent-who}
-use Rattle.machine_laws.proofs.Kept.Combinators.{Alters, From, Keeps, Kept, after-from, changes-from, changes-keeps, changes_then-from, either-from, for_some-keeps, from-keeps, keeps-from, looks-from, looks-keeps, looks_at-from, nothing-keeps, sees-keeps, then-from, then-keeps, unchanged-alters}
+use Rattle.machine_laws.proofs.Kept.Combinators.{Alters, From, Keeps, Kept, after-from, changes-from, changes-keeps, changes_then-from}
+use Rattle.machine_laws.proofs.Kept.Combinators.{either-from, for_some-keeps, from-keeps, keeps-from, looks-from, looks-keeps}
+use Rattle.machine_laws.proofs.Kept.Combinators.{looks_at-from, nothing-keeps, sees-keeps, then-from, then-keeps, unchanged-alters}
 use Rattle.machine_laws.proofs.Plain.Frames.{becomes-from, given-keeps, raise_if-keeps}
 use Rattle.machine_laws.proofs.Plain.Cells.{store-gives}
 
@@ -83,25 +90,31 @@ module _ {G : GoodWorld} {May Acts Pushes : Naming} {Stops : Type 0} {R : StepRe
   pub release-keeps : (p : Image) (h : HandlerOf) (argument : Option ℕ) → Keeps G R (release p Own h argument)
   unfolding release
   release-keeps p h argument =
-      then-keeps (chains moves) (changes (add_release h argument) ▷ says_release Own h) (looks (λ w. wake_agent p Own w.agent.state)) (told_release-keeps h argument)
+      then-keeps (chains moves) (changes (add_release h argument) ▷ says_release Own h) (looks (λ w. wake_agent p Own w.agent.state))
+      (told_release-keeps h argument)
       (looks-keeps (chains moves) _ (λ w. wake_agent-keeps p Own w.agent.state))
 
   pub with_room_for_release-keeps : (name : Who) (needed : Bool) (step : Step) → Keeps G R step → Keeps G R (with_room_for_release name needed step)
   with_room_for_release-keeps name needed step kept = search (looks-keeps, raise_if-keeps, chains, plain_steps)
 
-  pub setting_of-keeps : (p : Image) (name : Who) (q : Seen) (base : ℤ) (set : Setting) (named : Option HandlerName) (step : Option HandlerOf → ℤ → Step) → ((x : Option HandlerOf) (y : ℤ) → Keeps G R (step x y)) → Keeps G R (setting_of p name q base set named step)
+  pub setting_of-keeps : (p : Image) (name : Who) (q : Seen) (base : ℤ) (set : Setting) (named : Option HandlerName) (step : Option HandlerOf → ℤ → Step)
+      → ((x : Option HandlerOf) (y : ℤ) → Keeps G R (step x y)) → Keeps G R (setting_of p name q base set named step)
   setting_of-keeps p name q base set named step kept = search (given-keeps, with_room_for_release-keeps, raise_if-keeps, plain_steps)
 
   pub answer-keeps : (p : Image) (name : Who) (v : Variable) (b : Bool) → Keeps G R (answer p name v b)
   unfolding answer
-  answer-keeps p name v b = looks-from (chains moves) _ (λ w good. becomes-from (plain_steps moves) Own name (store p v (Truth b) w) w good (store-gives (plain_steps moves) p v (Truth b) w good))
+  answer-keeps p name v b =
+      looks-from (chains moves) _
+      (λ w good. becomes-from (plain_steps moves) Own name (store p v (Truth b) w) w good (store-gives (plain_steps moves) p v (Truth b) w good))
 
   pub cancel_event_setting-alters : (e : ℕ) → Alters G R (cancel_event_setting e)
   cancel_event_setting-alters e = search (drop_appointment-alters)
 
-  pub cancel_event-keeps : (p : Image) (name : Who) (s : StatementNo) (d : DeclNo) (target : VariableName) → May name → Keeps G R (cancel_event p name s d target)
+  pub cancel_event-keeps : (p : Image) (name : Who) (s : StatementNo) (d : DeclNo) (target : VariableName) → May name
+      → Keeps G R (cancel_event p name s d target)
   unfolding cancel_event
-  cancel_event-keeps p name s d target may = search (sees-keeps, given-keeps, goes-keeps, then-keeps, changes-keeps, cancel_event_setting-alters, answer-keeps, chains, plain_steps) depth 11
+  cancel_event-keeps p name s d target may =
+      search (sees-keeps, given-keeps, goes-keeps, then-keeps, changes-keeps, cancel_event_setting-alters, answer-keeps, chains, plain_steps) depth 11
 
   pub clear_timer-alters : (k : ℕ) → Alters G R (clear_timer k)
   unfolding Alters
@@ -111,15 +124,18 @@ module _ {G : GoodWorld} {May Acts Pushes : Naming} {Stops : Type 0} {R : StepRe
   unfolding Alters
   with_timer_set-alters k h v w good = moves.sets_timer k h v w good
 
-  pub cancel_timer-keeps : (p : Image) (name : Who) (s : StatementNo) (d : DeclNo) (target : VariableName) → May name → Keeps G R (cancel_timer p name s d target)
+  pub cancel_timer-keeps : (p : Image) (name : Who) (s : StatementNo) (d : DeclNo) (target : VariableName) → May name
+      → Keeps G R (cancel_timer p name s d target)
   unfolding cancel_timer
-  cancel_timer-keeps p name s d target may = search (sees-keeps, given-keeps, goes-keeps, then-keeps, changes-keeps, clear_timer-alters, answer-keeps, chains, plain_steps) depth 11
+  cancel_timer-keeps p name s d target may =
+      search (sees-keeps, given-keeps, goes-keeps, then-keeps, changes-keeps, clear_timer-alters, answer-keeps, chains, plain_steps) depth 11
 
   edit_budget-alters : (b : ℕ) (f : Budget → Budget) → Alters G R (edit_budget b f)
   unfolding Alters
   edit_budget-alters b f w good = moves.edits_budget b f w good
 
-  pub change_member-keeps : (p : Image) (name : Who) (s : StatementNo) (t : world.Task) (is_right : Bool) (b : Option ℕ) → May name → Keeps G R (change_member p name s t is_right b)
+  pub change_member-keeps : (p : Image) (name : Who) (s : StatementNo) (t : world.Task) (is_right : Bool) (b : Option ℕ) → May name
+      → Keeps G R (change_member p name s t is_right b)
   unfolding change_member
   change_member-keeps p name s t is_right b may = search (raise_if-keeps, goes-keeps, then-keeps, changes-keeps, edit_task-alters, chains, plain_steps)
 
@@ -131,9 +147,22 @@ module _ {G : GoodWorld} {May Acts Pushes : Naming} {Stops : Type 0} {R : StepRe
   unfolding remove_member
   remove_member-keeps p name s d e may = search (sees-keeps, given-keeps, change_member-keeps, chains, plain_steps) depth 8
 
-  pub fill_budget-keeps : (p : Image) (name : Who) (s : StatementNo) (d : DeclNo) (e : ExprNo) (f : ℤ → Budget → Budget) → May name → Keeps G R (fill_budget p name s d e f)
+  pub fill_budget-keeps : (p : Image) (name : Who) (s : StatementNo) (d : DeclNo) (e : ExprNo) (f : ℤ → Budget → Budget) → May name
+      → Keeps G R (fill_budget p name s d e f)
   unfolding fill_budget
-  fill_budget-keeps p name s d e f may = search (sees-keeps, given-keeps, with_room_for_release-keeps, raise_if-keeps, goes-keeps, then-keeps, changes-keeps, edit_budget-alters, chains, plain_steps) depth 10
+  fill_budget-keeps p name s d e f may =
+      search (
+        sees-keeps,
+        given-keeps,
+        with_room_for_release-keeps,
+        raise_if-keeps,
+        goes-keeps,
+        then-keeps,
+        changes-keeps,
+        edit_budget-alters,
+        chains,
+        plain_steps,
+      ) depth 10
 
   pub replenish-keeps : (p : Image) (name : Who) (s : StatementNo) (d : DeclNo) (e : ExprNo) → May name → Keeps G R (replenish p name s d e)
   unfolding replenish
@@ -143,13 +172,28 @@ module _ {G : GoodWorld} {May Acts Pushes : Naming} {Stops : Type 0} {R : StepRe
   unfolding add_to_budget
   add_to_budget-keeps p name s d e may = search (fill_budget-keeps)
 
-  pub set_budget-keeps : (p : Image) (name : Who) (s : StatementNo) (d : DeclNo) (named : Option HandlerName) → May name → Keeps G R (set_budget p name s d named)
+  pub set_budget-keeps : (p : Image) (name : Who) (s : StatementNo) (d : DeclNo) (named : Option HandlerName) → May name
+      → Keeps G R (set_budget p name s d named)
   unfolding set_budget
-  set_budget-keeps p name s d named may = search (sees-keeps, given-keeps, with_room_for_release-keeps, raise_if-keeps, goes-keeps, then-keeps, changes-keeps, edit_budget-alters, chains, plain_steps) depth 10
+  set_budget-keeps p name s d named may =
+      search (
+        sees-keeps,
+        given-keeps,
+        with_room_for_release-keeps,
+        raise_if-keeps,
+        goes-keeps,
+        then-keeps,
+        changes-keeps,
+        edit_budget-alters,
+        chains,
+        plain_steps,
+      ) depth 10
 
-  pub cancel_budget-keeps : (p : Image) (name : Who) (s : StatementNo) (d : DeclNo) (target : VariableName) → May name → Keeps G R (cancel_budget p name s d target)
+  pub cancel_budget-keeps : (p : Image) (name : Who) (s : StatementNo) (d : DeclNo) (target : VariableName) → May name
+      → Keeps G R (cancel_budget p name s d target)
   unfolding cancel_budget
-  cancel_budget-keeps p name s d target may = search (sees-keeps, given-keeps, goes-keeps, then-keeps, changes-keeps, edit_budget-alters, answer-keeps, chains, plain_steps) depth 11
+  cancel_budget-keeps p name s d target may =
+      search (sees-keeps, given-keeps, goes-keeps, then-keeps, changes-keeps, edit_budget-alters, answer-keeps, chains, plain_steps) depth 11
 
   pub charge_budget-alters : (n : Option ℕ) → Alters G R (charge_budget n)
   charge_budget-alters None = search (unchanged-alters, chains)
@@ -169,7 +213,8 @@ module _ {G : GoodWorld} {May Acts Pushes : Naming} {Stops : Type 0} {R : StepRe
   charge_group-alters t w good =
       let b = (task_of w (who.Task t)).budget in
       let first = charge_budget-alters b w good in
-      moves.goes_on w (charge_budget b w) (charge_group t w) first (moves.sets_budget_due (due_by_tick w b) (charge_budget b w) (moves.behind w (charge_budget b w) first))
+      moves.goes_on w (charge_budget b w) (charge_group t w) first
+      (moves.sets_budget_due (due_by_tick w b) (charge_budget b w) (moves.behind w (charge_budget b w) first))
 
   charge_task-alters : (p : Image) (t : TaskNo) → Alters G R (charge_task p t)
   unfolding Alters
@@ -196,7 +241,8 @@ module _ {G : GoodWorld} {May Acts Pushes : Naming} {Stops : Type 0} {R : StepRe
       then-keeps (chains moves) (says Own (line.Interrupt n)) _ (says-keeps moves Own (line.Interrupt n) refl)
       (looks-keeps (chains moves) _ (λ w. for_some-keeps (chains moves) (handler_attached p n w.objects) _ (λ h. release-keeps p h None)))
 
-  appoint_event-from : (p : Image) (e : ℕ) (h : HandlerOf) (m : ℤ) (test : Bool) (w : World) → G w → int_lt (pos w.time) m ≡ test → From R w (appoint_event p e h m test)
+  appoint_event-from : (p : Image) (e : ℕ) (h : HandlerOf) (m : ℤ) (test : Bool) (w : World) → G w → int_lt (pos w.time) m ≡ test
+      → From R w (appoint_event p e h m test)
   unfolding appoint_event
   appoint_event-from p e h m true w good is = appoint-from moves (due_for.Event e h) m w good
   appoint_event-from p e h m false w good is = keeps-from (chains moves) (release p Own h (Some e)) w good (release-keeps p h (Some e))
@@ -206,9 +252,22 @@ module _ {G : GoodWorld} {May Acts Pushes : Naming} {Stops : Type 0} {R : StepRe
   event_set_to-keeps p e None m = search (nothing-keeps, chains)
   event_set_to-keeps p e (Some h) m = looks-from (chains moves) _ (λ w good. appoint_event-from p e h m (int_lt (pos w.time) m) w good refl)
 
-  pub set_event-keeps : (p : Image) (name : Who) (s : StatementNo) (d : DeclNo) (set : Setting) (named : Option HandlerName) → May name → Keeps G R (set_event p name s d set named)
+  pub set_event-keeps : (p : Image) (name : Who) (s : StatementNo) (d : DeclNo) (set : Setting) (named : Option HandlerName) → May name
+      → Keeps G R (set_event p name s d set named)
   unfolding set_event
-  set_event-keeps p name s d set named may = search (sees-keeps, given-keeps, setting_of-keeps, goes-keeps, then-keeps, changes-keeps, cancel_event_setting-alters, event_set_to-keeps, chains, plain_steps) depth 11
+  set_event-keeps p name s d set named may =
+      search (
+        sees-keeps,
+        given-keeps,
+        setting_of-keeps,
+        goes-keeps,
+        then-keeps,
+        changes-keeps,
+        cancel_event_setting-alters,
+        event_set_to-keeps,
+        chains,
+        plain_steps,
+      ) depth 11
 
   pub timer_set_beyond-keeps : (p : Image) (k : ℕ) (h : HandlerOf) (v : ℤ) (test : Bool) → Keeps G R (timer_set_beyond p k h v test)
   unfolding timer_set_beyond
@@ -220,51 +279,94 @@ module _ {G : GoodWorld} {May Acts Pushes : Naming} {Stops : Type 0} {R : StepRe
   timer_set_to-keeps p k clock None v = search (nothing-keeps, chains)
   timer_set_to-keeps p k clock (Some h) v = search (timer_set_beyond-keeps)
 
-  pub set_timer-keeps : (p : Image) (name : Who) (s : StatementNo) (d : DeclNo) (set : Setting) (named : Option HandlerName) → May name → Keeps G R (set_timer p name s d set named)
+  pub set_timer-keeps : (p : Image) (name : Who) (s : StatementNo) (d : DeclNo) (set : Setting) (named : Option HandlerName) → May name
+      → Keeps G R (set_timer p name s d set named)
   unfolding set_timer
-  set_timer-keeps p name s d set named may = search (sees-keeps, given-keeps, setting_of-keeps, goes-keeps, then-keeps, changes-keeps, clear_timer-alters, timer_set_to-keeps, chains, plain_steps) depth 11
+  set_timer-keeps p name s d set named may =
+      search
+      (sees-keeps, given-keeps, setting_of-keeps, goes-keeps, then-keeps, changes-keeps, clear_timer-alters, timer_set_to-keeps, chains, plain_steps) depth 11
 
   -- ---- the agent calls a handler: nothing below its action goes on when it has ended
 
   -- the mark of an action that begins, and a step behind it
   regrouped_last-from : (p : Image) (o : ObjectNo) (mode : Mode) (call : Option CallNo) (release : Option ℕ) (g : Step) (w : World)
-      → From R w ((says Own (line.Enter who.Agent o mode) ▷ changes (open_action who.Agent o mode)) ▷ (looks (λ v. inherit_running p who.Agent (inherited_by.Ceiling o) (ceiling_of (object_of v o))) ▷ (changes (push who.Agent (new_frame (new_protected_mark o mode call release) None)) ▷ g)))
-      → From R w ((says Own (line.Enter who.Agent o mode) ▷ changes (open_action who.Agent o mode) ▷ looks (λ v. inherit_running p who.Agent (inherited_by.Ceiling o) (ceiling_of (object_of v o))) ▷ changes (push who.Agent (new_frame (new_protected_mark o mode call release) None))) ▷ g)
+      → From R w ((says Own (line.Enter who.Agent o mode) ▷ changes (open_action who.Agent o mode))
+      ▷ (looks (λ v. inherit_running p who.Agent (inherited_by.Ceiling o) (ceiling_of (object_of v o)))
+      ▷ (changes (push who.Agent (new_frame (new_protected_mark o mode call release) None)) ▷ g)))
+      → From R w ((says Own (line.Enter who.Agent o mode) ▷ changes (open_action who.Agent o mode)
+      ▷ looks (λ v. inherit_running p who.Agent (inherited_by.Ceiling o) (ceiling_of (object_of v o)))
+      ▷ changes (push who.Agent (new_frame (new_protected_mark o mode call release) None)))
+      ▷ g)
   regrouped_last-from p o mode call release g w a =
-      regrouped-from moves (says Own (line.Enter who.Agent o mode) ▷ changes (open_action who.Agent o mode) ▷ looks (λ v. inherit_running p who.Agent (inherited_by.Ceiling o) (ceiling_of (object_of v o)))) (changes (push who.Agent (new_frame (new_protected_mark o mode call release) None))) g w
-      (regrouped-from moves (says Own (line.Enter who.Agent o mode) ▷ changes (open_action who.Agent o mode)) (looks (λ v. inherit_running p who.Agent (inherited_by.Ceiling o) (ceiling_of (object_of v o)))) (changes (push who.Agent (new_frame (new_protected_mark o mode call release) None)) ▷ g) w a)
+      regrouped-from moves
+      (says Own (line.Enter who.Agent o mode) ▷ changes (open_action who.Agent o mode)
+      ▷ looks (λ v. inherit_running p who.Agent (inherited_by.Ceiling o) (ceiling_of (object_of v o))))
+      (changes (push who.Agent (new_frame (new_protected_mark o mode call release) None))) g w
+      (regrouped-from moves (says Own (line.Enter who.Agent o mode) ▷ changes (open_action who.Agent o mode))
+      (looks (λ v. inherit_running p who.Agent (inherited_by.Ceiling o) (ceiling_of (object_of v o))))
+      (changes (push who.Agent (new_frame (new_protected_mark o mode call release) None)) ▷ g) w a)
 
   begin_handler-from : (p : Image) (r : Release) (w : World) → G w → Stops → LetsIn who.Agent r.handler.object Write w → From R w (begin_handler p r)
   unfolding begin_handler begin_action_on
   begin_handler-from p r w good stops h =
       let o = r.handler.object in
       let x = new_frame (new_protected_mark o Write None (Some r.number)) None in
-      let opens = looks (λ v. changes (open_scope p who.Agent (subprogram_of p r.handler.procedure).scope (body_of_object p v (subprogram_of p r.handler.procedure).scope o None (argument_values r.argument)) (opened_for.Subprogram [] bound_for.Nowhere))) in
+      let opens =
+      looks (λ v. changes
+      (open_scope p who.Agent (subprogram_of p r.handler.procedure).scope
+      (body_of_object p v (subprogram_of p r.handler.procedure).scope o None (argument_values r.argument)) (opened_for.Subprogram [] bound_for.Nowhere))) in
       let inherits = looks (λ v. inherit_running p who.Agent (inherited_by.Ceiling o) (ceiling_of (object_of v o))) in
       regrouped_last-from p o Write None (Some r.number) opens w
-      (after-from (chains moves) (says Own (line.Enter who.Agent o Write) ▷ changes (open_action who.Agent o Write)) (inherits ▷ (changes (push who.Agent x) ▷ opens)) w (told_enter-from moves who.Agent o Write w good h) (λ v xs k.
+      (after-from (chains moves) (says Own (line.Enter who.Agent o Write) ▷ changes (open_action who.Agent o Write))
+      (inherits ▷ (changes (push who.Agent x) ▷ opens)) w (told_enter-from moves who.Agent o Write w good h) (λ v xs k.
       then-from (chains moves) inherits (changes (push who.Agent x) ▷ opens) v
-      (keeps-from (chains moves) inherits v (moves.behind w v k) (looks-keeps (chains moves) _ (λ u. inherit_running-keeps moves p who.Agent (inherited_by.Ceiling o) (ceiling_of (object_of u o)) moves.agent_acts)))
+      (keeps-from (chains moves) inherits v (moves.behind w v k)
+      (looks-keeps (chains moves) _ (λ u. inherit_running-keeps moves p who.Agent (inherited_by.Ceiling o) (ceiling_of (object_of u o)) moves.agent_acts)))
       (from-keeps (chains moves) (changes (push who.Agent x) ▷ opens) (λ u good_u.
       let pushed = moves.pushes_special who.Agent x u good_u (moves.stops_pushes stops who.Agent) refl refl refl refl in
       let good_pushed = moves.behind u (push who.Agent x u) pushed in
       changes_then-from (chains moves) (push who.Agent x) opens u pushed
-      (looks_at-from (chains moves) (λ v. changes (open_scope p who.Agent (subprogram_of p r.handler.procedure).scope (body_of_object p v (subprogram_of p r.handler.procedure).scope o None (argument_values r.argument)) (opened_for.Subprogram [] bound_for.Nowhere))) (push who.Agent x u)
-      (changes-from (chains moves) (open_scope p who.Agent (subprogram_of p r.handler.procedure).scope (body_of_object p (push who.Agent x u) (subprogram_of p r.handler.procedure).scope o None (argument_values r.argument)) (opened_for.Subprogram [] bound_for.Nowhere)) (push who.Agent x u) (moves.opens_scope p who.Agent (subprogram_of p r.handler.procedure).scope (body_of_object p (push who.Agent x u) (subprogram_of p r.handler.procedure).scope o None (argument_values r.argument)) (opened_for.Subprogram [] bound_for.Nowhere) (push who.Agent x u) good_pushed (moves.stops_pushes stops who.Agent) (pushed-free who.Agent x u refl))))))))
+      (looks_at-from (chains moves)
+      (λ v. changes
+      (open_scope p who.Agent (subprogram_of p r.handler.procedure).scope
+      (body_of_object p v (subprogram_of p r.handler.procedure).scope o None (argument_values r.argument)) (opened_for.Subprogram [] bound_for.Nowhere)))
+      (push who.Agent x u)
+      (changes-from (chains moves)
+      (open_scope p who.Agent (subprogram_of p r.handler.procedure).scope
+      (body_of_object p (push who.Agent x u) (subprogram_of p r.handler.procedure).scope o None (argument_values r.argument))
+      (opened_for.Subprogram [] bound_for.Nowhere))
+      (push who.Agent x u)
+      (moves.opens_scope p who.Agent (subprogram_of p r.handler.procedure).scope
+      (body_of_object p (push who.Agent x u) (subprogram_of p r.handler.procedure).scope o None (argument_values r.argument))
+      (opened_for.Subprogram [] bound_for.Nowhere) (push who.Agent x u) good_pushed (moves.stops_pushes stops who.Agent)
+      (pushed-free who.Agent x u refl))))))))
 
-  begin_handler_if_room-from : (p : Image) (r : Release) (w : World) → G w → Stops → LetsIn who.Agent r.handler.object Write w → From R w (begin_handler_if_room p r)
+  begin_handler_if_room-from : (p : Image) (r : Release) (w : World) → G w → Stops → LetsIn who.Agent r.handler.object Write w
+      → From R w (begin_handler_if_room p r)
   unfolding begin_handler_if_room
   begin_handler_if_room-from p r w good stops h =
-      looks_at-from (chains moves) (λ v. elim (has_room v who.Agent (1 + marks_of p (subprogram_of p r.handler.procedure).scope) (size_of_body p r.handler.procedure)) as (λ _. Step) [ true ↦ begin_handler p r | false ↦ end_release r.number ]) w (either-from (chains moves) (has_room w who.Agent (1 + marks_of p (subprogram_of p r.handler.procedure).scope) (size_of_body p r.handler.procedure)) (begin_handler p r) (end_release r.number) w
+      looks_at-from (chains moves)
+      (λ v. elim (has_room v who.Agent (1 + marks_of p (subprogram_of p r.handler.procedure).scope) (size_of_body p r.handler.procedure)) as (λ _. Step) [
+        | true ↦ begin_handler p r
+        | false ↦ end_release r.number
+      ]) w
+      (either-from (chains moves) (has_room w who.Agent (1 + marks_of p (subprogram_of p r.handler.procedure).scope) (size_of_body p r.handler.procedure))
+      (begin_handler p r) (end_release r.number) w
       (begin_handler-from p r w good stops h) (keeps-from (chains moves) (end_release r.number) w good (end_release-keeps moves r.number stops)))
 
-  enter_handler-from : (p : Image) (r : Release) (w : World) (is : Entering) → G w → Stops → entering p w who.Agent r.handler.object Write ≡ is → From R w (enter_handler p r is)
+  enter_handler-from : (p : Image) (r : Release) (w : World) (is : Entering) → G w → Stops → entering p w who.Agent r.handler.object Write ≡ is
+      → From R w (enter_handler p r is)
   unfolding enter_handler
-  enter_handler-from p r w entering_is.SameObject good stops e = keeps-from (chains moves) (end_release r.number) w good (end_release-keeps moves r.number stops)
-  enter_handler-from p r w entering_is.AboveCeiling good stops e = keeps-from (chains moves) (end_release r.number) w good (end_release-keeps moves r.number stops)
-  enter_handler-from p r w entering_is.Held good stops e = find_held-from moves p who.Agent r.handler.object Write w good moves.agent_acts (entering-held p w who.Agent r.handler.object Write e)
-  enter_handler-from p r w entering_is.Inside good stops e = begin_handler_if_room-from p r w good stops (entering-inside p w who.Agent r.handler.object Write e)
+  enter_handler-from p r w entering_is.SameObject good stops e =
+      keeps-from (chains moves) (end_release r.number) w good (end_release-keeps moves r.number stops)
+  enter_handler-from p r w entering_is.AboveCeiling good stops e =
+      keeps-from (chains moves) (end_release r.number) w good (end_release-keeps moves r.number stops)
+  enter_handler-from p r w entering_is.Held good stops e =
+      find_held-from moves p who.Agent r.handler.object Write w good moves.agent_acts (entering-held p w who.Agent r.handler.object Write e)
+  enter_handler-from p r w entering_is.Inside good stops e =
+      begin_handler_if_room-from p r w good stops (entering-inside p w who.Agent r.handler.object Write e)
 
   pub call_handler-keeps : (p : Image) (r : Release) → Stops → Keeps G R (call_handler p r)
   unfolding call_handler
-  call_handler-keeps p r stops = looks-from (chains moves) _ (λ w good. enter_handler-from p r w (entering p w who.Agent r.handler.object Write) good stops refl)
+  call_handler-keeps p r stops =
+      looks-from (chains moves) _ (λ w good. enter_handler-from p r w (entering p w who.Agent r.handler.object Write) good stops refl)

@@ -17,7 +17,10 @@ use Rattle.profile_machine.specs.declared.world.tasks.Waiting.TheVariants as wai
 use Rattle.profile_machine.specs.Steps.{Step, changes, nothing, ◌▷◌, ◌▶◌}
 use Rattle.profile_machine.specs.Tasks.{task_of}
 use Rattle.profile_machine.specs.Appointments.{first_due}
-use Rattle.profile_machine.specs.Instant.{with_port, with_masked, with_kept_interrupt, interrupt_comes, deliver_kept_interrupt, script_item, with_script, take_item, items_due, script_items, take_delay, end_delay, time_out, come_due, take_due, all_due, appointments_due, events_due, moments_due, expire, expire_timer, no_timers_due, timers_due, run_out, no_budget_due, budgets_due, spend_quantum, quantum_spent}
+use Rattle.profile_machine.specs.Instant.{with_port, with_masked, with_kept_interrupt, interrupt_comes, deliver_kept_interrupt}
+use Rattle.profile_machine.specs.Instant.{script_item, with_script, take_item, items_due, script_items, take_delay, end_delay, time_out}
+use Rattle.profile_machine.specs.Instant.{come_due, take_due, all_due, appointments_due, events_due, moments_due, expire, expire_timer}
+use Rattle.profile_machine.specs.Instant.{no_timers_due, timers_due, run_out, no_budget_due, budgets_due, spend_quantum, quantum_spent}
 use Rattle.profile_machine.specs.declared.world.tasks.State.{State}
 use Rattle.profile_machine.specs.declared.world.tasks.State.TheVariants.{Made, Runnable, Blocked}
 use Rattle.profile_machine.specs.Tasks.{is_runnable_state, is_runnable, waiting_in, waiting_of, task_of}
@@ -42,7 +45,8 @@ use Rattle.line_laws.proofs.Leaving.Kept.Handlers.{interrupt-keeps, clear_timer-
 use Rattle.profile_machine.specs.Values.{budget_of}
 use Rattle.profile_machine.specs.Handlers.{clear_timer}
 use Rattle.machine_laws.proofs.FineMoves.{GoodWorld, Naming}
-use Rattle.machine_laws.proofs.Kept.Combinators.{Alters, From, Keeps, Leads, changes-from, changes-keeps, for_each-keeps, for_some-keeps, keeps-from, looks-from, looks-keeps, nothing-keeps, said_then-from, then-from, then-keeps, then-leads}
+use Rattle.machine_laws.proofs.Kept.Combinators.{Alters, From, Keeps, Leads, changes-from, changes-keeps, for_each-keeps, for_some-keeps, keeps-from}
+use Rattle.machine_laws.proofs.Kept.Combinators.{looks-from, looks-keeps, nothing-keeps, said_then-from, then-from, then-keeps, then-leads}
 use Rattle.machine_laws.proofs.Plain.Calls.{with_call-keeps, unqueued-alters}
 
 module _ {G : GoodWorld} {May Acts Pushes : Naming} {Stops : Type 0} {R : StepRelation} {Q : MoveRelation} (moves : FineMoves G May Acts Pushes Stops R Q) where
@@ -73,15 +77,20 @@ module _ {G : GoodWorld} {May Acts Pushes : Naming} {Stops : Type 0} {R : StepRe
   script_item-keeps p (item.Interrupt n) = search (looks-keeps, interrupt_comes-keeps, chains)
   script_item-keeps p (item.Port n value) = search (changes-keeps, with_port-alters, then-keeps, says-keeps, chains)
   script_item-keeps p (item.Mask n) = search (changes-keeps, with_masked-alters, then-keeps, says-keeps, chains)
-  script_item-keeps p (item.Unmask n) = search (changes-keeps, with_masked-alters, then-keeps, says-keeps, looks-keeps, deliver_kept_interrupt-keeps, chains) depth 8
+  script_item-keeps p (item.Unmask n) =
+      search (changes-keeps, with_masked-alters, then-keeps, says-keeps, looks-keeps, deliver_kept_interrupt-keeps, chains) depth 8
 
-  take_item_if-from : (p : Image) (again : Step) (x : ℤ × Item) (xs : List (ℤ × Item)) (w : World) (test : Bool) → G w → w.script ≡ x ∷ xs → int_le x.0 (pos w.time) ≡ test → Keeps G R again → From R w (elim test as (λ _. Step) [ true ↦ changes (with_script xs) ▷ script_item p x.1 ▷ again | false ↦ nothing ])
+  take_item_if-from : (p : Image) (again : Step) (x : ℤ × Item) (xs : List (ℤ × Item)) (w : World) (test : Bool) → G w → w.script ≡ x ∷ xs
+      → int_le x.0 (pos w.time) ≡ test → Keeps G R again
+      → From R w (elim test as (λ _. Step) [ true ↦ changes (with_script xs) ▷ script_item p x.1 ▷ again | false ↦ nothing ])
   take_item_if-from p again x xs w true good is due kept =
-      then-from (chains moves) (changes (with_script xs)) (script_item p x.1 ▷ again) w (changes-from (chains moves) (with_script xs) w (moves.cuts_script x xs w good is due))
+      then-from (chains moves) (changes (with_script xs)) (script_item p x.1 ▷ again) w
+      (changes-from (chains moves) (with_script xs) w (moves.cuts_script x xs w good is due))
       (then-keeps (chains moves) (script_item p x.1) again (script_item-keeps p x.1) kept)
   take_item_if-from p again x xs w false good is due kept = keeps-from (chains moves) nothing w good (nothing-keeps (chains moves))
 
-  take_item-from : (p : Image) (again : Step) (w : World) (script : List (ℤ × Item)) → G w → w.script ≡ script → Keeps G R again → From R w (take_item p w.time again script)
+  take_item-from : (p : Image) (again : Step) (w : World) (script : List (ℤ × Item)) → G w → w.script ≡ script → Keeps G R again
+      → From R w (take_item p w.time again script)
   take_item-from p again w [] good is kept = keeps-from (chains moves) nothing w good (nothing-keeps (chains moves))
   take_item-from p again w (x ∷ xs) good is kept = take_item_if-from p again x xs w (int_le x.0 (pos w.time)) good is refl kept
 
@@ -94,19 +103,22 @@ module _ {G : GoodWorld} {May Acts Pushes : Naming} {Stops : Type 0} {R : StepRe
   pub script_items-leads : (p : Image) → Leads G Q (script_items p)
   script_items-leads p = search (effect-leads, looks-keeps, items_due-keeps, chains)
 
-  take_delay-from : (p : Image) (name : Who) (waiting : Option Waiting) (w : World) → G w → (waits waiting ≡ true → Free name w) → From R w (take_delay p name waiting)
+  take_delay-from : (p : Image) (name : Who) (waiting : Option Waiting) (w : World) → G w → (waits waiting ≡ true → Free name w)
+      → From R w (take_delay p name waiting)
   unfolding take_delay
   take_delay-from p name (Some (waits_for.Select accepts (Some delay) terminate)) w good k = goes-from moves name (next_of p delay) w good (k refl)
   take_delay-from p name _ w good k = keeps-from (chains moves) nothing w good (nothing-keeps (chains moves))
 
   delay_taken-keeps : (p : Image) (t : TaskNo) → Keeps G R (looks (λ w. take_delay p (who.Task t) (waiting_of w (who.Task t))))
-  delay_taken-keeps p t = looks-from (chains moves) _ (λ w good. take_delay-from p (who.Task t) (waiting_of w (who.Task t)) w good (λ e. moves.waiting_free (who.Task t) w good e))
+  delay_taken-keeps p t =
+      looks-from (chains moves) _ (λ w good. take_delay-from p (who.Task t) (waiting_of w (who.Task t)) w good (λ e. moves.waiting_free (who.Task t) w good e))
 
   pub end_delay-keeps : (p : Image) (t : TaskNo) → Stops → Keeps G R (end_delay p (who.Task t))
   unfolding end_delay
   end_delay-keeps p t stops =
       then-keeps (chains moves) (looks (λ w. take_delay p (who.Task t) (waiting_of w (who.Task t)))) _ (delay_taken-keeps p t)
-      (then-keeps (chains moves) (ready p Own (who.Task t)) _ (ready-keeps moves p Own (who.Task t)) (open_sequence-keeps moves p Own (who.Task t) (moves.stops_pushes stops (who.Task t))))
+      (then-keeps (chains moves) (ready p Own (who.Task t)) _ (ready-keeps moves p Own (who.Task t))
+      (open_sequence-keeps moves p Own (who.Task t) (moves.stops_pushes stops (who.Task t))))
 
   pub time_out-keeps : (p : Image) (c : CallNo) → Keeps G R (time_out p c)
   unfolding time_out
@@ -127,7 +139,8 @@ module _ {G : GoodWorld} {May Acts Pushes : Naming} {Stops : Type 0} {R : StepRe
   unfolding all_due
   all_due-keeps zero p events stops = search (nothing-keeps, chains)
   all_due-keeps (suc fuel) p events stops =
-      looks-keeps (chains moves) _ (λ w. take_due-keeps p (all_due fuel p events) (first_due events w.time w.appointments) stops (all_due-keeps fuel p events stops))
+      looks-keeps (chains moves) _
+      (λ w. take_due-keeps p (all_due fuel p events) (first_due events w.time w.appointments) stops (all_due-keeps fuel p events stops))
 
   pub appointments_due-leads : (p : Image) (events : Bool) → Stops → Leads G Q (appointments_due p events)
   appointments_due-leads p events stops = search (effect-leads, looks-keeps, all_due-keeps, chains)
@@ -141,7 +154,8 @@ module _ {G : GoodWorld} {May Acts Pushes : Naming} {Stops : Type 0} {R : StepRe
   pub expire-keeps : (p : Image) (k : ℕ) (setting : Option TimerSetting) → Keeps G R (expire p k setting)
   unfolding expire
   expire-keeps p k None = search (nothing-keeps, chains)
-  expire-keeps p k (Some s) = then-keeps (chains moves) (changes (clear_timer k)) _ (search (changes-keeps, clear_timer-alters, chains)) (release-keeps moves p s.handler (Some k))
+  expire-keeps p k (Some s) =
+      then-keeps (chains moves) (changes (clear_timer k)) _ (search (changes-keeps, clear_timer-alters, chains)) (release-keeps moves p s.handler (Some k))
 
   pub expire_timer-keeps : (p : Image) (k : ℕ) → Keeps G R (expire_timer p k)
   unfolding expire_timer
@@ -174,12 +188,16 @@ module _ {G : GoodWorld} {May Acts Pushes : Naming} {Stops : Type 0} {R : StepRe
   first-of true b c d e f h = refl
   first-of false b c d e f h = absurd cc
 
-  spent-from : (p : Image) (t : TaskNo) (w : World) (test : Bool) → G w → has_spent_quantum p (task_of w (who.Task t)) ≡ test → From R w (when test (says Own (line.Quantum t) ▷ to_tail p Own (who.Task t)))
+  spent-from : (p : Image) (t : TaskNo) (w : World) (test : Bool) → G w → has_spent_quantum p (task_of w (who.Task t)) ≡ test
+      → From R w (when test (says Own (line.Quantum t) ▷ to_tail p Own (who.Task t)))
   spent-from p t w false good is = keeps-from (chains moves) nothing w good (nothing-keeps (chains moves))
   spent-from p t w true good is =
       let u = task_of w (who.Task t) in
       said_then-from (chains moves) Own (line.Quantum t) (to_tail p Own (who.Task t)) w (moves.says Own (line.Quantum t) w good refl)
-      (to_tail-from moves p Own (who.Task t) w good (is-runnable u.state (first-of (is_runnable u) (eqb u.quantum 0) (is_robin_level p u.base) (eqb (active p u) u.base) (is_empty u.inherited) (not (any_protected u.frames)) is)))
+      (to_tail-from moves p Own (who.Task t) w good
+      (is-runnable u.state
+      (first-of (is_runnable u) (eqb u.quantum 0) (is_robin_level p u.base) (eqb (active p u) u.base) (is_empty u.inherited)
+      (not (any_protected u.frames)) is)))
 
   pub spend_quantum-keeps : (p : Image) (by : Option Who) → Keeps G R (spend_quantum p by)
   unfolding spend_quantum
@@ -192,4 +210,6 @@ module _ {G : GoodWorld} {May Acts Pushes : Naming} {Stops : Type 0} {R : StepRe
 
   -- all of an instant but the effect of the action that ended
   pub behind_action-leads : (p : Image) → Stops → Leads G Q (script_items p ▶ events_due p ▶ moments_due p ▶ timers_due p ▶ budgets_due p ▶ quantum_spent p)
-  behind_action-leads p stops = search (then-leads, script_items-leads, events_due-leads, moments_due-leads, timers_due-leads, budgets_due-leads, quantum_spent-leads, move_chains) depth 9
+  behind_action-leads p stops =
+      search
+      (then-leads, script_items-leads, events_due-leads, moments_due-leads, timers_due-leads, budgets_due-leads, quantum_spent-leads, move_chains) depth 9

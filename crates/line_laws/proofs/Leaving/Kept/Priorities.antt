@@ -23,7 +23,10 @@ use Rattle.profile_machine.specs.Frames.{goes, in_protected}
 use Rattle.profile_machine.specs.Values.{value, moment, whole_in, seen_by, optional_task, live_task, must_be_task}
 use Rattle.profile_machine.specs.Calls.{place_of_entry, take_call, put_call}
 use Rattle.profile_machine.specs.Masters.{part_of}
-use Rattle.profile_machine.specs.Priorities.{placed_anew, reprioritize, reprioritize_own, replace_in, says_base, set_base, says_deadline, set_deadline, take_base, take_deadline, set_deferred, placing_of, defer_base, set_or_defer_base, set_base_of, priority_in_range, set_priority, quantum_of, set_quantum, defer_deadline, set_or_defer_deadline, set_deadline_of, delay_with_deadline, delay_and_set_deadline, is_edf_base}
+use Rattle.profile_machine.specs.Priorities.{placed_anew, reprioritize, reprioritize_own, replace_in, says_base, set_base, says_deadline}
+use Rattle.profile_machine.specs.Priorities.{set_deadline, take_base, take_deadline, set_deferred, placing_of, defer_base, set_or_defer_base}
+use Rattle.profile_machine.specs.Priorities.{set_base_of, priority_in_range, set_priority, quantum_of, set_quantum, defer_deadline}
+use Rattle.profile_machine.specs.Priorities.{set_or_defer_deadline, set_deadline_of, delay_with_deadline, delay_and_set_deadline, is_edf_base}
 use Rattle.machine_laws.proofs.Moves.{StepRelation, MoveRelation}
 use Rattle.line_laws.proofs.Leaving.FineMoves.{FineMoves, waits, chains, says-keeps}
 use Rattle.line_laws.proofs.Leaving.Kept.Tasks.{edit_task-alters}
@@ -39,7 +42,8 @@ use Rattle.profile_machine.specs.Steps.{looks, when, nothing, ◌▷◌}
 use Rattle.profile_machine.specs.Priorities.{is_runnable_at_edf}
 use Rattle.std.proofs.Common.{Bool, true, false, ap}
 use Rattle.machine_laws.proofs.FineMoves.{GoodWorld, Naming}
-use Rattle.machine_laws.proofs.Kept.Combinators.{Alters, From, Keeps, branch-keeps, changes-keeps, for_some-keeps, keeps-from, looks-from, looks-keeps, nothing-keeps, sees-keeps, then-keeps, when-keeps}
+use Rattle.machine_laws.proofs.Kept.Combinators.{Alters, From, Keeps, branch-keeps, changes-keeps, for_some-keeps, keeps-from}
+use Rattle.machine_laws.proofs.Kept.Combinators.{looks-from, looks-keeps, nothing-keeps, sees-keeps, then-keeps, when-keeps}
 use Rattle.machine_laws.proofs.Plain.Frames.{given-keeps, raise_if-keeps, given-from, given_as-from}
 use Rattle.machine_laws.proofs.Plain.Calls.{edit_call-alters, with_call-keeps, edit_queue-alters}
 
@@ -58,7 +62,8 @@ module _ {G : GoodWorld} {May Acts Pushes : Naming} {Stops : Type 0} {R : StepRe
   unfolding reprioritize_own
   reprioritize_own-keeps p name waiting = search (looks-keeps, for_some-keeps, with_call-keeps, reprioritize-keeps, chains, plain_steps)
 
-  replace_in-from : (p : Image) (part : Part) (name : Who) (state : State) (w : World) → G w → (task_of w name).state ≡ state → From R w (replace_in p part name state)
+  replace_in-from : (p : Image) (part : Part) (name : Who) (state : State) (w : World) → G w → (task_of w name).state ≡ state
+      → From R w (replace_in p part name state)
   unfolding replace_in
   replace_in-from p part name Made w good is = keeps-from (chains moves) nothing w good (nothing-keeps (chains moves))
   replace_in-from p part name Runnable w good is = to_tail-from moves p part name w good (awake-state name w (ap (λ s. waits (waiting_in s)) is))
@@ -75,26 +80,36 @@ module _ {G : GoodWorld} {May Acts Pushes : Naming} {Stops : Type 0} {R : StepRe
   pub set_base-keeps : (p : Image) (part placing : Part) (name : Who) (level : ℕ) → Keeps G R (set_base p part placing name level)
   unfolding set_base
   set_base-keeps p part placing name level =
-      then-keeps (chains moves) (changes (edit_task name (λ t. record t { base = level }))) (says_base part name level ▷ looks (λ w. replace_in p placing name (task_of w name).state)) (search (changes-keeps, edit_task-alters, chains)) (then-keeps (chains moves) (says_base part name level) _ (says_base-keeps part name level) (replaced-keeps p placing name))
+      then-keeps (chains moves) (changes (edit_task name (λ t. record t { base = level })))
+      (says_base part name level ▷ looks (λ w. replace_in p placing name (task_of w name).state)) (search (changes-keeps, edit_task-alters, chains))
+      (then-keeps (chains moves) (says_base part name level) _ (says_base-keeps part name level) (replaced-keeps p placing name))
 
   pub says_deadline-keeps : (part : Part) (name : Who) (d : ℤ) → Keeps G R (says_deadline part name d)
   unfolding says_deadline
   says_deadline-keeps part (who.Task t) d = search (says-keeps)
   says_deadline-keeps part who.Agent d = search (nothing-keeps, chains)
 
-  replace_at_edf-from : (p : Image) (placing : Part) (name : Who) (state : State) (w : World) (test : Bool) → G w → (task_of w name).state ≡ state → is_runnable_at_edf p w name state ≡ test → From R w (when test (to_tail p placing name))
+  replace_at_edf-from : (p : Image) (placing : Part) (name : Who) (state : State) (w : World) (test : Bool) → G w → (task_of w name).state ≡ state
+      → is_runnable_at_edf p w name state ≡ test → From R w (when test (to_tail p placing name))
   replace_at_edf-from p placing name state w false good is e = keeps-from (chains moves) nothing w good (nothing-keeps (chains moves))
-  replace_at_edf-from p placing name Runnable w true good is e = to_tail-from moves p placing name w good (awake-state name w (ap (λ s. waits (waiting_in s)) is))
+  replace_at_edf-from p placing name Runnable w true good is e =
+      to_tail-from moves p placing name w good (awake-state name w (ap (λ s. waits (waiting_in s)) is))
   replace_at_edf-from p placing name Made w true good is e = absurd cc
   replace_at_edf-from p placing name (Blocked waiting) w true good is e = absurd cc
 
-  replaced_at_edf-keeps : (p : Image) (placing : Part) (name : Who) → Keeps G R (looks (λ w. when (is_runnable_at_edf p w name (task_of w name).state) (to_tail p placing name)))
-  replaced_at_edf-keeps p placing name = looks-from (chains moves) _ (λ w good. replace_at_edf-from p placing name (task_of w name).state w (is_runnable_at_edf p w name (task_of w name).state) good refl refl)
+  replaced_at_edf-keeps : (p : Image) (placing : Part) (name : Who)
+      → Keeps G R (looks (λ w. when (is_runnable_at_edf p w name (task_of w name).state) (to_tail p placing name)))
+  replaced_at_edf-keeps p placing name =
+      looks-from (chains moves) _
+      (λ w good. replace_at_edf-from p placing name (task_of w name).state w (is_runnable_at_edf p w name (task_of w name).state) good refl refl)
 
   pub set_deadline-keeps : (p : Image) (part placing : Part) (name : Who) (d : ℤ) → Keeps G R (set_deadline p part placing name d)
   unfolding set_deadline
   set_deadline-keeps p part placing name d =
-      then-keeps (chains moves) (changes (edit_task name (λ t. record t { deadline = d }))) (says_deadline part name d ▷ looks (λ w. when (is_runnable_at_edf p w name (task_of w name).state) (to_tail p placing name))) (search (changes-keeps, edit_task-alters, chains)) (then-keeps (chains moves) (says_deadline part name d) _ (says_deadline-keeps part name d) (replaced_at_edf-keeps p placing name))
+      then-keeps (chains moves) (changes (edit_task name (λ t. record t { deadline = d })))
+      (says_deadline part name d ▷ looks (λ w. when (is_runnable_at_edf p w name (task_of w name).state) (to_tail p placing name)))
+      (search (changes-keeps, edit_task-alters, chains))
+      (then-keeps (chains moves) (says_deadline part name d) _ (says_deadline-keeps part name d) (replaced_at_edf-keeps p placing name))
 
   pub take_base-keeps : (p : Image) (name : Who) (n : Option ℕ) → Keeps G R (take_base p name n)
   unfolding take_base
@@ -116,9 +131,13 @@ module _ {G : GoodWorld} {May Acts Pushes : Naming} {Stops : Type 0} {R : StepRe
 
   pub set_or_defer_base-keeps : (p : Image) (actor name : Who) (level : ℕ) → Keeps G R (set_or_defer_base p actor name level)
   unfolding set_or_defer_base
-  set_or_defer_base-keeps p actor name level = looks-keeps (chains moves) _ (λ w. branch-keeps (chains moves) (in_protected w name) (defer_base name level) (set_base p (part_of actor name) (placing_of actor name) name level) (search (defer_base-keeps)) (search (set_base-keeps)))
+  set_or_defer_base-keeps p actor name level =
+      looks-keeps (chains moves) _
+      (λ w. branch-keeps (chains moves) (in_protected w name) (defer_base name level) (set_base p (part_of actor name) (placing_of actor name) name level)
+      (search (defer_base-keeps)) (search (set_base-keeps)))
 
-  pub set_base_of-keeps : (p : Image) (actor : Who) (s : StatementNo) (level : ℕ) (t : Option world.Task) → May actor → Keeps G R (set_base_of p actor s level t)
+  pub set_base_of-keeps : (p : Image) (actor : Who) (s : StatementNo) (level : ℕ) (t : Option world.Task) → May actor
+      → Keeps G R (set_base_of p actor s level t)
   unfolding set_base_of
   set_base_of-keeps p actor s level None may = search (goes-keeps)
   set_base_of-keeps p actor s level (Some t) may =
@@ -136,13 +155,16 @@ module _ {G : GoodWorld} {May Acts Pushes : Naming} {Stops : Type 0} {R : StepRe
 
   set_level-keeps : (level ticks : ℕ) → Keeps G R (changes (λ w. record w { quanta = edit_at level (λ _. ticks) w.quanta }))
   unfolding Alters
-  set_level-keeps level ticks = changes-keeps (chains moves) (λ w. record w { quanta = edit_at level (λ _. ticks) w.quanta }) (λ w good. moves.sets_quantum level ticks w good)
+  set_level-keeps level ticks =
+      changes-keeps (chains moves) (λ w. record w { quanta = edit_at level (λ _. ticks) w.quanta }) (λ w good. moves.sets_quantum level ticks w good)
 
   pub set_quantum-keeps : (p : Image) (name : Who) (s : StatementNo) (level quantum : ExprNo) → May name → Keeps G R (set_quantum p name s level quantum)
   unfolding set_quantum
   set_quantum-keeps p name s level quantum may =
-      sees-keeps (chains moves) p name _ (λ q. given-keeps (plain_steps moves) Own name (value q level) _ (λ v. given-keeps (plain_steps moves) Own name (moment q quantum) _ (λ n.
-      given-keeps (plain_steps moves) Own name (priority_in_range p.policies.last_priority (whole_in v)) _ (λ l. given-keeps (plain_steps moves) Own name (quantum_of p l n) _ (λ ticks.
+      sees-keeps (chains moves) p name _
+      (λ q. given-keeps (plain_steps moves) Own name (value q level) _ (λ v. given-keeps (plain_steps moves) Own name (moment q quantum) _ (λ n.
+      given-keeps (plain_steps moves) Own name (priority_in_range p.policies.last_priority (whole_in v)) _
+      (λ l. given-keeps (plain_steps moves) Own name (quantum_of p l n) _ (λ ticks.
       then-keeps (chains moves) (goes name (next_of p s)) _ (goes-keeps moves name (next_of p s) may) (set_level-keeps l ticks))))))
 
   pub defer_deadline-keeps : (name : Who) (d : ℤ) → Keeps G R (defer_deadline name d)
@@ -151,9 +173,13 @@ module _ {G : GoodWorld} {May Acts Pushes : Naming} {Stops : Type 0} {R : StepRe
 
   pub set_or_defer_deadline-keeps : (p : Image) (actor name : Who) (d : ℤ) → Keeps G R (set_or_defer_deadline p actor name d)
   unfolding set_or_defer_deadline
-  set_or_defer_deadline-keeps p actor name d = looks-keeps (chains moves) _ (λ w. branch-keeps (chains moves) (in_protected w name && has_edf p) (defer_deadline name d) (set_deadline p (part_of actor name) (placing_of actor name) name d) (search (defer_deadline-keeps)) (search (set_deadline-keeps)))
+  set_or_defer_deadline-keeps p actor name d =
+      looks-keeps (chains moves) _
+      (λ w. branch-keeps (chains moves) (in_protected w name && has_edf p) (defer_deadline name d)
+      (set_deadline p (part_of actor name) (placing_of actor name) name d) (search (defer_deadline-keeps)) (search (set_deadline-keeps)))
 
-  pub set_deadline_of-keeps : (p : Image) (name : Who) (s : StatementNo) (e : ExprNo) (task : Option ExprNo) → May name → Keeps G R (set_deadline_of p name s e task)
+  pub set_deadline_of-keeps : (p : Image) (name : Who) (s : StatementNo) (e : ExprNo) (task : Option ExprNo) → May name
+      → Keeps G R (set_deadline_of p name s e task)
   unfolding set_deadline_of
   set_deadline_of-keeps p name s e task may =
       looks-from (chains moves) _ (λ w good. let q = seen_by p w name in
@@ -162,10 +188,14 @@ module _ {G : GoodWorld} {May Acts Pushes : Naming} {Stops : Type 0} {R : StepRe
       keeps-from (chains moves) _ w good
       (then-keeps (chains moves) (goes name (next_of p s)) _ (search (goes-keeps)) (set_or_defer_deadline-keeps p name t.who d)))))
 
-  pub delay_with_deadline-keeps : (p : Image) (name : Who) (s : StatementNo) (until offset : ℤ) → May name → Keeps G R (delay_with_deadline p name s until offset)
+  pub delay_with_deadline-keeps : (p : Image) (name : Who) (s : StatementNo) (until offset : ℤ) → May name
+      → Keeps G R (delay_with_deadline p name s until offset)
   unfolding delay_with_deadline
-  delay_with_deadline-keeps p name s until offset may = search (goes-keeps, then-keeps, changes-keeps, edit_task-alters, says_deadline-keeps, delay_to-keeps, chains) depth 7
+  delay_with_deadline-keeps p name s until offset may =
+      search (goes-keeps, then-keeps, changes-keeps, edit_task-alters, says_deadline-keeps, delay_to-keeps, chains) depth 7
 
-  pub delay_and_set_deadline-keeps : (p : Image) (name : Who) (s : StatementNo) (until offset : ExprNo) → May name → Keeps G R (delay_and_set_deadline p name s until offset)
+  pub delay_and_set_deadline-keeps : (p : Image) (name : Who) (s : StatementNo) (until offset : ExprNo) → May name
+      → Keeps G R (delay_and_set_deadline p name s until offset)
   unfolding delay_and_set_deadline
-  delay_and_set_deadline-keeps p name s until offset may = search (sees-keeps, raise_if-keeps, given-keeps, delay_with_deadline-keeps, chains, plain_steps) depth 8
+  delay_and_set_deadline-keeps p name s until offset may =
+      search (sees-keeps, raise_if-keeps, given-keeps, delay_with_deadline-keeps, chains, plain_steps) depth 8

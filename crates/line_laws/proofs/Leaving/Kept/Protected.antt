@@ -31,7 +31,9 @@ use Rattle.profile_machine.specs.Values.{object_of}
 use Rattle.profile_machine.specs.Inheritance.{inherit_running}
 use Rattle.profile_machine.specs.Steps.{Step, says, changes, looks, ◌▷◌}
 use Rattle.std.proofs.Common.{◌≡◌, refl}
-use Rattle.profile_machine.specs.Protected.{entering, ceiling_of, new_protected_mark, mode_of, find_held, enter_or, where_let_inside, open_action, begin_action_on, begin_operation, call_operation_of, call_operation, begin_own_operation, call_own_operation, edit_top_protected, begin_call, body_opens, has_room_for_body, serve_call, edit_protected}
+use Rattle.profile_machine.specs.Protected.{entering, ceiling_of, new_protected_mark, mode_of, find_held, enter_or, where_let_inside, open_action}
+use Rattle.profile_machine.specs.Protected.{begin_action_on, begin_operation, call_operation_of, call_operation, begin_own_operation, call_own_operation}
+use Rattle.profile_machine.specs.Protected.{edit_top_protected, begin_call, body_opens, has_room_for_body, serve_call, edit_protected}
 use Rattle.std.proofs.Common.{◌++◌}
 use Rattle.profile_machine.specs.declared.world.lines.Said.{Said}
 use Rattle.machine_laws.proofs.Moves.{StepRelation, MoveRelation, LetsIn, FindsHeld, own}
@@ -45,13 +47,15 @@ use Rattle.line_laws.proofs.Leaving.Kept.Subprograms.{begin_body-keeps}
 use Rattle.profile_machine.specs.declared.world.marks.Mark.{Mark}
 use Rattle.profile_machine.specs.declared.world.marks.Mark.TheVariants.{Scope, Handled, InProtected, InAccept, Abortable, InInitialize, InFinalize, InAssign}
 use Rattle.machine_laws.proofs.FineMoves.{GoodWorld, Naming}
-use Rattle.machine_laws.proofs.Kept.Combinators.{Alters, From, Keeps, Kept, after-from, branch-keeps, changes-from, changes-keeps, keeps-from, looks-from, looks-keeps, said-from, sees-keeps, then-from, then-keeps}
+use Rattle.machine_laws.proofs.Kept.Combinators.{Alters, From, Keeps, Kept, after-from, branch-keeps, changes-from, changes-keeps}
+use Rattle.machine_laws.proofs.Kept.Combinators.{keeps-from, looks-from, looks-keeps, said-from, sees-keeps, then-from, then-keeps}
 use Rattle.machine_laws.proofs.Plain.Frames.{raises-keeps, given-keeps, raise_if-keeps, with_room-keeps}
 use Rattle.machine_laws.proofs.Plain.Calls.{edit_call-alters, unqueued-alters}
 use Rattle.machine_laws.proofs.Plain.Subprograms.{handing-keeps}
 
 -- the release of a protected action is not edited, nor what another mark is
-protected-nature : (f : ProtectedMark → ProtectedMark) → ((m : ProtectedMark) → nature (InProtected (f m)) ≡ nature (InProtected m)) → (mark : Mark) → nature (edit_protected f mark) ≡ nature mark
+protected-nature : (f : ProtectedMark → ProtectedMark) → ((m : ProtectedMark) → nature (InProtected (f m)) ≡ nature (InProtected m)) → (mark : Mark)
+    → nature (edit_protected f mark) ≡ nature mark
 protected-nature f same (Scope m) = refl
 protected-nature f same (Handled s) = refl
 protected-nature f same (InProtected m) = same m
@@ -62,70 +66,94 @@ protected-nature f same (InFinalize o) = refl
 protected-nature f same (InAssign m) = refl
 
 module _ {G : GoodWorld} {May Acts Pushes : Naming} {Stops : Type 0} {R : StepRelation} {Q : MoveRelation} (moves : FineMoves G May Acts Pushes Stops R Q) where
-  pub find_held-from : (p : Image) (name : Who) (o : ObjectNo) (mode : Mode) (w : World) → G w → Acts name → FindsHeld name o mode w → From R w (find_held p name o mode)
+  pub find_held-from : (p : Image) (name : Who) (o : ObjectNo) (mode : Mode) (w : World) → G w → Acts name → FindsHeld name o mode w
+      → From R w (find_held p name o mode)
   unfolding find_held
   find_held-from p name o mode w good acts h =
-      then-from (chains moves) (says Own (line.Held name o mode)) (to_tail p ThePlacing name) w (said-from (chains moves) Own (line.Held name o mode) w (moves.finds_held name o mode w good h)) (to_tail-keeps moves p name acts)
+      then-from (chains moves) (says Own (line.Held name o mode)) (to_tail p ThePlacing name) w
+      (said-from (chains moves) Own (line.Held name o mode) w (moves.finds_held name o mode w good h)) (to_tail-keeps moves p name acts)
 
-  enter_or-from : (p : Image) (name : Who) (o : ObjectNo) (mode : Mode) (step : Step) (w : World) (is : Entering) → G w → Acts name → entering p w name o mode ≡ is → (LetsIn name o mode w → From R w step) → From R w (enter_or p name o mode step is)
-  enter_or-from p name o mode step w entering_is.SameObject good acts e kept = keeps-from (chains moves) (raises Own name exception.Program) w good (raises-keeps (plain_steps moves) Own name exception.Program)
-  enter_or-from p name o mode step w entering_is.AboveCeiling good acts e kept = keeps-from (chains moves) (raises Own name exception.Program) w good (raises-keeps (plain_steps moves) Own name exception.Program)
+  enter_or-from : (p : Image) (name : Who) (o : ObjectNo) (mode : Mode) (step : Step) (w : World) (is : Entering) → G w → Acts name
+      → entering p w name o mode ≡ is → (LetsIn name o mode w → From R w step) → From R w (enter_or p name o mode step is)
+  enter_or-from p name o mode step w entering_is.SameObject good acts e kept =
+      keeps-from (chains moves) (raises Own name exception.Program) w good (raises-keeps (plain_steps moves) Own name exception.Program)
+  enter_or-from p name o mode step w entering_is.AboveCeiling good acts e kept =
+      keeps-from (chains moves) (raises Own name exception.Program) w good (raises-keeps (plain_steps moves) Own name exception.Program)
   enter_or-from p name o mode step w entering_is.Held good acts e kept = find_held-from p name o mode w good acts (entering-held p w name o mode e)
   enter_or-from p name o mode step w entering_is.Inside good acts e kept = kept (entering-inside p w name o mode e)
 
   -- the step is done where somebody is let in
-  pub where_let_inside-keeps : (p : Image) (name : Who) (o : ObjectNo) (mode : Mode) (step : Step) → Acts name → ((w : World) → G w → LetsIn name o mode w → From R w step) → Keeps G R (where_let_inside p name o mode step)
+  pub where_let_inside-keeps : (p : Image) (name : Who) (o : ObjectNo) (mode : Mode) (step : Step) → Acts name
+      → ((w : World) → G w → LetsIn name o mode w → From R w step) → Keeps G R (where_let_inside p name o mode step)
   where_let_inside-keeps p name o mode step acts kept =
       looks-from (chains moves) _ (λ w good. enter_or-from p name o mode step w (entering p w name o mode) good acts refl (kept w good))
 
-  pub told_enter-from : (name : Who) (o : ObjectNo) (mode : Mode) (w : World) → G w → LetsIn name o mode w → From R w (says Own (line.Enter name o mode) ▷ changes (open_action name o mode))
+  pub told_enter-from : (name : Who) (o : ObjectNo) (mode : Mode) (w : World) → G w → LetsIn name o mode w
+      → From R w (says Own (line.Enter name o mode) ▷ changes (open_action name o mode))
   unfolding From Kept
   told_enter-from name o mode w good h said = (own (line.Enter name o mode) ∷ [], refl, moves.enters name o mode w good h)
 
   -- an action begins, up to its mark
   pub begin_action_on-from : (p : Image) (name : Who) (o : ObjectNo) (mode : Mode) (call : Option CallNo) (release : Option ℕ) (w : World) → G w → Acts name
-      → ((v : World) (xs : List Said) → R w xs v → R v [] (push name (new_frame (new_protected_mark o mode call release) None) v)) → LetsIn name o mode w → From R w (begin_action_on p name o mode call release)
+      → ((v : World) (xs : List Said) → R w xs v → R v [] (push name (new_frame (new_protected_mark o mode call release) None) v)) → LetsIn name o mode w
+      → From R w (begin_action_on p name o mode call release)
   unfolding begin_action_on
   begin_action_on-from p name o mode call release w good acts pushed h =
       let x = new_frame (new_protected_mark o mode call release) None in
       let inherits = looks (λ v. inherit_running p name (inherited_by.Ceiling o) (ceiling_of (object_of v o))) in
-      after-from (chains moves) (says Own (line.Enter name o mode) ▷ changes (open_action name o mode)) (inherits ▷ changes (push name x)) w (told_enter-from name o mode w good h) (λ v xs k.
-      after-from (chains moves) inherits (changes (push name x)) v (keeps-from (chains moves) inherits v (moves.behind w v k) (looks-keeps (chains moves) _ (λ u. inherit_running-keeps moves p name (inherited_by.Ceiling o) (ceiling_of (object_of u o)) acts))) (λ u ys l.
+      after-from (chains moves) (says Own (line.Enter name o mode) ▷ changes (open_action name o mode)) (inherits ▷ changes (push name x)) w
+      (told_enter-from name o mode w good h) (λ v xs k.
+      after-from (chains moves) inherits (changes (push name x)) v
+      (keeps-from (chains moves) inherits v (moves.behind w v k)
+      (looks-keeps (chains moves) _ (λ u. inherit_running-keeps moves p name (inherited_by.Ceiling o) (ceiling_of (object_of u o)) acts)))
+      (λ u ys l.
       changes-from (chains moves) (push name x) u (pushed u (xs ++ ys) (moves.goes_on w v u k l))))
 
-  pub edit_top_protected-alters : (name : Who) (f : ProtectedMark → ProtectedMark) → ((m : ProtectedMark) → nature (InProtected (f m)) ≡ nature (InProtected m)) → Alters G R (edit_top_protected name f)
-  edit_top_protected-alters name f same = edit_top-alters moves name (λ x. with_mark (edit_protected f x.mark) x) (λ x. protected-nature f same x.mark) (λ x. refl)
+  pub edit_top_protected-alters : (name : Who) (f : ProtectedMark → ProtectedMark) → ((m : ProtectedMark) → nature (InProtected (f m)) ≡ nature (InProtected m))
+      → Alters G R (edit_top_protected name f)
+  edit_top_protected-alters name f same =
+      edit_top-alters moves name (λ x. with_mark (edit_protected f x.mark) x) (λ x. protected-nature f same x.mark) (λ x. refl)
 
   pub begin_call-keeps : (p : Image) (part : Part) (name : Who) (c : Call) → Keeps G R (begin_call p part name c)
   unfolding begin_call
   begin_call-keeps p part name c = search (changes-keeps, unqueued-alters, then-keeps, edit_call-alters, says-keeps, chains, plain_steps) depth 9
 
 module _ {G : GoodWorld} {May Acts Pushes : Naming} {Stops : Type 0} {R : StepRelation} {Q : MoveRelation} (moves : FineMoves G May Acts Pushes Stops R Q) where
-  pub begin_operation-from : (p : Image) (name : Who) (s : StatementNo) (f : SubprogramNo) (o : ObjectNo) (h : Handed) (to : ResultTo) (w : World) → G w → May name → LetsIn name o (mode_of (subprogram_of p f)) w → From R w (begin_operation p name s f o h to)
+  pub begin_operation-from : (p : Image) (name : Who) (s : StatementNo) (f : SubprogramNo) (o : ObjectNo) (h : Handed) (to : ResultTo) (w : World) → G w
+      → May name → LetsIn name o (mode_of (subprogram_of p f)) w → From R w (begin_operation p name s f o h to)
   unfolding begin_operation Alters
   begin_operation-from p name s f o h to w good may lets =
       let onward = edit_top name (goes_on (next_of p s)) w in
-      let still : LetsIn name o (mode_of (subprogram_of p f)) onward = LetsIn-same name o (mode_of (subprogram_of p f)) w onward (edit_task-objects name (λ t. with_frames (edit_first (goes_on (next_of p s)) t.frames) t) w) lets in
+      let still : LetsIn name o (mode_of (subprogram_of p f)) onward =
+      LetsIn-same name o (mode_of (subprogram_of p f)) w onward
+      (edit_task-objects name (λ t. with_frames (edit_first (goes_on (next_of p s)) t.frames) t) w) lets in
       let pushed_on = push-alters moves name (new_frame (new_protected_mark o (mode_of (subprogram_of p f)) None None) None) may refl refl refl in
       goes_then-from moves name (next_of p s) _ w good may (λ good_onward.
       then-from (chains moves) (begin_action_on p name o (mode_of (subprogram_of p f)) None None) _ onward
-      (begin_action_on-from moves p name o (mode_of (subprogram_of p f)) None None onward good_onward (moves.may_acts name may) (λ v xs k. pushed_on v (moves.behind onward v k)) still)
+      (begin_action_on-from moves p name o (mode_of (subprogram_of p f)) None None onward good_onward (moves.may_acts name may)
+      (λ v xs k. pushed_on v (moves.behind onward v k)) still)
       (search (looks-keeps, changes-keeps, open_scope-alters, chains) depth 7))
 
-  pub call_operation_of-keeps : (p : Image) (name : Who) (s : StatementNo) (f : SubprogramNo) (actuals : List Actual) (to : Destination) (o : ObjectNo) → May name → Keeps G R (call_operation_of p name s f actuals to o)
+  pub call_operation_of-keeps : (p : Image) (name : Who) (s : StatementNo) (f : SubprogramNo) (actuals : List Actual) (to : Destination) (o : ObjectNo)
+      → May name → Keeps G R (call_operation_of p name s f actuals to o)
   unfolding call_operation_of
-  call_operation_of-keeps p name s f actuals to o may = search (looks-keeps, raise_if-keeps, with_room-keeps, handing-keeps, where_let_inside-keeps, begin_operation-from, moves.may_acts, chains, plain_steps) depth 11
+  call_operation_of-keeps p name s f actuals to o may =
+      search
+      (looks-keeps, raise_if-keeps, with_room-keeps, handing-keeps, where_let_inside-keeps, begin_operation-from, moves.may_acts, chains, plain_steps) depth 11
 
-  pub call_operation-keeps : (p : Image) (name : Who) (s : StatementNo) (d : DeclNo) (f : SubprogramNo) (actuals : List Actual) (to : Destination) → May name → Keeps G R (call_operation p name s d f actuals to)
+  pub call_operation-keeps : (p : Image) (name : Who) (s : StatementNo) (d : DeclNo) (f : SubprogramNo) (actuals : List Actual) (to : Destination) → May name
+      → Keeps G R (call_operation p name s d f actuals to)
   unfolding call_operation
   call_operation-keeps p name s d f actuals to may = search (sees-keeps, given-keeps, call_operation_of-keeps, chains, plain_steps) depth 8
 
-  pub begin_own_operation-keeps : (p : Image) (name : Who) (s : StatementNo) (f : SubprogramNo) (o : Option ObjectNo) (h : Handed) (to : ResultTo) → May name → Keeps G R (begin_own_operation p name s f o h to)
+  pub begin_own_operation-keeps : (p : Image) (name : Who) (s : StatementNo) (f : SubprogramNo) (o : Option ObjectNo) (h : Handed) (to : ResultTo) → May name
+      → Keeps G R (begin_own_operation p name s f o h to)
   unfolding begin_own_operation
   begin_own_operation-keeps p name s f None h to may = search (raises-keeps, plain_steps)
   begin_own_operation-keeps p name s f (Some o) h to may = search (looks-keeps, begin_body-keeps, chains)
 
-  pub call_own_operation-keeps : (p : Image) (name : Who) (s : StatementNo) (f : SubprogramNo) (actuals : List Actual) (to : Destination) → May name → Keeps G R (call_own_operation p name s f actuals to)
+  pub call_own_operation-keeps : (p : Image) (name : Who) (s : StatementNo) (f : SubprogramNo) (actuals : List Actual) (to : Destination) → May name
+      → Keeps G R (call_own_operation p name s f actuals to)
   unfolding call_own_operation
   call_own_operation-keeps p name s f actuals to may = search (with_room-keeps, handing-keeps, sees-keeps, begin_own_operation-keeps, chains, plain_steps)
 
@@ -133,5 +161,11 @@ module _ {G : GoodWorld} {May Acts Pushes : Naming} {Stops : Type 0} {R : StepRe
   unfolding body_opens
   body_opens-keeps p name o c may = search (changes-keeps, edit_top_protected-alters, then-keeps, looks-keeps, open_scope-alters, chains) depth 7
 
-  pub serve_call-keeps : (p : Image) (part : Part) (name : Who) (o : ObjectNo) (c : Call) (then_ otherwise : Step) → May name → Keeps G R then_ → Keeps G R otherwise → Keeps G R (serve_call p part name o c then_ otherwise)
-  serve_call-keeps p part name o c then_ otherwise may kept also_kept = looks-keeps (chains moves) _ (λ w. then-keeps (chains moves) (begin_call p part name c) _ (search (begin_call-keeps)) (branch-keeps (chains moves) (has_room_for_body p w name c.entry) (body_opens p name o c ▷ then_) (says part (line.Finish name c.number (meeting.Raised exception.Storage)) ▷ otherwise) (search (body_opens-keeps, then-keeps, chains)) (search (says-keeps, then-keeps, chains))))
+  pub serve_call-keeps : (p : Image) (part : Part) (name : Who) (o : ObjectNo) (c : Call) (then_ otherwise : Step) → May name → Keeps G R then_
+      → Keeps G R otherwise → Keeps G R (serve_call p part name o c then_ otherwise)
+  serve_call-keeps p part name o c then_ otherwise may kept also_kept =
+      looks-keeps (chains moves) _
+      (λ w. then-keeps (chains moves) (begin_call p part name c) _ (search (begin_call-keeps))
+      (branch-keeps (chains moves) (has_room_for_body p w name c.entry) (body_opens p name o c ▷ then_)
+      (says part (line.Finish name c.number (meeting.Raised exception.Storage)) ▷ otherwise) (search (body_opens-keeps, then-keeps, chains))
+      (search (says-keeps, then-keeps, chains))))

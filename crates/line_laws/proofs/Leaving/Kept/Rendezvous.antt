@@ -30,7 +30,10 @@ use Rattle.profile_machine.specs.Frames.{new_frame, in_protected}
 use Rattle.profile_machine.specs.Scopes.{begin_scope, next_id, plainly, innermost}
 use Rattle.profile_machine.specs.Appointments.{drop_delay}
 use Rattle.profile_machine.specs.Calls.{parameters_of, next_call, place_of_entry}
-use Rattle.profile_machine.specs.Rendezvous.{accept_scope, open_accept, has_room_for_accept, begin_accept, finish_without_room, accept_with_room, accept_call, meet_with_room, meet_without_room, meet, accept_or_wait, accept, accept_chosen, wait_at_select, appoint_delay, select_delay, select_wait, select_otherwise, select_by_call, select_open, selective_accept, gone_sent, meet_sent, arrive_at, arrive, finish_accept, finish_rendezvous, behind_accept, own_queue, open_alternatives, open_delays}
+use Rattle.profile_machine.specs.Rendezvous.{accept_scope, open_accept, has_room_for_accept, begin_accept, finish_without_room, accept_with_room, accept_call}
+use Rattle.profile_machine.specs.Rendezvous.{meet_with_room, meet_without_room, meet, accept_or_wait, accept, accept_chosen, wait_at_select, appoint_delay}
+use Rattle.profile_machine.specs.Rendezvous.{select_delay, select_wait, select_otherwise, select_by_call, select_open, selective_accept, gone_sent, meet_sent}
+use Rattle.profile_machine.specs.Rendezvous.{arrive_at, arrive, finish_accept, finish_rendezvous, behind_accept, own_queue, open_alternatives, open_delays}
 use Rattle.std.proofs.Common.{◌≡◌, refl}
 use Rattle.profile_machine.specs.declared.world.tasks.Waiting.{Waiting}
 use Rattle.profile_machine.specs.Tasks.{edit_task, with_state, waiting_of}
@@ -58,7 +61,8 @@ use Rattle.line_laws.proofs.Leaving.Kept.Sending.{send_on-keeps, begin_abortable
 use Rattle.profile_machine.specs.Values.{seen_by}
 use Rattle.profile_machine.specs.declared.world.lines.Part.TheVariants.{Own}
 use Rattle.machine_laws.proofs.FineMoves.{GoodWorld, Naming}
-use Rattle.machine_laws.proofs.Kept.Combinators.{Alters, From, Keeps, changes-from, changes-keeps, either-from, for_some-keeps, keeps-from, looks-from, looks-keeps, looks_at-from, nothing-keeps, then-from, then-keeps, unchanged-alters}
+use Rattle.machine_laws.proofs.Kept.Combinators.{Alters, From, Keeps, changes-from, changes-keeps, either-from, for_some-keeps, keeps-from}
+use Rattle.machine_laws.proofs.Kept.Combinators.{looks-from, looks-keeps, looks_at-from, nothing-keeps, then-from, then-keeps, unchanged-alters}
 use Rattle.machine_laws.proofs.Plain.Frames.{raises-keeps, pass_on-keeps, raise_if-keeps, given-from, raise_if-from}
 use Rattle.machine_laws.proofs.Plain.Calls.{with_call-keeps, enqueue-keeps}
 
@@ -71,7 +75,9 @@ module _ {G : GoodWorld} {May Acts Pushes : Naming} {Stops : Type 0} {R : StepRe
       let begun = begin_scope p name scope b w in
       let mark : Mark = InAccept (record { call = c.number; accept = s; within = next_id w; handles = None }) in
       let first = moves.begins_scope p name scope b w good in
-      moves.goes_on w begun (open_accept p name s c w) first (moves.pushes name (new_frame mark (scope_of p scope).first) begun (moves.behind w begun first) pushes (moves.still_free name w begun first free) refl refl (λ n e. no_call n None refl e))
+      moves.goes_on w begun (open_accept p name s c w) first
+      (moves.pushes name (new_frame mark (scope_of p scope).first) begun (moves.behind w begun first) pushes
+      (moves.still_free name w begun first free) refl refl (λ n e. no_call n None refl e))
 
   open_accept-alters : (p : Image) (name : Who) (s : StatementNo) (c : Call) → May name → Alters G R (open_accept p name s c)
   unfolding Alters
@@ -81,10 +87,13 @@ module _ {G : GoodWorld} {May Acts Pushes : Naming} {Stops : Type 0} {R : StepRe
   unfolding begin_accept
   begin_accept-keeps p part name s c may = search (begin_call-keeps, then-keeps, goes-keeps, chains)
 
-  begin_accept-from : (p : Image) (part : Part) (name : Who) (s : StatementNo) (c : Call) (w : World) → G w → Free name w → From R w (begin_accept p part name s c)
+  begin_accept-from : (p : Image) (part : Part) (name : Who) (s : StatementNo) (c : Call) (w : World) → G w → Free name w
+      → From R w (begin_accept p part name s c)
   unfolding begin_accept
   begin_accept-from p part name s c w good free =
-      free_then-from moves name (begin_call p part name c) (goes name (next_of p s)) w free (keeps-from (chains moves) (begin_call p part name c) w good (begin_call-keeps moves p part name c)) (λ v good_v free_v. goes-from moves name (next_of p s) v good_v free_v)
+      free_then-from moves name (begin_call p part name c) (goes name (next_of p s)) w free
+      (keeps-from (chains moves) (begin_call p part name c) w good (begin_call-keeps moves p part name c))
+      (λ v good_v free_v. goes-from moves name (next_of p s) v good_v free_v)
 
   finish_without_room-keeps : (part : Part) (name : Who) (c : Call) → Keeps G R (finish_without_room part name c)
   unfolding finish_without_room
@@ -99,21 +108,34 @@ module _ {G : GoodWorld} {May Acts Pushes : Naming} {Stops : Type 0} {R : StepRe
   unfolding accept_call
   accept_call-keeps p name s c may = search (with_call-keeps, begin_accept-keeps, then-keeps, looks-keeps, accept_with_room-keeps, chains, plain_steps) depth 8
 
-  meet_with_room-from : (p : Image) (part : Part) (name : Who) (s : StatementNo) (c : Call) (then_ : Step) (w : World) → G w → Pushes name → Free name w → Keeps G R then_ → From R w (meet_with_room p part name s c then_)
+  meet_with_room-from : (p : Image) (part : Part) (name : Who) (s : StatementNo) (c : Call) (then_ : Step) (w : World) → G w → Pushes name → Free name w
+      → Keeps G R then_ → From R w (meet_with_room p part name s c then_)
   meet_with_room-from p part name s c then_ w good pushes free kept =
       free_then-from moves name (begin_accept p part name s c) _ w free (begin_accept-from p part name s c w good free) (λ v good_v free_v.
-      then-from (chains moves) (changes (open_accept p name s c)) (changes (inherit name (inherited_by.Rendezvous c.number) c.priority) ▷ ready p part name ▷ open_sequence p part name ▷ then_) v (changes-from (chains moves) (open_accept p name s c) v (accept_opened p name s c v good_v pushes free_v))
+      then-from (chains moves) (changes (open_accept p name s c))
+      (changes (inherit name (inherited_by.Rendezvous c.number) c.priority) ▷ ready p part name ▷ open_sequence p part name ▷ then_) v
+      (changes-from (chains moves) (open_accept p name s c) v (accept_opened p name s c v good_v pushes free_v))
       (search (changes-keeps, inherit-alters, then-keeps, ready-keeps, open_sequence-keeps, chains) depth 9))
 
-  meet_without_room-from : (p : Image) (part : Part) (name : Who) (s : StatementNo) (c : Call) (otherwise : Step) (w : World) → G w → Free name w → Keeps G R otherwise → From R w (meet_without_room p part name s c otherwise)
+  meet_without_room-from : (p : Image) (part : Part) (name : Who) (s : StatementNo) (c : Call) (otherwise : Step) (w : World) → G w → Free name w
+      → Keeps G R otherwise → From R w (meet_without_room p part name s c otherwise)
   meet_without_room-from p part name s c otherwise w good free kept =
-      then-from (chains moves) (begin_accept p TheFinish name s c) (finish_without_room TheFinish name c ▷ otherwise ▷ ready p part name ▷ raises part name exception.Storage) w (begin_accept-from p TheFinish name s c w good free) (search (then-keeps, finish_without_room-keeps, ready-keeps, raises-keeps, chains, plain_steps) depth 9)
+      then-from (chains moves) (begin_accept p TheFinish name s c)
+      (finish_without_room TheFinish name c ▷ otherwise ▷ ready p part name ▷ raises part name exception.Storage) w
+      (begin_accept-from p TheFinish name s c w good free)
+      (search (then-keeps, finish_without_room-keeps, ready-keeps, raises-keeps, chains, plain_steps) depth 9)
 
   -- who waits meets a call
-  pub meet-from : (p : Image) (part : Part) (name : Who) (s : StatementNo) (c : Call) (then_ otherwise : Step) (w : World) → G w → Pushes name → Free name w → Keeps G R then_ → Keeps G R otherwise → From R w (meet p part name s c then_ otherwise)
+  pub meet-from : (p : Image) (part : Part) (name : Who) (s : StatementNo) (c : Call) (then_ otherwise : Step) (w : World) → G w → Pushes name → Free name w
+      → Keeps G R then_ → Keeps G R otherwise → From R w (meet p part name s c then_ otherwise)
   meet-from p part name s c then_ otherwise w good pushes free kept also_kept =
-      free_then-from moves name (changes (drop_delay name)) _ w free (keeps-from (chains moves) (changes (drop_delay name)) w good (search (changes-keeps, drop_delay-alters, chains))) (λ v good_v free_v.
-      looks_at-from (chains moves) (λ u. elim (has_room_for_accept p u name s) as (λ _. Step) [ true ↦ meet_with_room p part name s c then_ | false ↦ meet_without_room p part name s c otherwise ]) v
+      free_then-from moves name (changes (drop_delay name)) _ w free
+      (keeps-from (chains moves) (changes (drop_delay name)) w good (search (changes-keeps, drop_delay-alters, chains))) (λ v good_v free_v.
+      looks_at-from (chains moves)
+      (λ u. elim (has_room_for_accept p u name s) as (λ _. Step) [
+        | true ↦ meet_with_room p part name s c then_
+        | false ↦ meet_without_room p part name s c otherwise
+      ]) v
       (either-from (chains moves) (has_room_for_accept p v name s) (meet_with_room p part name s c then_) (meet_without_room p part name s c otherwise) v
       (meet_with_room-from p part name s c then_ v good_v pushes free_v kept) (meet_without_room-from p part name s c otherwise v good_v free_v also_kept)))
 
@@ -137,20 +159,24 @@ module _ {G : GoodWorld} {May Acts Pushes : Naming} {Stops : Type 0} {R : StepRe
   unfolding accept_chosen
   accept_chosen-keeps p name accepts c may = search (with_call-keeps, for_some-keeps, accept_call-keeps, chains, plain_steps)
 
-  silent-alters : (name : Who) (accepts : List StatementNo) (delay : Option StatementNo) → May name → Alters G R (edit_task name (with_state (Blocked (waits_for.Select accepts delay true))))
+  silent-alters : (name : Who) (accepts : List StatementNo) (delay : Option StatementNo) → May name
+      → Alters G R (edit_task name (with_state (Blocked (waits_for.Select accepts delay true))))
   unfolding Alters
   silent-alters name accepts delay may w good = moves.waits_silently name accepts delay w good may
 
-  pub wait_at_select-keeps : (name : Who) (accepts : List StatementNo) (delay : Option StatementNo) (test : Bool) → May name → Keeps G R (wait_at_select name accepts delay test)
+  pub wait_at_select-keeps : (name : Who) (accepts : List StatementNo) (delay : Option StatementNo) (test : Bool) → May name
+      → Keeps G R (wait_at_select name accepts delay test)
   unfolding wait_at_select
   wait_at_select-keeps name accepts delay true may = changes-keeps (chains moves) _ (silent-alters name accepts delay may)
   wait_at_select-keeps name accepts delay false may = search (block-keeps)
 
   appoint_delay-from : (name : Who) (m : ℤ) (w : World) → G w → From R w (changes (appoint_delay name m))
   appoint_delay-from (who.Task t) m w good = appoint-from moves (due_for.Delay t) m w good
-  appoint_delay-from who.Agent m w good = keeps-from (chains moves) (changes (λ v. v)) w good (changes-keeps (chains moves) (λ v. v) (unchanged-alters (chains moves)))
+  appoint_delay-from who.Agent m w good =
+      keeps-from (chains moves) (changes (λ v. v)) w good (changes-keeps (chains moves) (λ v. v) (unchanged-alters (chains moves)))
 
-  select_delay-from : (p : Image) (name : Who) (s : StatementNo) (accepts : List StatementNo) (m : DelayMoment) (terminate test : Bool) (w : World) → G w → May name → From R w (select_delay p name s accepts m terminate test)
+  select_delay-from : (p : Image) (name : Who) (s : StatementNo) (accepts : List StatementNo) (m : DelayMoment) (terminate test : Bool) (w : World) → G w
+      → May name → From R w (select_delay p name s accepts m terminate test)
   unfolding select_delay
   select_delay-from p name s accepts m terminate true w good may = keeps-from (chains moves) _ w good (search (goes-keeps))
   select_delay-from p name s accepts m terminate false w good may =
@@ -159,22 +185,29 @@ module _ {G : GoodWorld} {May Acts Pushes : Naming} {Stops : Type 0} {R : StepRe
       (appoint_delay-from name m.at _ good_onward)
       (wait_at_select-keeps name accepts (Some m.delay) terminate may))
 
-  pub select_wait-keeps : (p : Image) (name : Who) (s : StatementNo) (accepts : List StatementNo) (terminate : Bool) (moment : Option DelayMoment) → May name → Keeps G R (select_wait p name s accepts terminate moment)
+  pub select_wait-keeps : (p : Image) (name : Who) (s : StatementNo) (accepts : List StatementNo) (terminate : Bool) (moment : Option DelayMoment) → May name
+      → Keeps G R (select_wait p name s accepts terminate moment)
   unfolding select_wait
   select_wait-keeps p name s accepts terminate None may = search (goes-keeps, then-keeps, wait_at_select-keeps, chains)
-  select_wait-keeps p name s accepts terminate (Some m) may = looks-from (chains moves) _ (λ w good. select_delay-from p name s accepts m terminate (int_le m.at (pos w.time)) w good may)
+  select_wait-keeps p name s accepts terminate (Some m) may =
+      looks-from (chains moves) _ (λ w good. select_delay-from p name s accepts m terminate (int_le m.at (pos w.time)) w good may)
 
-  pub select_otherwise-keeps : (p : Image) (name : Who) (s : StatementNo) (kinds : List SelectKind) (m : Option DelayMoment) (next : Option StatementNo) → May name → Keeps G R (select_otherwise p name s kinds m next)
+  pub select_otherwise-keeps : (p : Image) (name : Who) (s : StatementNo) (kinds : List SelectKind) (m : Option DelayMoment) (next : Option StatementNo)
+      → May name → Keeps G R (select_otherwise p name s kinds m next)
   unfolding select_otherwise
   select_otherwise-keeps p name s kinds m (Some otherwise) may = search (goes-keeps)
   select_otherwise-keeps p name s kinds m None may = search (select_wait-keeps)
 
-  pub select_by_call-keeps : (p : Image) (name : Who) (s : StatementNo) (kinds : List SelectKind) (m : Option DelayMoment) (otherwise : Option StatementNo) (c : Option CallNo) → May name → Keeps G R (select_by_call p name s kinds m otherwise c)
+  pub select_by_call-keeps : (p : Image) (name : Who) (s : StatementNo) (kinds : List SelectKind) (m : Option DelayMoment) (otherwise : Option StatementNo)
+      (c : Option CallNo)
+      → May name
+      → Keeps G R (select_by_call p name s kinds m otherwise c)
   unfolding select_by_call
   select_by_call-keeps p name s kinds m otherwise (Some c) may = search (accept_chosen-keeps)
   select_by_call-keeps p name s kinds m otherwise None may = search (select_otherwise-keeps)
 
-  pub select_open-keeps : (p : Image) (name : Who) (s : StatementNo) (otherwise : Option StatementNo) (kinds : List SelectKind) (moments : List DelayMoment) → May name → Keeps G R (select_open p name s otherwise kinds moments)
+  pub select_open-keeps : (p : Image) (name : Who) (s : StatementNo) (otherwise : Option StatementNo) (kinds : List SelectKind) (moments : List DelayMoment)
+      → May name → Keeps G R (select_open p name s otherwise kinds moments)
   unfolding select_open
   select_open-keeps p name s otherwise kinds moments may = search (raise_if-keeps, looks-keeps, select_by_call-keeps, chains, plain_steps)
 
@@ -182,11 +215,14 @@ module _ {G : GoodWorld} {May Acts Pushes : Naming} {Stops : Type 0} {R : StepRe
   unfolding gone_sent
   gone_sent-keeps p c = search (gone-keeps, then-keeps, deliver-keeps, chains)
 
-  meet_sent-from : (p : Image) (t : TaskNo) (c : Call) (next : Option StatementNo) (w : World) → G w → accept_for p c.entry (waiting_of w (who.Task t)) ≡ next → From R w (meet_sent p t c next)
+  meet_sent-from : (p : Image) (t : TaskNo) (c : Call) (next : Option StatementNo) (w : World) → G w → accept_for p c.entry (waiting_of w (who.Task t)) ≡ next
+      → From R w (meet_sent p t c next)
   unfolding meet_sent
   meet_sent-from p t c (Some s) w good is =
       let waiting = accept-waits p c.entry (waiting_of w (who.Task t)) s is in
-      meet-from p TheFinish (who.Task t) s c (begin_abortable p c.number) _ w good (moves.waiting_pushes (who.Task t) w good waiting) (moves.waiting_free (who.Task t) w good waiting) (begin_abortable-keeps moves p c.number) (deliver-keeps moves p TheFinish c.number (call_ended.ToRaise exception.Storage))
+      meet-from p TheFinish (who.Task t) s c (begin_abortable p c.number) _ w good (moves.waiting_pushes (who.Task t) w good waiting)
+      (moves.waiting_free (who.Task t) w good waiting) (begin_abortable-keeps moves p c.number)
+      (deliver-keeps moves p TheFinish c.number (call_ended.ToRaise exception.Storage))
   meet_sent-from p t c None w good is = keeps-from (chains moves) _ w good (search (enqueue-keeps, then-keeps, sent_not_begun-keeps, chains, plain_steps))
 
   pub arrive_at-keeps : (p : Image) (t : TaskNo) (c : Call) (test : Bool) → Keeps G R (arrive_at p t c test)
@@ -229,7 +265,8 @@ module _ {G : GoodWorld} {May Acts Pushes : Naming} {Stops : Type 0} {R : StepRe
       looks-from (chains moves) _ (λ w good. raise_if-from (plain_steps moves) name (in_protected w name) exception.Program _ w good
       (λ free. keeps-from (chains moves) _ w good (accept_or_wait-keeps moves p name s (next_call p w (own_queue w name (place_of_entry p e) ∷ [])) may)))
 
-  pub selective_accept-keeps : (p : Image) (name : Who) (s : StatementNo) (alternatives : List SelectAlternative) (otherwise : Option StatementNo) → May name → Keeps G R (selective_accept p name s alternatives otherwise)
+  pub selective_accept-keeps : (p : Image) (name : Who) (s : StatementNo) (alternatives : List SelectAlternative) (otherwise : Option StatementNo) → May name
+      → Keeps G R (selective_accept p name s alternatives otherwise)
   unfolding selective_accept
   selective_accept-keeps p name s alternatives otherwise may =
       looks-from (chains moves) _ (λ w good. raise_if-from (plain_steps moves) name (in_protected w name) exception.Program _ w good

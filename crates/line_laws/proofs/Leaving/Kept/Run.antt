@@ -34,7 +34,8 @@ pub record TockMoves (G : GoodWorld) (Q : MoveRelation) : Type 0 where
 module _ {G : GoodWorld} {May Acts Pushes : Naming} {Stops : Type 0} {R : StepRelation} {Q : MoveRelation} (moves : FineMoves G May Acts Pushes Stops R Q) where
   begin_action-alters : (p : Image) (name : Who) → Alters G R (begin_action p name)
   unfolding Alters
-  begin_action-alters p name w good = moves.edits_task name (with_ticks (Some (unwrap_or (task_of w name).ticks_left (cost p w name)))) w good (λ t. refl) (λ t. refl) (λ t. refl)
+  begin_action-alters p name w good =
+      moves.edits_task name (with_ticks (Some (unwrap_or (task_of w name).ticks_left (cost p w name)))) w good (λ t. refl) (λ t. refl) (λ t. refl)
 
   spend_tick-alters : (name : Who) → Alters G R (spend_tick name)
   unfolding Alters
@@ -62,7 +63,9 @@ module _ {G : GoodWorld} {May Acts Pushes : Naming} {Stops : Type 0} {R : StepRe
     says_idle-leads None w good = moves.rests w good
     says_idle-leads (Some name) w good = say-leads line.Idle refl w good
 
-    serve_if_free-leads : (serving : Option Release) (frames : List Frame) (releases : List Release) (w : World) → G w → w.releases ≡ releases → let done = serve_if_free serving frames releases w in Q w done.1 done.0
+    serve_if_free-leads : (serving : Option Release) (frames : List Frame) (releases : List Release) (w : World) → G w → w.releases ≡ releases →
+        let done = serve_if_free serving frames releases w in
+        Q w done.1 done.0
     serve_if_free-leads None [] [] w good a = moves.rests w good
     serve_if_free-leads None [] (r ∷ rest) w good a =
         let v = with_serving r rest w in
@@ -82,4 +85,5 @@ module _ {G : GoodWorld} {May Acts Pushes : Naming} {Stops : Type 0} {R : StepRe
         then-leads (move_chains moves) _ _ (watches-leads (move_chains moves) _ (λ w. says_run-leads name w.ran))
         (then-leads (move_chains moves) _ _ (serve-leads name)
         (then-leads (move_chains moves) _ _ (silently-leads (begin_action p name) (begin_action-alters p name))
-        (then-leads (move_chains moves) _ _ (silently-leads (charge p name) (charge-alters moves p name)) (silently-leads (spend_tick name) (spend_tick-alters name)))))
+        (then-leads (move_chains moves) _ _ (silently-leads (charge p name) (charge-alters moves p name))
+        (silently-leads (spend_tick name) (spend_tick-alters name)))))

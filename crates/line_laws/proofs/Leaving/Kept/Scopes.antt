@@ -17,6 +17,8 @@ module _ {G : GoodWorld} {May Acts Pushes : Naming} {Stops : Type 0} {R : StepRe
   end_scope-alters id w good = moves.ends_scope id w good
 
   -- who may go on opens a scope
-  pub open_scope-alters : (p : Image) (name : Who) (scope : ScopeNo) (b : Beginning) (purpose : Purpose) → May name → Alters G R (open_scope p name scope b purpose)
+  pub open_scope-alters : (p : Image) (name : Who) (scope : ScopeNo) (b : Beginning) (purpose : Purpose) → May name
+      → Alters G R (open_scope p name scope b purpose)
   unfolding Alters
-  open_scope-alters p name scope b purpose may w good = moves.opens_scope p name scope b purpose w good (moves.may_pushes name may) (moves.may_free name w good may)
+  open_scope-alters p name scope b purpose may w good =
+      moves.opens_scope p name scope b purpose w good (moves.may_pushes name may) (moves.may_free name w good may)

@@ -16,7 +16,8 @@ use Rattle.trace_text.specs.declared.events.Who.TheVariants as who
 use Rattle.ann_base.specs.Lists.{is_empty}
 use Rattle.profile_machine.specs.Dispatching.{block}
 use Rattle.profile_machine.specs.Steps.{says, changes, looks, when, nothing, ◌▷◌}
-use Rattle.profile_machine.specs.Serving.{serves_nothing, is_served_now, serve_ends, end_release, wait_or_unwind, wait_for_own, resume_own, behind_action, settle_sent, begins_part}
+use Rattle.profile_machine.specs.Serving.{serves_nothing, is_served_now, serve_ends, end_release, wait_or_unwind}
+use Rattle.profile_machine.specs.Serving.{wait_for_own, resume_own, behind_action, settle_sent, begins_part}
 use Rattle.std.proofs.Common.{◌≡◌, refl, sym, subst}
 use Rattle.std.proofs.Common.{refl, sym, subst}
 use Rattle.profile_machine.specs.Calls.{call_of}
@@ -28,7 +29,8 @@ use Rattle.line_laws.proofs.Leaving.Kept.Dispatching.{block_apart-keeps}
 use Rattle.line_laws.proofs.Leaving.Kept.Frames.{leaves-keeps, plain_steps}
 use Rattle.line_laws.proofs.Leaving.Kept.Sending.{open_abortable-alters, wait_for_call-keeps, begin_abortable-keeps, sent_not_begun-keeps}
 use Rattle.machine_laws.proofs.FineMoves.{GoodWorld, Naming}
-use Rattle.machine_laws.proofs.Kept.Combinators.{From, Keeps, Kept, changes-keeps, keeps-from, looks-from, looks-keeps, looks_at-from, nothing-keeps, then-from, then-keeps, when-keeps}
+use Rattle.machine_laws.proofs.Kept.Combinators.{From, Keeps, Kept, changes-keeps, keeps-from, looks-from, looks-keeps}
+use Rattle.machine_laws.proofs.Kept.Combinators.{looks_at-from, nothing-keeps, then-from, then-keeps, when-keeps}
 use Rattle.machine_laws.proofs.Plain.Frames.{pass_on-keeps}
 use Rattle.machine_laws.proofs.Plain.Calls.{forget_call-alters, attempt_with-keeps}
 use Rattle.machine_laws.proofs.Plain.Results.{resume-keeps}
@@ -43,11 +45,13 @@ module _ {G : GoodWorld} {May Acts Pushes : Naming} {Stops : Type 0} {R : StepRe
   serve_ends-from : (r : Release) (n : ℕ) (w : World) → G w → Stops → w.serving ≡ Some r → n ≡ r.number → From R w (serve_ends n)
   unfolding serve_ends
   serve_ends-from r n w good stops is e =
-      then-from (chains moves) (says Own (line.Served n) ▷ changes serves_nothing) (looks (λ v. when (is_empty v.releases) (block TheBlock who.Agent waits_for.Release))) w
+      then-from (chains moves) (says Own (line.Served n) ▷ changes serves_nothing)
+      (looks (λ v. when (is_empty v.releases) (block TheBlock who.Agent waits_for.Release))) w
       (told_served-from r n w good is e)
       (looks-keeps (chains moves) _ (λ v. when-keeps (chains moves) (is_empty v.releases) _ (block_apart-keeps moves who.Agent waits_for.Release stops refl)))
 
-  end_served-from : (n : ℕ) (w : World) (serving : Option Release) (test : Bool) → G w → Stops → w.serving ≡ serving → is_served_now n serving ≡ test → From R w (when test (serve_ends n))
+  end_served-from : (n : ℕ) (w : World) (serving : Option Release) (test : Bool) → G w → Stops → w.serving ≡ serving → is_served_now n serving ≡ test
+      → From R w (when test (serve_ends n))
   end_served-from n w None true good stops is e = cc
   end_served-from n w (Some r) true good stops is e = serve_ends-from r n w good stops is (eqb-true n r.number e)
   end_served-from n w serving false good stops is e = keeps-from (chains moves) nothing w good (nothing-keeps (chains moves))
@@ -58,7 +62,8 @@ module _ {G : GoodWorld} {May Acts Pushes : Naming} {Stops : Type 0} {R : StepRe
 
   pub wait_or_unwind-keeps : (p : Image) (name : Who) (c : Call) (test : Bool) → May (who.Task c.caller) → Keeps G R (wait_or_unwind p name c test)
   unfolding wait_or_unwind
-  wait_or_unwind-keeps p name c true mine = search (attempt_with-keeps, changes-keeps, forget_call-alters, then-keeps, leaves-keeps, wait_for_call-keeps, chains, plain_steps)
+  wait_or_unwind-keeps p name c true mine =
+      search (attempt_with-keeps, changes-keeps, forget_call-alters, then-keeps, leaves-keeps, wait_for_call-keeps, chains, plain_steps)
   wait_or_unwind-keeps p name c false mine = search (wait_for_call-keeps)
 
   pub wait_for_own-keeps : (p : Image) (name : Who) (c : Call) (test : Bool) → May name → May (who.Task c.caller) → Keeps G R (wait_for_own p name c test)
@@ -66,20 +71,27 @@ module _ {G : GoodWorld} {May Acts Pushes : Naming} {Stops : Type 0} {R : StepRe
   wait_for_own-keeps p name c true may mine = search (changes-keeps, open_abortable-alters, chains)
   wait_for_own-keeps p name c false may mine = search (looks-keeps, wait_or_unwind-keeps, chains)
 
-  pub resume_own-keeps : (p : Image) (name : Who) (c : Call) (outcome : Option Outcome) → May name → May (who.Task c.caller) → Keeps G R (resume_own p name c outcome)
+  pub resume_own-keeps : (p : Image) (name : Who) (c : Call) (outcome : Option Outcome) → May name → May (who.Task c.caller)
+      → Keeps G R (resume_own p name c outcome)
   unfolding resume_own
   resume_own-keeps p name c (Some outcome) may mine = search (resume-keeps, plain_steps)
   resume_own-keeps p name c None may mine = search (looks-keeps, wait_for_own-keeps, chains)
 
   -- of no release; the call that the holder made itself is its own
-  owns_found-from : (p : Image) (name : Who) (found : Option Call) (c : CallNo) (w : World) → G w → May name → call_of w c ≡ found → ((d : Call) → call_of w c ≡ Some d → who.Task d.caller ≡ name) → From R w (for_some found (λ d. resume_own p name d d.outcome))
+  owns_found-from : (p : Image) (name : Who) (found : Option Call) (c : CallNo) (w : World) → G w → May name → call_of w c ≡ found
+      → ((d : Call) → call_of w c ≡ Some d → who.Task d.caller ≡ name) → From R w (for_some found (λ d. resume_own p name d d.outcome))
   owns_found-from p name None c w good may is own = keeps-from (chains moves) nothing w good (nothing-keeps (chains moves))
-  owns_found-from p name (Some d) c w good may is own = keeps-from (chains moves) (resume_own p name d d.outcome) w good (resume_own-keeps p name d d.outcome may (subst May (sym (own d is)) may))
+  owns_found-from p name (Some d) c w good may is own =
+      keeps-from (chains moves) (resume_own p name d d.outcome) w good (resume_own-keeps p name d d.outcome may (subst May (sym (own d is)) may))
 
-  pub behind_action-from : (p : Image) (name : Who) (m : ProtectedMark) (c : Option CallNo) (w : World) → G w → May name → ((n : CallNo) → c ≡ Some n → (d : Call) → call_of w n ≡ Some d → who.Task d.caller ≡ name) → From R w (behind_action p name m None c)
+  pub behind_action-from : (p : Image) (name : Who) (m : ProtectedMark) (c : Option CallNo) (w : World) → G w → May name
+      → ((n : CallNo) → c ≡ Some n → (d : Call) → call_of w n ≡ Some d → who.Task d.caller ≡ name) → From R w (behind_action p name m None c)
   unfolding behind_action
-  behind_action-from p name m None w good may own = keeps-from (chains moves) (pass_on p name m.body_left) w good (pass_on-keeps (plain_steps moves) p name m.body_left may)
-  behind_action-from p name m (Some c) w good may own = looks_at-from (chains moves) (λ v. for_some (call_of v c) (λ d. resume_own p name d d.outcome)) w (owns_found-from p name (call_of w c) c w good may refl (own c refl))
+  behind_action-from p name m None w good may own =
+      keeps-from (chains moves) (pass_on p name m.body_left) w good (pass_on-keeps (plain_steps moves) p name m.body_left may)
+  behind_action-from p name m (Some c) w good may own =
+      looks_at-from (chains moves) (λ v. for_some (call_of v c) (λ d. resume_own p name d d.outcome)) w
+      (owns_found-from p name (call_of w c) c w good may refl (own c refl))
 
   pub settle_sent-keeps : (p : Image) (c : Option CallNo) (test : Bool) → Keeps G R (settle_sent p c test)
   unfolding settle_sent

@@ -14,6 +14,7 @@ returns c =
       text =
           joined c.new-text.result.items c.extend_from_slice.new.self.items all head (declarations ++ (bodies ++ end)) c.in_ok-extend_from_slice.ensures.items
           (joined c.extend_from_slice.new.self.items c.write_declarations.new.text.items all declarations (bodies ++ end) c.in_ok-write_declarations.ensures
-          (joined c.write_declarations.new.text.items c.write_bodies.new.text.items all bodies end c.in_ok-write_bodies.ensures c.in_ok-extend_from_slice-2.ensures.items))
+          (joined c.write_declarations.new.text.items c.write_bodies.new.text.items all bodies end c.in_ok-write_bodies.ensures
+          c.in_ok-extend_from_slice-2.ensures.items))
           ∙ ap (λ text. text ++ (head ++ (declarations ++ (bodies ++ end)))) c.new-text.ensures.items;
     }

@@ -7,4 +7,6 @@ use Rattle.machine_declarations.proofs.FirstValueLemmas.{initialized_by}
 use Rattle.machine_declarations.proofs.initial_values.initialized.Goals as goal
 
 pub returns : goal.returns
-returns c = subst (λ (wanted : Valued World). Stores c.value_set.result wanted c.args.world.now c.value_set.new.world) (sym (initialized_by (seen_by c.args.p.now c.args.world.now c.args.name) c.args.v c.args.initial c.args.world.now)) c.value_set.ensures
+returns c =
+    subst (λ (wanted : Valued World). Stores c.value_set.result wanted c.args.world.now c.value_set.new.world)
+    (sym (initialized_by (seen_by c.args.p.now c.args.world.now c.args.name) c.args.v c.args.initial c.args.world.now)) c.value_set.ensures

@@ -11,7 +11,9 @@ loop-place-smaller c =
     omega arith
 
 pub loop-place-preserved : goal.loop-place-preserved
-loop-place-preserved c = ap (without (λ i. same_cause c.args.cause i.cause)) c.remove.ensures.rest ∙ (without-found (λ i. same_cause c.args.cause i.cause) c.loop-place.inherited c.in-Some.place (sym c.in-Some.ensures) ∙ c.loop-place.invariant)
+loop-place-preserved c =
+    ap (without (λ i. same_cause c.args.cause i.cause)) c.remove.ensures.rest
+    ∙ (without-found (λ i. same_cause c.args.cause i.cause) c.loop-place.inherited c.in-Some.place (sym c.in-Some.ensures) ∙ c.loop-place.invariant)
 
 pub returns : goal.returns
 returns c = sym (without-none (λ i. same_cause c.args.cause i.cause) c.loop-place.inherited (sym c.in_default.ensures)) ∙ c.loop-place.invariant

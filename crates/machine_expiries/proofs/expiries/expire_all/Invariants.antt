@@ -6,4 +6,6 @@ use Rattle.machine_expiries.proofs.expiries.expire_all.Given as goal
 
 -- the timers that are to come lead to where all lead
 abbrev pub invariant-loop-number : goal.invariant-loop-number
-invariant-loop-number l = for_each (deque_iter_rest l.number-iterator) (expire_timer l.p) l.effect.world l.effect.said ≡ for_each l.timers (expire_timer l.p) l.initial.effect.world l.initial.effect.said
+invariant-loop-number l =
+    for_each (deque_iter_rest l.number-iterator) (expire_timer l.p) l.effect.world l.effect.said
+    ≡ for_each l.timers (expire_timer l.p) l.initial.effect.world l.initial.effect.said

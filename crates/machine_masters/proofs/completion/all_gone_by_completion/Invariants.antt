@@ -6,4 +6,6 @@ use Rattle.machine_masters.proofs.completion.all_gone_by_completion.Given as goa
 
 -- the calls that are to come lead to where all lead
 abbrev pub invariant-loop-call : goal.invariant-loop-call
-invariant-loop-call l = for_each (deque_iter_rest l.call-iterator) (gone_by_completion l.p l.actor) l.effect.world l.effect.said ≡ for_each l.calls (gone_by_completion l.p l.actor) l.initial.effect.world l.initial.effect.said
+invariant-loop-call l =
+    for_each (deque_iter_rest l.call-iterator) (gone_by_completion l.p l.actor) l.effect.world l.effect.said
+    ≡ for_each l.calls (gone_by_completion l.p l.actor) l.initial.effect.world l.initial.effect.said

@@ -6,4 +6,6 @@ use Rattle.machine_masters.proofs.terminate_alternatives.all_at_terminate.Given 
 
 -- the tasks that are to come give what all of them give
 abbrev pub invariant-loop-task : goal.invariant-loop-task
-invariant-loop-task l = list_all is_at_terminate (filter (depends_on_region l.world l.region) (deque_iter_rest l.task-iterator)) ≡ list_all is_at_terminate (filter (depends_on_region l.world l.region) l.world.tasks)
+invariant-loop-task l =
+    list_all is_at_terminate (filter (depends_on_region l.world l.region) (deque_iter_rest l.task-iterator))
+    ≡ list_all is_at_terminate (filter (depends_on_region l.world l.region) l.world.tasks)

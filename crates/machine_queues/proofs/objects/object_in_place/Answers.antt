@@ -4,4 +4,8 @@ use Rattle.rosters.proofs.FoundLemmas.{set_at_position, get_at_position}
 use Rattle.machine_queues.proofs.objects.object_in_place.Goals as goal
 
 pub returns : goal.returns
-returns c = (ap (λ F. borrow.Follows.Closed.read_of (Rattle.std.specs.Option.ghost_name_of c.get_mut.result) F c.args.objects.now) (λ i t. set_at_position (is_object c.args.number) t c.args.objects.now c.args.place c.requires i), record { writes_back = tt; value = c.get_mut.ensures.value ∙ get_at_position (is_object c.args.number) c.args.objects.now c.args.place c.requires })
+returns c = (
+  ap (λ F. borrow.Follows.Closed.read_of (Rattle.std.specs.Option.ghost_name_of c.get_mut.result) F c.args.objects.now)
+      (λ i t. set_at_position (is_object c.args.number) t c.args.objects.now c.args.place c.requires i),
+  record { writes_back = tt; value = c.get_mut.ensures.value ∙ get_at_position (is_object c.args.number) c.args.objects.now c.args.place c.requires },
+)

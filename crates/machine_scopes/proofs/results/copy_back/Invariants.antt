@@ -5,4 +5,5 @@ use Rattle.machine_scopes.proofs.results.copy_back.Given as goal
 
 -- what is to be copied gives what all gave at the beginning
 abbrev pub invariant-loop-target : goal.invariant-loop-target
-invariant-loop-target l = copy_back l.p (deque_iter_rest l.target-iterator) (deque_iter_rest l.handed) l.world ≡ copy_back l.p l.results l.values l.initial.world
+invariant-loop-target l =
+    copy_back l.p (deque_iter_rest l.target-iterator) (deque_iter_rest l.handed) l.world ≡ copy_back l.p l.results l.values l.initial.world

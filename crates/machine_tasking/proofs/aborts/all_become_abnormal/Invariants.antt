@@ -8,4 +8,6 @@ use Rattle.machine_tasking.proofs.aborts.all_become_abnormal.Given as goal
 
 -- the tasks that are to come lead to where all lead
 abbrev pub invariant-loop-task : goal.invariant-loop-task
-invariant-loop-task l = for_each (tasks_kept (deque_iter_rest l.task-iterator)) (λ t. changes (edit_task t.who abnormal_task)) l.effect.world l.effect.said ≡ for_each (tasks_kept l.tasks) (λ t. changes (edit_task t.who abnormal_task)) l.initial.effect.world l.initial.effect.said
+invariant-loop-task l =
+    for_each (tasks_kept (deque_iter_rest l.task-iterator)) (λ t. changes (edit_task t.who abnormal_task)) l.effect.world l.effect.said
+    ≡ for_each (tasks_kept l.tasks) (λ t. changes (edit_task t.who abnormal_task)) l.initial.effect.world l.initial.effect.said

@@ -6,4 +6,6 @@ use Rattle.machine_tasking.proofs.aborts.all_to_abort.Given as goal
 
 -- what is kept so far stands before what is to be kept of those that are to come
 abbrev pub invariant-loop-task : goal.invariant-loop-task
-invariant-loop-task l = l.kept ++ map kept_of (filter (is_to_abort l.world l.aborted) (deque_iter_rest l.task-iterator)) ≡ map kept_of (filter (is_to_abort l.world l.aborted) l.world.tasks)
+invariant-loop-task l =
+    l.kept ++ map kept_of (filter (is_to_abort l.world l.aborted) (deque_iter_rest l.task-iterator))
+    ≡ map kept_of (filter (is_to_abort l.world l.aborted) l.world.tasks)

@@ -7,4 +7,6 @@ use Rattle.machine_tasking.proofs.beginning.activate_all.Given as goal
 
 -- the tasks that are to come lead to where all lead
 abbrev pub invariant-loop-task : goal.invariant-loop-task
-invariant-loop-task l = for_each (tasks_kept (deque_iter_rest l.task-iterator)) (activate_one l.p l.activator l.level) l.effect.world l.effect.said ≡ for_each (tasks_kept l.tasks) (activate_one l.p l.activator l.level) l.initial.effect.world l.initial.effect.said
+invariant-loop-task l =
+    for_each (tasks_kept (deque_iter_rest l.task-iterator)) (activate_one l.p l.activator l.level) l.effect.world l.effect.said
+    ≡ for_each (tasks_kept l.tasks) (activate_one l.p l.activator l.level) l.initial.effect.world l.initial.effect.said

@@ -6,4 +6,5 @@ use Rattle.machine_tasking.proofs.leaving.all_made_in.Given as goal
 
 -- what is kept so far stands before what is to be kept of those that are to come
 abbrev pub invariant-loop-task : goal.invariant-loop-task
-invariant-loop-task l = l.kept ++ map kept_of (filter (is_made_in l.region) (deque_iter_rest l.task-iterator)) ≡ map kept_of (filter (is_made_in l.region) l.tasks)
+invariant-loop-task l =
+    l.kept ++ map kept_of (filter (is_made_in l.region) (deque_iter_rest l.task-iterator)) ≡ map kept_of (filter (is_made_in l.region) l.tasks)

@@ -6,4 +6,5 @@ use Rattle.machine_tasking.proofs.settling.found_that_may_terminate.Given as goa
 
 -- what is kept so far stands before what is to be kept of those that are to come
 abbrev pub invariant-loop-task : goal.invariant-loop-task
-invariant-loop-task l = l.kept ++ map kept_of (filter (may_terminate l.world) (deque_iter_rest l.task-iterator)) ≡ map kept_of (filter (may_terminate l.world) l.world.tasks)
+invariant-loop-task l =
+    l.kept ++ map kept_of (filter (may_terminate l.world) (deque_iter_rest l.task-iterator)) ≡ map kept_of (filter (may_terminate l.world) l.world.tasks)

@@ -22,14 +22,17 @@ loop-place-preserved g c =
           | inl one ↦ ap is_some (w.joined_behind-notes.ensures.begun_order o one (in-order-found t.number o xs p _ w.in-Some.ensures h))
           | inr apart ↦ elim apart [
             | inl none ↦ w.joined_behind-notes.ensures.first_order (omega arith)
-            | inr two ↦ ap is_some (w.joined_behind-notes.ensures.kept_order o two (c.loop-place.invariant.kept o h two) (in-order-found t.number o xs p _ w.in-Some.ensures h))
+            | inr two ↦
+                ap is_some
+                (w.joined_behind-notes.ensures.kept_order o two (c.loop-place.invariant.kept o h two) (in-order-found t.number o xs p _ w.in-Some.ensures h))
           ]
         ];
         kept = λ o h more. elim (cases_order p 1) [
           | inl one ↦ w.joined_behind-notes.ensures.begun_order o one (in-order-found t.number o xs p _ w.in-Some.ensures h)
           | inr apart ↦ elim apart [
             | inl none ↦ absurd (omega arith)
-            | inr two ↦ w.joined_behind-notes.ensures.kept_order o two (c.loop-place.invariant.kept o h two) (in-order-found t.number o xs p _ w.in-Some.ensures h)
+            | inr two ↦
+                w.joined_behind-notes.ensures.kept_order o two (c.loop-place.invariant.kept o h two) (in-order-found t.number o xs p _ w.in-Some.ensures h)
           ]
         ];
       })

@@ -10,7 +10,8 @@ use Rattle.rosters.proofs.roster_notes.order_in_front.Goals as goal
 pub returns-in_default-clause-right : goal.returns-in_default-clause-right
 returns-in_default-clause-right g c =
     let ns = map g.T.Numbered.number c.args.items.now.items in
-    ordered-front c.kept_order.result c.args.number ns (c.kept_order.ensures.kept ns c.requires) (subst (IsOrderOf c.kept_order.result c.args.number) c.number_at-in_default.ensures c.kept_order.ensures.pair)
+    ordered-front c.kept_order.result c.args.number ns (c.kept_order.ensures.kept ns c.requires)
+    (subst (IsOrderOf c.kept_order.result c.args.number) c.number_at-in_default.ensures c.kept_order.ensures.pair)
 
 pub returns-in_default-clause-known : goal.returns-in_default-clause-known
 returns-in_default-clause-known g c = λ o e h.

@@ -20,4 +20,5 @@ pub returns : goal.returns
 returns g c =
     let ns = map g.T.Numbered.number c.args.items.now.items in
     let is : has_number c.args.number (number_at ns c.place_behind-place.result) ≡ false = cc in
-    sym (position-none c.args.order c.args.number ns c.requires c.place_behind-place.result c.place_behind-place.ensures.front c.place_behind-place.ensures.back is)
+    sym (position-none c.args.order c.args.number ns c.requires c.place_behind-place.result c.place_behind-place.ensures.front c.place_behind-place.ensures.back
+    is)

@@ -13,4 +13,5 @@ returns-in-Ok-clause-performed g c =
     let o = c.serve_under.result in
     words_served c.args.source.now c.args.script.now c.args.ticks shelf files middle out c.in-Ok.bytes.items o
     c.long_sources_are_refused.ensures c.read_file.ensures.files c.read_file.ensures.monotone c.serve_under.ensures.monotone_shelf c.in-Ok.ensures.read
-    (subst (λ seen_bytes. ServesUnder c.args.script.now c.args.ticks seen_bytes (shelf_since shelf files middle) out o) c.deref.ensures.value c.serve_under.ensures.served)
+    (subst (λ seen_bytes.
+    ServesUnder c.args.script.now c.args.ticks seen_bytes (shelf_since shelf files middle) out o) c.deref.ensures.value c.serve_under.ensures.served)

@@ -7,7 +7,8 @@ use Rattle.run_commands.proofs.scripting.serve_under.Goals as goal
 pub returns-in-Ok-clause-served : goal.returns-in-Ok-clause-served
 returns-in-Ok-clause-served g c =
     image_served c.args.script.now c.args.ticks c.args.bytes.now c.in-Ok.image
-    (shelf_of g.S.Shelf.files g.S.Shelf.faults c.args.shelf.now c.serve_image_under.new.shelf) (sink_of g.K.Sink.held g.K.Sink.faults c.args.out.now c.serve_image_under.new.out) c.serve_image_under.result
+    (shelf_of g.S.Shelf.files g.S.Shelf.faults c.args.shelf.now c.serve_image_under.new.shelf)
+    (sink_of g.K.Sink.held g.K.Sink.faults c.args.out.now c.serve_image_under.new.out) c.serve_image_under.result
     c.in-Ok.ensures.accepted c.in-Ok.ensures.only c.serve_image_under.ensures.served
 
 pub returns-in-Err-clause-served : goal.returns-in-Err-clause-served

@@ -10,18 +10,22 @@ pub returns-in_err-tally-clause-prefix : goal.returns-in_err-tally-clause-prefix
 returns-in_err-tally-clause-prefix g c = err-none c.from_residual.result (g.K.Sink.held c.args.out.now) (summary_under c.args.items c.args.image c.args.ticks)
 
 pub returns-in_err-stop-clause-prefix : goal.returns-in_err-stop-clause-prefix
-returns-in_err-stop-clause-prefix g c = err-none c.from_residual-in_err-stop.result (g.K.Sink.held c.args.out.now) (summary_under c.args.items c.args.image c.args.ticks)
+returns-in_err-stop-clause-prefix g c =
+    err-none c.from_residual-in_err-stop.result (g.K.Sink.held c.args.out.now) (summary_under c.args.items c.args.image c.args.ticks)
 
 pub returns-in_err-text-clause-prefix : goal.returns-in_err-text-clause-prefix
-returns-in_err-text-clause-prefix g c = err-none c.from_residual-in_err-text.result (g.K.Sink.held c.args.out.now) (summary_under c.args.items c.args.image c.args.ticks)
+returns-in_err-text-clause-prefix g c =
+    err-none c.from_residual-in_err-text.result (g.K.Sink.held c.args.out.now) (summary_under c.args.items c.args.image c.args.ticks)
 
 pub returns-in_err-write_line-clause-prefix : goal.returns-in_err-write_line-clause-prefix
 returns-in_err-write_line-clause-prefix g c =
-    cut_text c.from_residual-in_err-write_line.result (g.K.Sink.held c.args.out.now) (g.K.Sink.held c.write_line.new.out) c.as_slice.result.now (summary_under c.args.items c.args.image c.args.ticks)
+    cut_text c.from_residual-in_err-write_line.result (g.K.Sink.held c.args.out.now) (g.K.Sink.held c.write_line.new.out) c.as_slice.result.now
+    (summary_under c.args.items c.args.image c.args.ticks)
     (c.as_slice.ensures.value ∙ c.in_ok-text.ensures (lines_of_run c.args.image c.args.items c.args.ticks) c.in_ok-stop.ensures.tallied)
     c.in_err-write_line.ensures.prefix
 
 pub returns-clause-written : goal.returns-clause-written
 returns-clause-written g c =
     c.in_ok-write_line.ensures.written
-    ∙ ap (λ text. extended (g.K.Sink.held c.args.out.now) text) (c.as_slice.ensures.value ∙ c.in_ok-text.ensures (lines_of_run c.args.image c.args.items c.args.ticks) c.in_ok-stop.ensures.tallied)
+    ∙ ap (λ text. extended (g.K.Sink.held c.args.out.now) text)
+    (c.as_slice.ensures.value ∙ c.in_ok-text.ensures (lines_of_run c.args.image c.args.items c.args.ticks) c.in_ok-stop.ensures.tallied)

@@ -33,6 +33,7 @@ module _ {G : GoodWorld} {F : Naming} (moves : FineMoves G F) where
   when-from true step w good k = k refl
   when-from false step w good k = keeps-from (chains moves) nothing w good (nothing-keeps (chains moves))
 
-  pub for_some-from : {X : Type 0} (x : Option X) (f : X → Step) (w : World) → G w → ((y : X) → x ≡ Some y → From (Behind G) w (f y)) → From (Behind G) w (for_some x f)
+  pub for_some-from : {X : Type 0} (x : Option X) (f : X → Step) (w : World) → G w → ((y : X) → x ≡ Some y → From (Behind G) w (f y))
+      → From (Behind G) w (for_some x f)
   for_some-from None f w good k = keeps-from (chains moves) nothing w good (nothing-keeps (chains moves))
   for_some-from (Some x) f w good k = k x refl

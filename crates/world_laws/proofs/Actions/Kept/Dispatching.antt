@@ -11,7 +11,8 @@ use Rattle.profile_image.specs.Program.{is_robin_level, edf_low}
 use Rattle.profile_machine.specs.declared.world.lines.Part.{Part}
 use Rattle.profile_machine.specs.Steps.{changes, says, ◌▷◌}
 use Rattle.profile_machine.specs.Tasks.{task_of, edit_task, with_state}
-use Rattle.profile_machine.specs.Dispatching.{active, level_kept_by, keep_level, deadline_shown, says_ready, granted, grant_quantum, to_tail, to_head, ready, word_of, says_block, block, without_kept_level}
+use Rattle.profile_machine.specs.Dispatching.{active, level_kept_by, keep_level, deadline_shown, says_ready, granted, grant_quantum}
+use Rattle.profile_machine.specs.Dispatching.{to_tail, to_head, ready, word_of, says_block, block, without_kept_level}
 use Rattle.std.proofs.Common.{◌≡◌, refl}
 use Rattle.world_laws.proofs.Actions.FineMoves.{FineMoves, chains, says-keeps}
 use Rattle.world_laws.proofs.Actions.Kept.Tasks.{edit_task-alters}
@@ -27,11 +28,14 @@ full_quantum-inherited false n t = refl
 module _ {G : GoodWorld} {F : Naming} (moves : FineMoves G F) where
   pub keep_level-alters : (p : Image) (name : Who) → Alters G (Behind G) (keep_level p name)
   unfolding Alters
-  keep_level-alters p name w good = moves.edits_task name (λ t. record t { kept_level = level_kept_by p w t (edf_low p t.base) }) w good (λ t. refl) (λ t. refl) (λ t. refl) (λ t. refl) (λ t. refl)
+  keep_level-alters p name w good =
+      moves.edits_task name (λ t. record t { kept_level = level_kept_by p w t (edf_low p t.base) }) w good (λ t. refl) (λ t. refl) (λ t. refl) (λ t. refl)
+      (λ t. refl)
 
   pub says_ready-keeps : (p : Image) (part : Part) (name : Who) (end : QueueEnd) → Keeps G (Behind G) (says_ready p part name end)
   unfolding says_ready
-  says_ready-keeps p part name end = looks-keeps (chains moves) _ (λ w. says-keeps moves part (line.Ready name (active p (task_of w name)) end (deadline_shown p (task_of w name))))
+  says_ready-keeps p part name end =
+      looks-keeps (chains moves) _ (λ w. says-keeps moves part (line.Ready name (active p (task_of w name)) end (deadline_shown p (task_of w name))))
 
   pub grant_quantum-alters : (p : Image) (name : Who) → Alters G (Behind G) (grant_quantum p name)
   unfolding Alters
@@ -76,10 +80,12 @@ module _ {G : GoodWorld} {F : Naming} (moves : FineMoves G F) where
   pub says_block-keeps : (part : Part) (name : Who) (waiting : Waiting) → Keeps G (Behind G) (says_block part name waiting)
   unfolding says_block
   says_block-keeps part name waiting =
-      then-keeps (chains moves) (changes (edit_task name without_kept_level)) (says part (line.Block name (word_of waiting))) (search (changes-keeps, edit_task-alters, chains))
+      then-keeps (chains moves) (changes (edit_task name without_kept_level)) (says part (line.Block name (word_of waiting)))
+      (search (changes-keeps, edit_task-alters, chains))
       (says-keeps moves part (line.Block name (word_of waiting)))
 
   pub block-keeps : (part : Part) (name : Who) (waiting : Waiting) → F name → Keeps G (Behind G) (block part name waiting)
   unfolding block
   block-keeps part name waiting free =
-      then-keeps (chains moves) (changes (edit_task name (with_state (Blocked waiting)))) (says_block part name waiting) (blocked-keeps name waiting free) (says_block-keeps part name waiting)
+      then-keeps (chains moves) (changes (edit_task name (with_state (Blocked waiting)))) (says_block part name waiting) (blocked-keeps name waiting free)
+      (says_block-keeps part name waiting)

@@ -14,7 +14,8 @@ use Rattle.profile_image.specs.Program.{form_of, next_of}
 use Rattle.profile_machine.specs.declared.world.lines.Part.{Part}
 use Rattle.profile_machine.specs.declared.world.lines.Part.TheVariants.{Own}
 use Rattle.profile_machine.specs.Steps.{Step, changes, ◌▷◌}
-use Rattle.profile_machine.specs.Frames.{top_of, new_frame, edit_first, edit_top, goes, push, pop, leaves, raises, has_room, open_handled, open_at, open_sequence, open_if_ready, is_protected, goes_on, onward_of}
+use Rattle.profile_machine.specs.Frames.{top_of, new_frame, edit_first, edit_top, goes, push, pop, leaves, raises, has_room}
+use Rattle.profile_machine.specs.Frames.{open_handled, open_at, open_sequence, open_if_ready, is_protected, goes_on, onward_of}
 use Rattle.world_laws.proofs.Actions.FineMoves.{FineMoves, chains, says-keeps}
 use Rattle.world_laws.proofs.Actions.Natures.{nature, plain}
 use Rattle.world_laws.proofs.Actions.Kept.Combinators.{changes_then-from}
@@ -59,7 +60,9 @@ module _ {G : GoodWorld} {F : Naming} (moves : FineMoves G F) where
     says_object = λ o d ceiling. says-keeps moves Own (said.New (created.Object o) (Some d) ceiling);
     says_call = λ part c. says-keeps moves part (said.Call c.caller c.number c.owner c.entry c.priority);
     says_cancel = λ part t c. says-keeps moves part (said.Cancel t c);
-    edits_task = λ name f w g same_who same_frames same_state same_master same_clock same_abnormal same_unit same_inherited. moves.edits_task name f w g same_who same_frames same_state same_master same_inherited;
+    edits_task =
+        λ name f w g same_who same_frames same_state same_master same_clock same_abnormal same_unit same_inherited.
+        moves.edits_task name f w g same_who same_frames same_state same_master same_inherited;
     edits_cells = moves.edits_cells;
     edits_call = moves.edits_call;
     forgets_call = moves.forgets_call;
@@ -79,8 +82,12 @@ module _ {G : GoodWorld} {F : Naming} (moves : FineMoves G F) where
   open_handled-keeps : (p : Image) (part : Part) (name : Who) (s : StatementNo) (form : StatementForm) → Keeps G (Behind G) (open_handled p part name s form)
   unfolding open_handled
   open_handled-keeps p part name s (form.Handled handlers first) =
-      looks-keeps (chains moves) _ (λ v. branch-keeps (chains moves) (has_room v name 1 0) (goes name (next_of p s) ▷ changes (push name (new_frame (Handled s) (Some first)))) (raises part name exception.Storage)
-      (then-keeps (chains moves) (goes name (next_of p s)) _ (goes-keeps name (next_of p s)) (changes-keeps (chains moves) _ (push-alters name (new_frame (Handled s) (Some first)) refl))) (raises-keeps plain_steps part name exception.Storage))
+      looks-keeps (chains moves) _
+      (λ v. branch-keeps (chains moves) (has_room v name 1 0) (goes name (next_of p s) ▷ changes (push name (new_frame (Handled s) (Some first))))
+      (raises part name exception.Storage)
+      (then-keeps (chains moves) (goes name (next_of p s)) _ (goes-keeps name (next_of p s))
+      (changes-keeps (chains moves) _ (push-alters name (new_frame (Handled s) (Some first)) refl)))
+      (raises-keeps plain_steps part name exception.Storage))
   open_handled-keeps p part name s _ = nothing-keeps (chains moves)
 
   open_at-keeps : (p : Image) (part : Part) (name : Who) (next : Option StatementNo) → Keeps G (Behind G) (open_at p part name next)
@@ -99,7 +106,8 @@ module _ {G : GoodWorld} {F : Naming} (moves : FineMoves G F) where
   -- ---- from one world
 
   -- a step behind the going on
-  pub goes_then-from : (name : Who) (onward : Option StatementNo) (g : Step) (w : World) → G w → (G (edit_top name (goes_on onward) w) → From (Behind G) (edit_top name (goes_on onward) w) g) → From (Behind G) w (goes name onward ▷ g)
+  pub goes_then-from : (name : Who) (onward : Option StatementNo) (g : Step) (w : World) → G w
+      → (G (edit_top name (goes_on onward) w) → From (Behind G) (edit_top name (goes_on onward) w) g) → From (Behind G) w (goes name onward ▷ g)
   unfolding goes Alters
   goes_then-from name onward g w good k =
       let gone = edit_top-alters name (goes_on onward) (λ x. refl) w good in

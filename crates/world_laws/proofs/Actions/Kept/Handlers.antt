@@ -36,7 +36,12 @@ use Rattle.profile_machine.specs.Protected.{entering, begin_action_on, body_of_o
 use Rattle.profile_machine.specs.Serving.{end_release}
 use Rattle.profile_machine.specs.declared.world.marks.Purpose.TheVariants as opened_for
 use Rattle.profile_machine.specs.declared.world.marks.ResultTo.TheVariants as bound_for
-use Rattle.profile_machine.specs.Handlers.{add_release, says_release, wake_agent, release, with_room_for_release, begin_handler, begin_handler_if_room, enter_handler, call_handler, interrupt, setting_of, answer, cancel_event_setting, appoint_event, event_set_to, set_event, cancel_event, clear_timer, with_timer_set, timer_set_beyond, timer_set_to, set_timer, cancel_timer, edit_budget, change_member, add_member, remove_member, fill_budget, replenish, add_to_budget, set_budget, cancel_budget, clock_risen, due_by_tick, charge_budget, timers_reached, quantum_spent_by, charge_clock, charge_group, charge_task, charge, handler_attached, argument_values}
+use Rattle.profile_machine.specs.Handlers.{add_release, says_release, wake_agent, release, with_room_for_release, begin_handler, begin_handler_if_room}
+use Rattle.profile_machine.specs.Handlers.{enter_handler, call_handler, interrupt, setting_of, answer, cancel_event_setting, appoint_event}
+use Rattle.profile_machine.specs.Handlers.{event_set_to, set_event, cancel_event, clear_timer, with_timer_set, timer_set_beyond, timer_set_to}
+use Rattle.profile_machine.specs.Handlers.{set_timer, cancel_timer, edit_budget, change_member, add_member, remove_member, fill_budget, replenish}
+use Rattle.profile_machine.specs.Handlers.{add_to_budget, set_budget, cancel_budget, clock_risen, due_by_tick, charge_budget, timers_reached}
+use Rattle.profile_machine.specs.Handlers.{quantum_spent_by, charge_clock, charge_group, charge_task, charge, handler_attached, argument_values}
 use Rattle.std.proofs.Common.{◌≡◌, refl, []}
 use Rattle.machine_laws.proofs.Moves.{LetsIn}
 use Rattle.world_laws.proofs.Actions.FineMoves.{FineMoves, chains, says-keeps}
@@ -55,7 +60,8 @@ use Rattle.profile_machine.specs.Appointments.{appoint}
 use Rattle.machine_laws.proofs.Kept.Handlers.{spent-frames, spent-master, spent-state, spent-who}
 use Rattle.machine_laws.proofs.FineMoves.{GoodWorld, Naming}
 use Rattle.line_laws.proofs.Leaving.Modes.{Nobody}
-use Rattle.machine_laws.proofs.Kept.Combinators.{Alters, From, Keeps, changes-keeps, either-from, for_some-keeps, keeps-from, looks-from, looks-keeps, looks_at-from, nothing-keeps, sees-keeps, then-from, then-keeps, unchanged-alters}
+use Rattle.machine_laws.proofs.Kept.Combinators.{Alters, From, Keeps, changes-keeps, either-from, for_some-keeps, keeps-from, looks-from}
+use Rattle.machine_laws.proofs.Kept.Combinators.{looks-keeps, looks_at-from, nothing-keeps, sees-keeps, then-from, then-keeps, unchanged-alters}
 use Rattle.world_laws.proofs.Behind.{Behind}
 use Rattle.machine_laws.proofs.Plain.Frames.{becomes-from, given-keeps, raise_if-keeps}
 use Rattle.machine_laws.proofs.Plain.Cells.{store-gives}
@@ -67,22 +73,27 @@ spent-inherited false t = refl
 -- ---- settings, and the charge of a tick
 
 module _ {G : GoodWorld} {F : Naming} (moves : FineMoves G F) where
-  pub with_room_for_release-keeps : (name : Who) (needed : Bool) (step : Step) → Keeps G (Behind G) step → Keeps G (Behind G) (with_room_for_release name needed step)
+  pub with_room_for_release-keeps : (name : Who) (needed : Bool) (step : Step) → Keeps G (Behind G) step
+      → Keeps G (Behind G) (with_room_for_release name needed step)
   with_room_for_release-keeps name needed step kept = search (looks-keeps, raise_if-keeps, chains, plain_steps)
 
-  pub setting_of-keeps : (p : Image) (name : Who) (q : Seen) (base : ℤ) (set : Setting) (named : Option HandlerName) (step : Option HandlerOf → ℤ → Step) → ((x : Option HandlerOf) (y : ℤ) → Keeps G (Behind G) (step x y)) → Keeps G (Behind G) (setting_of p name q base set named step)
+  pub setting_of-keeps : (p : Image) (name : Who) (q : Seen) (base : ℤ) (set : Setting) (named : Option HandlerName) (step : Option HandlerOf → ℤ → Step)
+      → ((x : Option HandlerOf) (y : ℤ) → Keeps G (Behind G) (step x y)) → Keeps G (Behind G) (setting_of p name q base set named step)
   setting_of-keeps p name q base set named step kept = search (given-keeps, with_room_for_release-keeps, raise_if-keeps, plain_steps)
 
   pub answer-keeps : (p : Image) (name : Who) (v : Variable) (b : Bool) → Keeps G (Behind G) (answer p name v b)
   unfolding answer
-  answer-keeps p name v b = looks-from (chains moves) _ (λ w good. becomes-from (plain_steps moves) Own name (store p v (Truth b) w) w good (store-gives (plain_steps moves) p v (Truth b) w good))
+  answer-keeps p name v b =
+      looks-from (chains moves) _
+      (λ w good. becomes-from (plain_steps moves) Own name (store p v (Truth b) w) w good (store-gives (plain_steps moves) p v (Truth b) w good))
 
   pub cancel_event_setting-alters : (e : ℕ) → Alters G (Behind G) (cancel_event_setting e)
   cancel_event_setting-alters e = search (drop_appointment-alters)
 
   pub cancel_event-keeps : (p : Image) (name : Who) (s : StatementNo) (d : DeclNo) (target : VariableName) → Keeps G (Behind G) (cancel_event p name s d target)
   unfolding cancel_event
-  cancel_event-keeps p name s d target = search (sees-keeps, given-keeps, goes-keeps, then-keeps, changes-keeps, cancel_event_setting-alters, answer-keeps, chains, plain_steps) depth 11
+  cancel_event-keeps p name s d target =
+      search (sees-keeps, given-keeps, goes-keeps, then-keeps, changes-keeps, cancel_event_setting-alters, answer-keeps, chains, plain_steps) depth 11
 
   pub clear_timer-alters : (k : ℕ) → Alters G (Behind G) (clear_timer k)
   unfolding Alters
@@ -94,13 +105,15 @@ module _ {G : GoodWorld} {F : Naming} (moves : FineMoves G F) where
 
   pub cancel_timer-keeps : (p : Image) (name : Who) (s : StatementNo) (d : DeclNo) (target : VariableName) → Keeps G (Behind G) (cancel_timer p name s d target)
   unfolding cancel_timer
-  cancel_timer-keeps p name s d target = search (sees-keeps, given-keeps, goes-keeps, then-keeps, changes-keeps, clear_timer-alters, answer-keeps, chains, plain_steps) depth 11
+  cancel_timer-keeps p name s d target =
+      search (sees-keeps, given-keeps, goes-keeps, then-keeps, changes-keeps, clear_timer-alters, answer-keeps, chains, plain_steps) depth 11
 
   edit_budget-alters : (b : ℕ) (f : Budget → Budget) → Alters G (Behind G) (edit_budget b f)
   unfolding Alters
   edit_budget-alters b f w good = moves.edits_budget b f w good
 
-  pub change_member-keeps : (p : Image) (name : Who) (s : StatementNo) (t : world.Task) (is_right : Bool) (b : Option ℕ) → Keeps G (Behind G) (change_member p name s t is_right b)
+  pub change_member-keeps : (p : Image) (name : Who) (s : StatementNo) (t : world.Task) (is_right : Bool) (b : Option ℕ)
+      → Keeps G (Behind G) (change_member p name s t is_right b)
   unfolding change_member
   change_member-keeps p name s t is_right b = search (raise_if-keeps, goes-keeps, then-keeps, changes-keeps, edit_task-alters, chains, plain_steps)
 
@@ -112,9 +125,22 @@ module _ {G : GoodWorld} {F : Naming} (moves : FineMoves G F) where
   unfolding remove_member
   remove_member-keeps p name s d e = search (sees-keeps, given-keeps, change_member-keeps, chains, plain_steps) depth 8
 
-  pub fill_budget-keeps : (p : Image) (name : Who) (s : StatementNo) (d : DeclNo) (e : ExprNo) (f : ℤ → Budget → Budget) → Keeps G (Behind G) (fill_budget p name s d e f)
+  pub fill_budget-keeps : (p : Image) (name : Who) (s : StatementNo) (d : DeclNo) (e : ExprNo) (f : ℤ → Budget → Budget)
+      → Keeps G (Behind G) (fill_budget p name s d e f)
   unfolding fill_budget
-  fill_budget-keeps p name s d e f = search (sees-keeps, given-keeps, with_room_for_release-keeps, raise_if-keeps, goes-keeps, then-keeps, changes-keeps, edit_budget-alters, chains, plain_steps) depth 10
+  fill_budget-keeps p name s d e f =
+      search (
+        sees-keeps,
+        given-keeps,
+        with_room_for_release-keeps,
+        raise_if-keeps,
+        goes-keeps,
+        then-keeps,
+        changes-keeps,
+        edit_budget-alters,
+        chains,
+        plain_steps,
+      ) depth 10
 
   pub replenish-keeps : (p : Image) (name : Who) (s : StatementNo) (d : DeclNo) (e : ExprNo) → Keeps G (Behind G) (replenish p name s d e)
   unfolding replenish
@@ -126,11 +152,25 @@ module _ {G : GoodWorld} {F : Naming} (moves : FineMoves G F) where
 
   pub set_budget-keeps : (p : Image) (name : Who) (s : StatementNo) (d : DeclNo) (named : Option HandlerName) → Keeps G (Behind G) (set_budget p name s d named)
   unfolding set_budget
-  set_budget-keeps p name s d named = search (sees-keeps, given-keeps, with_room_for_release-keeps, raise_if-keeps, goes-keeps, then-keeps, changes-keeps, edit_budget-alters, chains, plain_steps) depth 10
+  set_budget-keeps p name s d named =
+      search (
+        sees-keeps,
+        given-keeps,
+        with_room_for_release-keeps,
+        raise_if-keeps,
+        goes-keeps,
+        then-keeps,
+        changes-keeps,
+        edit_budget-alters,
+        chains,
+        plain_steps,
+      ) depth 10
 
-  pub cancel_budget-keeps : (p : Image) (name : Who) (s : StatementNo) (d : DeclNo) (target : VariableName) → Keeps G (Behind G) (cancel_budget p name s d target)
+  pub cancel_budget-keeps : (p : Image) (name : Who) (s : StatementNo) (d : DeclNo) (target : VariableName)
+      → Keeps G (Behind G) (cancel_budget p name s d target)
   unfolding cancel_budget
-  cancel_budget-keeps p name s d target = search (sees-keeps, given-keeps, goes-keeps, then-keeps, changes-keeps, edit_budget-alters, answer-keeps, chains, plain_steps) depth 11
+  cancel_budget-keeps p name s d target =
+      search (sees-keeps, given-keeps, goes-keeps, then-keeps, changes-keeps, edit_budget-alters, answer-keeps, chains, plain_steps) depth 11
 
   pub charge_budget-alters : (n : Option ℕ) → Alters G (Behind G) (charge_budget n)
   charge_budget-alters None = search (unchanged-alters, chains)
@@ -160,7 +200,8 @@ module _ {G : GoodWorld} {F : Naming} (moves : FineMoves G F) where
       let first = charge_clock-alters t w good in
       let second = charge_group-alters t risen first in
       (moves.edits_task (who.Task t) (quantum_spent_by p) charged second
-      (λ u. spent-who (is_robin_level p u.base) u) (λ u. spent-frames (is_robin_level p u.base) u) (λ u. spent-state (is_robin_level p u.base) u) (λ u. spent-master (is_robin_level p u.base) u) (λ u. spent-inherited (is_robin_level p u.base) u))
+      (λ u. spent-who (is_robin_level p u.base) u) (λ u. spent-frames (is_robin_level p u.base) u) (λ u. spent-state (is_robin_level p u.base) u)
+      (λ u. spent-master (is_robin_level p u.base) u) (λ u. spent-inherited (is_robin_level p u.base) u))
 
   pub charge-alters : (p : Image) (name : Who) → Alters G (Behind G) (charge p name)
   unfolding Alters
@@ -206,9 +247,22 @@ module _ {G : GoodWorld} {F : Naming} (moves : FineMoves G F) where
   event_set_to-keeps p e None m = search (nothing-keeps, chains)
   event_set_to-keeps p e (Some h) m = looks-keeps (chains moves) _ (λ w. appoint_event-keeps p e h m (int_lt (pos w.time) m))
 
-  pub set_event-keeps : (p : Image) (name : Who) (s : StatementNo) (d : DeclNo) (set : Setting) (named : Option HandlerName) → Keeps G (Behind G) (set_event p name s d set named)
+  pub set_event-keeps : (p : Image) (name : Who) (s : StatementNo) (d : DeclNo) (set : Setting) (named : Option HandlerName)
+      → Keeps G (Behind G) (set_event p name s d set named)
   unfolding set_event
-  set_event-keeps p name s d set named = search (sees-keeps, given-keeps, setting_of-keeps, goes-keeps, then-keeps, changes-keeps, cancel_event_setting-alters, event_set_to-keeps, chains, plain_steps) depth 11
+  set_event-keeps p name s d set named =
+      search (
+        sees-keeps,
+        given-keeps,
+        setting_of-keeps,
+        goes-keeps,
+        then-keeps,
+        changes-keeps,
+        cancel_event_setting-alters,
+        event_set_to-keeps,
+        chains,
+        plain_steps,
+      ) depth 11
 
   pub timer_set_beyond-keeps : (p : Image) (k : ℕ) (h : HandlerOf) (v : ℤ) (test : Bool) → Keeps G (Behind G) (timer_set_beyond p k h v test)
   unfolding timer_set_beyond
@@ -220,35 +274,55 @@ module _ {G : GoodWorld} {F : Naming} (moves : FineMoves G F) where
   timer_set_to-keeps p k clock None v = search (nothing-keeps, chains)
   timer_set_to-keeps p k clock (Some h) v = search (timer_set_beyond-keeps)
 
-  pub set_timer-keeps : (p : Image) (name : Who) (s : StatementNo) (d : DeclNo) (set : Setting) (named : Option HandlerName) → Keeps G (Behind G) (set_timer p name s d set named)
+  pub set_timer-keeps : (p : Image) (name : Who) (s : StatementNo) (d : DeclNo) (set : Setting) (named : Option HandlerName)
+      → Keeps G (Behind G) (set_timer p name s d set named)
   unfolding set_timer
-  set_timer-keeps p name s d set named = search (sees-keeps, given-keeps, setting_of-keeps, goes-keeps, then-keeps, changes-keeps, clear_timer-alters, timer_set_to-keeps, chains, plain_steps) depth 11
+  set_timer-keeps p name s d set named =
+      search
+      (sees-keeps, given-keeps, setting_of-keeps, goes-keeps, then-keeps, changes-keeps, clear_timer-alters, timer_set_to-keeps, chains, plain_steps) depth 11
 
 -- ---- the handler of a release: of the agent, which is ready and has no marks
 
-begin_handler-from : (p : Image) (r : Release) (w : World) → Good Nobody w → Awake who.Agent w → Free who.Agent w → LetsIn who.Agent r.handler.object Write w → From (Behind (Good Nobody)) w (begin_handler p r)
+begin_handler-from : (p : Image) (r : Release) (w : World) → Good Nobody w → Awake who.Agent w → Free who.Agent w → LetsIn who.Agent r.handler.object Write w
+    → From (Behind (Good Nobody)) w (begin_handler p r)
 unfolding begin_handler
 begin_handler-from p r w good awake free lets =
     then-from (chains beside) (begin_action_on p who.Agent r.handler.object Write None (Some r.number)) _ w
     (begin_action_on-from p who.Agent r.handler.object Write None (Some r.number) w good awake lets (λ e. free) refl tt)
-    (looks-keeps (chains beside) _ (λ v. changes-keeps (chains beside) _ (opens-alters beside p who.Agent (subprogram_of p r.handler.procedure).scope (body_of_object p v (subprogram_of p r.handler.procedure).scope r.handler.object None (argument_values r.argument)) (opened_for.Subprogram [] bound_for.Nowhere) refl)))
+    (looks-keeps (chains beside) _
+    (λ v. changes-keeps (chains beside) _
+    (opens-alters beside p who.Agent (subprogram_of p r.handler.procedure).scope
+    (body_of_object p v (subprogram_of p r.handler.procedure).scope r.handler.object None (argument_values r.argument))
+    (opened_for.Subprogram [] bound_for.Nowhere) refl)))
 
 served_at_once-from : (n : ℕ) (w : World) → Good Nobody w → Free who.Agent w → From (Behind (Good Nobody)) w (end_release n)
 served_at_once-from n w good free = only-from who.Agent (end_release n) w free good (end_release-keeps (good_moves (Only who.Agent)) n refl)
 
-begin_handler_if_room-from : (p : Image) (r : Release) (w : World) → Good Nobody w → Awake who.Agent w → Free who.Agent w → LetsIn who.Agent r.handler.object Write w → From (Behind (Good Nobody)) w (begin_handler_if_room p r)
+begin_handler_if_room-from : (p : Image) (r : Release) (w : World) → Good Nobody w → Awake who.Agent w → Free who.Agent w
+    → LetsIn who.Agent r.handler.object Write w → From (Behind (Good Nobody)) w (begin_handler_if_room p r)
 unfolding begin_handler_if_room
 begin_handler_if_room-from p r w good awake free lets =
-    looks_at-from (chains beside) (λ v. elim (has_room v who.Agent (1 + marks_of p (subprogram_of p r.handler.procedure).scope) (size_of_body p r.handler.procedure)) as (λ _. Step) [ true ↦ begin_handler p r | false ↦ end_release r.number ]) w (either-from (chains beside) (has_room w who.Agent (1 + marks_of p (subprogram_of p r.handler.procedure).scope) (size_of_body p r.handler.procedure)) (begin_handler p r) (end_release r.number) w
+    looks_at-from (chains beside)
+    (λ v. elim (has_room v who.Agent (1 + marks_of p (subprogram_of p r.handler.procedure).scope) (size_of_body p r.handler.procedure)) as (λ _. Step) [
+      | true ↦ begin_handler p r
+      | false ↦ end_release r.number
+    ]) w
+    (either-from (chains beside) (has_room w who.Agent (1 + marks_of p (subprogram_of p r.handler.procedure).scope) (size_of_body p r.handler.procedure))
+    (begin_handler p r) (end_release r.number) w
     (begin_handler-from p r w good awake free lets) (served_at_once-from r.number w good free))
 
-enter_handler-from : (p : Image) (r : Release) (w : World) (is : Entering) → Good Nobody w → Awake who.Agent w → Free who.Agent w → entering p w who.Agent r.handler.object Write ≡ is → From (Behind (Good Nobody)) w (enter_handler p r is)
+enter_handler-from : (p : Image) (r : Release) (w : World) (is : Entering) → Good Nobody w → Awake who.Agent w → Free who.Agent w
+    → entering p w who.Agent r.handler.object Write ≡ is → From (Behind (Good Nobody)) w (enter_handler p r is)
 unfolding enter_handler
 enter_handler-from p r w entering_is.SameObject good awake free e = served_at_once-from r.number w good free
 enter_handler-from p r w entering_is.AboveCeiling good awake free e = served_at_once-from r.number w good free
 enter_handler-from p r w entering_is.Held good awake free e = keeps-from (chains beside) _ w good (find_held-keeps beside p who.Agent r.handler.object Write)
-enter_handler-from p r w entering_is.Inside good awake free e = begin_handler_if_room-from p r w good awake free (entering-inside p w who.Agent r.handler.object Write e)
+enter_handler-from p r w entering_is.Inside good awake free e =
+    begin_handler_if_room-from p r w good awake free (entering-inside p w who.Agent r.handler.object Write e)
 
-pub call_handler-from : (p : Image) (r : Release) (w : World) → Good Nobody w → Awake who.Agent w → Free who.Agent w → From (Behind (Good Nobody)) w (call_handler p r)
+pub call_handler-from : (p : Image) (r : Release) (w : World) → Good Nobody w → Awake who.Agent w → Free who.Agent w
+    → From (Behind (Good Nobody)) w (call_handler p r)
 unfolding call_handler
-call_handler-from p r w good awake free = looks_at-from (chains beside) (λ v. enter_handler p r (entering p v who.Agent r.handler.object Write)) w (enter_handler-from p r w (entering p w who.Agent r.handler.object Write) good awake free refl)
+call_handler-from p r w good awake free =
+    looks_at-from (chains beside) (λ v. enter_handler p r (entering p v who.Agent r.handler.object Write)) w
+    (enter_handler-from p r w (entering p w who.Agent r.handler.object Write) good awake free refl)

@@ -18,7 +18,10 @@ use Rattle.profile_machine.specs.Steps.{Step, Move, changes, nothing, settles, �
 use Rattle.profile_machine.specs.Tasks.{task_of, edit_task, with_ticks}
 use Rattle.profile_machine.specs.Act.{act}
 use Rattle.profile_machine.specs.Appointments.{first_due}
-use Rattle.profile_machine.specs.Instant.{effect, is_over, effect_of_runner, finish_action, with_port, with_masked, with_kept_interrupt, interrupt_comes, deliver_kept_interrupt, script_item, with_script, take_item, items_due, script_items, take_delay, end_delay, time_out, come_due, take_due, all_due, appointments_due, events_due, moments_due, expire, expire_timer, no_timers_due, timers_due, run_out, no_budget_due, budgets_due, spend_quantum, quantum_spent, instant}
+use Rattle.profile_machine.specs.Instant.{effect, is_over, effect_of_runner, finish_action, with_port, with_masked, with_kept_interrupt, interrupt_comes}
+use Rattle.profile_machine.specs.Instant.{deliver_kept_interrupt, script_item, with_script, take_item, items_due, script_items, take_delay, end_delay}
+use Rattle.profile_machine.specs.Instant.{time_out, come_due, take_due, all_due, appointments_due, events_due, moments_due, expire, expire_timer}
+use Rattle.profile_machine.specs.Instant.{no_timers_due, timers_due, run_out, no_budget_due, budgets_due, spend_quantum, quantum_spent, instant}
 use Rattle.world_laws.proofs.Actions.FineMoves.{FineMoves, chains, move_chains, says-keeps}
 use Rattle.world_laws.proofs.Actions.Sound.{Good}
 use Rattle.world_laws.proofs.Actions.Kept.Combinators.{changes_then-from}
@@ -38,12 +41,15 @@ use Rattle.trace_text.specs.declared.events.Event.{Event}
 use Rattle.profile_machine.specs.Masters.{terminate}
 use Rattle.machine_laws.proofs.FineMoves.{GoodWorld, Naming}
 use Rattle.line_laws.proofs.Leaving.Modes.{Nobody}
-use Rattle.machine_laws.proofs.Kept.Combinators.{Alters, From, Keeps, Leads, changes-from, changes-keeps, for_each-keeps, for_some-keeps, keeps-from, looks-from, looks-keeps, nothing-keeps, then-from, then-keeps, then-leads, when-keeps, settles-from, settles-leads}
+use Rattle.machine_laws.proofs.Kept.Combinators.{Alters, From, Keeps, Leads, changes-from, changes-keeps, for_each-keeps}
+use Rattle.machine_laws.proofs.Kept.Combinators.{for_some-keeps, keeps-from, looks-from, looks-keeps, nothing-keeps}
+use Rattle.machine_laws.proofs.Kept.Combinators.{then-from, then-keeps, then-leads, when-keeps, settles-from, settles-leads}
 use Rattle.world_laws.proofs.Behind.{Behind, BehindMove}
 use Rattle.machine_laws.proofs.Moves.{lines_of}
 use Rattle.machine_laws.proofs.Plain.Calls.{with_call-keeps, unqueued-alters}
 
-pub settles-good : (G : GoodWorld) → ((lines : List Event) (v : World) → G v → G (placed_by lines v)) → (p : Image) (step : Step) (w : World) → From (Behind G) w step → G (settles p step w).0
+pub settles-good : (G : GoodWorld) → ((lines : List Event) (v : World) → G v → G (placed_by lines v)) → (p : Image) (step : Step) (w : World)
+    → From (Behind G) w step → G (settles p step w).0
 settles-good G placed p step w a = settles-from (BehindMove G) p (λ u v xs good. placed (lines_of p xs) v good) step w a
 
 module _ {G : GoodWorld} {F : Naming} (moves : FineMoves G F) (placed : (lines : List Event) (v : World) → G v → G (placed_by lines v)) where
@@ -77,15 +83,20 @@ module _ {G : GoodWorld} {F : Naming} (moves : FineMoves G F) (placed : (lines :
   script_item-keeps p (item.Interrupt n) = search (looks-keeps, interrupt_comes-keeps, chains)
   script_item-keeps p (item.Port n value) = search (changes-keeps, with_port-alters, then-keeps, says-keeps, chains)
   script_item-keeps p (item.Mask n) = search (changes-keeps, with_masked-alters, then-keeps, says-keeps, chains)
-  script_item-keeps p (item.Unmask n) = search (changes-keeps, with_masked-alters, then-keeps, says-keeps, looks-keeps, deliver_kept_interrupt-keeps, chains) depth 8
+  script_item-keeps p (item.Unmask n) =
+      search (changes-keeps, with_masked-alters, then-keeps, says-keeps, looks-keeps, deliver_kept_interrupt-keeps, chains) depth 8
 
-  take_item_if-from : (p : Image) (again : Step) (x : ℤ × Item) (xs : List (ℤ × Item)) (w : World) (test : Bool) → G w → w.script ≡ x ∷ xs → int_le x.0 (pos w.time) ≡ test → Keeps G (Behind G) again → From (Behind G) w (elim test as (λ _. Step) [ true ↦ changes (with_script xs) ▷ script_item p x.1 ▷ again | false ↦ nothing ])
+  take_item_if-from : (p : Image) (again : Step) (x : ℤ × Item) (xs : List (ℤ × Item)) (w : World) (test : Bool) → G w → w.script ≡ x ∷ xs
+      → int_le x.0 (pos w.time) ≡ test → Keeps G (Behind G) again
+      → From (Behind G) w (elim test as (λ _. Step) [ true ↦ changes (with_script xs) ▷ script_item p x.1 ▷ again | false ↦ nothing ])
   take_item_if-from p again x xs w true good is due kept =
-      then-from (chains moves) (changes (with_script xs)) (script_item p x.1 ▷ again) w (changes-from (chains moves) (with_script xs) w (moves.cuts_script xs w good))
+      then-from (chains moves) (changes (with_script xs)) (script_item p x.1 ▷ again) w
+      (changes-from (chains moves) (with_script xs) w (moves.cuts_script xs w good))
       (then-keeps (chains moves) (script_item p x.1) again (script_item-keeps p x.1) kept)
   take_item_if-from p again x xs w false good is due kept = keeps-from (chains moves) nothing w good (nothing-keeps (chains moves))
 
-  take_item-from : (p : Image) (again : Step) (w : World) (script : List (ℤ × Item)) → G w → w.script ≡ script → Keeps G (Behind G) again → From (Behind G) w (take_item p w.time again script)
+  take_item-from : (p : Image) (again : Step) (w : World) (script : List (ℤ × Item)) → G w → w.script ≡ script → Keeps G (Behind G) again
+      → From (Behind G) w (take_item p w.time again script)
   take_item-from p again w [] good is kept = keeps-from (chains moves) nothing w good (nothing-keeps (chains moves))
   take_item-from p again w (x ∷ xs) good is kept = take_item_if-from p again x xs w (int_le x.0 (pos w.time)) good is refl kept
 
@@ -140,7 +151,8 @@ module _ {G : GoodWorld} {F : Naming} (moves : FineMoves G F) (placed : (lines :
   pub expire-keeps : (p : Image) (k : ℕ) (setting : Option TimerSetting) → Keeps G (Behind G) (expire p k setting)
   unfolding expire
   expire-keeps p k None = search (nothing-keeps, chains)
-  expire-keeps p k (Some s) = then-keeps (chains moves) (changes (clear_timer k)) _ (search (changes-keeps, clear_timer-alters, chains)) (release-keeps moves p s.handler (Some k))
+  expire-keeps p k (Some s) =
+      then-keeps (chains moves) (changes (clear_timer k)) _ (search (changes-keeps, clear_timer-alters, chains)) (release-keeps moves p s.handler (Some k))
 
   pub expire_timer-keeps : (p : Image) (k : ℕ) → Keeps G (Behind G) (expire_timer p k)
   unfolding expire_timer
@@ -174,8 +186,11 @@ module _ {G : GoodWorld} {F : Naming} (moves : FineMoves G F) (placed : (lines :
   quantum_spent-leads p = search (effect-leads, looks-keeps, spend_quantum-keeps, chains)
 
   -- all of an instant but the effect of the action that ended
-  pub behind_action-leads : (p : Image) → Leads G (BehindMove G) (script_items p ▶ events_due p ▶ moments_due p ▶ timers_due p ▶ budgets_due p ▶ quantum_spent p)
-  behind_action-leads p = search (then-leads, script_items-leads, events_due-leads, moments_due-leads, timers_due-leads, budgets_due-leads, quantum_spent-leads, move_chains) depth 9
+  pub behind_action-leads : (p : Image)
+      → Leads G (BehindMove G) (script_items p ▶ events_due p ▶ moments_due p ▶ timers_due p ▶ budgets_due p ▶ quantum_spent p)
+  behind_action-leads p =
+      search
+      (then-leads, script_items-leads, events_due-leads, moments_due-leads, timers_due-leads, budgets_due-leads, quantum_spent-leads, move_chains) depth 9
 
 -- ---- the effect of who is ready, and the instant
 
@@ -184,11 +199,14 @@ unfolding effect
 effect-from p name w good awake =
     let v = edit_task name (with_ticks None) w in
     changes_then-from beside (edit_task name (with_ticks None)) _ w
-    (then-from (chains beside) (act p name) _ v (act-from p name v (beside.edits_task name (with_ticks None) w good (λ t. refl) (λ t. refl) (λ t. refl) (λ t. refl) (λ t. refl)) (awake-edited name name (with_ticks None) w (λ t. refl) (λ t. refl) awake))
+    (then-from (chains beside) (act p name) _ v
+    (act-from p name v (beside.edits_task name (with_ticks None) w good (λ t. refl) (λ t. refl) (λ t. refl) (λ t. refl) (λ t. refl))
+    (awake-edited name name (with_ticks None) w (λ t. refl) (λ t. refl) awake))
     (then-keeps (chains beside) _ _ (open_if_ready-keeps beside p name)
     (then-keeps (chains beside) _ _ (take_terminates-keeps beside p name) (unwind_all-keeps beside p name))))
 
-over-good : (p : Image) (name : Who) (w : World) (test : Bool) → Good Nobody w → (test ≡ true → Awake name w) → Good Nobody ((elim test as (λ _. Move) [ true ↦ settles p (effect p name) | false ↦ rests ]) w).0
+over-good : (p : Image) (name : Who) (w : World) (test : Bool) → Good Nobody w → (test ≡ true → Awake name w)
+    → Good Nobody ((elim test as (λ _. Move) [ true ↦ settles p (effect p name) | false ↦ rests ]) w).0
 over-good p name w true good awake = settles-good (Good Nobody) (λ lines v g. g) p (effect p name) w (effect-from p name w good (awake refl))
 over-good p name w false good awake = good
 
@@ -196,7 +214,8 @@ over-good p name w false good awake = good
 abbrev pub RunnerAwake : World → Type 0
 RunnerAwake w = (name : Who) → w.ran ≡ Some name → is_over (task_of w name).ticks_left ≡ true → Awake name w
 
-runner-good : (p : Image) (by : Option Who) (w : World) → Good Nobody w → ((name : Who) → by ≡ Some name → is_over (task_of w name).ticks_left ≡ true → Awake name w) → Good Nobody (effect_of_runner p by w).0
+runner-good : (p : Image) (by : Option Who) (w : World) → Good Nobody w
+    → ((name : Who) → by ≡ Some name → is_over (task_of w name).ticks_left ≡ true → Awake name w) → Good Nobody (effect_of_runner p by w).0
 runner-good p None w good awake = good
 runner-good p (Some name) w good awake = over-good p name w (is_over (task_of w name).ticks_left) good (awake name refl)
 

@@ -15,7 +15,8 @@ use Rattle.profile_machine.specs.Tasks.{edit_task, with_state}
 use Rattle.profile_machine.specs.Dispatching.{ready}
 use Rattle.profile_machine.specs.Frames.{leaves}
 use Rattle.profile_machine.specs.Appointments.{drop_delay}
-use Rattle.profile_machine.specs.Masters.{gone_by_completion, wake_activator, end_group, end_activation_by, end_activation, complete_with, complete, wake_master, forget_task, terminate, leave_by_terminate}
+use Rattle.profile_machine.specs.Masters.{gone_by_completion, wake_activator, end_group, end_activation_by, end_activation}
+use Rattle.profile_machine.specs.Masters.{complete_with, complete, wake_master, forget_task, terminate, leave_by_terminate}
 use Rattle.world_laws.proofs.Actions.FineMoves.{FineMoves, chains}
 use Rattle.world_laws.proofs.Actions.Kept.Tasks.{edit_task-alters}
 use Rattle.world_laws.proofs.Actions.Kept.Dispatching.{runnable-keeps, ready-keeps}
@@ -24,7 +25,8 @@ use Rattle.world_laws.proofs.Actions.Kept.Inheritance.{lose-alters}
 use Rattle.world_laws.proofs.Actions.Kept.Appointments.{drop_delay-alters}
 use Rattle.world_laws.proofs.Actions.Kept.CallEnds.{end_call-keeps, gone-keeps}
 use Rattle.machine_laws.proofs.FineMoves.{GoodWorld, Naming}
-use Rattle.machine_laws.proofs.Kept.Combinators.{Alters, Keeps, changes-keeps, cond-keeps, for_each-keeps, for_some-keeps, looks-keeps, nothing-keeps, then-keeps, when-keeps}
+use Rattle.machine_laws.proofs.Kept.Combinators.{Alters, Keeps, changes-keeps, cond-keeps, for_each-keeps}
+use Rattle.machine_laws.proofs.Kept.Combinators.{for_some-keeps, looks-keeps, nothing-keeps, then-keeps, when-keeps}
 use Rattle.world_laws.proofs.Behind.{Behind}
 use Rattle.machine_laws.proofs.Plain.Frames.{raises-keeps}
 
@@ -44,7 +46,8 @@ module _ {G : GoodWorld} {F : Naming} (moves : FineMoves G F) where
   pub end_activation_by-keeps : (p : Image) (actor name : Who) (failed : Bool) (by : Option Who) → Keeps G (Behind G) (end_activation_by p actor name failed by)
   unfolding end_activation_by
   end_activation_by-keeps p actor name failed None = search (nothing-keeps, chains)
-  end_activation_by-keeps p actor name failed (Some activator) = search (changes-keeps, edit_task-alters, then-keeps, lose-alters, end_group-keeps, chains) depth 9
+  end_activation_by-keeps p actor name failed (Some activator) =
+      search (changes-keeps, edit_task-alters, then-keeps, lose-alters, end_group-keeps, chains) depth 9
 
   pub end_activation-keeps : (p : Image) (actor name : Who) (failed : Bool) → Keeps G (Behind G) (end_activation p actor name failed)
   unfolding end_activation
@@ -52,7 +55,8 @@ module _ {G : GoodWorld} {F : Naming} (moves : FineMoves G F) where
 
   pub complete_with-keeps : (p : Image) (actor name : Who) (calls : List Call) (failed : Bool) → Keeps G (Behind G) (complete_with p actor name calls failed)
   unfolding complete_with
-  complete_with-keeps p actor name calls failed = search (changes-keeps, edit_task-alters, then-keeps, for_each-keeps, gone_by_completion-keeps, end_activation-keeps, chains) depth 7
+  complete_with-keeps p actor name calls failed =
+      search (changes-keeps, edit_task-alters, then-keeps, for_each-keeps, gone_by_completion-keeps, end_activation-keeps, chains) depth 7
 
   pub complete-keeps : (p : Image) (actor name : Who) → Keeps G (Behind G) (complete p actor name)
   unfolding complete
@@ -68,12 +72,15 @@ module _ {G : GoodWorld} {F : Naming} (moves : FineMoves G F) where
 
   pub terminate-keeps : (p : Image) (actor name : Who) → F name → Keeps G (Behind G) (terminate p actor name)
   unfolding terminate
-  terminate-keeps p actor name free = search (looks-keeps, complete-keeps, then-keeps, changes-keeps, drop_delay-alters, forget_task-alters, for_some-keeps, wake_master-keeps, chains) depth 10
+  terminate-keeps p actor name free =
+      search (looks-keeps, complete-keeps, then-keeps, changes-keeps, drop_delay-alters, forget_task-alters, for_some-keeps, wake_master-keeps, chains) depth 10
 
   pub leave_by_terminate-keeps : (p : Image) (actor : Who) (t : Task) → Keeps G (Behind G) (leave_by_terminate p actor t)
   unfolding leave_by_terminate
   leave_by_terminate-keeps p actor t =
       then-keeps (chains moves) (changes (drop_delay t.who)) _ (search (changes-keeps, drop_delay-alters, chains))
-      (then-keeps (chains moves) (cond (same_who actor t.who) (changes (edit_task t.who (with_state Runnable))) (ready p (OfOther t.who) t.who)) (leaves t.who how.Terminate)
-      (cond-keeps (chains moves) (same_who actor t.who) (changes (edit_task t.who (with_state Runnable))) (ready p (OfOther t.who) t.who) (runnable-keeps moves t.who) (ready-keeps moves p (OfOther t.who) t.who))
+      (then-keeps (chains moves) (cond (same_who actor t.who) (changes (edit_task t.who (with_state Runnable))) (ready p (OfOther t.who) t.who))
+      (leaves t.who how.Terminate)
+      (cond-keeps (chains moves) (same_who actor t.who) (changes (edit_task t.who (with_state Runnable))) (ready p (OfOther t.who) t.who)
+      (runnable-keeps moves t.who) (ready-keeps moves p (OfOther t.who) t.who))
       (search (leaves-keeps)))

@@ -22,7 +22,10 @@ use Rattle.profile_machine.specs.Frames.{goes, in_protected}
 use Rattle.profile_machine.specs.Values.{value, moment, whole_in, seen_by}
 use Rattle.profile_machine.specs.Calls.{place_of_entry, take_call, put_call}
 use Rattle.profile_machine.specs.Masters.{part_of}
-use Rattle.profile_machine.specs.Priorities.{placed_anew, reprioritize, reprioritize_own, replace_in, says_base, set_base, says_deadline, set_deadline, take_base, take_deadline, set_deferred, placing_of, defer_base, set_or_defer_base, set_base_of, priority_in_range, set_priority, quantum_of, set_quantum, defer_deadline, set_or_defer_deadline, set_deadline_of, delay_with_deadline, delay_and_set_deadline, is_edf_base}
+use Rattle.profile_machine.specs.Priorities.{placed_anew, reprioritize, reprioritize_own, replace_in, says_base, set_base, says_deadline}
+use Rattle.profile_machine.specs.Priorities.{set_deadline, take_base, take_deadline, set_deferred, placing_of, defer_base, set_or_defer_base}
+use Rattle.profile_machine.specs.Priorities.{set_base_of, priority_in_range, set_priority, quantum_of, set_quantum, defer_deadline}
+use Rattle.profile_machine.specs.Priorities.{set_or_defer_deadline, set_deadline_of, delay_with_deadline, delay_and_set_deadline, is_edf_base}
 use Rattle.world_laws.proofs.Actions.FineMoves.{FineMoves, chains, says-keeps}
 use Rattle.world_laws.proofs.Actions.Sound.{Good}
 use Rattle.world_laws.proofs.Actions.GoodMoves.{good_moves, free-by_test}
@@ -34,7 +37,8 @@ use Rattle.world_laws.proofs.Actions.Kept.Statements.{delay_to-keeps}
 use Rattle.std.proofs.Common.{refl}
 use Rattle.machine_laws.proofs.FineMoves.{GoodWorld, Naming}
 use Rattle.line_laws.proofs.Leaving.Modes.{Nobody}
-use Rattle.machine_laws.proofs.Kept.Combinators.{Alters, Keeps, branch-keeps, changes-keeps, for_some-keeps, looks-from, looks-keeps, nothing-keeps, sees-keeps, then-keeps, when-keeps}
+use Rattle.machine_laws.proofs.Kept.Combinators.{Alters, Keeps, branch-keeps, changes-keeps, for_some-keeps, looks-from}
+use Rattle.machine_laws.proofs.Kept.Combinators.{looks-keeps, nothing-keeps, sees-keeps, then-keeps, when-keeps}
 use Rattle.world_laws.proofs.Behind.{Behind}
 use Rattle.machine_laws.proofs.Plain.Frames.{given-keeps, raise_if-keeps, raise_if-from}
 use Rattle.machine_laws.proofs.Plain.Calls.{edit_call-alters, with_call-keeps, edit_queue-alters}
@@ -67,7 +71,8 @@ module _ {G : GoodWorld} {F : Naming} (moves : FineMoves G F) where
 
   pub set_base-keeps : (p : Image) (part placing : Part) (name : Who) (level : ℕ) → Keeps G (Behind G) (set_base p part placing name level)
   unfolding set_base
-  set_base-keeps p part placing name level = search (changes-keeps, edit_task-alters, then-keeps, says_base-keeps, looks-keeps, replace_in-keeps, chains) depth 7
+  set_base-keeps p part placing name level =
+      search (changes-keeps, edit_task-alters, then-keeps, says_base-keeps, looks-keeps, replace_in-keeps, chains) depth 7
 
   pub says_deadline-keeps : (part : Part) (name : Who) (d : ℤ) → Keeps G (Behind G) (says_deadline part name d)
   unfolding says_deadline
@@ -76,7 +81,8 @@ module _ {G : GoodWorld} {F : Naming} (moves : FineMoves G F) where
 
   pub set_deadline-keeps : (p : Image) (part placing : Part) (name : Who) (d : ℤ) → Keeps G (Behind G) (set_deadline p part placing name d)
   unfolding set_deadline
-  set_deadline-keeps p part placing name d = search (changes-keeps, edit_task-alters, then-keeps, says_deadline-keeps, looks-keeps, when-keeps, to_tail-keeps, chains) depth 8
+  set_deadline-keeps p part placing name d =
+      search (changes-keeps, edit_task-alters, then-keeps, says_deadline-keeps, looks-keeps, when-keeps, to_tail-keeps, chains) depth 8
 
   pub take_base-keeps : (p : Image) (name : Who) (n : Option ℕ) → Keeps G (Behind G) (take_base p name n)
   unfolding take_base
@@ -98,7 +104,10 @@ module _ {G : GoodWorld} {F : Naming} (moves : FineMoves G F) where
 
   pub set_or_defer_base-keeps : (p : Image) (actor name : Who) (level : ℕ) → Keeps G (Behind G) (set_or_defer_base p actor name level)
   unfolding set_or_defer_base
-  set_or_defer_base-keeps p actor name level = looks-keeps (chains moves) _ (λ w. branch-keeps (chains moves) (in_protected w name) (defer_base name level) (set_base p (part_of actor name) (placing_of actor name) name level) (search (defer_base-keeps)) (search (set_base-keeps)))
+  set_or_defer_base-keeps p actor name level =
+      looks-keeps (chains moves) _
+      (λ w. branch-keeps (chains moves) (in_protected w name) (defer_base name level) (set_base p (part_of actor name) (placing_of actor name) name level)
+      (search (defer_base-keeps)) (search (set_base-keeps)))
 
   pub set_base_of-keeps : (p : Image) (actor : Who) (s : StatementNo) (level : ℕ) (t : Option world.Task) → Keeps G (Behind G) (set_base_of p actor s level t)
   unfolding set_base_of
@@ -113,13 +122,16 @@ module _ {G : GoodWorld} {F : Naming} (moves : FineMoves G F) where
 
   set_level-keeps : (level ticks : ℕ) → Keeps G (Behind G) (changes (λ w. record w { quanta = edit_at level (λ _. ticks) w.quanta }))
   unfolding Alters
-  set_level-keeps level ticks = changes-keeps (chains moves) (λ w. record w { quanta = edit_at level (λ _. ticks) w.quanta }) (λ w good. moves.sets_quantum level ticks w good)
+  set_level-keeps level ticks =
+      changes-keeps (chains moves) (λ w. record w { quanta = edit_at level (λ _. ticks) w.quanta }) (λ w good. moves.sets_quantum level ticks w good)
 
   pub set_quantum-keeps : (p : Image) (name : Who) (s : StatementNo) (level quantum : ExprNo) → Keeps G (Behind G) (set_quantum p name s level quantum)
   unfolding set_quantum
   set_quantum-keeps p name s level quantum =
-      sees-keeps (chains moves) p name _ (λ q. given-keeps (plain_steps moves) Own name (value q level) _ (λ v. given-keeps (plain_steps moves) Own name (moment q quantum) _ (λ n.
-      given-keeps (plain_steps moves) Own name (priority_in_range p.policies.last_priority (whole_in v)) _ (λ l. given-keeps (plain_steps moves) Own name (quantum_of p l n) _ (λ ticks.
+      sees-keeps (chains moves) p name _
+      (λ q. given-keeps (plain_steps moves) Own name (value q level) _ (λ v. given-keeps (plain_steps moves) Own name (moment q quantum) _ (λ n.
+      given-keeps (plain_steps moves) Own name (priority_in_range p.policies.last_priority (whole_in v)) _
+      (λ l. given-keeps (plain_steps moves) Own name (quantum_of p l n) _ (λ ticks.
       then-keeps (chains moves) (goes name (next_of p s)) _ (goes-keeps moves name (next_of p s)) (set_level-keeps l ticks))))))
 
   pub defer_deadline-keeps : (name : Who) (d : ℤ) → Keeps G (Behind G) (defer_deadline name d)
@@ -128,22 +140,30 @@ module _ {G : GoodWorld} {F : Naming} (moves : FineMoves G F) where
 
   pub set_or_defer_deadline-keeps : (p : Image) (actor name : Who) (d : ℤ) → Keeps G (Behind G) (set_or_defer_deadline p actor name d)
   unfolding set_or_defer_deadline
-  set_or_defer_deadline-keeps p actor name d = looks-keeps (chains moves) _ (λ w. branch-keeps (chains moves) (in_protected w name && has_edf p) (defer_deadline name d) (set_deadline p (part_of actor name) (placing_of actor name) name d) (search (defer_deadline-keeps)) (search (set_deadline-keeps)))
+  set_or_defer_deadline-keeps p actor name d =
+      looks-keeps (chains moves) _
+      (λ w. branch-keeps (chains moves) (in_protected w name && has_edf p) (defer_deadline name d)
+      (set_deadline p (part_of actor name) (placing_of actor name) name d) (search (defer_deadline-keeps)) (search (set_deadline-keeps)))
 
-  pub set_deadline_of-keeps : (p : Image) (name : Who) (s : StatementNo) (e : ExprNo) (task : Option ExprNo) → Keeps G (Behind G) (set_deadline_of p name s e task)
+  pub set_deadline_of-keeps : (p : Image) (name : Who) (s : StatementNo) (e : ExprNo) (task : Option ExprNo)
+      → Keeps G (Behind G) (set_deadline_of p name s e task)
   unfolding set_deadline_of
   set_deadline_of-keeps p name s e task = search (sees-keeps, given-keeps, goes-keeps, then-keeps, set_or_defer_deadline-keeps, chains, plain_steps) depth 10
 
-  pub delay_with_deadline-keeps : (p : Image) (name : Who) (s : StatementNo) (until offset : ℤ) → F name → Keeps G (Behind G) (delay_with_deadline p name s until offset)
+  pub delay_with_deadline-keeps : (p : Image) (name : Who) (s : StatementNo) (until offset : ℤ) → F name
+      → Keeps G (Behind G) (delay_with_deadline p name s until offset)
   unfolding delay_with_deadline
-  delay_with_deadline-keeps p name s until offset free = search (goes-keeps, then-keeps, changes-keeps, edit_task-alters, says_deadline-keeps, delay_to-keeps, chains) depth 7
+  delay_with_deadline-keeps p name s until offset free =
+      search (goes-keeps, then-keeps, changes-keeps, edit_task-alters, says_deadline-keeps, delay_to-keeps, chains) depth 7
 
 -- it is a delay
-pub delay_and_set_deadline-keeps : (p : Image) (name : Who) (s : StatementNo) (until offset : ExprNo) → Keeps (Good Nobody) (Behind (Good Nobody)) (delay_and_set_deadline p name s until offset)
+pub delay_and_set_deadline-keeps : (p : Image) (name : Who) (s : StatementNo) (until offset : ExprNo)
+    → Keeps (Good Nobody) (Behind (Good Nobody)) (delay_and_set_deadline p name s until offset)
 unfolding delay_and_set_deadline
 delay_and_set_deadline-keeps p name s until offset =
     let outside = good_moves (Only name) in
     looks-from (chains (good_moves Nobody)) _ (λ w good. let q = seen_by p w name in
     raise_if-from (plain_steps (good_moves Nobody)) name (in_protected w name) exception.Program _ w good (λ e.
     only-from name _ w (free-by_test name w e) good
-    (given-keeps (plain_steps outside) Own name (moment q until) _ (λ m. given-keeps (plain_steps outside) Own name (moment q offset) _ (λ o. delay_with_deadline-keeps outside p name s m o refl)))))
+    (given-keeps (plain_steps outside) Own name (moment q until) _
+    (λ m. given-keeps (plain_steps outside) Own name (moment q offset) _ (λ o. delay_with_deadline-keeps outside p name s m o refl)))))

@@ -31,7 +31,11 @@ use Rattle.profile_machine.specs.Frames.{new_frame, pop, top_of, is_protected, i
 use Rattle.profile_machine.specs.Scopes.{begin_scope, next_id, plainly, innermost, end_scope, cells_of, scope_in_use}
 use Rattle.profile_machine.specs.Appointments.{drop_delay}
 use Rattle.profile_machine.specs.Calls.{parameters_of, edit_call, with_call, next_call, place_of_entry, enqueue}
-use Rattle.profile_machine.specs.Rendezvous.{accept_scope, open_accept, has_room_for_accept, begin_accept, finish_without_room, accept_with_room, accept_call, meet_with_room, meet_without_room, meet, accept_or_wait, accept, accept_chosen, wait_at_select, appoint_delay, select_delay, select_wait, select_otherwise, select_by_call, select_open, selective_accept, gone_sent, meet_sent, arrive_at, arrive, finish_accept, finish_rendezvous, behind_accept, finished_call, end_in_accept, own_queue, open_alternatives, open_delays, accept_for, is_callable}
+use Rattle.profile_machine.specs.Rendezvous.{accept_scope, open_accept, has_room_for_accept, begin_accept, finish_without_room, accept_with_room}
+use Rattle.profile_machine.specs.Rendezvous.{accept_call, meet_with_room, meet_without_room, meet, accept_or_wait, accept, accept_chosen}
+use Rattle.profile_machine.specs.Rendezvous.{wait_at_select, appoint_delay, select_delay, select_wait, select_otherwise, select_by_call, select_open}
+use Rattle.profile_machine.specs.Rendezvous.{selective_accept, gone_sent, meet_sent, arrive_at, arrive, finish_accept, finish_rendezvous, behind_accept}
+use Rattle.profile_machine.specs.Rendezvous.{finished_call, end_in_accept, own_queue, open_alternatives, open_delays, accept_for, is_callable}
 use Rattle.std.proofs.Common.{◌≡◌, refl}
 use Rattle.world_laws.proofs.Actions.FineMoves.{FineMoves, chains, says-keeps}
 use Rattle.world_laws.proofs.Actions.Sound.{Good}
@@ -60,7 +64,8 @@ use Rattle.profile_machine.specs.Tasks.{waiting_of}
 use Rattle.machine_laws.proofs.FineMoves.{GoodWorld, Naming}
 use Rattle.machine_laws.proofs.Plain.Results.{finished_call-caller, finished_call-number}
 use Rattle.line_laws.proofs.Leaving.Modes.{Nobody}
-use Rattle.machine_laws.proofs.Kept.Combinators.{Alters, From, Keeps, branch-keeps, changes-keeps, for_some-keeps, keeps-from, looks-from, looks-keeps, looks_at-from, nothing-keeps, then-from, then-keeps, unchanged-alters}
+use Rattle.machine_laws.proofs.Kept.Combinators.{Alters, From, Keeps, branch-keeps, changes-keeps, for_some-keeps, keeps-from, looks-from}
+use Rattle.machine_laws.proofs.Kept.Combinators.{looks-keeps, looks_at-from, nothing-keeps, then-from, then-keeps, unchanged-alters}
 use Rattle.world_laws.proofs.Behind.{Behind}
 use Rattle.machine_laws.proofs.Plain.Frames.{raises-keeps, pass_on-keeps, raise_if-keeps, given-from, raise_if-from}
 use Rattle.machine_laws.proofs.Plain.Calls.{edit_call-alters, with_call-keeps, enqueue-keeps}
@@ -93,14 +98,23 @@ module _ {G : GoodWorld} {F : Naming} (moves : FineMoves G F) where
   unfolding accept_call
   accept_call-keeps p name s c = search (with_call-keeps, begin_accept-keeps, then-keeps, looks-keeps, accept_with_room-keeps, chains, plain_steps) depth 8
 
-  pub meet_with_room-keeps : (p : Image) (part : Part) (name : Who) (s : StatementNo) (c : Call) (then_ : Step) → Keeps G (Behind G) then_ → Keeps G (Behind G) (meet_with_room p part name s c then_)
-  meet_with_room-keeps p part name s c then_ kept = search (begin_accept-keeps, changes-keeps, open_accept-alters, inherit-alters, then-keeps, ready-keeps, open_sequence-keeps, chains) depth 10
+  pub meet_with_room-keeps : (p : Image) (part : Part) (name : Who) (s : StatementNo) (c : Call) (then_ : Step) → Keeps G (Behind G) then_
+      → Keeps G (Behind G) (meet_with_room p part name s c then_)
+  meet_with_room-keeps p part name s c then_ kept =
+      search (begin_accept-keeps, changes-keeps, open_accept-alters, inherit-alters, then-keeps, ready-keeps, open_sequence-keeps, chains) depth 10
 
-  pub meet_without_room-keeps : (p : Image) (part : Part) (name : Who) (s : StatementNo) (c : Call) (otherwise : Step) → Keeps G (Behind G) otherwise → Keeps G (Behind G) (meet_without_room p part name s c otherwise)
-  meet_without_room-keeps p part name s c otherwise kept = search (begin_accept-keeps, then-keeps, finish_without_room-keeps, ready-keeps, raises-keeps, chains, plain_steps) depth 10
+  pub meet_without_room-keeps : (p : Image) (part : Part) (name : Who) (s : StatementNo) (c : Call) (otherwise : Step) → Keeps G (Behind G) otherwise
+      → Keeps G (Behind G) (meet_without_room p part name s c otherwise)
+  meet_without_room-keeps p part name s c otherwise kept =
+      search (begin_accept-keeps, then-keeps, finish_without_room-keeps, ready-keeps, raises-keeps, chains, plain_steps) depth 10
 
-  pub meet-keeps : (p : Image) (part : Part) (name : Who) (s : StatementNo) (c : Call) (then_ otherwise : Step) → Keeps G (Behind G) then_ → Keeps G (Behind G) otherwise → Keeps G (Behind G) (meet p part name s c then_ otherwise)
-  meet-keeps p part name s c then_ otherwise kept also_kept = then-keeps (chains moves) (changes (drop_delay name)) _ (search (changes-keeps, drop_delay-alters, chains)) (looks-keeps (chains moves) _ (λ w. branch-keeps (chains moves) (has_room_for_accept p w name s) (meet_with_room p part name s c then_) (meet_without_room p part name s c otherwise) (search (meet_with_room-keeps)) (search (meet_without_room-keeps))))
+  pub meet-keeps : (p : Image) (part : Part) (name : Who) (s : StatementNo) (c : Call) (then_ otherwise : Step) → Keeps G (Behind G) then_
+      → Keeps G (Behind G) otherwise → Keeps G (Behind G) (meet p part name s c then_ otherwise)
+  meet-keeps p part name s c then_ otherwise kept also_kept =
+      then-keeps (chains moves) (changes (drop_delay name)) _ (search (changes-keeps, drop_delay-alters, chains))
+      (looks-keeps (chains moves) _
+      (λ w. branch-keeps (chains moves) (has_room_for_accept p w name s) (meet_with_room p part name s c then_) (meet_without_room p part name s c otherwise)
+      (search (meet_with_room-keeps)) (search (meet_without_room-keeps))))
 
   pub accept_or_wait-keeps : (p : Image) (name : Who) (s : StatementNo) (c : Option CallNo) → F name → Keeps G (Behind G) (accept_or_wait p name s c)
   unfolding accept_or_wait
@@ -111,16 +125,19 @@ module _ {G : GoodWorld} {F : Naming} (moves : FineMoves G F) where
   unfolding accept_chosen
   accept_chosen-keeps p name accepts c = search (with_call-keeps, for_some-keeps, accept_call-keeps, chains, plain_steps)
 
-  pub wait_at_select-keeps : (name : Who) (accepts : List StatementNo) (delay : Option StatementNo) (test : Bool) → F name → Keeps G (Behind G) (wait_at_select name accepts delay test)
+  pub wait_at_select-keeps : (name : Who) (accepts : List StatementNo) (delay : Option StatementNo) (test : Bool) → F name
+      → Keeps G (Behind G) (wait_at_select name accepts delay test)
   unfolding wait_at_select
   wait_at_select-keeps name accepts delay true free = blocked-keeps moves name (waits_for.Select accepts delay true) free
   wait_at_select-keeps name accepts delay false free = search (block-keeps)
 
   appoint_delay-from : (name : Who) (m : ℤ) (w : World) → G w → From (Behind G) w (changes (appoint_delay name m))
   appoint_delay-from (who.Task t) m w good = appoint-from moves (due_for.Delay t) m w good
-  appoint_delay-from who.Agent m w good = keeps-from (chains moves) (changes (λ v. v)) w good (changes-keeps (chains moves) (λ v. v) (unchanged-alters (chains moves)))
+  appoint_delay-from who.Agent m w good =
+      keeps-from (chains moves) (changes (λ v. v)) w good (changes-keeps (chains moves) (λ v. v) (unchanged-alters (chains moves)))
 
-  select_delay-from : (p : Image) (name : Who) (s : StatementNo) (accepts : List StatementNo) (m : DelayMoment) (terminate test : Bool) (w : World) → G w → F name → From (Behind G) w (select_delay p name s accepts m terminate test)
+  select_delay-from : (p : Image) (name : Who) (s : StatementNo) (accepts : List StatementNo) (m : DelayMoment) (terminate test : Bool) (w : World) → G w
+      → F name → From (Behind G) w (select_delay p name s accepts m terminate test)
   unfolding select_delay
   select_delay-from p name s accepts m terminate true w good free = keeps-from (chains moves) _ w good (search (goes-keeps))
   select_delay-from p name s accepts m terminate false w good free =
@@ -129,22 +146,29 @@ module _ {G : GoodWorld} {F : Naming} (moves : FineMoves G F) where
       (appoint_delay-from name m.at _ good_onward)
       (wait_at_select-keeps name accepts (Some m.delay) terminate free))
 
-  pub select_wait-keeps : (p : Image) (name : Who) (s : StatementNo) (accepts : List StatementNo) (terminate : Bool) (moment : Option DelayMoment) → F name → Keeps G (Behind G) (select_wait p name s accepts terminate moment)
+  pub select_wait-keeps : (p : Image) (name : Who) (s : StatementNo) (accepts : List StatementNo) (terminate : Bool) (moment : Option DelayMoment) → F name
+      → Keeps G (Behind G) (select_wait p name s accepts terminate moment)
   unfolding select_wait
   select_wait-keeps p name s accepts terminate None free = search (goes-keeps, then-keeps, wait_at_select-keeps, chains)
-  select_wait-keeps p name s accepts terminate (Some m) free = looks-from (chains moves) _ (λ w good. select_delay-from p name s accepts m terminate (int_le m.at (pos w.time)) w good free)
+  select_wait-keeps p name s accepts terminate (Some m) free =
+      looks-from (chains moves) _ (λ w good. select_delay-from p name s accepts m terminate (int_le m.at (pos w.time)) w good free)
 
-  pub select_otherwise-keeps : (p : Image) (name : Who) (s : StatementNo) (kinds : List SelectKind) (m : Option DelayMoment) (next : Option StatementNo) → F name → Keeps G (Behind G) (select_otherwise p name s kinds m next)
+  pub select_otherwise-keeps : (p : Image) (name : Who) (s : StatementNo) (kinds : List SelectKind) (m : Option DelayMoment) (next : Option StatementNo)
+      → F name → Keeps G (Behind G) (select_otherwise p name s kinds m next)
   unfolding select_otherwise
   select_otherwise-keeps p name s kinds m (Some otherwise) free = search (goes-keeps)
   select_otherwise-keeps p name s kinds m None free = search (select_wait-keeps)
 
-  pub select_by_call-keeps : (p : Image) (name : Who) (s : StatementNo) (kinds : List SelectKind) (m : Option DelayMoment) (otherwise : Option StatementNo) (c : Option CallNo) → F name → Keeps G (Behind G) (select_by_call p name s kinds m otherwise c)
+  pub select_by_call-keeps : (p : Image) (name : Who) (s : StatementNo) (kinds : List SelectKind) (m : Option DelayMoment) (otherwise : Option StatementNo)
+      (c : Option CallNo)
+      → F name
+      → Keeps G (Behind G) (select_by_call p name s kinds m otherwise c)
   unfolding select_by_call
   select_by_call-keeps p name s kinds m otherwise (Some c) free = search (accept_chosen-keeps)
   select_by_call-keeps p name s kinds m otherwise None free = search (select_otherwise-keeps)
 
-  pub select_open-keeps : (p : Image) (name : Who) (s : StatementNo) (otherwise : Option StatementNo) (kinds : List SelectKind) (moments : List DelayMoment) → F name → Keeps G (Behind G) (select_open p name s otherwise kinds moments)
+  pub select_open-keeps : (p : Image) (name : Who) (s : StatementNo) (otherwise : Option StatementNo) (kinds : List SelectKind) (moments : List DelayMoment)
+      → F name → Keeps G (Behind G) (select_open p name s otherwise kinds moments)
   unfolding select_open
   select_open-keeps p name s otherwise kinds moments free = search (raise_if-keeps, looks-keeps, select_by_call-keeps, chains, plain_steps)
 
@@ -163,13 +187,15 @@ module _ {G : GoodWorld} {F : Naming} (moves : FineMoves G F) where
 
 -- ---- an accept ends; a call that is sent on may begin an abortable part
 
-says_then-keeps : (part : Part) (said : Line) (g : Step) → Keeps (Good Nobody) (Behind (Good Nobody)) g → Keeps (Good Nobody) (Behind (Good Nobody)) (says part said ▷ g)
+says_then-keeps : (part : Part) (said : Line) (g : Step) → Keeps (Good Nobody) (Behind (Good Nobody)) g
+    → Keeps (Good Nobody) (Behind (Good Nobody)) (says part said ▷ g)
 says_then-keeps part said g a = then-keeps (chains beside) (says part said) g (says-keeps beside part said) a
 
 meet_sent-keeps : (p : Image) (t : TaskNo) (c : Call) (next : Option StatementNo) → Keeps (Good Nobody) (Behind (Good Nobody)) (meet_sent p t c next)
 unfolding meet_sent
 meet_sent-keeps p t c (Some s) =
-    meet-keeps beside p TheFinish (who.Task t) s c (begin_abortable p c.number) (deliver p TheFinish c.number (call_ended.ToRaise exception.Storage)) (begin_abortable-keeps p c.number) (deliver-keeps beside p TheFinish c.number (call_ended.ToRaise exception.Storage))
+    meet-keeps beside p TheFinish (who.Task t) s c (begin_abortable p c.number) (deliver p TheFinish c.number (call_ended.ToRaise exception.Storage))
+    (begin_abortable-keeps p c.number) (deliver-keeps beside p TheFinish c.number (call_ended.ToRaise exception.Storage))
 meet_sent-keeps p t c None = then-keeps (chains beside) (enqueue p c.number) _ (enqueue-keeps (plain_steps beside) p c.number) (sent_not_begun-keeps p c.number)
 
 arrive_at-keeps : (p : Image) (t : TaskNo) (c : Call) (test : Bool) → Keeps (Good Nobody) (Behind (Good Nobody)) (arrive_at p t c test)
@@ -182,35 +208,59 @@ unfolding arrive
 arrive-keeps p c (owned_by.Task t) = looks-keeps (chains beside) _ (λ w. arrive_at-keeps p t c (is_callable w t))
 arrive-keeps p c (owned_by.Object o) = gone_sent-keeps beside p c
 
-finish_accept-keeps : (p : Image) (name : Who) (c : Call) (sending : Option Sending) → Keeps (Good Nobody) (Behind (Good Nobody)) (finish_accept p name c sending)
+finish_accept-keeps : (p : Image) (name : Who) (c : Call) (sending : Option Sending)
+    → Keeps (Good Nobody) (Behind (Good Nobody)) (finish_accept p name c sending)
 unfolding finish_accept
-finish_accept-keeps p name c None = says_then-keeps TheFinish (line.Finish name c.number meeting.Ok) _ (deliver-keeps beside p TheFinish c.number call_ended.Finished)
+finish_accept-keeps p name c None =
+    says_then-keeps TheFinish (line.Finish name c.number meeting.Ok) _ (deliver-keeps beside p TheFinish c.number call_ended.Finished)
 finish_accept-keeps p name c (Some s) =
-    says_then-keeps TheFinish (line.Finish name c.number meeting.Requeue) _ (then-keeps (chains beside) (send_on c.number s) _ (send_on-keeps beside c.number s) (with_call-keeps (plain_steps beside) c.number _ (λ d. arrive-keeps p d d.owner)))
+    says_then-keeps TheFinish (line.Finish name c.number meeting.Requeue) _
+    (then-keeps (chains beside) (send_on c.number s) _ (send_on-keeps beside c.number s)
+    (with_call-keeps (plain_steps beside) c.number _ (λ d. arrive-keeps p d d.owner)))
 
-finish_rendezvous-keeps : (p : Image) (name : Who) (c : Call) (leaving : Leaving) → Keeps (Good Nobody) (Behind (Good Nobody)) (finish_rendezvous p name c leaving)
+finish_rendezvous-keeps : (p : Image) (name : Who) (c : Call) (leaving : Leaving)
+    → Keeps (Good Nobody) (Behind (Good Nobody)) (finish_rendezvous p name c leaving)
 unfolding finish_rendezvous
-finish_rendezvous-keeps p name c (how.Exception e) = says_then-keeps TheFinish (line.Finish name c.number (meeting.Raised e)) _ (deliver-keeps beside p TheFinish c.number (call_ended.ToRaise e))
-finish_rendezvous-keeps p name c how.Abort = says_then-keeps TheFinish (line.Gone c.caller c.number) _ (deliver-keeps beside p TheFinish c.number (call_ended.ToRaise exception.Tasking))
+finish_rendezvous-keeps p name c (how.Exception e) =
+    says_then-keeps TheFinish (line.Finish name c.number (meeting.Raised e)) _ (deliver-keeps beside p TheFinish c.number (call_ended.ToRaise e))
+finish_rendezvous-keeps p name c how.Abort =
+    says_then-keeps TheFinish (line.Gone c.caller c.number) _ (deliver-keeps beside p TheFinish c.number (call_ended.ToRaise exception.Tasking))
 finish_rendezvous-keeps p name c how.End = finish_accept-keeps p name c c.sending
 finish_rendezvous-keeps p name c how.Return = finish_accept-keeps p name c c.sending
 finish_rendezvous-keeps p name c (how.Exit loop) = finish_accept-keeps p name c c.sending
 finish_rendezvous-keeps p name c how.Terminate = finish_accept-keeps p name c c.sending
 
 -- the accept on top finishes its call
-accept_ends-from : (p : Image) (name : Who) (m : AcceptMark) (leaving : Leaving) (f : Frame) (w : World) → Good Nobody w → top_of w name ≡ Some f → is_protected f.mark ≡ false → From (Behind (Good Nobody)) w (looks (λ v. changes (pop name) ▷ changes (end_scope m.within) ▷ changes (edit_call m.call (finished_call p (cells_of (scope_in_use v m.within)) leaving)) ▷ with_call m.call (λ c. finish_rendezvous p name c leaving)))
+accept_ends-from : (p : Image) (name : Who) (m : AcceptMark) (leaving : Leaving) (f : Frame) (w : World) → Good Nobody w → top_of w name ≡ Some f
+    → is_protected f.mark ≡ false
+    → From (Behind (Good Nobody)) w
+    (looks (λ v. changes (pop name) ▷ changes (end_scope m.within) ▷ changes (edit_call m.call (finished_call p (cells_of (scope_in_use v m.within)) leaving))
+    ▷ with_call m.call (λ c. finish_rendezvous p name c leaving)))
 accept_ends-from p name m leaving f w good top free =
     let out = popped beside name f w good top free in
-    looks_at-from (chains beside) (λ v. changes (pop name) ▷ changes (end_scope m.within) ▷ changes (edit_call m.call (finished_call p (cells_of (scope_in_use v m.within)) leaving)) ▷ with_call m.call (λ c. finish_rendezvous p name c leaving)) w (changes_then-from beside (pop name) _ w (keeps-from (chains beside) (changes (end_scope m.within) ▷ changes (edit_call m.call (finished_call p (cells_of (scope_in_use w m.within)) leaving)) ▷ with_call m.call (λ c. finish_rendezvous p name c leaving)) (pop name w) out
+    looks_at-from (chains beside)
+    (λ v. changes (pop name) ▷ changes (end_scope m.within) ▷ changes (edit_call m.call (finished_call p (cells_of (scope_in_use v m.within)) leaving))
+    ▷ with_call m.call (λ c. finish_rendezvous p name c leaving)) w
+    (changes_then-from beside (pop name) _ w
+    (keeps-from (chains beside)
+    (changes (end_scope m.within) ▷ changes (edit_call m.call (finished_call p (cells_of (scope_in_use w m.within)) leaving))
+    ▷ with_call m.call (λ c. finish_rendezvous p name c leaving))
+    (pop name w) out
     (then-keeps (chains beside) (changes (end_scope m.within)) _ (changes-keeps (chains beside) _ (end_scope-alters beside m.within))
     (then-keeps (chains beside) (changes (edit_call m.call (finished_call p (cells_of (scope_in_use w m.within)) leaving))) _
-    (changes-keeps (chains beside) _ (edit_call-alters (plain_steps beside) m.call (finished_call p (cells_of (scope_in_use w m.within)) leaving) (finished_call-number p (cells_of (scope_in_use w m.within)) leaving) (finished_call-caller p (cells_of (scope_in_use w m.within)) leaving)))
+    (changes-keeps (chains beside) _
+    (edit_call-alters (plain_steps beside) m.call (finished_call p (cells_of (scope_in_use w m.within)) leaving)
+    (finished_call-number p (cells_of (scope_in_use w m.within)) leaving) (finished_call-caller p (cells_of (scope_in_use w m.within)) leaving)))
     (with_call-keeps (plain_steps beside) m.call _ (λ c. finish_rendezvous-keeps p name c leaving))))))
 
-pub end_in_accept-from : (p : Image) (name : Who) (m : AcceptMark) (leaving : Leaving) (f : Frame) (w : World) → Good Nobody w → top_of w name ≡ Some f → is_protected f.mark ≡ false → From (Behind (Good Nobody)) w (end_in_accept p name m leaving)
+pub end_in_accept-from : (p : Image) (name : Who) (m : AcceptMark) (leaving : Leaving) (f : Frame) (w : World) → Good Nobody w → top_of w name ≡ Some f
+    → is_protected f.mark ≡ false → From (Behind (Good Nobody)) w (end_in_accept p name m leaving)
 unfolding end_in_accept
 end_in_accept-from p name m leaving f w good top free =
-    then-from (chains beside) _ (lose_running p name (inherited_by.Rendezvous m.call) ▷ behind_accept p name leaving) w (accept_ends-from p name m leaving f w good top free) (then-keeps (chains beside) (lose_running p name (inherited_by.Rendezvous m.call)) _ (lose_running-keeps beside p name (inherited_by.Rendezvous m.call) refl) (behind_accept-keeps beside p name leaving))
+    then-from (chains beside) _ (lose_running p name (inherited_by.Rendezvous m.call) ▷ behind_accept p name leaving) w
+    (accept_ends-from p name m leaving f w good top free)
+    (then-keeps (chains beside) (lose_running p name (inherited_by.Rendezvous m.call)) _
+    (lose_running-keeps beside p name (inherited_by.Rendezvous m.call) refl) (behind_accept-keeps beside p name leaving))
 
 -- ---- who is in no protected action accepts, or waits
 
@@ -218,9 +268,11 @@ pub accept-keeps : (p : Image) (name : Who) (s : StatementNo) (e : EntryNo) → 
 unfolding accept
 accept-keeps p name s e =
     looks-from (chains beside) _ (λ w good. raise_if-from (plain_steps beside) name (in_protected w name) exception.Program _ w good
-    (λ free. only-from name _ w (free-by_test name w free) good (accept_or_wait-keeps (good_moves (Only name)) p name s (next_call p w (own_queue w name (place_of_entry p e) ∷ [])) refl)))
+    (λ free. only-from name _ w (free-by_test name w free) good
+    (accept_or_wait-keeps (good_moves (Only name)) p name s (next_call p w (own_queue w name (place_of_entry p e) ∷ [])) refl)))
 
-pub selective_accept-keeps : (p : Image) (name : Who) (s : StatementNo) (alternatives : List SelectAlternative) (otherwise : Option StatementNo) → Keeps (Good Nobody) (Behind (Good Nobody)) (selective_accept p name s alternatives otherwise)
+pub selective_accept-keeps : (p : Image) (name : Who) (s : StatementNo) (alternatives : List SelectAlternative) (otherwise : Option StatementNo)
+    → Keeps (Good Nobody) (Behind (Good Nobody)) (selective_accept p name s alternatives otherwise)
 unfolding selective_accept
 selective_accept-keeps p name s alternatives otherwise =
     looks-from (chains beside) _ (λ w good. raise_if-from (plain_steps beside) name (in_protected w name) exception.Program _ w good

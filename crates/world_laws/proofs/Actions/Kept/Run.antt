@@ -21,7 +21,8 @@ use Rattle.profile_machine.specs.Tasks.{is_who, nobody, task_of, with_ticks}
 use Rattle.profile_machine.specs.Dispatching.{choose, to_tail}
 use Rattle.profile_machine.specs.Cost.{cost}
 use Rattle.profile_machine.specs.Scopes.{open_scope, plainly}
-use Rattle.profile_machine.specs.Run.{begin_action, blank_world, environment, environment_task, one_tick_less, opening, opens, say, says_idle, serve, serve_if_free, silently, spend_tick, tock}
+use Rattle.profile_machine.specs.Run.{begin_action, blank_world, environment, environment_task, one_tick_less, opening}
+use Rattle.profile_machine.specs.Run.{opens, say, says_idle, serve, serve_if_free, silently, spend_tick, tock}
 use Rattle.profile_machine.specs.Handlers.{charge}
 use Rattle.line_laws.proofs.Exits.TaskEdits.{one_of}
 use Rattle.line_laws.proofs.Leaving.Modes.{Nobody}
@@ -60,7 +61,12 @@ module _ (p : Image) (script : List (ℤ × Item)) where
   blank-sure : (name : Who) → SureOf blank.drawn blank.calls blank.objects blank.tasks name (one_of blank.tasks blank.agent name)
   blank-sure name =
       let t = one_of blank.tasks blank.agent name in
-      subst (λ ns. SureOn blank.drawn blank.calls blank.objects blank.tasks name ns t.state t.inherited) (sym (no-marks name)) (tt, (λ e. absurd (false≢true e)), tt, λ r e. tt)
+      subst (λ ns. SureOn blank.drawn blank.calls blank.objects blank.tasks name ns t.state t.inherited) (sym (no-marks name)) (
+        tt,
+        (λ e. absurd (false≢true e)),
+        tt,
+        λ r e. tt,
+      )
 
   blank-owner : OneOwner blank.tasks blank.agent
   blank-owner a b r x y = absurd (false≢true (ap (in_region r) (sym (no-marks a)) ∙ x))
@@ -77,13 +83,17 @@ first = good_moves (Only environment)
 opens-keeps : (p : Image) → Keeps (Good (Only environment)) (Behind (Good (Only environment))) (opens p)
 unfolding opens
 opens-keeps p =
-    then-keeps (chains first) (changes (open_scope p environment p.environment (plainly None) opened_for.Task)) _ (changes-keeps (chains first) _ (open_scope-alters first p environment p.environment (plainly None) opened_for.Task (λ e. refl)))
-    (then-keeps (chains first) (says Own (line.New (created.Task (record { 0 = 0 })) None p.main.priority)) _ (says-keeps first Own (line.New (created.Task (record { 0 = 0 })) None p.main.priority))
+    then-keeps (chains first) (changes (open_scope p environment p.environment (plainly None) opened_for.Task)) _
+    (changes-keeps (chains first) _ (open_scope-alters first p environment p.environment (plainly None) opened_for.Task (λ e. refl)))
+    (then-keeps (chains first) (says Own (line.New (created.Task (record { 0 = 0 })) None p.main.priority)) _
+    (says-keeps first Own (line.New (created.Task (record { 0 = 0 })) None p.main.priority))
     (then-keeps (chains first) (to_tail p Own environment) _ (to_tail-keeps first p Own environment) (open_sequence-keeps first p Own environment)))
 
 pub opening-good : (p : Image) (script : List (ℤ × Item)) → Good Nobody (opening p script).0
 opening-good p script =
-    settles-good (Good Nobody) (λ lines v g. g) p (opens p) (blank_world p script) (less-from (Only environment) (opens p) (blank_world p script) (keeps-from (chains first) (opens p) (blank_world p script) (blank-good p script) (opens-keeps p)))
+    settles-good (Good Nobody) (λ lines v g. g) p (opens p) (blank_world p script)
+    (less-from (Only environment) (opens p) (blank_world p script)
+    (keeps-from (chains first) (opens p) (blank_world p script) (blank-good p script) (opens-keeps p)))
 
 -- ---- tocks
 
@@ -105,7 +115,8 @@ unfolding Leads
 says_idle-leads None w good = good
 says_idle-leads (Some name) w good = say-leads written.Idle w good
 
-serve_if_free-good : (serving : Option Release) (frames : List Frame) (releases : List Release) (w : World) → Good Nobody w → Good Nobody (serve_if_free serving frames releases w).0
+serve_if_free-good : (serving : Option Release) (frames : List Frame) (releases : List Release) (w : World) → Good Nobody w
+    → Good Nobody (serve_if_free serving frames releases w).0
 serve_if_free-good None [] [] w good = good
 serve_if_free-good None [] (r ∷ rest) w good = good
 serve_if_free-good None (f ∷ fs) releases w good = good
@@ -118,11 +129,14 @@ serve-leads who.Agent w good = serve_if_free-good w.serving w.agent.frames w.rel
 
 begin_action-alters : (p : Image) (name : Who) → Alters (Good Nobody) (Behind (Good Nobody)) (begin_action p name)
 unfolding Alters
-begin_action-alters p name w good = beside.edits_task name (with_ticks (Some (unwrap_or (task_of w name).ticks_left (cost p w name)))) w good (λ t. refl) (λ t. refl) (λ t. refl) (λ t. refl) (λ t. refl)
+begin_action-alters p name w good =
+    beside.edits_task name (with_ticks (Some (unwrap_or (task_of w name).ticks_left (cost p w name)))) w good (λ t. refl) (λ t. refl) (λ t. refl) (λ t. refl)
+    (λ t. refl)
 
 spend_tick-alters : (name : Who) → Alters (Good Nobody) (Behind (Good Nobody)) (spend_tick name)
 unfolding Alters
-spend_tick-alters name w good = beside.edits_task name (λ t. with_ticks (one_tick_less t.ticks_left) t) w good (λ t. refl) (λ t. refl) (λ t. refl) (λ t. refl) (λ t. refl)
+spend_tick-alters name w good =
+    beside.edits_task name (λ t. with_ticks (one_tick_less t.ticks_left) t) w good (λ t. refl) (λ t. refl) (λ t. refl) (λ t. refl) (λ t. refl)
 
 before_tick-leads : (p : Image) (chosen : Option Who) → Leads (Good Nobody) (BehindMove (Good Nobody)) (before_tick p chosen)
 before_tick-leads p None = watches-leads (move_chains beside) _ (λ w. says_idle-leads w.ran)
@@ -130,7 +144,8 @@ before_tick-leads p (Some name) =
     then-leads (move_chains beside) _ _ (watches-leads (move_chains beside) _ (λ w. says_run-test (same_option same_who w.ran (Some name)) name))
     (then-leads (move_chains beside) _ _ (serve-leads name)
     (then-leads (move_chains beside) _ _ (silently-leads (begin_action p name) (begin_action-alters p name))
-    (then-leads (move_chains beside) _ _ (silently-leads (charge p name) (charge-alters beside p name)) (silently-leads (spend_tick name) (spend_tick-alters name)))))
+    (then-leads (move_chains beside) _ _ (silently-leads (charge p name) (charge-alters beside p name))
+    (silently-leads (spend_tick name) (spend_tick-alters name)))))
 
 pub tock-good : (p : Image) (w : World) → Good Nobody w → Good Nobody (tock p w).0
 unfolding Leads

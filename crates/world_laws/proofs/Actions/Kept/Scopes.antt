@@ -19,10 +19,12 @@ module _ {G : GoodWorld} {F : Naming} (moves : FineMoves G F) where
   unfolding Alters
   end_scope-alters id w good = moves.ends_scope id w good
 
-  pub open_scope-alters : (p : Image) (name : Who) (scope : ScopeNo) (b : Beginning) (purpose : Purpose) → (is_task_scope purpose ≡ true → F name) → Alters G (Behind G) (open_scope p name scope b purpose)
+  pub open_scope-alters : (p : Image) (name : Who) (scope : ScopeNo) (b : Beginning) (purpose : Purpose) → (is_task_scope purpose ≡ true → F name)
+      → Alters G (Behind G) (open_scope p name scope b purpose)
   unfolding Alters
   open_scope-alters p name scope b purpose free w good = moves.opens_scope p name scope b purpose w good free
 
   -- of a body or a block
-  pub opens-alters : (p : Image) (name : Who) (scope : ScopeNo) (b : Beginning) (purpose : Purpose) → is_task_scope purpose ≡ false → Alters G (Behind G) (open_scope p name scope b purpose)
+  pub opens-alters : (p : Image) (name : Who) (scope : ScopeNo) (b : Beginning) (purpose : Purpose) → is_task_scope purpose ≡ false
+      → Alters G (Behind G) (open_scope p name scope b purpose)
   opens-alters p name scope b purpose is = open_scope-alters p name scope b purpose (λ e. absurd (false≢true (sym is ∙ e)))

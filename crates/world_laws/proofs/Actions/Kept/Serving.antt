@@ -24,7 +24,8 @@ use Rattle.profile_machine.specs.CallEnds.{deliver}
 use Rattle.profile_machine.specs.Sending.{send_on}
 use Rattle.profile_machine.specs.Unwinding.{may_unwind}
 use Rattle.world_laws.proofs.Actions.OnTop.{nature_on_top}
-use Rattle.line_laws.proofs.Exits.Steady.{Holds, Steady, changes-steady, edit_top-spares, edit_top_protected-spares, deliver-steady, enqueue-steady, send_on-steady, settle_sent-steady, begin_call-steady}
+use Rattle.line_laws.proofs.Exits.Steady.{Holds, Steady, changes-steady, edit_top-spares, edit_top_protected-spares}
+use Rattle.line_laws.proofs.Exits.Steady.{deliver-steady, enqueue-steady, send_on-steady, settle_sent-steady, begin_call-steady}
 use Rattle.profile_machine.specs.declared.world.tasks.Cause.TheVariants as inherited_by
 use Rattle.profile_machine.specs.Frames.{frames_of, edit_top, pop}
 use Rattle.profile_machine.specs.Inheritance.{lose_running, falls, lose}
@@ -36,7 +37,11 @@ use Rattle.profile_machine.specs.Dispatching.{to_head}
 use Rattle.profile_machine.specs.Steps.{Step, Done, done, goes_on_with, says, changes, when, for_some, ◌▷◌}
 use Rattle.profile_machine.specs.Protected.{served_next, edit_top_protected, begin_call, body_opens, serve_call, has_room_for_body}
 use Rattle.profile_machine.specs.Values.{object_of}
-use Rattle.profile_machine.specs.Serving.{serves_nothing, is_served_now, serve_ends, end_release, close_action, wait_or_unwind, wait_for_own, resume_own, behind_action, release_object, settle_sent, begins_part, chosen_is_sent, serve_chosen, serve_next, serve_calls, go_on_by_mode, end_operation, finish_raised, finish_well, finish_call, end_entry_body, end_in_protected_by, end_in_protected, part_of_start, with_body_left, no_longer_serves, not_left, outcome_by, is_own_call, may_open_abortable}
+use Rattle.profile_machine.specs.Serving.{serves_nothing, is_served_now, serve_ends, end_release, close_action, wait_or_unwind}
+use Rattle.profile_machine.specs.Serving.{wait_for_own, resume_own, behind_action, release_object, settle_sent, begins_part, chosen_is_sent}
+use Rattle.profile_machine.specs.Serving.{serve_chosen, serve_next, serve_calls, go_on_by_mode, end_operation, finish_raised, finish_well}
+use Rattle.profile_machine.specs.Serving.{finish_call, end_entry_body, end_in_protected_by, end_in_protected, part_of_start, with_body_left}
+use Rattle.profile_machine.specs.Serving.{no_longer_serves, not_left, outcome_by, is_own_call, may_open_abortable}
 use Rattle.std.proofs.Common.{◌≡◌, refl, sym, subst}
 use Rattle.std.proofs.lemmas.Bool.{or_right}
 use Rattle.world_tables.specs.Lists.{rest_of}
@@ -61,7 +66,8 @@ use Rattle.profile_machine.specs.declared.world.marks.Mark.TheVariants.{InProtec
 use Rattle.profile_machine.specs.Tasks.{with_frames}
 use Rattle.line_laws.proofs.Leaving.Modes.{Nobody}
 use Rattle.machine_laws.proofs.Plain.Results.{resume-keeps}
-use Rattle.machine_laws.proofs.Kept.Combinators.{Alters, From, Keeps, changes-keeps, either-from, keeps-from, looks-from, looks-keeps, looks_at-from, nothing-keeps, then-from, then-keeps, when-keeps, world_behind, Kept, then-kept}
+use Rattle.machine_laws.proofs.Kept.Combinators.{Alters, From, Keeps, changes-keeps, either-from, keeps-from, looks-from, looks-keeps}
+use Rattle.machine_laws.proofs.Kept.Combinators.{looks_at-from, nothing-keeps, then-from, then-keeps, when-keeps, world_behind, Kept, then-kept}
 use Rattle.world_laws.proofs.Behind.{Behind, wide-from}
 use Rattle.profile_machine.specs.declared.world.lines.Said.{Said}
 use Rattle.machine_laws.proofs.Plain.Frames.{pass_on-keeps}
@@ -90,7 +96,9 @@ module _ {G : GoodWorld} {F : Naming} (moves : FineMoves G F) where
   wait_or_unwind-keeps : (p : Image) (name : Who) (c : Call) (test : Bool) → F (who.Task c.caller) → Keeps G (Behind G) (wait_or_unwind p name c test)
   unfolding wait_or_unwind
   wait_or_unwind-keeps p name c true free =
-      attempt_with-keeps (plain_steps moves) p Own c _ _ (then-keeps (chains moves) _ _ (changes-keeps (chains moves) _ (forget_call-alters (plain_steps moves) c.number)) (leaves-keeps moves name how.Abort)) (wait_for_call-keeps moves c free)
+      attempt_with-keeps (plain_steps moves) p Own c _ _
+      (then-keeps (chains moves) _ _ (changes-keeps (chains moves) _ (forget_call-alters (plain_steps moves) c.number)) (leaves-keeps moves name how.Abort))
+      (wait_for_call-keeps moves c free)
   wait_or_unwind-keeps p name c false free = wait_for_call-keeps moves c free
 
   wait_for_own-keeps : (p : Image) (name : Who) (c : Call) (test : Bool) → F (who.Task c.caller) → Keeps G (Behind G) (wait_for_own p name c test)
@@ -104,20 +112,24 @@ module _ {G : GoodWorld} {F : Naming} (moves : FineMoves G F) where
   resume_own-keeps p name c None free = looks-keeps (chains moves) _ (λ w. wait_for_own-keeps p name c (may_open_abortable w name c) free)
 
   -- a ceiling is lost, where that leaves the world good
-  ceiling_lost-from : (p : Image) (name : Who) (o : ObjectNo) (v : World) → G (lose name (inherited_by.Ceiling o) v) → From (Behind G) v (lose_running p name (inherited_by.Ceiling o))
+  ceiling_lost-from : (p : Image) (name : Who) (o : ObjectNo) (v : World) → G (lose name (inherited_by.Ceiling o) v)
+      → From (Behind G) v (lose_running p name (inherited_by.Ceiling o))
   unfolding lose_running
   ceiling_lost-from p name o v good =
       let f = lose name (inherited_by.Ceiling o) in
       looks_at-from (chains moves) (λ u. changes f ▷ when (falls p name u (f u)) (to_head p ThePlacing name)) v
       (changes_then-from moves f (when (falls p name v (f v)) (to_head p ThePlacing name)) v
-      (keeps-from (chains moves) _ (f v) good (when-keeps (chains moves) (falls p name v (f v)) (to_head p ThePlacing name) (to_head-keeps moves p ThePlacing name))))
+      (keeps-from (chains moves) _ (f v) good
+      (when-keeps (chains moves) (falls p name v (f v)) (to_head p ThePlacing name) (to_head-keeps moves p ThePlacing name))))
 
 -- ---- the action on top ends
 
-top-sound : (name : Who) (m : ProtectedMark) (w : World) → Sound w → top_nature (marks_of w.tasks w.agent name) ≡ Some (acted m) → ReleaseSound name m.release × OwnSound w.drawn.calls w.calls name m.own_call
+top-sound : (name : Who) (m : ProtectedMark) (w : World) → Sound w → top_nature (marks_of w.tasks w.agent name) ≡ Some (acted m)
+    → ReleaseSound name m.release × OwnSound w.drawn.calls w.calls name m.own_call
 top-sound name m w h top = step (marks_of w.tasks w.agent name) (h.5 name).0 top
   where
-    step : (ns : List Nature) → MarksSound w.drawn w.calls name ns → top_nature ns ≡ Some (acted m) → ReleaseSound name m.release × OwnSound w.drawn.calls w.calls name m.own_call
+    step : (ns : List Nature) → MarksSound w.drawn w.calls name ns → top_nature ns ≡ Some (acted m)
+        → ReleaseSound name m.release × OwnSound w.drawn.calls w.calls name m.own_call
     step [] g e = absurd cc
     step (n ∷ ns) g e = let is : n ≡ acted m = cc in
         (subst (λ (x : Nature). ReleaseSound name x.release) is g.0.2, subst (λ (x : Nature). OwnSound w.drawn.calls w.calls name x.own) is g.0.3)
@@ -126,7 +138,8 @@ known-from : (name : Who) (c : CallNo) (step : Step) (v : World) → From (Behin
 known-from name c step v a = wide-from (GoodKnown (Only name) name c) (Good Nobody) step v (λ u g. (g.0.0, λ n is. absurd is)) a
 
 module _ (p : Image) (name : Who) (m : ProtectedMark) where
-  behind_release-keeps : (r : ℕ) (own : Option CallNo) → who.Agent ≡ name → Keeps (Good (Only name)) (Behind (Good (Only name))) (behind_action p name m (Some r) own)
+  behind_release-keeps : (r : ℕ) (own : Option CallNo) → who.Agent ≡ name
+      → Keeps (Good (Only name)) (Behind (Good (Only name))) (behind_action p name m (Some r) own)
   unfolding behind_action
   behind_release-keeps r own is = end_release-keeps (good_moves (Only name)) r is
 
@@ -138,19 +151,24 @@ module _ (p : Image) (name : Who) (m : ProtectedMark) where
   unfolding behind_action
   behind_own-keeps c =
       let known = known_moves name c (Only name) in
-      looks-from (chains known) _ (λ u g. for_some-from known (call_of u c) _ u g (λ d found. keeps-from (chains known) _ u g (resume_own-keeps known p name d d.outcome (g.1.1 d found))))
+      looks-from (chains known) _
+      (λ u g.
+      for_some-from known (call_of u c) _ u g (λ d found. keeps-from (chains known) _ u g (resume_own-keeps known p name d d.outcome (g.1.1 d found))))
 
   -- behind the end of the action
-  ended-from : (release : Option ℕ) (own : Option CallNo) (v : World) → Good Nobody v → marks m.object (marks_of v.tasks v.agent name) ≡ false → ((is_some own || is_some release) ≡ true → Free name v) → ReleaseSound name release → OwnSound v.drawn.calls v.calls name own
+  ended-from : (release : Option ℕ) (own : Option CallNo) (v : World) → Good Nobody v → marks m.object (marks_of v.tasks v.agent name) ≡ false
+      → ((is_some own || is_some release) ≡ true → Free name v) → ReleaseSound name release → OwnSound v.drawn.calls v.calls name own
       → From (Behind (Good Nobody)) v (lose_running p name (inherited_by.Ceiling m.object) ▷ set_deferred p name ▷ behind_action p name m release own)
   ended-from (Some r) own v good none free agent known =
       let only = good_moves (Only name) in
       let better : Good (Only name) v = (good.0, λ n is. subst (λ k. Free k v) (sym is) (free (or_right (is_some own) true refl))) in
       less-from (Only name) _ v
-      (then-from (chains only) (lose_running p name (inherited_by.Ceiling m.object)) (set_deferred p name ▷ behind_action p name m (Some r) own) v (ceiling_lost-from only p name m.object v (lose_ceiling-good (Only name) name m.object v none better))
+      (then-from (chains only) (lose_running p name (inherited_by.Ceiling m.object)) (set_deferred p name ▷ behind_action p name m (Some r) own) v
+      (ceiling_lost-from only p name m.object v (lose_ceiling-good (Only name) name m.object v none better))
       (then-keeps (chains only) (set_deferred p name) _ (set_deferred-keeps only p name) (behind_release-keeps r own (sym agent))))
   ended-from None None v good none free agent known =
-      then-from (chains beside) (lose_running p name (inherited_by.Ceiling m.object)) (set_deferred p name ▷ behind_action p name m None None) v (ceiling_lost-from beside p name m.object v (lose_ceiling-good Nobody name m.object v none good))
+      then-from (chains beside) (lose_running p name (inherited_by.Ceiling m.object)) (set_deferred p name ▷ behind_action p name m None None) v
+      (ceiling_lost-from beside p name m.object v (lose_ceiling-good Nobody name m.object v none good))
       (then-keeps (chains beside) (set_deferred p name) _ (set_deferred-keeps beside p name) behind_none-keeps)
   ended-from None (Some c) v good none free agent known =
       let own = known_moves name c (Only name) in
@@ -171,20 +189,24 @@ module _ (p : Image) (name : Who) (m : ProtectedMark) where
       let known = top-sound name m w h.0.0 h.1.0 in
       says_then-from beside Own (line.Exit name m.object) _ w
       (changes_then-from beside (pop name) _ w (changes_then-from beside (close_action name m.object) _ (pop name w)
-      (ended-from m.release m.own_call v (end-good name m w h.1.0 Nobody h.0) (end-once name m w h.1.0 h.0.0) (λ floor. end-free name m w h.1.0 floor h.0.0) known.0
+      (ended-from m.release m.own_call v (end-good name m w h.1.0 Nobody h.0) (end-once name m w h.1.0 h.0.0)
+      (λ floor. end-free name m w h.1.0 floor h.0.0) known.0
       (others-edited (λ d cs o. OwnSound d.calls cs name m.own_call) name (λ t. with_frames (rest_of t.frames) t) w known.1))))
 
   -- ---- steps that leave it there
 
-  kept_then : (g : Step) (w : World) (said : List Said) (d : Done) → Kept (Behind (Good Nobody)) w said d → Holds nature_on_top name (acted m) (world_behind d) → ((v : World) → Stands v → From (Behind (Good Nobody)) v g) → Kept (Behind (Good Nobody)) w said (goes_on_with g d)
+  kept_then : (g : Step) (w : World) (said : List Said) (d : Done) → Kept (Behind (Good Nobody)) w said d → Holds nature_on_top name (acted m) (world_behind d)
+      → ((v : World) → Stands v → From (Behind (Good Nobody)) v g) → Kept (Behind (Good Nobody)) w said (goes_on_with g d)
   unfolding From Kept
   kept_then g w said (done v ys) a h k = then-kept (chains beside) w v said ys (g v ys) a (k v (a.2, h) ys)
 
-  step_then : (f g : Step) (w : World) → Stands w → Keeps (Good Nobody) (Behind (Good Nobody)) f → Steady nature_on_top name (acted m) f → ((v : World) → Stands v → From (Behind (Good Nobody)) v g) → From (Behind (Good Nobody)) w (f ▷ g)
+  step_then : (f g : Step) (w : World) → Stands w → Keeps (Good Nobody) (Behind (Good Nobody)) f → Steady nature_on_top name (acted m) f
+      → ((v : World) → Stands v → From (Behind (Good Nobody)) v g) → From (Behind (Good Nobody)) w (f ▷ g)
   unfolding From Keeps Steady
   step_then f g w h a b k said = kept_then g w said (f w said) (a w h.0 said) (b w h.1 said) k
 
-  call_then : (c : CallNo) (f : Call → Step) (w : World) → Stands w → ((d : Call) → From (Behind (Good Nobody)) w (f d)) → From (Behind (Good Nobody)) w (with_call c f)
+  call_then : (c : CallNo) (f : Call → Step) (w : World) → Stands w → ((d : Call) → From (Behind (Good Nobody)) w (f d))
+      → From (Behind (Good Nobody)) w (with_call c f)
   call_then c f w h k = looks_at-from (chains beside) (λ v. for_some (call_of v c) f) w (for_some-from beside (call_of w c) f w h.0 (λ d found. k d))
 
   settle_sent-keeps : (c : Option CallNo) (test : Bool) → Keeps (Good Nobody) (Behind (Good Nobody)) (settle_sent p c test)
@@ -199,19 +221,29 @@ module _ (p : Image) (name : Who) (m : ProtectedMark) where
   begins_part-keeps false c = nothing-keeps (chains beside)
 
   served-from : (is_sent : Bool) (c : CallNo) (d : Call) (again : Step) (w : World) → ((v : World) → Stands v → From (Behind (Good Nobody)) v again) → Stands w
-      → From (Behind (Good Nobody)) w (serve_call p (part_of_start is_sent) name m.object d (begins_part p is_sent c) (deliver p (part_of_start is_sent) c (call_ended.ToRaise exception.Storage) ▷ again))
+      → From (Behind (Good Nobody)) w
+      (serve_call p (part_of_start is_sent) name m.object d (begins_part p is_sent c)
+      (deliver p (part_of_start is_sent) c (call_ended.ToRaise exception.Storage) ▷ again))
   served-from is_sent c d again w onward h =
       let part = part_of_start is_sent in
       let otherwise = deliver p part c (call_ended.ToRaise exception.Storage) ▷ again in
-      let by_room = λ (b : Bool). elim b as (λ _. Step) [ true ↦ body_opens p name m.object d ▷ begins_part p is_sent c | false ↦ says part (line.Finish name d.number (meeting.Raised exception.Storage)) ▷ otherwise ] in
+      let by_room =
+      λ (b : Bool). elim b as (λ _. Step) [
+        | true ↦ body_opens p name m.object d ▷ begins_part p is_sent c
+        | false ↦ says part (line.Finish name d.number (meeting.Raised exception.Storage)) ▷ otherwise
+      ] in
       looks_at-from (chains beside) (λ v. begin_call p part name d ▷ by_room (has_room_for_body p v name d.entry)) w
-      (step_then (begin_call p part name d) (by_room (has_room_for_body p w name d.entry)) w h (begin_call-keeps beside p part name d) (begin_call-steady nature_on_top name (acted m) p part name d)
-      (λ v k. either-from (chains beside) (has_room_for_body p w name d.entry) (body_opens p name m.object d ▷ begins_part p is_sent c) (says part (line.Finish name d.number (meeting.Raised exception.Storage)) ▷ otherwise) v
+      (step_then (begin_call p part name d) (by_room (has_room_for_body p w name d.entry)) w h (begin_call-keeps beside p part name d)
+      (begin_call-steady nature_on_top name (acted m) p part name d)
+      (λ v k. either-from (chains beside) (has_room_for_body p w name d.entry) (body_opens p name m.object d ▷ begins_part p is_sent c)
+      (says part (line.Finish name d.number (meeting.Raised exception.Storage)) ▷ otherwise) v
       (keeps-from (chains beside) _ v k.0 (then-keeps (chains beside) _ _ (body_opens-keeps beside p name m.object d) (begins_part-keeps is_sent c)))
       (says_then-from beside part (line.Finish name d.number (meeting.Raised exception.Storage)) otherwise v
-      (step_then (deliver p part c (call_ended.ToRaise exception.Storage)) again v k (deliver-keeps beside p part c (call_ended.ToRaise exception.Storage)) (deliver-steady nature_on_top name (acted m) p part c (call_ended.ToRaise exception.Storage)) onward))))
+      (step_then (deliver p part c (call_ended.ToRaise exception.Storage)) again v k (deliver-keeps beside p part c (call_ended.ToRaise exception.Storage))
+      (deliver-steady nature_on_top name (acted m) p part c (call_ended.ToRaise exception.Storage)) onward))))
 
-  serve_chosen-from : (is_sent : Bool) (again : Step) (chosen : Option CallNo) (w : World) → ((v : World) → Stands v → From (Behind (Good Nobody)) v again) → Stands w → From (Behind (Good Nobody)) w (serve_chosen p name m is_sent again chosen)
+  serve_chosen-from : (is_sent : Bool) (again : Step) (chosen : Option CallNo) (w : World) → ((v : World) → Stands v → From (Behind (Good Nobody)) v again)
+      → Stands w → From (Behind (Good Nobody)) w (serve_chosen p name m is_sent again chosen)
   serve_chosen-from is_sent again None w onward h = release_object-from w h
   serve_chosen-from is_sent again (Some c) w onward h = call_then c _ w h (λ d. served-from is_sent c d again w onward h)
 
@@ -220,13 +252,17 @@ module _ (p : Image) (name : Who) (m : ProtectedMark) where
   serve_next-from zero sent w h = release_object-from w h
   serve_next-from (suc fuel) sent w h =
       let chosen = λ (v : World). served_next p v name (object_of v m.object) in
-      looks_at-from (chains beside) (λ v. settle_sent p sent (chosen_is_sent sent (chosen v)) ▷ serve_chosen p name m (chosen_is_sent sent (chosen v)) (serve_next fuel p name m None) (chosen v)) w
-      (step_then (settle_sent p sent (chosen_is_sent sent (chosen w))) _ w h (settle_sent-keeps sent (chosen_is_sent sent (chosen w))) (settle_sent-steady nature_on_top name (acted m) p sent (chosen_is_sent sent (chosen w)))
+      looks_at-from (chains beside)
+      (λ v. settle_sent p sent (chosen_is_sent sent (chosen v))
+      ▷ serve_chosen p name m (chosen_is_sent sent (chosen v)) (serve_next fuel p name m None) (chosen v)) w
+      (step_then (settle_sent p sent (chosen_is_sent sent (chosen w))) _ w h (settle_sent-keeps sent (chosen_is_sent sent (chosen w)))
+      (settle_sent-steady nature_on_top name (acted m) p sent (chosen_is_sent sent (chosen w)))
       (λ v k. serve_chosen-from (chosen_is_sent sent (chosen w)) (serve_next fuel p name m None) (chosen w) v (λ u l. serve_next-from fuel None u l) k))
 
   serve_calls-from : (sent : Option CallNo) (w : World) → Stands w → From (Behind (Good Nobody)) w (serve_calls p name m sent)
   unfolding serve_calls
-  serve_calls-from sent w h = looks_at-from (chains beside) (λ v. serve_next (suc (length v.calls)) p name m sent) w (serve_next-from (suc (length w.calls)) sent w h)
+  serve_calls-from sent w h =
+      looks_at-from (chains beside) (λ v. serve_next (suc (length v.calls)) p name m sent) w (serve_next-from (suc (length w.calls)) sent w h)
 
   by_mode-from : (mode : Mode) (w : World) → Stands w → From (Behind (Good Nobody)) w (go_on_by_mode p name m mode)
   unfolding go_on_by_mode
@@ -237,14 +273,17 @@ module _ (p : Image) (name : Who) (m : ProtectedMark) where
   unfolding finish_raised
   raised-from c e w h =
       says_then-from beside TheFinish (line.Finish name c.number (meeting.Raised e)) _ w
-      (step_then (deliver p TheFinish c.number (outcome_by (is_own_call name m.own_call c) e)) _ w h (deliver-keeps beside p TheFinish c.number (outcome_by (is_own_call name m.own_call c) e)) (deliver-steady nature_on_top name (acted m) p TheFinish c.number (outcome_by (is_own_call name m.own_call c) e))
+      (step_then (deliver p TheFinish c.number (outcome_by (is_own_call name m.own_call c) e)) _ w h
+      (deliver-keeps beside p TheFinish c.number (outcome_by (is_own_call name m.own_call c) e))
+      (deliver-steady nature_on_top name (acted m) p TheFinish c.number (outcome_by (is_own_call name m.own_call c) e))
       (λ u l. serve_calls-from None u l))
 
   well-from : (c : Call) (sending : Option Sending) (w : World) → Stands w → From (Behind (Good Nobody)) w (finish_well p name m c sending)
   unfolding finish_well
   well-from c None w h =
       says_then-from beside TheFinish (line.Finish name c.number meeting.Ok) _ w
-      (step_then (deliver p TheFinish c.number call_ended.Finished) _ w h (deliver-keeps beside p TheFinish c.number call_ended.Finished) (deliver-steady nature_on_top name (acted m) p TheFinish c.number call_ended.Finished)
+      (step_then (deliver p TheFinish c.number call_ended.Finished) _ w h (deliver-keeps beside p TheFinish c.number call_ended.Finished)
+      (deliver-steady nature_on_top name (acted m) p TheFinish c.number call_ended.Finished)
       (λ u l. serve_calls-from None u l))
   well-from c (Some s) w h =
       says_then-from beside TheFinish (line.Finish name c.number meeting.Requeue) _ w
@@ -264,15 +303,20 @@ module _ (p : Image) (name : Who) (m : ProtectedMark) where
 -- ---- a body in the action has ended
 
 module _ (p : Image) (name : Who) (m : ProtectedMark) (leaving : Leaving) where
-  edits_then : (f : ProtectedMark → ProtectedMark) (g : Step) (w : World) → ((x : ProtectedMark) → nature (InProtected (f x)) ≡ nature (InProtected x)) → Stands p name m w → ((v : World) → Stands p name m v → From (Behind (Good Nobody)) v g)
+  edits_then : (f : ProtectedMark → ProtectedMark) (g : Step) (w : World) → ((x : ProtectedMark) → nature (InProtected (f x)) ≡ nature (InProtected x))
+      → Stands p name m w → ((v : World) → Stands p name m v → From (Behind (Good Nobody)) v g)
       → From (Behind (Good Nobody)) w (changes (edit_top_protected name f) ▷ changes (edit_top name not_left) ▷ g)
   edits_then f g w same h onward =
-      step_then p name m (changes (edit_top_protected name f)) _ w h (changes-keeps (chains beside) _ (edit_top_protected-alters beside name f same)) (changes-steady nature_on_top name (acted m) _ (edit_top_protected-spares nature_on_top name (acted m) name f same))
-      (λ v k. step_then p name m (changes (edit_top name not_left)) g v k (changes-keeps (chains beside) _ (edit_top-alters beside name not_left (λ x. refl))) (changes-steady nature_on_top name (acted m) _ (edit_top-spares nature_on_top name (acted m) name not_left (λ x. refl))) onward)
+      step_then p name m (changes (edit_top_protected name f)) _ w h (changes-keeps (chains beside) _ (edit_top_protected-alters beside name f same))
+      (changes-steady nature_on_top name (acted m) _ (edit_top_protected-spares nature_on_top name (acted m) name f same))
+      (λ v k. step_then p name m (changes (edit_top name not_left)) g v k (changes-keeps (chains beside) _ (edit_top-alters beside name not_left (λ x. refl)))
+      (changes-steady nature_on_top name (acted m) _ (edit_top-spares nature_on_top name (acted m) name not_left (λ x. refl))) onward)
 
   operation-from : (w : World) → Stands p name m w → From (Behind (Good Nobody)) w (end_operation p name m leaving)
   unfolding end_operation
-  operation-from w h = edits_then (with_body_left leaving) (go_on_by_mode p name (with_body_left leaving m) m.mode) w (λ x. refl) h (λ v k. by_mode-from p name (with_body_left leaving m) m.mode v k)
+  operation-from w h =
+      edits_then (with_body_left leaving) (go_on_by_mode p name (with_body_left leaving m) m.mode) w (λ x. refl) h
+      (λ v k. by_mode-from p name (with_body_left leaving m) m.mode v k)
 
   entry_body-from : (c : CallNo) (w : World) → Stands p name m w → From (Behind (Good Nobody)) w (end_entry_body p name m leaving c)
   unfolding end_entry_body

@@ -29,7 +29,8 @@ use Rattle.world_laws.proofs.Actions.Kept.Scopes.{opens-alters}
 use Rattle.world_laws.proofs.Actions.Kept.Appointments.{appoint-from}
 use Rattle.machine_laws.proofs.FineMoves.{GoodWorld, Naming}
 use Rattle.line_laws.proofs.Leaving.Modes.{Nobody}
-use Rattle.machine_laws.proofs.Kept.Combinators.{From, Keeps, changes-keeps, keeps-from, looks-from, looks-keeps, nothing-keeps, sees-keeps, then-from, then-keeps}
+use Rattle.machine_laws.proofs.Kept.Combinators.{From, Keeps, changes-keeps, keeps-from, looks-from}
+use Rattle.machine_laws.proofs.Kept.Combinators.{looks-keeps, nothing-keeps, sees-keeps, then-from, then-keeps}
 use Rattle.world_laws.proofs.Behind.{Behind}
 use Rattle.machine_laws.proofs.Plain.Frames.{given-keeps, with_room-keeps, raise_if-from}
 
@@ -37,7 +38,8 @@ module _ {G : GoodWorld} {F : Naming} (moves : FineMoves G F) where
   wait_until-from : (p : Image) (name : Who) (until : ℤ) (test : Bool) (w : World) → F name → G w → From (Behind G) w (wait_until p name until test)
   unfolding wait_until
   wait_until-from p (who.Task t) until true w free good =
-      then-from (chains moves) (changes (appoint (due_for.Delay t) until)) (block TheBlock (who.Task t) waits_for.Moment) w (appoint-from moves (due_for.Delay t) until w good) (block-keeps moves TheBlock (who.Task t) waits_for.Moment free)
+      then-from (chains moves) (changes (appoint (due_for.Delay t) until)) (block TheBlock (who.Task t) waits_for.Moment) w
+      (appoint-from moves (due_for.Delay t) until w good) (block-keeps moves TheBlock (who.Task t) waits_for.Moment free)
   wait_until-from p (who.Task t) until false w free good = keeps-from (chains moves) _ w good (search (to_tail-keeps))
   wait_until-from p who.Agent until future w free good = keeps-from (chains moves) _ w good (search (nothing-keeps, chains))
 
@@ -58,6 +60,9 @@ pub delay_until-keeps : (p : Image) (name : Who) (s : StatementNo) (until : Valu
 unfolding delay_until
 delay_until-keeps p name s until =
     let outside = good_moves (Only name) in
-    looks-from (chains (good_moves Nobody)) _ (λ w good. raise_if-from (plain_steps (good_moves Nobody)) name (in_protected w name) exception.Program _ w good (λ e.
+    looks-from (chains (good_moves Nobody)) _
+    (λ w good. raise_if-from (plain_steps (good_moves Nobody)) name (in_protected w name) exception.Program _ w good (λ e.
     only-from name _ w (free-by_test name w e) good
-    (given-keeps (plain_steps outside) Own name until _ (λ moment. then-keeps (chains outside) (goes name (next_of p s)) _ (goes-keeps outside name (next_of p s)) (delay_to-keeps outside p name moment refl)))))
+    (given-keeps (plain_steps outside) Own name until _
+    (λ moment.
+    then-keeps (chains outside) (goes name (next_of p s)) _ (goes-keeps outside name (next_of p s)) (delay_to-keeps outside p name moment refl)))))

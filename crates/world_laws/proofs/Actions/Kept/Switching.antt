@@ -16,8 +16,10 @@ Only name n = n ≡ name
 pub less-from : (F : Naming) (step : Step) (w : World) → From (Behind (Good F)) w step → From (Behind (Good Nobody)) w step
 less-from F step w a = wide-from (Good F) (Good Nobody) step w (λ v g. (g.0, λ n is. absurd is)) a
 
-pub switch-from : (F : Naming) (step : Step) (w : World) → Sound w → ((name : Who) → F name → Free name w) → Keeps (Good F) (Behind (Good F)) step → From (Behind (Good Nobody)) w step
+pub switch-from : (F : Naming) (step : Step) (w : World) → Sound w → ((name : Who) → F name → Free name w) → Keeps (Good F) (Behind (Good F)) step
+    → From (Behind (Good Nobody)) w step
 switch-from F step w h k a = less-from F step w (turns-from (Good F) (Good F) step w (h, k) a)
 
-pub only-from : (name : Who) (step : Step) (w : World) → Free name w → Good Nobody w → Keeps (Good (Only name)) (Behind (Good (Only name))) step → From (Behind (Good Nobody)) w step
+pub only-from : (name : Who) (step : Step) (w : World) → Free name w → Good Nobody w → Keeps (Good (Only name)) (Behind (Good (Only name))) step
+    → From (Behind (Good Nobody)) w step
 only-from name step w free good a = switch-from (Only name) step w good.0 (λ n is. subst (λ m. Free m w) (sym is) free) a

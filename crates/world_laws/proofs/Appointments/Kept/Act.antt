@@ -21,7 +21,8 @@ use Rattle.profile_machine.specs.declared.world.marks.AbortableMark.{AbortableMa
 use Rattle.profile_machine.specs.declared.world.marks.Frame.{Frame}
 use Rattle.profile_machine.specs.declared.world.marks.Mark.{Mark}
 use Rattle.profile_machine.specs.declared.world.marks.Mark.TheVariants.{Scope, Handled, InProtected, InAccept, Abortable, InInitialize, InFinalize, InAssign}
-use Rattle.profile_machine.specs.Act.{call_main, call, handle_or_pass, behind_handled, end_handled, end_top, wait_for_trigger, drop_trigger, below, end_abortable_by, end_in_abortable, act_statement, end_mark, act_without, keeping, waiting_mark}
+use Rattle.profile_machine.specs.Act.{call_main, call, handle_or_pass, behind_handled, end_handled, end_top, wait_for_trigger, drop_trigger}
+use Rattle.profile_machine.specs.Act.{below, end_abortable_by, end_in_abortable, act_statement, end_mark, act_without, keeping, waiting_mark}
 use Rattle.profile_machine.specs.CallEnds.{edit_abortable}
 use Rattle.profile_machine.specs.Calls.{with_call, attempt_with}
 use Rattle.profile_machine.specs.Frames.{frames_of, leaving_of}
@@ -32,11 +33,14 @@ use Rattle.world_laws.proofs.Appointments.Delays.{nature}
 use Rattle.world_laws.proofs.Appointments.FineMoves.{FineMoves, chains}
 use Rattle.world_laws.proofs.Appointments.Kept.Appointments.{drop_appointment-alters}
 use Rattle.world_laws.proofs.Appointments.Kept.CallEnds.{end_found_abortable-keeps, abortable-nature}
-use Rattle.world_laws.proofs.Appointments.Kept.Controlled.{end_in_initialize-keeps, end_in_finalize-keeps, end_in_assign-keeps, initialize-keeps, assign_controlled-keeps}
+use Rattle.world_laws.proofs.Appointments.Kept.Controlled.{end_in_initialize-keeps, end_in_finalize-keeps}
+use Rattle.world_laws.proofs.Appointments.Kept.Controlled.{end_in_assign-keeps, initialize-keeps, assign_controlled-keeps}
 use Rattle.world_laws.proofs.Appointments.Kept.Dispatching.{block-keeps}
 use Rattle.world_laws.proofs.Appointments.Kept.EntryCalls.{entry_call-keeps, asynchronous_select-keeps, requeue-keeps}
 use Rattle.world_laws.proofs.Appointments.Kept.Frames.{pop-alters, edit_top-alters, goes-keeps, plain_steps}
-use Rattle.world_laws.proofs.Appointments.Kept.Handlers.{call_handler-keeps, set_event-keeps, cancel_event-keeps, set_timer-keeps, cancel_timer-keeps, add_member-keeps, remove_member-keeps, replenish-keeps, add_to_budget-keeps, set_budget-keeps, cancel_budget-keeps}
+use Rattle.world_laws.proofs.Appointments.Kept.Handlers.{call_handler-keeps, set_event-keeps, cancel_event-keeps, set_timer-keeps}
+use Rattle.world_laws.proofs.Appointments.Kept.Handlers.{cancel_timer-keeps, add_member-keeps, remove_member-keeps, replenish-keeps}
+use Rattle.world_laws.proofs.Appointments.Kept.Handlers.{add_to_budget-keeps, set_budget-keeps, cancel_budget-keeps}
 use Rattle.world_laws.proofs.Appointments.Kept.Priorities.{set_priority-keeps, set_quantum-keeps, set_deadline_of-keeps}
 use Rattle.world_laws.proofs.Appointments.Kept.Protected.{call_operation-keeps, call_own_operation-keeps}
 use Rattle.world_laws.proofs.Appointments.Kept.Rendezvous.{end_in_accept-keeps, accept-keeps}
@@ -45,11 +49,13 @@ use Rattle.world_laws.proofs.Appointments.Kept.Serving.{OwnCalled, end_in_protec
 use Rattle.world_laws.proofs.Appointments.Kept.Statements.{block_statement-keeps, put_line-keeps}
 use Rattle.world_laws.proofs.Appointments.Kept.Subprograms.{call_subprogram-keeps}
 use Rattle.world_laws.proofs.Appointments.Kept.Tasking.{end_scope_mark-keeps, create-keeps, activate-keeps, end_own_activation-keeps, abort_statement-keeps}
-use Rattle.machine_laws.proofs.Kept.Combinators.{Alters, Keeps, changes-keeps, cond-keeps, looks-keeps, nothing-keeps, option-keeps, then-keeps, unchanged-alters}
+use Rattle.machine_laws.proofs.Kept.Combinators.{Alters, Keeps, changes-keeps, cond-keeps, looks-keeps}
+use Rattle.machine_laws.proofs.Kept.Combinators.{nothing-keeps, option-keeps, then-keeps, unchanged-alters}
 use Rattle.machine_laws.proofs.Plain.Calls.{with_call-keeps, attempt_with-keeps}
 use Rattle.machine_laws.proofs.Plain.Declarations.{declare-keeps}
 use Rattle.machine_laws.proofs.Plain.Frames.{raises-keeps, pass_on-keeps, with_room-keeps}
-use Rattle.machine_laws.proofs.Plain.Statements.{null-keeps, assign-keeps, assign_array-keeps, if_statement-keeps, case_statement-keeps, while_turn-keeps, for_bounds-keeps, first_turn-keeps, later_turn-keeps, exit_statement-keeps, raise_again-keeps}
+use Rattle.machine_laws.proofs.Plain.Statements.{null-keeps, assign-keeps, assign_array-keeps, if_statement-keeps, case_statement-keeps, while_turn-keeps}
+use Rattle.machine_laws.proofs.Plain.Statements.{for_bounds-keeps, first_turn-keeps, later_turn-keeps, exit_statement-keeps, raise_again-keeps}
 use Rattle.machine_laws.proofs.Plain.Subprograms.{return_value-keeps, return-keeps}
 use Rattle.machine_laws.proofs.Plain.PlainSteps.{anybody}
 
@@ -92,7 +98,8 @@ module _ {G : GoodWorld} {May : Naming} {R : StepRelation} {Q : MoveRelation} (m
 
   pub end_handled-keeps : (p : Image) (name : Who) (s : StatementNo) (leaving : Leaving) → Keeps G R (end_handled p name s leaving)
   unfolding end_handled
-  end_handled-keeps p name s leaving = then-keeps (chains moves) _ _ (changes-keeps (chains moves) _ (pop-alters moves name)) (behind_handled-keeps p name s leaving)
+  end_handled-keeps p name s leaving =
+      then-keeps (chains moves) _ _ (changes-keeps (chains moves) _ (pop-alters moves name)) (behind_handled-keeps p name s leaving)
 
   pub end_top-keeps : (p : Image) (name : Who) → Keeps G R (end_top p name)
   unfolding end_top
@@ -108,7 +115,11 @@ module _ {G : GoodWorld} {May : Naming} {R : StepRelation} {Q : MoveRelation} (m
 
   pub end_abortable_by-keeps : (p : Image) (name : Who) (m : AbortableMark) (leaving : Leaving) → May name → Keeps G R (end_abortable_by p name m leaving)
   unfolding end_abortable_by
-  end_abortable_by-keeps p name m leaving other = option-keeps (chains moves) m.call (looks (λ w. changes (drop_trigger name (below (frames_of w name)))) ▷ end_top p name) (λ c. with_call c (λ d. attempt_with p Own d (end_top p name) (wait_for_trigger name d leaving))) (search (looks-keeps, changes-keeps, drop_trigger-alters, then-keeps, end_top-keeps, chains)) (λ c. search (with_call-keeps, attempt_with-keeps, end_top-keeps, wait_for_trigger-keeps, plain_steps))
+  end_abortable_by-keeps p name m leaving other =
+      option-keeps (chains moves) m.call (looks (λ w. changes (drop_trigger name (below (frames_of w name)))) ▷ end_top p name)
+      (λ c. with_call c (λ d. attempt_with p Own d (end_top p name) (wait_for_trigger name d leaving)))
+      (search (looks-keeps, changes-keeps, drop_trigger-alters, then-keeps, end_top-keeps, chains))
+      (λ c. search (with_call-keeps, attempt_with-keeps, end_top-keeps, wait_for_trigger-keeps, plain_steps))
 
   pub end_in_abortable-keeps : (p : Image) (name : Who) (m : AbortableMark) (leaving : Leaving) → May name → Keeps G R (end_in_abortable p name m leaving)
   unfolding end_in_abortable
@@ -118,7 +129,8 @@ module _ {G : GoodWorld} {May : Naming} {R : StepRelation} {Q : MoveRelation} (m
   unfolding call_main
   call_main-keeps p name s = search (with_room-keeps, goes-keeps, then-keeps, looks-keeps, changes-keeps, open_scope-alters, chains, plain_steps)
 
-  pub call-keeps : (p : Image) (name : Who) (s : StatementNo) (callee : Callee) (actuals : List Actual) (to : Destination) → May name → Keeps G R (call p name s callee actuals to)
+  pub call-keeps : (p : Image) (name : Who) (s : StatementNo) (callee : Callee) (actuals : List Actual) (to : Destination) → May name
+      → Keeps G R (call p name s callee actuals to)
   unfolding call
   call-keeps p name s (callee.Subprogram f) actuals to may = search (call_subprogram-keeps)
   call-keeps p name s (callee.Operation d f) actuals to may = search (call_operation-keeps)
@@ -143,7 +155,8 @@ module _ {G : GoodWorld} {May : Naming} {R : StepRelation} {Q : MoveRelation} (m
   end_mark-keeps p name f (InAssign m) may own = end_in_assign-keeps moves p name m f.left_as
 
   -- a statement that is no delay
-  pub act_plain-keeps : (p : Image) (name : Who) (s : StatementNo) (form : StatementForm) → May name → is_delay_form form ≡ false → Keeps G R (act_statement p name s form)
+  pub act_plain-keeps : (p : Image) (name : Who) (s : StatementNo) (form : StatementForm) → May name → is_delay_form form ≡ false
+      → Keeps G R (act_statement p name s form)
   unfolding act_statement
   act_plain-keeps p name s (form.Declare object) may plain = search (declare-keeps, plain_steps, anybody)
   act_plain-keeps p name s (form.Initialize object) may plain = search (initialize-keeps)

@@ -28,5 +28,6 @@ module _ {G : GoodWorld} {May : Naming} {R : StepRelation} {Q : MoveRelation} (m
   pub drops_then-from : (name : Who) (g : Step) (w : World) → G w → ((v : World) → G v → Idle name v → From R v g) → From R w (changes (drop_delay name) ▷ g)
   drops_then-from (who.Task t) g w good k =
       let dropped = moves.drops_appointment (is_delay_of t) w good in
-      changes_then-from (chains moves) (drop_appointment (is_delay_of t)) g w dropped (k (drop_appointment (is_delay_of t) w) (moves.behind w (drop_appointment (is_delay_of t) w) dropped) (dropped-idle t w))
+      changes_then-from (chains moves) (drop_appointment (is_delay_of t)) g w dropped
+      (k (drop_appointment (is_delay_of t) w) (moves.behind w (drop_appointment (is_delay_of t) w) dropped) (dropped-idle t w))
   drops_then-from who.Agent g w good k = changes_then-from (chains moves) (λ v. v) g w (moves.stays w good) (k w good tt)

@@ -21,7 +21,12 @@ use Rattle.profile_machine.specs.declared.world.marks.Mark.TheVariants.{Scope, H
 use Rattle.profile_machine.specs.declared.world.marks.ScopeMark.{ScopeMark}
 use Rattle.profile_machine.specs.declared.world.scopes.Located.{Located}
 use Rattle.profile_machine.specs.declared.world.scopes.Variable.{Variable}
-use Rattle.profile_machine.specs.Controlled.{first_place, open_operation, top_region, registered_as, register, initialize_by, initialize, end_in_initialize, edit_top_scope, finalize_has_raised, open_finalize, has_room_to_finalize, finalize_by, no_longer_registered, finalize_now, finalize, behind_finalize, end_in_finalize, begin_assignment, assign_registered, assign_located, assign_controlled, edit_top_assign, leave_without_room, finalize_target_by, has_room_to_adjust, adjust_by, copy_components_of, copy_object, do_step, step_with, end_in_assign, edit_scope_mark, edit_assign, registered_object, registers, is_assignment}
+use Rattle.profile_machine.specs.Controlled.{first_place, open_operation, top_region, registered_as, register, initialize_by, initialize}
+use Rattle.profile_machine.specs.Controlled.{end_in_initialize, edit_top_scope, finalize_has_raised, open_finalize, has_room_to_finalize, finalize_by}
+use Rattle.profile_machine.specs.Controlled.{no_longer_registered, finalize_now, finalize, behind_finalize, end_in_finalize, begin_assignment}
+use Rattle.profile_machine.specs.Controlled.{assign_registered, assign_located, assign_controlled, edit_top_assign, leave_without_room}
+use Rattle.profile_machine.specs.Controlled.{finalize_target_by, has_room_to_adjust, adjust_by, copy_components_of, copy_object, do_step, step_with}
+use Rattle.profile_machine.specs.Controlled.{end_in_assign, edit_scope_mark, edit_assign, registered_object, registers, is_assignment}
 use Rattle.profile_machine.specs.Frames.{top_of, with_mark, pass_on}
 use Rattle.profile_machine.specs.Scopes.{write_cell, put_cells}
 use Rattle.profile_machine.specs.Statements.{cells_from}
@@ -32,7 +37,8 @@ use Rattle.world_laws.proofs.Appointments.Delays.{nature}
 use Rattle.world_laws.proofs.Appointments.FineMoves.{FineMoves, chains, says-keeps}
 use Rattle.world_laws.proofs.Appointments.Kept.Frames.{pop-alters, edit_top-alters, goes-keeps, push-alters, leaves-keeps, plain_steps}
 use Rattle.world_laws.proofs.Appointments.Kept.Scopes.{open_scope-alters}
-use Rattle.machine_laws.proofs.Kept.Combinators.{Alters, Keeps, branch-keeps, changes-from, changes-keeps, cond-keeps, looks-from, looks-keeps, nothing-keeps, sees-keeps, then-from, then-keeps, when-keeps}
+use Rattle.machine_laws.proofs.Kept.Combinators.{Alters, Keeps, branch-keeps, changes-from, changes-keeps, cond-keeps, looks-from}
+use Rattle.machine_laws.proofs.Kept.Combinators.{looks-keeps, nothing-keeps, sees-keeps, then-from, then-keeps, when-keeps}
 use Rattle.machine_laws.proofs.Plain.Frames.{raises-keeps, pass_on-keeps, given-keeps, with_room-keeps}
 use Rattle.machine_laws.proofs.Plain.Cells.{write_cell-alters}
 use Rattle.machine_laws.proofs.Plain.PlainSteps.{anybody}
@@ -63,7 +69,8 @@ module _ {G : GoodWorld} {May : Naming} {R : StepRelation} {Q : MoveRelation} (m
   unfolding register
   register-keeps p name l =
       looks-from (chains moves) _ (λ w good. let n = suc w.drawn.controlled in
-      then-from (chains moves) (changes (registered_as n (top_region w name) l)) (changes (write_cell l.within (first_place p l) (Thing n)) ▷ says Own (line.Init name n (top_region w name) l.declared)) w
+      then-from (chains moves) (changes (registered_as n (top_region w name) l))
+      (changes (write_cell l.within (first_place p l) (Thing n)) ▷ says Own (line.Init name n (top_region w name) l.declared)) w
       (changes-from (chains moves) (registered_as n (top_region w name) l) w (moves.registers (top_region w name) l w good))
       (search (then-keeps, changes-keeps, write_cell-alters, says-keeps, chains, plain_steps)))
 
@@ -87,12 +94,15 @@ module _ {G : GoodWorld} {May : Naming} {R : StepRelation} {Q : MoveRelation} (m
   pub end_in_initialize-keeps : (p : Image) (name : Who) (l : Located) (leaving : Leaving) → Keeps G R (end_in_initialize p name l leaving)
   unfolding end_in_initialize
   end_in_initialize-keeps p name l leaving =
-      then-keeps (chains moves) _ _ (changes-keeps (chains moves) _ (pop-alters moves name)) (cond-keeps (chains moves) (registers leaving) (register p name l) (pass_on p name leaving) (register-keeps p name l) (pass_on-keeps (plain_steps moves) p name leaving tt))
+      then-keeps (chains moves) _ _ (changes-keeps (chains moves) _ (pop-alters moves name))
+      (cond-keeps (chains moves) (registers leaving) (register p name l) (pass_on p name leaving) (register-keeps p name l)
+      (pass_on-keeps (plain_steps moves) p name leaving tt))
 
   pub end_in_finalize-keeps : (p : Image) (name : Who) (leaving : Leaving) → Keeps G R (end_in_finalize p name leaving)
   unfolding end_in_finalize
   end_in_finalize-keeps p name leaving =
-      then-keeps (chains moves) _ _ (changes-keeps (chains moves) _ (pop-alters moves name)) (looks-keeps (chains moves) _ (λ w. behind_finalize-keeps p name leaving (is_assignment (top_of w name))))
+      then-keeps (chains moves) _ _ (changes-keeps (chains moves) _ (pop-alters moves name))
+      (looks-keeps (chains moves) _ (λ w. behind_finalize-keeps p name leaving (is_assignment (top_of w name))))
 
   pub edit_top_assign-alters : (name : Who) (f : AssignMark → AssignMark) → Alters G R (edit_top_assign name f)
   edit_top_assign-alters name f = edit_top-alters moves name (λ x. with_mark (edit_assign f x.mark) x) (λ x. assign-nature f x.mark)
@@ -116,7 +126,8 @@ module _ {G : GoodWorld} {May : Naming} {R : StepRelation} {Q : MoveRelation} (m
   pub initialize_by-keeps : (p : Image) (name : Who) (s : StatementNo) (l : Located) (f : Option SubprogramNo) → Keeps G R (initialize_by p name s l f)
   unfolding initialize_by
   initialize_by-keeps p name s l None = search (goes-keeps, then-keeps, register-keeps, chains)
-  initialize_by-keeps p name s l (Some f) = search (with_room-keeps, goes-keeps, then-keeps, changes-keeps, push-alters, open_operation-keeps, chains, plain_steps)
+  initialize_by-keeps p name s l (Some f) =
+      search (with_room-keeps, goes-keeps, then-keeps, changes-keeps, push-alters, open_operation-keeps, chains, plain_steps)
 
   pub initialize-keeps : (p : Image) (name : Who) (s : StatementNo) (d : DeclNo) → Keeps G R (initialize p name s d)
   unfolding initialize
@@ -129,7 +140,10 @@ module _ {G : GoodWorld} {May : Naming} {R : StepRelation} {Q : MoveRelation} (m
   pub finalize_by-keeps : (p : Image) (name : Who) (r : Registered) (f : Option SubprogramNo) → Keeps G R (finalize_by p name r f)
   unfolding finalize_by
   finalize_by-keeps p name r None = search (nothing-keeps, chains)
-  finalize_by-keeps p name r (Some f) = looks-keeps (chains moves) _ (λ w. branch-keeps (chains moves) (has_room_to_finalize p w name f) (open_finalize p name r.object r.located f) (changes (edit_top_scope name finalize_has_raised)) (search (open_finalize-keeps)) (search (changes-keeps, edit_top_scope-alters, chains)))
+  finalize_by-keeps p name r (Some f) =
+      looks-keeps (chains moves) _
+      (λ w. branch-keeps (chains moves) (has_room_to_finalize p w name f) (open_finalize p name r.object r.located f)
+      (changes (edit_top_scope name finalize_has_raised)) (search (open_finalize-keeps)) (search (changes-keeps, edit_top_scope-alters, chains)))
 
   finalize_now-keeps : (p : Image) (name : Who) (r : Registered) → Keeps G R (finalize_now p name r)
   unfolding finalize_now
@@ -141,9 +155,11 @@ module _ {G : GoodWorld} {May : Naming} {R : StepRelation} {Q : MoveRelation} (m
 
   pub begin_assignment-keeps : (p : Image) (name : Who) (s : StatementNo) (target source : ℕ) → Keeps G R (begin_assignment p name s target source)
   unfolding begin_assignment
-  begin_assignment-keeps p name s target source = search (with_room-keeps, goes-keeps, then-keeps, says-keeps, changes-keeps, push-alters, chains, plain_steps) depth 8
+  begin_assignment-keeps p name s target source =
+      search (with_room-keeps, goes-keeps, then-keeps, says-keeps, changes-keeps, push-alters, chains, plain_steps) depth 8
 
-  pub assign_registered-keeps : (p : Image) (name : Who) (s : StatementNo) (target source : Option Registered) → Keeps G R (assign_registered p name s target source)
+  pub assign_registered-keeps : (p : Image) (name : Who) (s : StatementNo) (target source : Option Registered)
+      → Keeps G R (assign_registered p name s target source)
   unfolding assign_registered
   assign_registered-keeps p name s (Some target) (Some source) = search (begin_assignment-keeps)
   assign_registered-keeps p name s (Some target) None = search (raises-keeps, plain_steps)
@@ -160,12 +176,18 @@ module _ {G : GoodWorld} {May : Naming} {R : StepRelation} {Q : MoveRelation} (m
   pub finalize_target_by-keeps : (p : Image) (name : Who) (r : Registered) (f : Option SubprogramNo) → Keeps G R (finalize_target_by p name r f)
   unfolding finalize_target_by
   finalize_target_by-keeps p name r None = search (nothing-keeps, chains)
-  finalize_target_by-keeps p name r (Some f) = looks-keeps (chains moves) _ (λ w. branch-keeps (chains moves) (has_room_to_finalize p w name f) (open_finalize p name r.object r.located f) (leave_without_room name) (search (open_finalize-keeps)) (search (leave_without_room-keeps)))
+  finalize_target_by-keeps p name r (Some f) =
+      looks-keeps (chains moves) _
+      (λ w. branch-keeps (chains moves) (has_room_to_finalize p w name f) (open_finalize p name r.object r.located f) (leave_without_room name)
+      (search (open_finalize-keeps)) (search (leave_without_room-keeps)))
 
   pub adjust_by-keeps : (p : Image) (name : Who) (r : Registered) (f : Option SubprogramNo) → Keeps G R (adjust_by p name r f)
   unfolding adjust_by
   adjust_by-keeps p name r None = search (nothing-keeps, chains)
-  adjust_by-keeps p name r (Some f) = looks-keeps (chains moves) _ (λ w. branch-keeps (chains moves) (has_room_to_adjust p w name f) (open_operation p name f r.located) (leave_without_room name) (search (open_operation-keeps)) (search (leave_without_room-keeps)))
+  adjust_by-keeps p name r (Some f) =
+      looks-keeps (chains moves) _
+      (λ w. branch-keeps (chains moves) (has_room_to_adjust p w name f) (open_operation p name f r.located) (leave_without_room name)
+      (search (open_operation-keeps)) (search (leave_without_room-keeps)))
 
   do_step-keeps : (p : Image) (name : Who) (step : AssignStep) (target source : Registered) → Keeps G R (do_step p name step target source)
   do_step-keeps p name assigning.FinalizeTarget target source = search (changes-keeps, edit_top_assign-alters, then-keeps, finalize_target_by-keeps, chains)
@@ -180,5 +202,7 @@ module _ {G : GoodWorld} {May : Naming} {R : StepRelation} {Q : MoveRelation} (m
 
   pub end_in_assign-keeps : (p : Image) (name : Who) (m : AssignMark) (leaving : Option Leaving) → Keeps G R (end_in_assign p name m leaving)
   unfolding end_in_assign
-  end_in_assign-keeps p name m (Some (how.Exception e)) = then-keeps (chains moves) _ _ (changes-keeps (chains moves) _ (pop-alters moves name)) (raises-keeps (plain_steps moves) Own name exception.Program)
-  end_in_assign-keeps p name m _ = looks-keeps (chains moves) _ (λ w. step_with-keeps p name m.step (registered_object w m.target) (registered_object w m.source))
+  end_in_assign-keeps p name m (Some (how.Exception e)) =
+      then-keeps (chains moves) _ _ (changes-keeps (chains moves) _ (pop-alters moves name)) (raises-keeps (plain_steps moves) Own name exception.Program)
+  end_in_assign-keeps p name m _ =
+      looks-keeps (chains moves) _ (λ w. step_with-keeps p name m.step (registered_object w m.target) (registered_object w m.source))

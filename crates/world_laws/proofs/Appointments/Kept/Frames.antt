@@ -13,7 +13,8 @@ use Rattle.profile_machine.specs.declared.world.lines.Part.{Part}
 use Rattle.profile_machine.specs.declared.world.lines.Part.TheVariants.{Own}
 use Rattle.profile_machine.specs.declared.world.marks.Frame.{Frame}
 use Rattle.profile_machine.specs.declared.world.marks.Mark.TheVariants.{Handled}
-use Rattle.profile_machine.specs.Frames.{onward_of, new_frame, edit_first, edit_top, goes, push, pop, leaves, raises, has_room, open_handled, open_at, open_sequence, open_if_ready, goes_on}
+use Rattle.profile_machine.specs.Frames.{onward_of, new_frame, edit_first, edit_top, goes, push, pop, leaves, raises}
+use Rattle.profile_machine.specs.Frames.{has_room, open_handled, open_at, open_sequence, open_if_ready, goes_on}
 use Rattle.profile_image.specs.Program.{form_of, next_of}
 use Rattle.profile_machine.specs.Steps.{Step, changes, ◌▷◌}
 use Rattle.machine_laws.proofs.Moves.{StepRelation, MoveRelation}
@@ -21,7 +22,8 @@ use Rattle.world_laws.proofs.Appointments.Delays.{nature, natures}
 use Rattle.world_laws.proofs.Appointments.FineMoves.{FineMoves, chains, says-keeps}
 use Rattle.world_laws.proofs.Appointments.Kept.Tasks.{edit_frames-alters}
 use Rattle.machine_laws.proofs.FineMoves.{GoodWorld, Naming, Anybody}
-use Rattle.machine_laws.proofs.Kept.Combinators.{Alters, From, Keeps, branch-keeps, changes-keeps, changes_then-from, looks-keeps, nothing-keeps, then-keeps, when-keeps}
+use Rattle.machine_laws.proofs.Kept.Combinators.{Alters, From, Keeps, branch-keeps, changes-keeps, changes_then-from}
+use Rattle.machine_laws.proofs.Kept.Combinators.{looks-keeps, nothing-keeps, then-keeps, when-keeps}
 use Rattle.profile_machine.specs.Calls.{says_call}
 use Rattle.profile_machine.specs.Appointments.{is_timeout_of}
 use Rattle.profile_machine.specs.declared.world.lines.Line.TheVariants as said
@@ -65,7 +67,9 @@ module _ {G : GoodWorld} {May : Naming} {R : StepRelation} {Q : MoveRelation} (m
     says_object = λ o d ceiling. says-keeps moves Own (said.New (created.Object o) (Some d) ceiling) refl;
     says_call = λ part c. says-keeps moves part (said.Call c.caller c.number c.owner c.entry c.priority) refl;
     says_cancel = λ part t c. says-keeps moves part (said.Cancel t c) refl;
-    edits_task = λ name f w g same_who same_frames same_state same_master same_clock same_abnormal same_unit same_inherited. moves.edits_task name f w g same_who same_frames same_state;
+    edits_task =
+        λ name f w g same_who same_frames same_state same_master same_clock same_abnormal same_unit same_inherited.
+        moves.edits_task name f w g same_who same_frames same_state;
     edits_cells = moves.edits_cells;
     edits_call = moves.edits_call;
     forgets_call = moves.forgets_call;
@@ -80,8 +84,12 @@ module _ {G : GoodWorld} {May : Naming} {R : StepRelation} {Q : MoveRelation} (m
   pub open_handled-keeps : (p : Image) (part : Part) (name : Who) (s : StatementNo) (form : StatementForm) → Keeps G R (open_handled p part name s form)
   unfolding open_handled
   open_handled-keeps p part name s (form.Handled handlers first) =
-      looks-keeps (chains moves) _ (λ w. branch-keeps (chains moves) (has_room w name 1 0) (goes name (next_of p s) ▷ changes (push name (new_frame (Handled s) (Some first)))) (raises part name exception.Storage)
-      (then-keeps (chains moves) _ _ (goes-keeps name (next_of p s)) (changes-keeps (chains moves) _ (push-alters name (new_frame (Handled s) (Some first)) refl))) (raises-keeps plain_steps part name exception.Storage))
+      looks-keeps (chains moves) _
+      (λ w. branch-keeps (chains moves) (has_room w name 1 0) (goes name (next_of p s) ▷ changes (push name (new_frame (Handled s) (Some first))))
+      (raises part name exception.Storage)
+      (then-keeps (chains moves) _ _ (goes-keeps name (next_of p s))
+      (changes-keeps (chains moves) _ (push-alters name (new_frame (Handled s) (Some first)) refl)))
+      (raises-keeps plain_steps part name exception.Storage))
   open_handled-keeps p part name s _ = nothing-keeps (chains moves)
 
   pub open_at-keeps : (p : Image) (part : Part) (name : Who) (next : Option StatementNo) → Keeps G R (open_at p part name next)
@@ -100,7 +108,8 @@ module _ {G : GoodWorld} {May : Naming} {R : StepRelation} {Q : MoveRelation} (m
   -- ---- from one world
 
   -- a step behind the going on
-  pub goes_then-from : (name : Who) (onward : Option StatementNo) (g : Step) (w : World) → G w → (G (edit_top name (goes_on onward) w) → From R (edit_top name (goes_on onward) w) g) → From R w (goes name onward ▷ g)
+  pub goes_then-from : (name : Who) (onward : Option StatementNo) (g : Step) (w : World) → G w
+      → (G (edit_top name (goes_on onward) w) → From R (edit_top name (goes_on onward) w) g) → From R w (goes name onward ▷ g)
   unfolding goes Alters
   goes_then-from name onward g w good k =
       let gone = edit_top-alters name (goes_on onward) (λ x. refl) w good in

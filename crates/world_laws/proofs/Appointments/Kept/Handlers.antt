@@ -30,7 +30,12 @@ use Rattle.profile_machine.specs.CallEnds.{store}
 use Rattle.profile_machine.specs.Frames.{has_room}
 use Rattle.profile_machine.specs.declared.world.marks.Purpose.TheVariants as opened_for
 use Rattle.profile_machine.specs.declared.world.marks.ResultTo.TheVariants as bound_for
-use Rattle.profile_machine.specs.Handlers.{add_release, says_release, wake_agent, release, with_room_for_release, begin_handler, begin_handler_if_room, enter_handler, call_handler, interrupt, setting_of, answer, cancel_event_setting, appoint_event, event_set_to, set_event, cancel_event, clear_timer, with_timer_set, timer_set_beyond, timer_set_to, set_timer, cancel_timer, edit_budget, change_member, add_member, remove_member, fill_budget, replenish, add_to_budget, set_budget, cancel_budget, clock_risen, due_by_tick, charge_budget, timers_reached, quantum_spent_by, charge_clock, charge_group, charge_task, charge, handler_attached, argument_values}
+use Rattle.profile_machine.specs.Handlers.{add_release, says_release, wake_agent, release, with_room_for_release, begin_handler, begin_handler_if_room}
+use Rattle.profile_machine.specs.Handlers.{enter_handler, call_handler, interrupt, setting_of, answer, cancel_event_setting, appoint_event}
+use Rattle.profile_machine.specs.Handlers.{event_set_to, set_event, cancel_event, clear_timer, with_timer_set, timer_set_beyond, timer_set_to}
+use Rattle.profile_machine.specs.Handlers.{set_timer, cancel_timer, edit_budget, change_member, add_member, remove_member, fill_budget, replenish}
+use Rattle.profile_machine.specs.Handlers.{add_to_budget, set_budget, cancel_budget, clock_risen, due_by_tick, charge_budget, timers_reached}
+use Rattle.profile_machine.specs.Handlers.{quantum_spent_by, charge_clock, charge_group, charge_task, charge, handler_attached, argument_values}
 use Rattle.profile_image.specs.Program.{is_robin_level, marks_of, subprogram_of, size_of_body}
 use Rattle.profile_machine.specs.Protected.{entering, body_of_object}
 use Rattle.profile_machine.specs.Serving.{end_release}
@@ -48,7 +53,8 @@ use Rattle.world_laws.proofs.Appointments.Kept.Serving.{end_release-keeps}
 use Rattle.world_laws.proofs.Appointments.Kept.Tasks.{edit_task-alters}
 use Rattle.machine_laws.proofs.Kept.Handlers.{spent-frames, spent-state, spent-who}
 use Rattle.machine_laws.proofs.FineMoves.{GoodWorld, Naming}
-use Rattle.machine_laws.proofs.Kept.Combinators.{Alters, Keeps, branch-keeps, changes-keeps, for_some-keeps, from-keeps, looks-from, looks-keeps, nothing-keeps, sees-keeps, then-keeps, unchanged-alters}
+use Rattle.machine_laws.proofs.Kept.Combinators.{Alters, Keeps, branch-keeps, changes-keeps, for_some-keeps, from-keeps}
+use Rattle.machine_laws.proofs.Kept.Combinators.{looks-from, looks-keeps, nothing-keeps, sees-keeps, then-keeps, unchanged-alters}
 use Rattle.machine_laws.proofs.Plain.Cells.{store-gives}
 use Rattle.machine_laws.proofs.Plain.Frames.{becomes-from, given-keeps, raise_if-keeps}
 
@@ -69,18 +75,26 @@ module _ {G : GoodWorld} {May : Naming} {R : StepRelation} {Q : MoveRelation} (m
   unfolding release says_release
   release-keeps p h argument =
       then-keeps (chains moves) _ _ (changes-keeps (chains moves) _ (add_release-alters h argument))
-      (then-keeps (chains moves) _ _ (looks-keeps (chains moves) _ (λ w. says-keeps moves Own (line.Release w.drawn.releases h) refl)) (looks-keeps (chains moves) _ (λ w. wake_agent-keeps p Own w.agent.state)))
+      (then-keeps (chains moves) _ _ (looks-keeps (chains moves) _ (λ w. says-keeps moves Own (line.Release w.drawn.releases h) refl))
+      (looks-keeps (chains moves) _ (λ w. wake_agent-keeps p Own w.agent.state)))
 
   begin_handler-keeps : (p : Image) (r : Release) → May who.Agent → Keeps G R (begin_handler p r)
   unfolding begin_handler
   begin_handler-keeps p r may =
       then-keeps (chains moves) _ _ (begin_action_on-keeps moves p who.Agent r.handler.object Write (Some r.number) may)
-      (looks-keeps (chains moves) _ (λ w. changes-keeps (chains moves) _ (open_scope-alters moves p who.Agent (subprogram_of p r.handler.procedure).scope (body_of_object p w (subprogram_of p r.handler.procedure).scope r.handler.object None (argument_values r.argument)) (opened_for.Subprogram [] bound_for.Nowhere))))
+      (looks-keeps (chains moves) _
+      (λ w. changes-keeps (chains moves) _
+      (open_scope-alters moves p who.Agent (subprogram_of p r.handler.procedure).scope
+      (body_of_object p w (subprogram_of p r.handler.procedure).scope r.handler.object None (argument_values r.argument))
+      (opened_for.Subprogram [] bound_for.Nowhere))))
 
   begin_handler_if_room-keeps : (p : Image) (r : Release) → May who.Agent → Keeps G R (begin_handler_if_room p r)
   unfolding begin_handler_if_room
   begin_handler_if_room-keeps p r may =
-      looks-keeps (chains moves) _ (λ w. branch-keeps (chains moves) (has_room w who.Agent (1 + marks_of p (subprogram_of p r.handler.procedure).scope) (size_of_body p r.handler.procedure)) (begin_handler p r) (end_release r.number) (begin_handler-keeps p r may) (end_release-keeps moves r.number))
+      looks-keeps (chains moves) _
+      (λ w. branch-keeps (chains moves)
+      (has_room w who.Agent (1 + marks_of p (subprogram_of p r.handler.procedure).scope) (size_of_body p r.handler.procedure)) (begin_handler p r)
+      (end_release r.number) (begin_handler-keeps p r may) (end_release-keeps moves r.number))
 
   enter_handler-keeps : (p : Image) (r : Release) (is : Entering) → May who.Agent → Keeps G R (enter_handler p r is)
   unfolding enter_handler
@@ -98,19 +112,23 @@ module _ {G : GoodWorld} {May : Naming} {R : StepRelation} {Q : MoveRelation} (m
   pub with_room_for_release-keeps : (name : Who) (needed : Bool) (step : Step) → Keeps G R step → Keeps G R (with_room_for_release name needed step)
   with_room_for_release-keeps name needed step kept = search (looks-keeps, raise_if-keeps, chains, plain_steps)
 
-  pub setting_of-keeps : (p : Image) (name : Who) (q : Seen) (base : ℤ) (set : Setting) (named : Option HandlerName) (step : Option HandlerOf → ℤ → Step) → ((x : Option HandlerOf) (y : ℤ) → Keeps G R (step x y)) → Keeps G R (setting_of p name q base set named step)
+  pub setting_of-keeps : (p : Image) (name : Who) (q : Seen) (base : ℤ) (set : Setting) (named : Option HandlerName) (step : Option HandlerOf → ℤ → Step)
+      → ((x : Option HandlerOf) (y : ℤ) → Keeps G R (step x y)) → Keeps G R (setting_of p name q base set named step)
   setting_of-keeps p name q base set named step kept = search (given-keeps, with_room_for_release-keeps, raise_if-keeps, plain_steps)
 
   pub answer-keeps : (p : Image) (name : Who) (v : Variable) (b : Bool) → Keeps G R (answer p name v b)
   unfolding answer
-  answer-keeps p name v b = looks-from (chains moves) _ (λ w good. becomes-from (plain_steps moves) Own name (store p v (Truth b) w) w good (store-gives (plain_steps moves) p v (Truth b) w good))
+  answer-keeps p name v b =
+      looks-from (chains moves) _
+      (λ w good. becomes-from (plain_steps moves) Own name (store p v (Truth b) w) w good (store-gives (plain_steps moves) p v (Truth b) w good))
 
   pub cancel_event_setting-alters : (e : ℕ) → Alters G R (cancel_event_setting e)
   cancel_event_setting-alters e = search (drop_appointment-alters)
 
   pub cancel_event-keeps : (p : Image) (name : Who) (s : StatementNo) (d : DeclNo) (target : VariableName) → Keeps G R (cancel_event p name s d target)
   unfolding cancel_event
-  cancel_event-keeps p name s d target = search (sees-keeps, given-keeps, goes-keeps, then-keeps, changes-keeps, cancel_event_setting-alters, answer-keeps, chains, plain_steps) depth 11
+  cancel_event-keeps p name s d target =
+      search (sees-keeps, given-keeps, goes-keeps, then-keeps, changes-keeps, cancel_event_setting-alters, answer-keeps, chains, plain_steps) depth 11
 
   pub clear_timer-alters : (k : ℕ) → Alters G R (clear_timer k)
   unfolding Alters
@@ -122,13 +140,15 @@ module _ {G : GoodWorld} {May : Naming} {R : StepRelation} {Q : MoveRelation} (m
 
   pub cancel_timer-keeps : (p : Image) (name : Who) (s : StatementNo) (d : DeclNo) (target : VariableName) → Keeps G R (cancel_timer p name s d target)
   unfolding cancel_timer
-  cancel_timer-keeps p name s d target = search (sees-keeps, given-keeps, goes-keeps, then-keeps, changes-keeps, clear_timer-alters, answer-keeps, chains, plain_steps) depth 11
+  cancel_timer-keeps p name s d target =
+      search (sees-keeps, given-keeps, goes-keeps, then-keeps, changes-keeps, clear_timer-alters, answer-keeps, chains, plain_steps) depth 11
 
   edit_budget-alters : (b : ℕ) (f : Budget → Budget) → Alters G R (edit_budget b f)
   unfolding Alters
   edit_budget-alters b f w good = moves.edits_budget b f w good
 
-  pub change_member-keeps : (p : Image) (name : Who) (s : StatementNo) (t : world.Task) (is_right : Bool) (b : Option ℕ) → Keeps G R (change_member p name s t is_right b)
+  pub change_member-keeps : (p : Image) (name : Who) (s : StatementNo) (t : world.Task) (is_right : Bool) (b : Option ℕ)
+      → Keeps G R (change_member p name s t is_right b)
   unfolding change_member
   change_member-keeps p name s t is_right b = search (raise_if-keeps, goes-keeps, then-keeps, changes-keeps, edit_task-alters, chains, plain_steps)
 
@@ -140,9 +160,22 @@ module _ {G : GoodWorld} {May : Naming} {R : StepRelation} {Q : MoveRelation} (m
   unfolding remove_member
   remove_member-keeps p name s d e = search (sees-keeps, given-keeps, change_member-keeps, chains, plain_steps) depth 8
 
-  pub fill_budget-keeps : (p : Image) (name : Who) (s : StatementNo) (d : DeclNo) (e : ExprNo) (f : ℤ → Budget → Budget) → Keeps G R (fill_budget p name s d e f)
+  pub fill_budget-keeps : (p : Image) (name : Who) (s : StatementNo) (d : DeclNo) (e : ExprNo) (f : ℤ → Budget → Budget)
+      → Keeps G R (fill_budget p name s d e f)
   unfolding fill_budget
-  fill_budget-keeps p name s d e f = search (sees-keeps, given-keeps, with_room_for_release-keeps, raise_if-keeps, goes-keeps, then-keeps, changes-keeps, edit_budget-alters, chains, plain_steps) depth 10
+  fill_budget-keeps p name s d e f =
+      search (
+        sees-keeps,
+        given-keeps,
+        with_room_for_release-keeps,
+        raise_if-keeps,
+        goes-keeps,
+        then-keeps,
+        changes-keeps,
+        edit_budget-alters,
+        chains,
+        plain_steps,
+      ) depth 10
 
   pub replenish-keeps : (p : Image) (name : Who) (s : StatementNo) (d : DeclNo) (e : ExprNo) → Keeps G R (replenish p name s d e)
   unfolding replenish
@@ -154,11 +187,24 @@ module _ {G : GoodWorld} {May : Naming} {R : StepRelation} {Q : MoveRelation} (m
 
   pub set_budget-keeps : (p : Image) (name : Who) (s : StatementNo) (d : DeclNo) (named : Option HandlerName) → Keeps G R (set_budget p name s d named)
   unfolding set_budget
-  set_budget-keeps p name s d named = search (sees-keeps, given-keeps, with_room_for_release-keeps, raise_if-keeps, goes-keeps, then-keeps, changes-keeps, edit_budget-alters, chains, plain_steps) depth 10
+  set_budget-keeps p name s d named =
+      search (
+        sees-keeps,
+        given-keeps,
+        with_room_for_release-keeps,
+        raise_if-keeps,
+        goes-keeps,
+        then-keeps,
+        changes-keeps,
+        edit_budget-alters,
+        chains,
+        plain_steps,
+      ) depth 10
 
   pub cancel_budget-keeps : (p : Image) (name : Who) (s : StatementNo) (d : DeclNo) (target : VariableName) → Keeps G R (cancel_budget p name s d target)
   unfolding cancel_budget
-  cancel_budget-keeps p name s d target = search (sees-keeps, given-keeps, goes-keeps, then-keeps, changes-keeps, edit_budget-alters, answer-keeps, chains, plain_steps) depth 11
+  cancel_budget-keeps p name s d target =
+      search (sees-keeps, given-keeps, goes-keeps, then-keeps, changes-keeps, edit_budget-alters, answer-keeps, chains, plain_steps) depth 11
 
   pub charge_budget-alters : (n : Option ℕ) → Alters G R (charge_budget n)
   charge_budget-alters None = search (unchanged-alters, chains)
@@ -178,7 +224,8 @@ module _ {G : GoodWorld} {May : Naming} {R : StepRelation} {Q : MoveRelation} (m
   charge_group-alters t w good =
       let b = (task_of w (who.Task t)).budget in
       let first = charge_budget-alters b w good in
-      moves.goes_on w (charge_budget b w) (charge_group t w) first (moves.sets_budget_due (due_by_tick w b) (charge_budget b w) (moves.behind w (charge_budget b w) first))
+      moves.goes_on w (charge_budget b w) (charge_group t w) first
+      (moves.sets_budget_due (due_by_tick w b) (charge_budget b w) (moves.behind w (charge_budget b w) first))
 
   charge_task-alters : (p : Image) (t : TaskNo) → Alters G R (charge_task p t)
   unfolding Alters
@@ -216,9 +263,22 @@ module _ {G : GoodWorld} {May : Naming} {R : StepRelation} {Q : MoveRelation} (m
   event_set_to-keeps p e None m = nothing-keeps (chains moves)
   event_set_to-keeps p e (Some h) m = looks-keeps (chains moves) _ (λ w. appoint_event-keeps p e h m (int_lt (pos w.time) m))
 
-  pub set_event-keeps : (p : Image) (name : Who) (s : StatementNo) (d : DeclNo) (set : Setting) (named : Option HandlerName) → Keeps G R (set_event p name s d set named)
+  pub set_event-keeps : (p : Image) (name : Who) (s : StatementNo) (d : DeclNo) (set : Setting) (named : Option HandlerName)
+      → Keeps G R (set_event p name s d set named)
   unfolding set_event
-  set_event-keeps p name s d set named = search (sees-keeps, given-keeps, setting_of-keeps, goes-keeps, then-keeps, changes-keeps, cancel_event_setting-alters, event_set_to-keeps, chains, plain_steps) depth 11
+  set_event-keeps p name s d set named =
+      search (
+        sees-keeps,
+        given-keeps,
+        setting_of-keeps,
+        goes-keeps,
+        then-keeps,
+        changes-keeps,
+        cancel_event_setting-alters,
+        event_set_to-keeps,
+        chains,
+        plain_steps,
+      ) depth 11
 
   pub timer_set_beyond-keeps : (p : Image) (k : ℕ) (h : HandlerOf) (v : ℤ) (test : Bool) → Keeps G R (timer_set_beyond p k h v test)
   unfolding timer_set_beyond
@@ -230,6 +290,9 @@ module _ {G : GoodWorld} {May : Naming} {R : StepRelation} {Q : MoveRelation} (m
   timer_set_to-keeps p k clock None v = search (nothing-keeps, chains)
   timer_set_to-keeps p k clock (Some h) v = search (timer_set_beyond-keeps)
 
-  pub set_timer-keeps : (p : Image) (name : Who) (s : StatementNo) (d : DeclNo) (set : Setting) (named : Option HandlerName) → Keeps G R (set_timer p name s d set named)
+  pub set_timer-keeps : (p : Image) (name : Who) (s : StatementNo) (d : DeclNo) (set : Setting) (named : Option HandlerName)
+      → Keeps G R (set_timer p name s d set named)
   unfolding set_timer
-  set_timer-keeps p name s d set named = search (sees-keeps, given-keeps, setting_of-keeps, goes-keeps, then-keeps, changes-keeps, clear_timer-alters, timer_set_to-keeps, chains, plain_steps) depth 11
+  set_timer-keeps p name s d set named =
+      search
+      (sees-keeps, given-keeps, setting_of-keeps, goes-keeps, then-keeps, changes-keeps, clear_timer-alters, timer_set_to-keeps, chains, plain_steps) depth 11

@@ -21,7 +21,10 @@ use Rattle.profile_machine.specs.Appointments.{is_trigger_of, is_timeout_of, dro
 use Rattle.profile_machine.specs.Dispatching.{to_tail, ready, active}
 use Rattle.profile_machine.specs.Frames.{any_protected}
 use Rattle.profile_machine.specs.Handlers.{clear_timer}
-use Rattle.profile_machine.specs.Instant.{is_the_same_due, has_spent_quantum, with_port, with_masked, with_kept_interrupt, interrupt_comes, deliver_kept_interrupt, script_item, with_script, take_item, items_due, script_items, take_delay, end_delay, time_out, come_due, take_due, all_due, appointments_due, events_due, moments_due, expire, expire_timer, no_timers_due, timers_due, run_out, no_budget_due, budgets_due, spend_quantum, quantum_spent}
+use Rattle.profile_machine.specs.Instant.{is_the_same_due, has_spent_quantum, with_port, with_masked, with_kept_interrupt, interrupt_comes}
+use Rattle.profile_machine.specs.Instant.{deliver_kept_interrupt, script_item, with_script, take_item, items_due, script_items, take_delay}
+use Rattle.profile_machine.specs.Instant.{end_delay, time_out, come_due, take_due, all_due, appointments_due, events_due, moments_due, expire}
+use Rattle.profile_machine.specs.Instant.{expire_timer, no_timers_due, timers_due, run_out, no_budget_due, budgets_due, spend_quantum, quantum_spent}
 use Rattle.profile_image.specs.Program.{is_robin_level}
 use Rattle.profile_machine.specs.Steps.{when, says, looks, Step, changes, nothing, ◌▷◌, ◌▶◌}
 use Rattle.profile_machine.specs.Tasks.{waiting_of, is_runnable, task_of}
@@ -38,7 +41,8 @@ use Rattle.world_laws.proofs.Appointments.Kept.Handlers.{release-keeps, interrup
 use Rattle.world_laws.proofs.Appointments.Kept.Priorities.{runs-idle}
 use Rattle.world_laws.proofs.Appointments.Kept.Unwinding.{unwind-keeps}
 use Rattle.machine_laws.proofs.FineMoves.{GoodWorld, Naming}
-use Rattle.machine_laws.proofs.Kept.Combinators.{Alters, From, Keeps, Leads, changes-keeps, for_each-keeps, for_some-keeps, from-keeps, keeps-from, looks-from, looks-keeps, nothing-keeps, then-from, then-keeps, then-leads}
+use Rattle.machine_laws.proofs.Kept.Combinators.{Alters, From, Keeps, Leads, changes-keeps, for_each-keeps, for_some-keeps, from-keeps}
+use Rattle.machine_laws.proofs.Kept.Combinators.{keeps-from, looks-from, looks-keeps, nothing-keeps, then-from, then-keeps, then-leads}
 use Rattle.machine_laws.proofs.Plain.Calls.{with_call-keeps, unqueued-alters}
 
 first_of_six : (a b c d e f : Bool) → (a && b && c && d && e && f) ≡ true → a ≡ true
@@ -73,14 +77,17 @@ module _ {G : GoodWorld} {May : Naming} {R : StepRelation} {Q : MoveRelation} (m
   script_item-keeps p (item.Interrupt n) = search (looks-keeps, interrupt_comes-keeps, chains)
   script_item-keeps p (item.Port n value) = search (changes-keeps, with_port-alters, then-keeps, says-keeps, chains)
   script_item-keeps p (item.Mask n) = search (changes-keeps, with_masked-alters, then-keeps, says-keeps, chains)
-  script_item-keeps p (item.Unmask n) = search (changes-keeps, with_masked-alters, then-keeps, says-keeps, looks-keeps, deliver_kept_interrupt-keeps, chains) depth 8
+  script_item-keeps p (item.Unmask n) =
+      search (changes-keeps, with_masked-alters, then-keeps, says-keeps, looks-keeps, deliver_kept_interrupt-keeps, chains) depth 8
 
   with_script-alters : (rest : List (ℤ × Item)) → Alters G R (with_script rest)
   unfolding Alters
   with_script-alters rest w good = moves.cuts_script rest w good
 
-  take_item_if-keeps : (p : Image) (again : Step) (x : ℤ × Item) (xs : List (ℤ × Item)) (test : Bool) → Keeps G R again → Keeps G R (elim test as (λ _. Step) [ true ↦ changes (with_script xs) ▷ script_item p x.1 ▷ again | false ↦ nothing ])
-  take_item_if-keeps p again x xs true kept = then-keeps (chains moves) _ _ (changes-keeps (chains moves) _ (with_script-alters xs)) (then-keeps (chains moves) _ _ (script_item-keeps p x.1) kept)
+  take_item_if-keeps : (p : Image) (again : Step) (x : ℤ × Item) (xs : List (ℤ × Item)) (test : Bool) → Keeps G R again
+      → Keeps G R (elim test as (λ _. Step) [ true ↦ changes (with_script xs) ▷ script_item p x.1 ▷ again | false ↦ nothing ])
+  take_item_if-keeps p again x xs true kept =
+      then-keeps (chains moves) _ _ (changes-keeps (chains moves) _ (with_script-alters xs)) (then-keeps (chains moves) _ _ (script_item-keeps p x.1) kept)
   take_item_if-keeps p again x xs false kept = nothing-keeps (chains moves)
 
   take_item-keeps : (p : Image) (now : ℕ) (again : Step) (script : List (ℤ × Item)) → Keeps G R again → Keeps G R (take_item p now again script)
@@ -103,7 +110,8 @@ module _ {G : GoodWorld} {May : Naming} {R : StepRelation} {Q : MoveRelation} (m
   end_delay-from : (p : Image) (name : Who) (w : World) → G w → Idle name w → From R w (end_delay p name)
   unfolding end_delay
   end_delay-from p name w good idle =
-      idle_then-from moves name (looks (λ v. take_delay p name (waiting_of v name))) _ w good idle (looks-keeps (chains moves) _ (λ v. take_delay-keeps p name (waiting_of v name))) (λ v good_v idle_v.
+      idle_then-from moves name (looks (λ v. take_delay p name (waiting_of v name))) _ w good idle
+      (looks-keeps (chains moves) _ (λ v. take_delay-keeps p name (waiting_of v name))) (λ v good_v idle_v.
       then-from (chains moves) (ready p Own name) _ v (ready-from moves p Own name v good_v idle_v) (open_sequence-keeps moves p Own name))
 
   pub time_out-keeps : (p : Image) (c : CallNo) → Keeps G R (time_out p c)
@@ -111,14 +119,24 @@ module _ {G : GoodWorld} {May : Naming} {R : StepRelation} {Q : MoveRelation} (m
   time_out-keeps p c = search (with_call-keeps, changes-keeps, unqueued-alters, then-keeps, says-keeps, deliver-keeps, chains, plain_steps) depth 8
 
   -- what is due is dropped, and comes about
-  due-from : (p : Image) (due : Due) (again : Step) (w : World) → G w → Keeps G R again → From R w (changes (drop_appointment (is_the_same_due due)) ▷ come_due p due ▷ again)
+  due-from : (p : Image) (due : Due) (again : Step) (w : World) → G w → Keeps G R again
+      → From R w (changes (drop_appointment (is_the_same_due due)) ▷ come_due p due ▷ again)
   unfolding come_due
-  due-from p (due_for.Event n h) again w good kept = keeps-from (chains moves) _ w good (then-keeps (chains moves) _ _ (changes-keeps (chains moves) _ (drop_appointment-alters moves (is_event n))) (then-keeps (chains moves) _ _ (release-keeps moves p h (Some n)) kept))
+  due-from p (due_for.Event n h) again w good kept =
+      keeps-from (chains moves) _ w good
+      (then-keeps (chains moves) _ _ (changes-keeps (chains moves) _ (drop_appointment-alters moves (is_event n)))
+      (then-keeps (chains moves) _ _ (release-keeps moves p h (Some n)) kept))
   due-from p (due_for.Delay t) again w good kept =
-      drops_then-from moves (who.Task t) _ w good (λ v good_v idle. then-from (chains moves) (end_delay p (who.Task t)) again v (end_delay-from p (who.Task t) v good_v idle) kept)
-  due-from p (due_for.Timeout c) again w good kept = keeps-from (chains moves) _ w good (then-keeps (chains moves) _ _ (changes-keeps (chains moves) _ (drop_appointment-alters moves (is_timeout_of c))) (then-keeps (chains moves) _ _ (time_out-keeps p c) kept))
+      drops_then-from moves (who.Task t) _ w good
+      (λ v good_v idle. then-from (chains moves) (end_delay p (who.Task t)) again v (end_delay-from p (who.Task t) v good_v idle) kept)
+  due-from p (due_for.Timeout c) again w good kept =
+      keeps-from (chains moves) _ w good
+      (then-keeps (chains moves) _ _ (changes-keeps (chains moves) _ (drop_appointment-alters moves (is_timeout_of c)))
+      (then-keeps (chains moves) _ _ (time_out-keeps p c) kept))
   due-from p (due_for.Trigger t depth) again w good kept =
-      keeps-from (chains moves) _ w good (then-keeps (chains moves) _ _ (changes-keeps (chains moves) _ (drop_appointment-alters moves (is_trigger_of t depth))) (then-keeps (chains moves) _ _ (then-keeps (chains moves) _ _ (trigger_at-keeps moves Own t depth) (unwind-keeps moves p Own (who.Task t))) kept))
+      keeps-from (chains moves) _ w good
+      (then-keeps (chains moves) _ _ (changes-keeps (chains moves) _ (drop_appointment-alters moves (is_trigger_of t depth)))
+      (then-keeps (chains moves) _ _ (then-keeps (chains moves) _ _ (trigger_at-keeps moves Own t depth) (unwind-keeps moves p Own (who.Task t))) kept))
 
   pub take_due-keeps : (p : Image) (again : Step) (a : Option Appointment) → Keeps G R again → Keeps G R (take_due p again a)
   take_due-keeps p again None kept = nothing-keeps (chains moves)
@@ -142,7 +160,8 @@ module _ {G : GoodWorld} {May : Naming} {R : StepRelation} {Q : MoveRelation} (m
   pub expire-keeps : (p : Image) (k : ℕ) (setting : Option TimerSetting) → Keeps G R (expire p k setting)
   unfolding expire
   expire-keeps p k None = search (nothing-keeps, chains)
-  expire-keeps p k (Some s) = then-keeps (chains moves) (changes (clear_timer k)) _ (search (changes-keeps, clear_timer-alters, chains)) (release-keeps moves p s.handler (Some k))
+  expire-keeps p k (Some s) =
+      then-keeps (chains moves) (changes (clear_timer k)) _ (search (changes-keeps, clear_timer-alters, chains)) (release-keeps moves p s.handler (Some k))
 
   pub expire_timer-keeps : (p : Image) (k : ℕ) → Keeps G R (expire_timer p k)
   unfolding expire_timer
@@ -166,9 +185,11 @@ module _ {G : GoodWorld} {May : Naming} {R : StepRelation} {Q : MoveRelation} (m
   pub budgets_due-leads : (p : Image) → Leads G Q (budgets_due p)
   budgets_due-leads p = search (effect-leads, looks-keeps, for_some-keeps, run_out-keeps, then-keeps, changes-keeps, no_budget_due-alters, chains) depth 8
 
-  spent_where : (p : Image) (t : TaskNo) (w : World) (test : Bool) → G w → (test ≡ true → is_runnable (task_of w (who.Task t)) ≡ true) → From R w (when test (says Own (line.Quantum t) ▷ to_tail p Own (who.Task t)))
+  spent_where : (p : Image) (t : TaskNo) (w : World) (test : Bool) → G w → (test ≡ true → is_runnable (task_of w (who.Task t)) ≡ true)
+      → From R w (when test (says Own (line.Quantum t) ▷ to_tail p Own (who.Task t)))
   spent_where p t w true good runs =
-      idle_then-from moves (who.Task t) (says Own (line.Quantum t)) _ w good (runs-idle moves (who.Task t) w good (runs refl)) (says-keeps moves Own (line.Quantum t) refl) (λ v good_v idle. to_tail-from moves p Own (who.Task t) v good_v idle)
+      idle_then-from moves (who.Task t) (says Own (line.Quantum t)) _ w good (runs-idle moves (who.Task t) w good (runs refl))
+      (says-keeps moves Own (line.Quantum t) refl) (λ v good_v idle. to_tail-from moves p Own (who.Task t) v good_v idle)
   spent_where p t w false good runs = keeps-from (chains moves) nothing w good (nothing-keeps (chains moves))
 
   pub spend_quantum-keeps : (p : Image) (by : Option Who) → Keeps G R (spend_quantum p by)
@@ -177,11 +198,15 @@ module _ {G : GoodWorld} {May : Naming} {R : StepRelation} {Q : MoveRelation} (m
   spend_quantum-keeps p (Some who.Agent) = nothing-keeps (chains moves)
   spend_quantum-keeps p (Some (who.Task t)) =
       looks-from (chains moves) _ (λ w good. let u = task_of w (who.Task t) in
-      spent_where p t w (has_spent_quantum p u) good (λ e. first_of_six (is_runnable u) (eqb u.quantum 0) (is_robin_level p u.base) (eqb (active p u) u.base) (is_empty u.inherited) (not (any_protected u.frames)) e))
+      spent_where p t w (has_spent_quantum p u) good
+      (λ e. first_of_six (is_runnable u) (eqb u.quantum 0) (is_robin_level p u.base) (eqb (active p u) u.base) (is_empty u.inherited)
+      (not (any_protected u.frames)) e))
 
   pub quantum_spent-leads : (p : Image) → Leads G Q (quantum_spent p)
   quantum_spent-leads p = search (effect-leads, looks-keeps, spend_quantum-keeps, chains)
 
   -- all of an instant but the effect of the action that ended
   pub behind_action-leads : (p : Image) → Leads G Q (script_items p ▶ events_due p ▶ moments_due p ▶ timers_due p ▶ budgets_due p ▶ quantum_spent p)
-  behind_action-leads p = search (then-leads, script_items-leads, events_due-leads, moments_due-leads, timers_due-leads, budgets_due-leads, quantum_spent-leads, move_chains) depth 9
+  behind_action-leads p =
+      search
+      (then-leads, script_items-leads, events_due-leads, moments_due-leads, timers_due-leads, budgets_due-leads, quantum_spent-leads, move_chains) depth 9

@@ -34,4 +34,5 @@ module _ {G : GoodWorld} {May : Naming} {R : StepRelation} {Q : MoveRelation} (m
       let f = new_frame (new_scope_mark (next_id w) (region_of_next (scope_of p scope).kept w) purpose) (scope_of p scope).first in
       let first = moves.begins_scope p name scope b w good in
       let second = draw_region-alters (scope_of p scope).kept begun (moves.behind w begun first) in
-      moves.goes_on w drawn (push name f drawn) (moves.goes_on w begun drawn first second) (push-alters moves name f refl drawn (moves.behind begun drawn second))
+      moves.goes_on w drawn (push name f drawn) (moves.goes_on w begun drawn first second)
+      (push-alters moves name f refl drawn (moves.behind begun drawn second))

@@ -27,7 +27,10 @@ use Rattle.profile_machine.specs.Dispatching.{block}
 use Rattle.profile_machine.specs.Frames.{leaves, frames_of}
 use Rattle.profile_machine.specs.Protected.{served_next}
 use Rattle.profile_machine.specs.Sending.{wait_for_call}
-use Rattle.profile_machine.specs.Serving.{may_open_abortable, serves_nothing, is_served_now, serve_ends, end_release, close_action, wait_or_unwind, wait_for_own, resume_own, behind_action, release_object, settle_sent, begins_part, chosen_is_sent, serve_chosen, serve_next, serve_calls, go_on_by_mode, end_operation, finish_raised, finish_well, finish_call, end_entry_body, end_in_protected_by, end_in_protected, part_of_start}
+use Rattle.profile_machine.specs.Serving.{may_open_abortable, serves_nothing, is_served_now, serve_ends, end_release, close_action}
+use Rattle.profile_machine.specs.Serving.{wait_or_unwind, wait_for_own, resume_own, behind_action, release_object, settle_sent, begins_part}
+use Rattle.profile_machine.specs.Serving.{chosen_is_sent, serve_chosen, serve_next, serve_calls, go_on_by_mode, end_operation, finish_raised}
+use Rattle.profile_machine.specs.Serving.{finish_well, finish_call, end_entry_body, end_in_protected_by, end_in_protected, part_of_start}
 use Rattle.profile_machine.specs.Steps.{for_some, Step, changes, nothing, ◌▷◌}
 use Rattle.profile_machine.specs.Unwinding.{may_unwind}
 use Rattle.profile_machine.specs.Values.{object_of}
@@ -43,7 +46,8 @@ use Rattle.world_laws.proofs.Appointments.Kept.Priorities.{set_deferred-keeps}
 use Rattle.world_laws.proofs.Appointments.Kept.Protected.{edit_top_protected-alters, serve_call-keeps}
 use Rattle.world_laws.proofs.Appointments.Kept.Sending.{open_abortable-alters, wait_for_call-keeps, send_on-keeps, begin_abortable-keeps, sent_not_begun-keeps}
 use Rattle.machine_laws.proofs.FineMoves.{GoodWorld, Naming}
-use Rattle.machine_laws.proofs.Kept.Combinators.{Alters, From, Keeps, changes-keeps, from-keeps, keeps-from, looks-from, looks-keeps, nothing-keeps, then-keeps, when-keeps}
+use Rattle.machine_laws.proofs.Kept.Combinators.{Alters, From, Keeps, changes-keeps, from-keeps, keeps-from}
+use Rattle.machine_laws.proofs.Kept.Combinators.{looks-from, looks-keeps, nothing-keeps, then-keeps, when-keeps}
 use Rattle.machine_laws.proofs.Plain.Results.{resume-keeps}
 use Rattle.machine_laws.proofs.Plain.Calls.{forget_call-alters, with_call-keeps, enqueue-keeps, attempt_with-keeps}
 use Rattle.machine_laws.proofs.Plain.Frames.{pass_on-keeps}
@@ -63,7 +67,9 @@ module _ {G : GoodWorld} {May : Naming} {R : StepRelation} {Q : MoveRelation} (m
   serve_ends-keeps : (n : ℕ) → Keeps G R (serve_ends n)
   unfolding serve_ends
   serve_ends-keeps n =
-      then-keeps (chains moves) _ _ (says-keeps moves Own (line.Served n) refl) (then-keeps (chains moves) _ _ (changes-keeps (chains moves) _ serves_nothing-alters) (looks-keeps (chains moves) _ (λ w. when-keeps (chains moves) (is_empty w.releases) _ agent_blocks)))
+      then-keeps (chains moves) _ _ (says-keeps moves Own (line.Served n) refl)
+      (then-keeps (chains moves) _ _ (changes-keeps (chains moves) _ serves_nothing-alters)
+      (looks-keeps (chains moves) _ (λ w. when-keeps (chains moves) (is_empty w.releases) _ agent_blocks)))
 
   pub end_release-keeps : (n : ℕ) → Keeps G R (end_release n)
   unfolding end_release
@@ -79,7 +85,8 @@ module _ {G : GoodWorld} {May : Naming} {R : StepRelation} {Q : MoveRelation} (m
   unfolding wait_or_unwind
   wait_or_unwind-keeps p name c true may =
       attempt_with-keeps (plain_steps moves) p Own c (changes (forget_call c.number) ▷ leaves name how.Abort) (wait_for_call c)
-      (then-keeps (chains moves) _ _ (changes-keeps (chains moves) _ (forget_call-alters (plain_steps moves) c.number)) (leaves-keeps moves name how.Abort)) (wait_for_call-keeps moves c may)
+      (then-keeps (chains moves) _ _ (changes-keeps (chains moves) _ (forget_call-alters (plain_steps moves) c.number)) (leaves-keeps moves name how.Abort))
+      (wait_for_call-keeps moves c may)
   wait_or_unwind-keeps p name c false may = wait_for_call-keeps moves c may
 
   wait_for_own-keeps : (p : Image) (name : Who) (c : Call) (test : Bool) → May (who.Task c.caller) → Keeps G R (wait_for_own p name c test)
@@ -92,15 +99,19 @@ module _ {G : GoodWorld} {May : Naming} {R : StepRelation} {Q : MoveRelation} (m
   resume_own-keeps p name c (Some outcome) may = resume-keeps (plain_steps moves) p TheBlock c outcome tt
   resume_own-keeps p name c None may = looks-keeps (chains moves) _ (λ w. wait_for_own-keeps p name c (may_open_abortable w name c) may)
 
-  resume_found-from : (p : Image) (name : Who) (found : Option Call) (w : World) → G w → May name → ((d : Call) → found ≡ Some d → who.Task d.caller ≡ name) → From R w (for_some found (λ d. resume_own p name d d.outcome))
+  resume_found-from : (p : Image) (name : Who) (found : Option Call) (w : World) → G w → May name → ((d : Call) → found ≡ Some d → who.Task d.caller ≡ name)
+      → From R w (for_some found (λ d. resume_own p name d d.outcome))
   resume_found-from p name None w good may called = keeps-from (chains moves) nothing w good (nothing-keeps (chains moves))
-  resume_found-from p name (Some d) w good may called = keeps-from (chains moves) _ w good (resume_own-keeps p name d d.outcome (subst May (sym (called d refl)) may))
+  resume_found-from p name (Some d) w good may called =
+      keeps-from (chains moves) _ w good (resume_own-keeps p name d d.outcome (subst May (sym (called d refl)) may))
 
-  behind_action-keeps : (p : Image) (name : Who) (m : ProtectedMark) (n : Option ℕ) (c : Option CallNo) → May name → OwnCalled G name c → Keeps G R (behind_action p name m n c)
+  behind_action-keeps : (p : Image) (name : Who) (m : ProtectedMark) (n : Option ℕ) (c : Option CallNo) → May name → OwnCalled G name c
+      → Keeps G R (behind_action p name m n c)
   unfolding behind_action
   behind_action-keeps p name m (Some release) call may own = end_release-keeps release
   behind_action-keeps p name m None None may own = pass_on-keeps (plain_steps moves) p name m.body_left tt
-  behind_action-keeps p name m None (Some c) may own = looks-from (chains moves) _ (λ w good. resume_found-from p name (call_of w c) w good may (own w good c refl).1)
+  behind_action-keeps p name m None (Some c) may own =
+      looks-from (chains moves) _ (λ w good. resume_found-from p name (call_of w c) w good may (own w good c refl).1)
 
   pub release_object-keeps : (p : Image) (name : Who) (m : ProtectedMark) → May name → OwnCalled G name m.own_call → Keeps G R (release_object p name m)
   unfolding release_object
@@ -122,47 +133,57 @@ module _ {G : GoodWorld} {May : Naming} {R : StepRelation} {Q : MoveRelation} (m
   begins_part-keeps p true c = search (begin_abortable-keeps)
   begins_part-keeps p false c = search (nothing-keeps, chains)
 
-  pub serve_chosen-keeps : (p : Image) (name : Who) (m : ProtectedMark) (is_sent : Bool) (again : Step) (c : Option CallNo) → May name → OwnCalled G name m.own_call → Keeps G R again → Keeps G R (serve_chosen p name m is_sent again c)
+  pub serve_chosen-keeps : (p : Image) (name : Who) (m : ProtectedMark) (is_sent : Bool) (again : Step) (c : Option CallNo) → May name
+      → OwnCalled G name m.own_call → Keeps G R again → Keeps G R (serve_chosen p name m is_sent again c)
   serve_chosen-keeps p name m is_sent again None other own kept = release_object-keeps p name m other own
   serve_chosen-keeps p name m is_sent again (Some c) other own kept =
-      with_call-keeps (plain_steps moves) c _ (λ d. serve_call-keeps moves p (part_of_start is_sent) name m.object d (begins_part p is_sent c) _ (begins_part-keeps p is_sent c)
+      with_call-keeps (plain_steps moves) c _
+      (λ d. serve_call-keeps moves p (part_of_start is_sent) name m.object d (begins_part p is_sent c) _ (begins_part-keeps p is_sent c)
       (then-keeps (chains moves) _ again (deliver-keeps moves p (part_of_start is_sent) c (call_ended.ToRaise exception.Storage)) kept))
 
-  pub serve_next-keeps : (fuel : ℕ) (p : Image) (name : Who) (mark : ProtectedMark) (sent : Option CallNo) → May name → OwnCalled G name mark.own_call → Keeps G R (serve_next fuel p name mark sent)
+  pub serve_next-keeps : (fuel : ℕ) (p : Image) (name : Who) (mark : ProtectedMark) (sent : Option CallNo) → May name → OwnCalled G name mark.own_call
+      → Keeps G R (serve_next fuel p name mark sent)
   unfolding serve_next
   serve_next-keeps zero p name mark sent other own = release_object-keeps p name mark other own
   serve_next-keeps (suc fuel) p name mark sent other own =
       looks-keeps (chains moves) _ (λ w. let chosen = served_next p w name (object_of w mark.object) in
       then-keeps (chains moves) (settle_sent p sent (chosen_is_sent sent chosen)) _ (settle_sent-keeps p sent (chosen_is_sent sent chosen))
-      (serve_chosen-keeps p name mark (chosen_is_sent sent chosen) (serve_next fuel p name mark None) chosen other own (serve_next-keeps fuel p name mark None other own)))
+      (serve_chosen-keeps p name mark (chosen_is_sent sent chosen) (serve_next fuel p name mark None) chosen other own
+      (serve_next-keeps fuel p name mark None other own)))
 
-  pub serve_calls-keeps : (p : Image) (name : Who) (m : ProtectedMark) (sent : Option CallNo) → May name → OwnCalled G name m.own_call → Keeps G R (serve_calls p name m sent)
+  pub serve_calls-keeps : (p : Image) (name : Who) (m : ProtectedMark) (sent : Option CallNo) → May name → OwnCalled G name m.own_call
+      → Keeps G R (serve_calls p name m sent)
   unfolding serve_calls
   serve_calls-keeps p name m sent other own = looks-keeps (chains moves) _ (λ w. serve_next-keeps (suc (length w.calls)) p name m sent other own)
 
-  pub go_on_by_mode-keeps : (p : Image) (name : Who) (m : ProtectedMark) (mode : Mode) → May name → OwnCalled G name m.own_call → Keeps G R (go_on_by_mode p name m mode)
+  pub go_on_by_mode-keeps : (p : Image) (name : Who) (m : ProtectedMark) (mode : Mode) → May name → OwnCalled G name m.own_call
+      → Keeps G R (go_on_by_mode p name m mode)
   unfolding go_on_by_mode
   go_on_by_mode-keeps p name m Read other own = release_object-keeps p name m other own
   go_on_by_mode-keeps p name m Write other own = serve_calls-keeps p name m None other own
 
-  pub end_operation-keeps : (p : Image) (name : Who) (m : ProtectedMark) (leaving : Leaving) → May name → OwnCalled G name m.own_call → Keeps G R (end_operation p name m leaving)
+  pub end_operation-keeps : (p : Image) (name : Who) (m : ProtectedMark) (leaving : Leaving) → May name → OwnCalled G name m.own_call
+      → Keeps G R (end_operation p name m leaving)
   unfolding end_operation
   end_operation-keeps p name m leaving other own =
       search (changes-keeps, edit_top_protected-alters, then-keeps, edit_top-alters, go_on_by_mode-keeps, chains) depth 7
 
-  pub finish_raised-keeps : (p : Image) (name : Who) (m : ProtectedMark) (c : Call) (e : Raised) → May name → OwnCalled G name m.own_call → Keeps G R (finish_raised p name m c e)
+  pub finish_raised-keeps : (p : Image) (name : Who) (m : ProtectedMark) (c : Call) (e : Raised) → May name → OwnCalled G name m.own_call
+      → Keeps G R (finish_raised p name m c e)
   unfolding finish_raised
   finish_raised-keeps p name m c e other own =
       search (says-keeps, then-keeps, deliver-keeps, serve_calls-keeps, chains)
 
-  pub finish_well-keeps : (p : Image) (name : Who) (m : ProtectedMark) (c : Call) (sending : Option Sending) → May name → OwnCalled G name m.own_call → Keeps G R (finish_well p name m c sending)
+  pub finish_well-keeps : (p : Image) (name : Who) (m : ProtectedMark) (c : Call) (sending : Option Sending) → May name → OwnCalled G name m.own_call
+      → Keeps G R (finish_well p name m c sending)
   unfolding finish_well
   finish_well-keeps p name m c None other own =
       search (says-keeps, then-keeps, deliver-keeps, serve_calls-keeps, chains)
   finish_well-keeps p name m c (Some s) other own =
       search (says-keeps, then-keeps, send_on-keeps, enqueue-keeps, serve_calls-keeps, chains, plain_steps) depth 8
 
-  pub finish_call-keeps : (p : Image) (name : Who) (m : ProtectedMark) (leaving : Leaving) (c : Call) → May name → OwnCalled G name m.own_call → Keeps G R (finish_call p name m leaving c)
+  pub finish_call-keeps : (p : Image) (name : Who) (m : ProtectedMark) (leaving : Leaving) (c : Call) → May name → OwnCalled G name m.own_call
+      → Keeps G R (finish_call p name m leaving c)
   unfolding finish_call
   finish_call-keeps p name m (how.Exception e) c other own = finish_raised-keeps p name m c e other own
   finish_call-keeps p name m how.End c other own = finish_well-keeps p name m c c.sending other own
@@ -171,17 +192,20 @@ module _ {G : GoodWorld} {May : Naming} {R : StepRelation} {Q : MoveRelation} (m
   finish_call-keeps p name m how.Abort c other own = finish_well-keeps p name m c c.sending other own
   finish_call-keeps p name m how.Terminate c other own = finish_well-keeps p name m c c.sending other own
 
-  pub end_entry_body-keeps : (p : Image) (name : Who) (m : ProtectedMark) (leaving : Leaving) (c : CallNo) → May name → OwnCalled G name m.own_call → Keeps G R (end_entry_body p name m leaving c)
+  pub end_entry_body-keeps : (p : Image) (name : Who) (m : ProtectedMark) (leaving : Leaving) (c : CallNo) → May name → OwnCalled G name m.own_call
+      → Keeps G R (end_entry_body p name m leaving c)
   unfolding end_entry_body
   end_entry_body-keeps p name m leaving c other own =
       search (changes-keeps, edit_top_protected-alters, then-keeps, edit_top-alters, with_call-keeps, finish_call-keeps, chains, plain_steps) depth 8
 
-  pub end_in_protected_by-keeps : (p : Image) (name : Who) (m : ProtectedMark) (leaving : Leaving) (c : Option CallNo) → May name → OwnCalled G name m.own_call → Keeps G R (end_in_protected_by p name m leaving c)
+  pub end_in_protected_by-keeps : (p : Image) (name : Who) (m : ProtectedMark) (leaving : Leaving) (c : Option CallNo) → May name → OwnCalled G name m.own_call
+      → Keeps G R (end_in_protected_by p name m leaving c)
   unfolding end_in_protected_by
   end_in_protected_by-keeps p name m leaving None other own = end_operation-keeps p name m leaving other own
   end_in_protected_by-keeps p name m leaving (Some c) other own = end_entry_body-keeps p name m leaving c other own
 
-  pub end_in_protected-keeps : (p : Image) (name : Who) (m : ProtectedMark) (leaving : Leaving) → May name → OwnCalled G name m.own_call → Keeps G R (end_in_protected p name m leaving)
+  pub end_in_protected-keeps : (p : Image) (name : Who) (m : ProtectedMark) (leaving : Leaving) → May name → OwnCalled G name m.own_call
+      → Keeps G R (end_in_protected p name m leaving)
   unfolding end_in_protected
   end_in_protected-keeps p name m leaving other own = end_in_protected_by-keeps p name m leaving m.serves other own
 

@@ -22,7 +22,9 @@ module _ {G : GoodWorld} {May : Naming} {R : StepRelation} {Q : MoveRelation} (m
   pub put_line-keeps : (p : Image) (name : Who) (s : StatementNo) (pieces : List Piece) → Keeps G R (put_line p name s pieces)
   unfolding put_line
   put_line-keeps p name s pieces =
-      sees-keeps (chains moves) p name _ (λ q. given-keeps (plain_steps moves) Own name (text_of_pieces q pieces) _ (λ text. then-keeps (chains moves) _ _ (goes-keeps moves name (next_of p s)) (says-keeps moves Own (line.Put name text) refl)))
+      sees-keeps (chains moves) p name _
+      (λ q. given-keeps (plain_steps moves) Own name (text_of_pieces q pieces) _
+      (λ text. then-keeps (chains moves) _ _ (goes-keeps moves name (next_of p s)) (says-keeps moves Own (line.Put name text) refl)))
 
 module _ {G : GoodWorld} {May : Naming} {R : StepRelation} {Q : MoveRelation} (moves : FineMoves G May R Q) where
   pub block_statement-keeps : (p : Image) (name : Who) (s : StatementNo) (scope : ScopeNo) → Keeps G R (block_statement p name s scope)

@@ -9,7 +9,8 @@ use Rattle.profile_machine.specs.declared.world.tasks.State.TheVariants.{Made, R
 use Rattle.profile_machine.specs.declared.world.tasks.Waiting.{Waiting}
 use Rattle.profile_machine.specs.declared.world.tasks.Waiting.TheVariants as waits_for
 use Rattle.profile_machine.specs.Dispatching.{ready}
-use Rattle.profile_machine.specs.Unwinding.{struck_frame, edit_last, strike_outermost, leave_by_abort, stop_waiting, wake_and_leave, unwind_blocked, unwind_in, unwind}
+use Rattle.profile_machine.specs.Unwinding.{struck_frame, edit_last, strike_outermost, leave_by_abort}
+use Rattle.profile_machine.specs.Unwinding.{stop_waiting, wake_and_leave, unwind_blocked, unwind_in, unwind}
 use Rattle.machine_laws.proofs.Moves.{StepRelation, MoveRelation}
 use Rattle.machine_laws.proofs.FineMoves.{GoodWorld, Naming}
 use Rattle.world_laws.proofs.Appointments.Delays.{nature, natures}
@@ -37,7 +38,9 @@ module _ {G : GoodWorld} {May : Naming} {R : StepRelation} {Q : MoveRelation} (m
 
   pub stop_waiting-keeps : (p : Image) (part : Part) (name : Who) → Keeps G R (stop_waiting p part name)
   unfolding stop_waiting
-  stop_waiting-keeps p part name = from-keeps (chains moves) _ (λ w good. drops_then-from moves name (ready p part name) w good (λ v good_v idle. ready-from moves p part name v good_v idle))
+  stop_waiting-keeps p part name =
+      from-keeps (chains moves) _
+      (λ w good. drops_then-from moves name (ready p part name) w good (λ v good_v idle. ready-from moves p part name v good_v idle))
 
   pub wake_and_leave-keeps : (p : Image) (part : Part) (name : Who) → Keeps G R (wake_and_leave p part name)
   unfolding wake_and_leave
@@ -45,7 +48,8 @@ module _ {G : GoodWorld} {May : Naming} {R : StepRelation} {Q : MoveRelation} (m
 
   pub unwind_blocked-keeps : (p : Image) (part : Part) (name : Who) (waiting : Waiting) → Keeps G R (unwind_blocked p part name waiting)
   unfolding unwind_blocked
-  unwind_blocked-keeps p part name (waits_for.Call c) = search (attempt-keeps, changes-keeps, forget_call-alters, then-keeps, wake_and_leave-keeps, nothing-keeps, chains, plain_steps)
+  unwind_blocked-keeps p part name (waits_for.Call c) =
+      search (attempt-keeps, changes-keeps, forget_call-alters, then-keeps, wake_and_leave-keeps, nothing-keeps, chains, plain_steps)
   unwind_blocked-keeps p part name (waits_for.EndOfCall c) = search (nothing-keeps, chains)
   unwind_blocked-keeps p part name waits_for.Activation = search (wake_and_leave-keeps)
   unwind_blocked-keeps p part name waits_for.Moment = search (wake_and_leave-keeps)

@@ -23,25 +23,32 @@ use Rattle.profile_machine.specs.declared.world.lines.Part.TheVariants.{Own}
 use Rattle.profile_machine.specs.Steps.{changes, looks, ◌▷◌}
 use Rattle.profile_machine.specs.Frames.{frames_of}
 use Rattle.profile_machine.specs.Calls.{with_call, attempt_with}
-use Rattle.profile_machine.specs.Act.{call_main, call, handle_or_pass, behind_handled, end_handled, end_top, wait_for_trigger, drop_trigger, below, end_abortable_by, end_in_abortable, act_statement, end_mark, act_frame, act_without, act_top, act}
-use Rattle.world_laws.proofs.Cells.RightCells.{Keeps, Alters, then-keeps, nothing-keeps, changes-keeps, looks-keeps, sees-keeps, cond-keeps, option-keeps, unchanged-alters}
+use Rattle.profile_machine.specs.Act.{call_main, call, handle_or_pass, behind_handled, end_handled, end_top, wait_for_trigger, drop_trigger}
+use Rattle.profile_machine.specs.Act.{below, end_abortable_by, end_in_abortable, act_statement, end_mark, act_frame, act_without, act_top, act}
+use Rattle.world_laws.proofs.Cells.RightCells.{Keeps, Alters, then-keeps, nothing-keeps, changes-keeps}
+use Rattle.world_laws.proofs.Cells.RightCells.{looks-keeps, sees-keeps, cond-keeps, option-keeps, unchanged-alters}
 use Rattle.world_laws.proofs.Cells.Kept.Dispatching.{block-keeps}
 use Rattle.world_laws.proofs.Cells.Kept.Frames.{edit_top-alters, goes-keeps, pop-alters, raises-keeps, pass_on-keeps, with_room-keeps}
 use Rattle.world_laws.proofs.Cells.Kept.Scopes.{open_scope-alters}
 use Rattle.world_laws.proofs.Cells.Kept.Appointments.{drop_appointment-alters}
 use Rattle.world_laws.proofs.Cells.Kept.Calls.{with_call-keeps, attempt_with-keeps}
 use Rattle.world_laws.proofs.Cells.Kept.CallEnds.{end_top_abortable-keeps}
-use Rattle.world_laws.proofs.Cells.Kept.Statements.{null-keeps, assign-keeps, assign_array-keeps, if_statement-keeps, case_statement-keeps, while_turn-keeps, for_bounds-keeps, first_turn-keeps, later_turn-keeps, exit_statement-keeps, block_statement-keeps, raise_again-keeps, delay_until-keeps, put_line-keeps}
+use Rattle.world_laws.proofs.Cells.Kept.Statements.{null-keeps, assign-keeps, assign_array-keeps, if_statement-keeps, case_statement-keeps}
+use Rattle.world_laws.proofs.Cells.Kept.Statements.{while_turn-keeps, for_bounds-keeps, first_turn-keeps, later_turn-keeps, exit_statement-keeps}
+use Rattle.world_laws.proofs.Cells.Kept.Statements.{block_statement-keeps, raise_again-keeps, delay_until-keeps, put_line-keeps}
 use Rattle.world_laws.proofs.Cells.Kept.Subprograms.{call_subprogram-keeps, return_value-keeps, return-keeps}
 use Rattle.world_laws.proofs.Cells.Kept.Protected.{call_operation-keeps, call_own_operation-keeps}
 use Rattle.world_laws.proofs.Cells.Kept.Priorities.{set_priority-keeps, set_quantum-keeps, set_deadline_of-keeps, delay_and_set_deadline-keeps}
 use Rattle.world_laws.proofs.Cells.Kept.Serving.{end_in_protected-keeps}
 use Rattle.world_laws.proofs.Cells.Kept.Rendezvous.{accept-keeps, selective_accept-keeps, end_in_accept-keeps}
 use Rattle.world_laws.proofs.Cells.Kept.EntryCalls.{entry_call-keeps, asynchronous_select-keeps, requeue-keeps}
-use Rattle.world_laws.proofs.Cells.Kept.Controlled.{initialize-keeps, end_in_initialize-keeps, end_in_finalize-keeps, assign_controlled-keeps, end_in_assign-keeps}
+use Rattle.world_laws.proofs.Cells.Kept.Controlled.{initialize-keeps, end_in_initialize-keeps, end_in_finalize-keeps}
+use Rattle.world_laws.proofs.Cells.Kept.Controlled.{assign_controlled-keeps, end_in_assign-keeps}
 use Rattle.world_laws.proofs.Cells.Kept.Declarations.{declare-keeps}
 use Rattle.world_laws.proofs.Cells.Kept.Tasking.{create-keeps, activate-keeps, end_own_activation-keeps, end_scope_mark-keeps, abort_statement-keeps}
-use Rattle.world_laws.proofs.Cells.Kept.Handlers.{call_handler-keeps, set_event-keeps, cancel_event-keeps, set_timer-keeps, cancel_timer-keeps, add_member-keeps, remove_member-keeps, replenish-keeps, add_to_budget-keeps, set_budget-keeps, cancel_budget-keeps}
+use Rattle.world_laws.proofs.Cells.Kept.Handlers.{call_handler-keeps, set_event-keeps, cancel_event-keeps, set_timer-keeps}
+use Rattle.world_laws.proofs.Cells.Kept.Handlers.{cancel_timer-keeps, add_member-keeps, remove_member-keeps, replenish-keeps}
+use Rattle.world_laws.proofs.Cells.Kept.Handlers.{add_to_budget-keeps, set_budget-keeps, cancel_budget-keeps}
 
 -- ---- the environment task calls the main procedure (10.2)
 
@@ -51,7 +58,8 @@ call_main-keeps p name s = search (with_room-keeps, goes-keeps, then-keeps, look
 
 -- ---- calls of subprograms and protected operations (6.4, 9.5.1)
 
-pub call-keeps : (p : Image) (name : Who) (s : StatementNo) (callee : Callee) (actuals : List Actual) (to : Destination) → Keeps p (call p name s callee actuals to)
+pub call-keeps : (p : Image) (name : Who) (s : StatementNo) (callee : Callee) (actuals : List Actual) (to : Destination)
+    → Keeps p (call p name s callee actuals to)
 unfolding call
 call-keeps p name s (callee.Subprogram f) actuals to = search (call_subprogram-keeps)
 call-keeps p name s (callee.Operation d f) actuals to = search (call_operation-keeps)
@@ -94,8 +102,10 @@ drop_trigger-alters who.Agent depth = search (unchanged-alters)
 pub end_abortable_by-keeps : (p : Image) (name : Who) (m : AbortableMark) (leaving : Leaving) → Keeps p (end_abortable_by p name m leaving)
 unfolding end_abortable_by
 end_abortable_by-keeps p name m leaving =
-    option-keeps m.call (looks (λ w. changes (drop_trigger name (below (frames_of w name)))) ▷ end_top p name) (λ c. with_call c (λ d. attempt_with p Own d (end_top p name) (wait_for_trigger name d leaving)))
-    (search (looks-keeps, changes-keeps, drop_trigger-alters, then-keeps, end_top-keeps)) (λ c. search (with_call-keeps, attempt_with-keeps, end_top-keeps, wait_for_trigger-keeps))
+    option-keeps m.call (looks (λ w. changes (drop_trigger name (below (frames_of w name)))) ▷ end_top p name)
+    (λ c. with_call c (λ d. attempt_with p Own d (end_top p name) (wait_for_trigger name d leaving)))
+    (search (looks-keeps, changes-keeps, drop_trigger-alters, then-keeps, end_top-keeps))
+    (λ c. search (with_call-keeps, attempt_with-keeps, end_top-keeps, wait_for_trigger-keeps))
 
 pub end_in_abortable-keeps : (p : Image) (name : Who) (m : AbortableMark) (leaving : Leaving) → Keeps p (end_in_abortable p name m leaving)
 unfolding end_in_abortable

@@ -23,10 +23,14 @@ use Rattle.profile_machine.specs.Tasks.{waiting_of}
 use Rattle.profile_machine.specs.Frames.{pop, pass_on, leaving_of}
 use Rattle.profile_machine.specs.Scopes.{write_cell}
 use Rattle.profile_machine.specs.Operators.{Valued, checked}
-use Rattle.profile_machine.specs.CallEnds.{go_by_outcome, resume, store, or_stored, copy_back, with_results, edit_frame, edit_abortable_at, trigger_at, trigger_outcome, forget_trigger, run_triggered, ended_by_itself, behind_abortable, end_abortable, end_abortable_in, end_top_abortable, end_wait, waits_for_end, end_for_abortable, end_for_caller, end_for, end_with, end_call, deliver, gone}
+use Rattle.profile_machine.specs.CallEnds.{go_by_outcome, resume, store, or_stored, copy_back, with_results, edit_frame}
+use Rattle.profile_machine.specs.CallEnds.{edit_abortable_at, trigger_at, trigger_outcome, forget_trigger, run_triggered, ended_by_itself}
+use Rattle.profile_machine.specs.CallEnds.{behind_abortable, end_abortable, end_abortable_in, end_top_abortable, end_wait, waits_for_end}
+use Rattle.profile_machine.specs.CallEnds.{end_for_abortable, end_for_caller, end_for, end_with, end_call, deliver, gone}
 use Rattle.profile_machine.specs.Act.{below}
 use Rattle.profile_machine.specs.Values.{value}
-use Rattle.world_laws.proofs.Cells.RightCells.{Right, Keeps, Alters, Gives, then-keeps, nothing-keeps, changes-keeps, says-keeps, looks-keeps, branch-keeps, when-keeps, unchanged-alters, next-alters, ok-gives, bind-gives}
+use Rattle.world_laws.proofs.Cells.RightCells.{Right, Keeps, Alters, Gives, then-keeps, nothing-keeps, changes-keeps, says-keeps}
+use Rattle.world_laws.proofs.Cells.RightCells.{looks-keeps, branch-keeps, when-keeps, unchanged-alters, next-alters, ok-gives, bind-gives}
 use Rattle.world_laws.proofs.Cells.Kept.Tasks.{edit_task-alters}
 use Rattle.world_laws.proofs.Cells.Kept.Dispatching.{ready-keeps}
 use Rattle.world_laws.proofs.Cells.Kept.Frames.{goes-keeps, pop-alters, leaves-keeps, raises-keeps, open_sequence-keeps, pass_on-keeps}
@@ -50,10 +54,13 @@ resume-keeps p part c outcome = search (changes-keeps, forget_call-alters, then-
 -- ---- results are copied back (6.4.1), in the order of the parameters up to the first that fails its range check
 
 pub store-gives : {p : Image} (text : Image) (v : Variable) (value : Value) (w : World) → Right p w → Gives p (store text v value w)
-store-gives text v value w right = bind-gives (checked (declaration_of text v.declared).constraint value) (λ x. Ok (write_cell v.within v.place x w)) (λ x. ok-gives (write_cell v.within v.place x w) ((write_cell-alters v.within v.place x).at w right))
+store-gives text v value w right =
+    bind-gives (checked (declaration_of text v.declared).constraint value) (λ x. Ok (write_cell v.within v.place x w))
+    (λ x. ok-gives (write_cell v.within v.place x w) ((write_cell-alters v.within v.place x).at w right))
 
 -- the world behind the results that are copied back
-or_stored-right : (p : Image) (result : Valued World) (again : World → World × Bool) (w : World) → Right p w → Gives p result → ((v : World) → Right p v → Right p (again v).0) → Right p (or_stored w result again).0
+or_stored-right : (p : Image) (result : Valued World) (again : World → World × Bool) (w : World) → Right p w → Gives p result
+    → ((v : World) → Right p v → Right p (again v).0) → Right p (or_stored w result again).0
 or_stored-right p (Ok next) again w right stored kept = kept next stored.world
 or_stored-right p (Err e) again w right stored kept = right
 
@@ -62,7 +69,8 @@ copy_back-right p [] values w right = right
 copy_back-right p (None ∷ results) [] w right = right
 copy_back-right p (None ∷ results) (v ∷ values) w right = copy_back-right p results values w right
 copy_back-right p (Some target ∷ results) [] w right = right
-copy_back-right p (Some target ∷ results) (v ∷ values) w right = or_stored-right p (store p target v w) (copy_back p results values) w right (store-gives p target v w right) (copy_back-right p results values)
+copy_back-right p (Some target ∷ results) (v ∷ values) w right =
+    or_stored-right p (store p target v w) (copy_back p results values) w right (store-gives p target v w right) (copy_back-right p results values)
 
 with_results-right : (p : Image) (c : Call) (outcome : Outcome) (w : World) → Right p w → Right p (with_results p c outcome w).0
 with_results-right p c call_ended.Finished w right = copy_back-right p c.results c.values w right
@@ -97,13 +105,18 @@ pub behind_abortable-keeps : (p : Image) (part : Part) (name : Who) (m : Abortab
 unfolding behind_abortable
 behind_abortable-keeps p part name m outcome = search (when-keeps, run_triggered-keeps)
 
-pub end_abortable-keeps : (p : Image) (part : Part) (name : Who) (m : AbortableMark) (f : Frame) (below : List Frame) → Keeps p (end_abortable p part name m f below)
+pub end_abortable-keeps : (p : Image) (part : Part) (name : Who) (m : AbortableMark) (f : Frame) (below : List Frame)
+    → Keeps p (end_abortable p part name m f below)
 unfolding end_abortable
 end_abortable-keeps p part name m f below =
-    looks-keeps _ (λ w right. then-keeps (changes (pop name)) _ (changes-keeps _ (pop-alters name)) (then-keeps (changes (forget_trigger m.call)) _ (changes-keeps _ (forget_trigger-alters m.call))
-    (branch-keeps (ended_by_itself f below) (behind_abortable p part name m (trigger_outcome w m.call)) (pass_on p name (leaving_of f)) (search (behind_abortable-keeps)) (search (pass_on-keeps)))))
+    looks-keeps _
+    (λ w right. then-keeps (changes (pop name)) _ (changes-keeps _ (pop-alters name))
+    (then-keeps (changes (forget_trigger m.call)) _ (changes-keeps _ (forget_trigger-alters m.call))
+    (branch-keeps (ended_by_itself f below) (behind_abortable p part name m (trigger_outcome w m.call)) (pass_on p name (leaving_of f))
+    (search (behind_abortable-keeps)) (search (pass_on-keeps)))))
 
-pub end_abortable_in-keeps : (p : Image) (part : Part) (name : Who) (f : Frame) (below : List Frame) (mark : Mark) → Keeps p (end_abortable_in p part name f below mark)
+pub end_abortable_in-keeps : (p : Image) (part : Part) (name : Who) (f : Frame) (below : List Frame) (mark : Mark)
+    → Keeps p (end_abortable_in p part name f below mark)
 unfolding end_abortable_in
 end_abortable_in-keeps p part name f below (Abortable m) = search (end_abortable-keeps)
 end_abortable_in-keeps p part name f below _ = search (nothing-keeps)
@@ -115,14 +128,17 @@ end_top_abortable-keeps p part name (f ∷ below) = search (end_abortable_in-kee
 
 pub end_wait-keeps : (p : Image) (part : Part) (c : Call) (depth : ℕ) (outcome : Outcome) → Keeps p (end_wait p part c depth outcome)
 unfolding end_wait
-end_wait-keeps p part c depth outcome = search (ready-keeps, then-keeps, changes-keeps, edit_abortable_at-alters, looks-keeps, end_top_abortable-keeps, open_sequence-keeps) depth 12
+end_wait-keeps p part c depth outcome =
+    search (ready-keeps, then-keeps, changes-keeps, edit_abortable_at-alters, looks-keeps, end_top_abortable-keeps, open_sequence-keeps) depth 12
 
 -- ---- a call ends
 
 pub end_for_abortable-keeps : (p : Image) (part : Part) (c : Call) (depth : ℕ) (outcome : Outcome) → Keeps p (end_for_abortable p part c depth outcome)
 unfolding end_for_abortable
 end_for_abortable-keeps p part c depth outcome =
-    looks-keeps _ (λ w right. branch-keeps (waits_for_end c.number (waiting_of w (who.Task c.caller))) (end_wait p part c depth outcome) (trigger_at part c.caller depth) (search (end_wait-keeps)) (search (trigger_at-keeps)))
+    looks-keeps _
+    (λ w right. branch-keeps (waits_for_end c.number (waiting_of w (who.Task c.caller))) (end_wait p part c depth outcome) (trigger_at part c.caller depth)
+    (search (end_wait-keeps)) (search (trigger_at-keeps)))
 
 pub end_for_caller-keeps : (p : Image) (part : Part) (c : Call) (outcome : Outcome) → Keeps p (end_for_caller p part c outcome)
 unfolding end_for_caller
@@ -141,7 +157,8 @@ pub end_call-keeps : (p : Image) (part : Part) (c : Call) (outcome : Outcome) �
 unfolding end_call
 end_call-keeps p part c outcome =
     looks-keeps _ (λ w right. let r = with_results p c outcome w in
-    then-keeps (changes (λ _. r.0)) (end_with p part c r.1) (changes-keeps _ (next-alters r.0 (with_results-right p c outcome w right))) (end_with-keeps p part c r.1))
+    then-keeps (changes (λ _. r.0)) (end_with p part c r.1) (changes-keeps _ (next-alters r.0 (with_results-right p c outcome w right)))
+    (end_with-keeps p part c r.1))
 
 pub deliver-keeps : (p : Image) (part : Part) (c : CallNo) (outcome : Outcome) → Keeps p (deliver p part c outcome)
 unfolding deliver

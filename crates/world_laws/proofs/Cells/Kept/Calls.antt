@@ -11,7 +11,8 @@ use Rattle.profile_machine.specs.declared.world.calls.Owner.TheVariants as owned
 use Rattle.profile_machine.specs.declared.world.lines.Part.{Part}
 use Rattle.profile_machine.specs.Steps.{Step, says, changes, ◌▷◌}
 use Rattle.profile_machine.specs.Appointments.{is_timeout_of}
-use Rattle.profile_machine.specs.Calls.{edit_call, forget_call, with_call, says_call, edit_object, edit_queue, place_of_entry, put_call, take_call, enqueued, enqueue, unqueued, is_cancellable, attempt_on, attempt_with, attempt}
+use Rattle.profile_machine.specs.Calls.{edit_call, forget_call, with_call, says_call, edit_object, edit_queue, place_of_entry, put_call}
+use Rattle.profile_machine.specs.Calls.{take_call, enqueued, enqueue, unqueued, is_cancellable, attempt_on, attempt_with, attempt}
 use Rattle.world_laws.proofs.Cells.RightCells.{Right, Keeps, Alters, then-keeps, changes-keeps, says-keeps, looks-keeps, branch-keeps, for_some-keeps}
 use Rattle.world_laws.proofs.Cells.Kept.Tasks.{edit_task-alters}
 use Rattle.world_laws.proofs.Cells.Kept.Appointments.{drop_appointment-alters}
@@ -49,7 +50,8 @@ pub enqueued-alters : (p : Image) (c : Call) → Alters p (enqueued p c)
 enqueued-alters p c = record {
   at = λ w right.
       let again = edit_call c.number (λ d. record d { begun = false }) w in
-      (edit_queue-alters c.owner (place_of_entry p c.entry) (put_call p.policies.queuing w c.number c.priority)).at again ((edit_call-alters c.number (λ d. record d { begun = false })).at w right);
+      (edit_queue-alters c.owner (place_of_entry p c.entry) (put_call p.policies.queuing w c.number c.priority)).at again
+      ((edit_call-alters c.number (λ d. record d { begun = false })).at w right);
 }
 
 pub enqueue-keeps : (p : Image) (c : CallNo) → Keeps p (enqueue p c)
@@ -68,11 +70,14 @@ unqueued-alters p c = record {
 pub attempt_on-keeps : (p : Image) (part : Part) (c : Call) → Keeps p (attempt_on p part c)
 unfolding attempt_on
 attempt_on-keeps p part c =
-    branch-keeps (is_cancellable c) (changes (unqueued p c) ▷ says part (line.Cancel c.caller c.number)) (changes (edit_call c.number (λ d. record d { attempted = true })))
+    branch-keeps (is_cancellable c) (changes (unqueued p c) ▷ says part (line.Cancel c.caller c.number))
+    (changes (edit_call c.number (λ d. record d { attempted = true })))
     (search (then-keeps, changes-keeps, unqueued-alters, says-keeps)) (search (changes-keeps, edit_call-alters))
 
-pub attempt_with-keeps : (p : Image) (part : Part) (c : Call) (cancels stays : Step) → Keeps p cancels → Keeps p stays → Keeps p (attempt_with p part c cancels stays)
-attempt_with-keeps p part c cancels stays kept also_kept = then-keeps (attempt_on p part c) _ (attempt_on-keeps p part c) (branch-keeps (is_cancellable c) cancels stays kept also_kept)
+pub attempt_with-keeps : (p : Image) (part : Part) (c : Call) (cancels stays : Step) → Keeps p cancels → Keeps p stays
+    → Keeps p (attempt_with p part c cancels stays)
+attempt_with-keeps p part c cancels stays kept also_kept =
+    then-keeps (attempt_on p part c) _ (attempt_on-keeps p part c) (branch-keeps (is_cancellable c) cancels stays kept also_kept)
 
 pub attempt-keeps : (p : Image) (part : Part) (c : CallNo) (cancels stays : Step) → Keeps p cancels → Keeps p stays → Keeps p (attempt p part c cancels stays)
 attempt-keeps p part c cancels stays kept also_kept = search (with_call-keeps, attempt_with-keeps)

@@ -17,9 +17,15 @@ use Rattle.profile_machine.specs.declared.world.marks.AssignStep.{AssignStep}
 use Rattle.profile_machine.specs.declared.world.marks.AssignStep.TheVariants as assigning
 use Rattle.profile_machine.specs.Steps.{changes}
 use Rattle.profile_machine.specs.Statements.{cells_from}
-use Rattle.profile_machine.specs.Controlled.{open_operation, registered_as, register, initialize_by, initialize, end_in_initialize, edit_top_scope, finalize_has_raised, open_finalize, has_room_to_finalize, finalize_by, no_longer_registered, finalize_now, finalize, behind_finalize, end_in_finalize, begin_assignment, assign_registered, assign_located, assign_controlled, edit_top_assign, leave_without_room, finalize_target_by, has_room_to_adjust, adjust_by, components_at, cells_of_components, copy_components_of, copy_object, do_step, step_with, end_in_assign}
-use Rattle.world_laws.proofs.Cells.RightCells.{Right, Keeps, Alters, then-keeps, nothing-keeps, changes-keeps, says-keeps, looks-keeps, sees-keeps, branch-keeps, cond-keeps, when-keeps}
-use Rattle.world_laws.proofs.Cells.Kept.Frames.{edit_top-alters, goes-keeps, push-alters, pop-alters, leaves-keeps, raises-keeps, pass_on-keeps, given-keeps, with_room-keeps}
+use Rattle.profile_machine.specs.Controlled.{open_operation, registered_as, register, initialize_by, initialize, end_in_initialize, edit_top_scope}
+use Rattle.profile_machine.specs.Controlled.{finalize_has_raised, open_finalize, has_room_to_finalize, finalize_by, no_longer_registered, finalize_now}
+use Rattle.profile_machine.specs.Controlled.{finalize, behind_finalize, end_in_finalize, begin_assignment, assign_registered, assign_located}
+use Rattle.profile_machine.specs.Controlled.{assign_controlled, edit_top_assign, leave_without_room, finalize_target_by, has_room_to_adjust, adjust_by}
+use Rattle.profile_machine.specs.Controlled.{components_at, cells_of_components, copy_components_of, copy_object, do_step, step_with, end_in_assign}
+use Rattle.world_laws.proofs.Cells.RightCells.{Right, Keeps, Alters, then-keeps, nothing-keeps, changes-keeps}
+use Rattle.world_laws.proofs.Cells.RightCells.{says-keeps, looks-keeps, sees-keeps, branch-keeps, cond-keeps, when-keeps}
+use Rattle.world_laws.proofs.Cells.Kept.Frames.{edit_top-alters, goes-keeps, push-alters, pop-alters, leaves-keeps}
+use Rattle.world_laws.proofs.Cells.Kept.Frames.{raises-keeps, pass_on-keeps, given-keeps, with_room-keeps}
 use Rattle.world_laws.proofs.Cells.Kept.Scopes.{put_cells-alters, write_cell-alters, open_scope-alters}
 
 -- ---- the operations of an object's type
@@ -65,7 +71,10 @@ open_finalize-keeps p name n l f = search (changes-keeps, push-alters, then-keep
 pub finalize_by-keeps : (p : Image) (name : Who) (r : Registered) (found : Option SubprogramNo) → Keeps p (finalize_by p name r found)
 unfolding finalize_by
 finalize_by-keeps p name r None = nothing-keeps
-finalize_by-keeps p name r (Some f) = looks-keeps _ (λ w right. branch-keeps (has_room_to_finalize p w name f) (open_finalize p name r.object r.located f) (changes (edit_top_scope name finalize_has_raised)) (search (open_finalize-keeps)) (search (changes-keeps, edit_top_scope-alters)))
+finalize_by-keeps p name r (Some f) =
+    looks-keeps _
+    (λ w right. branch-keeps (has_room_to_finalize p w name f) (open_finalize p name r.object r.located f) (changes (edit_top_scope name finalize_has_raised))
+    (search (open_finalize-keeps)) (search (changes-keeps, edit_top_scope-alters)))
 
 pub no_longer_registered-alters : {p : Image} (n : ℕ) → Alters p (no_longer_registered n)
 unfolding Right
@@ -125,12 +134,18 @@ leave_without_room-keeps name = search (leaves-keeps)
 pub finalize_target_by-keeps : (p : Image) (name : Who) (r : Registered) (found : Option SubprogramNo) → Keeps p (finalize_target_by p name r found)
 unfolding finalize_target_by
 finalize_target_by-keeps p name r None = nothing-keeps
-finalize_target_by-keeps p name r (Some f) = looks-keeps _ (λ w right. branch-keeps (has_room_to_finalize p w name f) (open_finalize p name r.object r.located f) (leave_without_room name) (search (open_finalize-keeps)) (search (leave_without_room-keeps)))
+finalize_target_by-keeps p name r (Some f) =
+    looks-keeps _
+    (λ w right. branch-keeps (has_room_to_finalize p w name f) (open_finalize p name r.object r.located f) (leave_without_room name)
+    (search (open_finalize-keeps)) (search (leave_without_room-keeps)))
 
 pub adjust_by-keeps : (p : Image) (name : Who) (r : Registered) (found : Option SubprogramNo) → Keeps p (adjust_by p name r found)
 unfolding adjust_by
 adjust_by-keeps p name r None = nothing-keeps
-adjust_by-keeps p name r (Some f) = looks-keeps _ (λ w right. branch-keeps (has_room_to_adjust p w name f) (open_operation p name f r.located) (leave_without_room name) (search (open_operation-keeps)) (search (leave_without_room-keeps)))
+adjust_by-keeps p name r (Some f) =
+    looks-keeps _
+    (λ w right. branch-keeps (has_room_to_adjust p w name f) (open_operation p name f r.located) (leave_without_room name) (search (open_operation-keeps))
+    (search (leave_without_room-keeps)))
 
 pub copy_components_of-alters : {p : Image} (target source : Variable) (count : ℕ) → Alters p (copy_components_of target source count)
 copy_components_of-alters target source count = record { at = λ w right. (put_cells-alters target.within target.place (cells_from w source count)).at w right }

@@ -25,8 +25,12 @@ use Rattle.profile_machine.specs.Operators.{unless}
 use Rattle.profile_machine.specs.Values.{Seen, value, object_cell, component_at}
 use Rattle.profile_machine.specs.Statements.{copy_cells}
 use Rattle.profile_machine.specs.CallEnds.{store}
-use Rattle.profile_machine.specs.Declarations.{default_cells, set_defaults, initialized, initial_of, components_initialized, located_here, set_thing, object_declared, object_drawn, new_object, with_object, says_object, declare_protected, controlled_declared, event_drawn, event_declared, with_budget, budget_declared, timed_task, with_timer, timer_declared, declared, declare_quietly, declare_by, declare}
-use Rattle.world_laws.proofs.Cells.RightCells.{Right, Keeps, Alters, Gives, then-keeps, changes-keeps, says-keeps, looks-keeps, sees-keeps, next-alters, ok-gives, bind-gives, next-gives}
+use Rattle.profile_machine.specs.Declarations.{default_cells, set_defaults, initialized, initial_of, components_initialized, located_here}
+use Rattle.profile_machine.specs.Declarations.{set_thing, object_declared, object_drawn, new_object, with_object, says_object, declare_protected}
+use Rattle.profile_machine.specs.Declarations.{controlled_declared, event_drawn, event_declared, with_budget, budget_declared, timed_task}
+use Rattle.profile_machine.specs.Declarations.{with_timer, timer_declared, declared, declare_quietly, declare_by, declare}
+use Rattle.world_laws.proofs.Cells.RightCells.{Right, Keeps, Alters, Gives, then-keeps, changes-keeps, says-keeps}
+use Rattle.world_laws.proofs.Cells.RightCells.{looks-keeps, sees-keeps, next-alters, ok-gives, bind-gives, next-gives}
 use Rattle.world_laws.proofs.Cells.Kept.Frames.{goes-keeps, given-keeps, given_right-keeps}
 use Rattle.world_laws.proofs.Cells.Kept.Scopes.{put_cells-alters, write_cell-alters}
 use Rattle.world_laws.proofs.Cells.Kept.CallEnds.{store-gives}
@@ -41,9 +45,11 @@ initialized-gives : {p : Image} (q : Seen) (v : Variable) (i : Initial) (w : Wor
 initialized-gives q v initial.Default w right = ok-gives (set_defaults q.program v w) ((set_defaults-alters q.program v).at w right)
 initialized-gives q v (initial.Scalar e) w right = bind-gives (value q e) (λ x. store q.program v x w) (λ x. store-gives q.program v x w right)
 initialized-gives q v (initial.Array source) w right =
-    bind-gives (object_cell q source) (λ f. Ok (copy_cells q.program v f w)) (λ f. ok-gives (copy_cells q.program v f w) ((copy_cells-alters q.program v f).at w right))
+    bind-gives (object_cell q source) (λ f. Ok (copy_cells q.program v f w))
+    (λ f. ok-gives (copy_cells q.program v f w) ((copy_cells-alters q.program v f).at w right))
 
-components_initialized-gives : {p : Image} (q : Seen) (own_cells : ℕ) (l : Located) (cs : List DeclNo) (w : World) → Right p w → Gives p (components_initialized q own_cells l cs w)
+components_initialized-gives : {p : Image} (q : Seen) (own_cells : ℕ) (l : Located) (cs : List DeclNo) (w : World) → Right p w
+    → Gives p (components_initialized q own_cells l cs w)
 components_initialized-gives q own_cells l [] w right = ok-gives w right
 components_initialized-gives q own_cells l (c ∷ cs) w right =
     let v = component_at q.program own_cells l c in
@@ -69,7 +75,19 @@ says_object-keeps p l u = search (looks-keeps, says-keeps)
 
 pub declare_protected-keeps : (p : Image) (name : Who) (s : StatementNo) (d : DeclNo) (u : ProtectedUnitNo) → Keeps p (declare_protected p name s d u)
 unfolding declare_protected
-declare_protected-keeps p name s d u = search (given_right-keeps, sees-keeps, given-keeps, changes-keeps, then-keeps, goes-keeps, with_object-alters, says_object-keeps, next-alters, components_initialized-gives) depth 14
+declare_protected-keeps p name s d u =
+    search (
+      given_right-keeps,
+      sees-keeps,
+      given-keeps,
+      changes-keeps,
+      then-keeps,
+      goes-keeps,
+      with_object-alters,
+      says_object-keeps,
+      next-alters,
+      components_initialized-gives,
+    ) depth 14
 
 pub with_budget-alters : {p : Image} → Alters p with_budget
 unfolding Right
@@ -83,14 +101,17 @@ object_declared-gives : {p : Image} (q : Seen) (d : DeclNo) (i : Initial) → Ri
 object_declared-gives q d i right = bind-gives (object_cell q (Declared d)) (λ v. initialized q v i q.world) (λ v. initialized-gives q v i q.world right)
 
 -- an object is located, and its first cell names it
-thing_declared-gives : {p : Image} (q : Seen) (d : DeclNo) (v : Value) (next : World) → Right p next → Gives p (located_here q d >>= λ l. Ok (set_thing q.program l v next))
+thing_declared-gives : {p : Image} (q : Seen) (d : DeclNo) (v : Value) (next : World) → Right p next
+    → Gives p (located_here q d >>= λ l. Ok (set_thing q.program l v next))
 thing_declared-gives q d v next right =
-    bind-gives (located_here q d) (λ l. Ok (set_thing q.program l v next)) (λ l. ok-gives (set_thing q.program l v next) ((set_thing-alters q.program l v).at next right))
+    bind-gives (located_here q d) (λ l. Ok (set_thing q.program l v next))
+    (λ l. ok-gives (set_thing q.program l v next) ((set_thing-alters q.program l v).at next right))
 
 controlled_declared-gives : {p : Image} (q : Seen) (d : DeclNo) (c : ControlledNo) → Right p q.world → Gives p (controlled_declared q d c)
 controlled_declared-gives q d c right =
     let components = (controlled_of q.program c).components in
-    bind-gives (located_here q d) (λ l. components_initialized q CONTROLLED_CELLS l components q.world >>= λ next. Ok (set_thing q.program l (Thing 0) next)) (λ l.
+    bind-gives (located_here q d) (λ l. components_initialized q CONTROLLED_CELLS l components q.world >>= λ next. Ok (set_thing q.program l (Thing 0) next))
+    (λ l.
     next-gives (components_initialized q CONTROLLED_CELLS l components q.world) (λ next. Ok (set_thing q.program l (Thing 0) next))
     (components_initialized-gives q CONTROLLED_CELLS l components q.world right)
     (λ next right_next. ok-gives (set_thing q.program l (Thing 0) next) ((set_thing-alters q.program l (Thing 0)).at next right_next)))
@@ -101,7 +122,8 @@ unfolding Right
 event_drawn-right p w right = right
 
 event_declared-gives : {p : Image} (q : Seen) (d : DeclNo) → Right p q.world → Gives p (event_declared q d)
-event_declared-gives {p = p} q d right = thing_declared-gives q d (Thing q.world.drawn.events) (record q.world { drawn = event_drawn q.world.drawn }) (event_drawn-right p q.world right)
+event_declared-gives {p = p} q d right =
+    thing_declared-gives q d (Thing q.world.drawn.events) (record q.world { drawn = event_drawn q.world.drawn }) (event_drawn-right p q.world right)
 
 budget_declared-gives : {p : Image} (q : Seen) (d : DeclNo) → Right p q.world → Gives p (budget_declared q d)
 budget_declared-gives q d right = thing_declared-gives q d (Thing (length q.world.budgets)) (with_budget q.world) (with_budget-alters.at q.world right)
@@ -109,8 +131,12 @@ budget_declared-gives q d right = thing_declared-gives q d (Thing (length q.worl
 timer_declared-gives : {p : Image} (q : Seen) (d task : DeclNo) → Right p q.world → Gives p (timer_declared q d task)
 timer_declared-gives q d task right =
     let number = Thing (length q.world.timers) in
-    bind-gives (timed_task q task) (λ t. unless (not (leb 256 (length q.world.timers))) exception.TimerResource t >>= λ u. located_here q d >>= λ l. Ok (set_thing q.program l number (with_timer u q.world))) (λ t.
-    bind-gives (unless (not (leb 256 (length q.world.timers))) exception.TimerResource t) (λ u. located_here q d >>= λ l. Ok (set_thing q.program l number (with_timer u q.world))) (λ u.
+    bind-gives (timed_task q task)
+    (λ t. unless (not (leb 256 (length q.world.timers))) exception.TimerResource t >>= λ u.
+    located_here q d >>= λ l. Ok (set_thing q.program l number (with_timer u q.world)))
+    (λ t.
+    bind-gives (unless (not (leb 256 (length q.world.timers))) exception.TimerResource t)
+    (λ u. located_here q d >>= λ l. Ok (set_thing q.program l number (with_timer u q.world))) (λ u.
     thing_declared-gives q d number (with_timer u q.world) ((with_timer-alters u).at q.world right)))
 
 declared-gives : {p : Image} (q : Seen) (d : DeclNo) (kind : DeclarationKind) → Right p q.world → Gives p (declared q d kind)
@@ -126,7 +152,8 @@ declared-gives q d kind.Other right = ok-gives q.world right
 
 pub declare_quietly-keeps : (p : Image) (name : Who) (s : StatementNo) (d : DeclNo) → Keeps p (declare_quietly p name s d)
 unfolding declare_quietly
-declare_quietly-keeps p name s d = search (given_right-keeps, sees-keeps, given-keeps, changes-keeps, then-keeps, goes-keeps, next-alters, declared-gives) depth 8
+declare_quietly-keeps p name s d =
+    search (given_right-keeps, sees-keeps, given-keeps, changes-keeps, then-keeps, goes-keeps, next-alters, declared-gives) depth 8
 
 pub declare_by-keeps : (p : Image) (name : Who) (s : StatementNo) (d : DeclNo) (kind : DeclarationKind) → Keeps p (declare_by p name s d kind)
 unfolding declare_by

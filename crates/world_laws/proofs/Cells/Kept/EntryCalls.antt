@@ -19,8 +19,12 @@ use Rattle.profile_machine.specs.declared.world.calls.Owner.{Owner}
 use Rattle.profile_machine.specs.declared.world.calls.Owner.TheVariants as owned_by
 use Rattle.profile_machine.specs.declared.world.lines.Part.{Part}
 use Rattle.profile_machine.specs.Steps.{Step}
-use Rattle.profile_machine.specs.EntryCalls.{add_call, make_call, end_at_once, call_gone, call_meets, call_queues, call_not_met, call_accepted_by, call_callable, call_task, call_runs, call_without_room, has_room_for_action, call_runs_if_room, call_passes, call_refused, call_closed, call_by_barrier, call_object, call_owner, call_named, entry_call, appoint_trigger, trigger_delay, async_delay, async_by_trigger, asynchronous_select, mark_sending, requeue}
-use Rattle.world_laws.proofs.Cells.RightCells.{Right, Keeps, Alters, then-keeps, nothing-keeps, changes-keeps, says-keeps, looks-keeps, sees-keeps, branch-keeps, unchanged-alters}
+use Rattle.profile_machine.specs.EntryCalls.{add_call, make_call, end_at_once, call_gone, call_meets, call_queues, call_not_met, call_accepted_by}
+use Rattle.profile_machine.specs.EntryCalls.{call_callable, call_task, call_runs, call_without_room, has_room_for_action, call_runs_if_room}
+use Rattle.profile_machine.specs.EntryCalls.{call_passes, call_refused, call_closed, call_by_barrier, call_object, call_owner, call_named, entry_call}
+use Rattle.profile_machine.specs.EntryCalls.{appoint_trigger, trigger_delay, async_delay, async_by_trigger, asynchronous_select, mark_sending, requeue}
+use Rattle.world_laws.proofs.Cells.RightCells.{Right, Keeps, Alters, then-keeps, nothing-keeps, changes-keeps}
+use Rattle.world_laws.proofs.Cells.RightCells.{says-keeps, looks-keeps, sees-keeps, branch-keeps, unchanged-alters}
 use Rattle.world_laws.proofs.Cells.Kept.Dispatching.{block-keeps}
 use Rattle.world_laws.proofs.Cells.Kept.Frames.{goes-keeps, leaves-keeps, raises-keeps, given-keeps, raise_if-keeps, with_room-keeps}
 use Rattle.world_laws.proofs.Cells.Kept.Appointments.{appoint-alters}
@@ -88,7 +92,10 @@ call_without_room-keeps o c = search (says-keeps, then-keeps, end_at_once-keeps)
 
 pub call_runs_if_room-keeps : (p : Image) (o : ObjectNo) (c : Call) → Keeps p (call_runs_if_room p o c)
 unfolding call_runs_if_room
-call_runs_if_room-keeps p o c = looks-keeps _ (λ w right. branch-keeps (has_room_for_action p w c) (call_runs p o c) (call_without_room o c) (search (call_runs-keeps)) (search (call_without_room-keeps)))
+call_runs_if_room-keeps p o c =
+    looks-keeps _
+    (λ w right.
+    branch-keeps (has_room_for_action p w c) (call_runs p o c) (call_without_room o c) (search (call_runs-keeps)) (search (call_without_room-keeps)))
 
 pub call_passes-keeps : (p : Image) (o : ObjectNo) (c : Call) → Keeps p (call_passes p o c)
 unfolding call_passes
@@ -137,7 +144,8 @@ appoint_trigger-alters who.Agent depth m = search (unchanged-alters)
 pub trigger_delay-keeps : (p : Image) (name : Who) (s trigger : StatementNo) (m : ℤ) (test : Bool) → Keeps p (trigger_delay p name s trigger m test)
 unfolding trigger_delay
 trigger_delay-keeps p name s trigger m false = search (goes-keeps)
-trigger_delay-keeps p name s trigger m true = search (with_room-keeps, goes-keeps, then-keeps, looks-keeps, changes-keeps, open_abortable-alters, appoint_trigger-alters) depth 12
+trigger_delay-keeps p name s trigger m true =
+    search (with_room-keeps, goes-keeps, then-keeps, looks-keeps, changes-keeps, open_abortable-alters, appoint_trigger-alters) depth 12
 
 pub async_delay-keeps : (p : Image) (name : Who) (s trigger : StatementNo) → Keeps p (async_delay p name s trigger)
 unfolding async_delay

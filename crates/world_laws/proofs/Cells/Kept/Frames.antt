@@ -16,9 +16,11 @@ use Rattle.profile_image.specs.Program.{next_of}
 use Rattle.profile_machine.specs.declared.world.lines.Part.{Part}
 use Rattle.profile_machine.specs.declared.world.lines.Part.TheVariants.{Own}
 use Rattle.profile_machine.specs.Steps.{Step, changes, ◌▷◌}
-use Rattle.profile_machine.specs.Frames.{top_of, new_frame, edit_top, goes, push, pop, leaves, raises, has_room, open_handled, open_at, open_sequence, open_if_ready, stands_in, exit_loop, pass_on, given, raise_if, with_room}
+use Rattle.profile_machine.specs.Frames.{top_of, new_frame, edit_top, goes, push, pop, leaves, raises, has_room, open_handled, open_at}
+use Rattle.profile_machine.specs.Frames.{open_sequence, open_if_ready, stands_in, exit_loop, pass_on, given, raise_if, with_room}
 use Rattle.profile_machine.specs.Operators.{Valued}
-use Rattle.world_laws.proofs.Cells.RightCells.{Right, Keeps, Alters, Gives, then-keeps, nothing-keeps, changes-keeps, says-keeps, looks-keeps, branch-keeps, when-keeps}
+use Rattle.world_laws.proofs.Cells.RightCells.{Right, Keeps, Alters, Gives, then-keeps, nothing-keeps}
+use Rattle.world_laws.proofs.Cells.RightCells.{changes-keeps, says-keeps, looks-keeps, branch-keeps, when-keeps}
 use Rattle.world_laws.proofs.Cells.Kept.Tasks.{edit_task-alters}
 
 -- ---- the top of a rest
@@ -53,7 +55,9 @@ raises-keeps part name e = search (says-keeps, then-keeps, leaves-keeps) depth 6
 pub open_handled-keeps : (p : Image) (part : Part) (name : Who) (s : StatementNo) (form : StatementForm) → Keeps p (open_handled p part name s form)
 unfolding open_handled
 open_handled-keeps p part name s (form.Handled handlers first) =
-    looks-keeps _ (λ w right. branch-keeps (has_room w name 1 0) (goes name (next_of p s) ▷ changes (push name (new_frame (Handled s) (Some first)))) (raises part name exception.Storage)
+    looks-keeps _
+    (λ w right. branch-keeps (has_room w name 1 0) (goes name (next_of p s) ▷ changes (push name (new_frame (Handled s) (Some first))))
+    (raises part name exception.Storage)
     (search (then-keeps, goes-keeps, changes-keeps, push-alters)) (search (raises-keeps)))
 open_handled-keeps p part name s _ = nothing-keeps
 
@@ -74,7 +78,10 @@ open_if_ready-keeps p name = search (looks-keeps, when-keeps, open_sequence-keep
 
 pub exit_loop-keeps : (p : Image) (name : Who) (loop : StatementNo) → Keeps p (exit_loop p name loop)
 unfolding exit_loop
-exit_loop-keeps p name loop = looks-keeps _ (λ w right. branch-keeps (stands_in p loop (top_of w name)) (goes name (next_of p loop)) (leaves name (how.Exit loop)) (search (goes-keeps)) (search (leaves-keeps)))
+exit_loop-keeps p name loop =
+    looks-keeps _
+    (λ w right.
+    branch-keeps (stands_in p loop (top_of w name)) (goes name (next_of p loop)) (leaves name (how.Exit loop)) (search (goes-keeps)) (search (leaves-keeps)))
 
 pub pass_on-keeps : (p : Image) (name : Who) (leaving : Leaving) → Keeps p (pass_on p name leaving)
 unfolding pass_on
@@ -87,12 +94,14 @@ pass_on-keeps p name how.Terminate = search (leaves-keeps)
 
 -- ---- steps that may raise
 
-pub given-keeps : {X : Type 0} {p : Image} (part : Part) (name : Who) (result : Result X Raised) (f : X → Step) → ((x : X) → Keeps p (f x)) → Keeps p (given part name result f)
+pub given-keeps : {X : Type 0} {p : Image} (part : Part) (name : Who) (result : Result X Raised) (f : X → Step) → ((x : X) → Keeps p (f x))
+    → Keeps p (given part name result f)
 given-keeps part name (Ok x) f kept = kept x
 given-keeps part name (Err e) f kept = raises-keeps part name e
 
 -- the same with a world
-pub given_right-keeps : {p : Image} (part : Part) (name : Who) (result : Valued World) (f : World → Step) → Gives p result → ((next : World) → Right p next → Keeps p (f next)) → Keeps p (given part name result f)
+pub given_right-keeps : {p : Image} (part : Part) (name : Who) (result : Valued World) (f : World → Step) → Gives p result
+    → ((next : World) → Right p next → Keeps p (f next)) → Keeps p (given part name result f)
 given_right-keeps part name (Ok next) f right kept = kept next right.world
 given_right-keeps part name (Err e) f right kept = raises-keeps part name e
 
@@ -101,4 +110,6 @@ raise_if-keeps name true e step kept = raises-keeps Own name e
 raise_if-keeps name false e step kept = kept
 
 pub with_room-keeps : {p : Image} (name : Who) (marks cells : ℕ) (step : Step) → Keeps p step → Keeps p (with_room name marks cells step)
-with_room-keeps name marks cells step kept = looks-keeps _ (λ w right. branch-keeps (has_room w name marks cells) step (raises Own name exception.Storage) kept (raises-keeps Own name exception.Storage))
+with_room-keeps name marks cells step kept =
+    looks-keeps _
+    (λ w right. branch-keeps (has_room w name marks cells) step (raises Own name exception.Storage) kept (raises-keeps Own name exception.Storage))

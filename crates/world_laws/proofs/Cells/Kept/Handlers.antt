@@ -26,8 +26,13 @@ use Rattle.profile_machine.specs.Tasks.{task_of}
 use Rattle.profile_machine.specs.Frames.{has_room}
 use Rattle.profile_machine.specs.Values.{Seen}
 use Rattle.profile_machine.specs.Serving.{end_release}
-use Rattle.profile_machine.specs.Handlers.{add_release, says_release, wake_agent, release, with_room_for_release, begin_handler, begin_handler_if_room, enter_handler, call_handler, interrupt, setting_of, answer, cancel_event_setting, appoint_event, event_set_to, set_event, cancel_event, clear_timer, with_timer_set, timer_set_beyond, timer_set_to, set_timer, cancel_timer, edit_budget, change_member, add_member, remove_member, fill_budget, replenish, add_to_budget, set_budget, cancel_budget, clock_risen, charge_budget, quantum_spent_by, charge_clock, charge_group, charge_task, charge}
-use Rattle.world_laws.proofs.Cells.RightCells.{Right, Keeps, Alters, then-keeps, nothing-keeps, changes-keeps, says-keeps, looks-keeps, sees-keeps, branch-keeps, for_some-keeps, unchanged-alters, next-alters}
+use Rattle.profile_machine.specs.Handlers.{add_release, says_release, wake_agent, release, with_room_for_release, begin_handler, begin_handler_if_room}
+use Rattle.profile_machine.specs.Handlers.{enter_handler, call_handler, interrupt, setting_of, answer, cancel_event_setting, appoint_event, event_set_to}
+use Rattle.profile_machine.specs.Handlers.{set_event, cancel_event, clear_timer, with_timer_set, timer_set_beyond, timer_set_to, set_timer, cancel_timer}
+use Rattle.profile_machine.specs.Handlers.{edit_budget, change_member, add_member, remove_member, fill_budget, replenish, add_to_budget, set_budget}
+use Rattle.profile_machine.specs.Handlers.{cancel_budget, clock_risen, charge_budget, quantum_spent_by, charge_clock, charge_group, charge_task, charge}
+use Rattle.world_laws.proofs.Cells.RightCells.{Right, Keeps, Alters, then-keeps, nothing-keeps, changes-keeps, says-keeps}
+use Rattle.world_laws.proofs.Cells.RightCells.{looks-keeps, sees-keeps, branch-keeps, for_some-keeps, unchanged-alters, next-alters}
 use Rattle.world_laws.proofs.Cells.Kept.Tasks.{edit_task-alters}
 use Rattle.world_laws.proofs.Cells.Kept.Dispatching.{ready-keeps}
 use Rattle.world_laws.proofs.Cells.Kept.Frames.{goes-keeps, given-keeps, given_right-keeps, raise_if-keeps}
@@ -69,7 +74,9 @@ begin_handler-keeps p r = search (begin_action_on-keeps, then-keeps, looks-keeps
 pub begin_handler_if_room-keeps : (p : Image) (r : Release) → Keeps p (begin_handler_if_room p r)
 unfolding begin_handler_if_room
 begin_handler_if_room-keeps p r =
-    looks-keeps _ (λ w right. branch-keeps (has_room w who.Agent (1 + marks_of p (subprogram_of p r.handler.procedure).scope) (size_of_body p r.handler.procedure)) (begin_handler p r) (end_release r.number) (search (begin_handler-keeps)) (search (end_release-keeps)))
+    looks-keeps _
+    (λ w right. branch-keeps (has_room w who.Agent (1 + marks_of p (subprogram_of p r.handler.procedure).scope) (size_of_body p r.handler.procedure))
+    (begin_handler p r) (end_release r.number) (search (begin_handler-keeps)) (search (end_release-keeps)))
 
 pub enter_handler-keeps : (p : Image) (r : Release) (is : Entering) → Keeps p (enter_handler p r is)
 unfolding enter_handler
@@ -90,7 +97,8 @@ interrupt-keeps p n = search (says-keeps, then-keeps, looks-keeps, for_some-keep
 
 -- ---- handlers and moments that a setting names
 
-pub setting_of-keeps : (p : Image) (name : Who) (q : Seen) (base : ℤ) (set : Setting) (handler : Option HandlerName) (step : Option HandlerOf → ℤ → Step) → ((x : Option HandlerOf) (y : ℤ) → Keeps p (step x y)) → Keeps p (setting_of p name q base set handler step)
+pub setting_of-keeps : (p : Image) (name : Who) (q : Seen) (base : ℤ) (set : Setting) (handler : Option HandlerName) (step : Option HandlerOf → ℤ → Step)
+    → ((x : Option HandlerOf) (y : ℤ) → Keeps p (step x y)) → Keeps p (setting_of p name q base set handler step)
 setting_of-keeps p name q base set handler step kept = search (given-keeps, with_room_for_release-keeps, raise_if-keeps) depth 7
 
 pub answer-keeps : (p : Image) (name : Who) (v : Variable) (b : Bool) → Keeps p (answer p name v b)
@@ -112,13 +120,16 @@ unfolding event_set_to
 event_set_to-keeps p e None m = search (nothing-keeps)
 event_set_to-keeps p e (Some h) m = search (looks-keeps, appoint_event-keeps)
 
-pub set_event-keeps : (p : Image) (name : Who) (s : StatementNo) (d : DeclNo) (set : Setting) (handler : Option HandlerName) → Keeps p (set_event p name s d set handler)
+pub set_event-keeps : (p : Image) (name : Who) (s : StatementNo) (d : DeclNo) (set : Setting) (handler : Option HandlerName)
+    → Keeps p (set_event p name s d set handler)
 unfolding set_event
-set_event-keeps p name s d set handler = search (sees-keeps, given-keeps, setting_of-keeps, goes-keeps, then-keeps, changes-keeps, cancel_event_setting-alters, event_set_to-keeps) depth 12
+set_event-keeps p name s d set handler =
+    search (sees-keeps, given-keeps, setting_of-keeps, goes-keeps, then-keeps, changes-keeps, cancel_event_setting-alters, event_set_to-keeps) depth 12
 
 pub cancel_event-keeps : (p : Image) (name : Who) (s : StatementNo) (d : DeclNo) (target : VariableName) → Keeps p (cancel_event p name s d target)
 unfolding cancel_event
-cancel_event-keeps p name s d target = search (sees-keeps, given-keeps, goes-keeps, then-keeps, changes-keeps, cancel_event_setting-alters, answer-keeps) depth 12
+cancel_event-keeps p name s d target =
+    search (sees-keeps, given-keeps, goes-keeps, then-keeps, changes-keeps, cancel_event_setting-alters, answer-keeps) depth 12
 
 -- ---- timers (D.14.1)
 
@@ -140,9 +151,11 @@ unfolding timer_set_to
 timer_set_to-keeps p k clock None v = search (nothing-keeps)
 timer_set_to-keeps p k clock (Some h) v = search (timer_set_beyond-keeps)
 
-pub set_timer-keeps : (p : Image) (name : Who) (s : StatementNo) (d : DeclNo) (set : Setting) (handler : Option HandlerName) → Keeps p (set_timer p name s d set handler)
+pub set_timer-keeps : (p : Image) (name : Who) (s : StatementNo) (d : DeclNo) (set : Setting) (handler : Option HandlerName)
+    → Keeps p (set_timer p name s d set handler)
 unfolding set_timer
-set_timer-keeps p name s d set handler = search (sees-keeps, given-keeps, setting_of-keeps, goes-keeps, then-keeps, changes-keeps, clear_timer-alters, timer_set_to-keeps) depth 13
+set_timer-keeps p name s d set handler =
+    search (sees-keeps, given-keeps, setting_of-keeps, goes-keeps, then-keeps, changes-keeps, clear_timer-alters, timer_set_to-keeps) depth 13
 
 pub cancel_timer-keeps : (p : Image) (name : Who) (s : StatementNo) (d : DeclNo) (target : VariableName) → Keeps p (cancel_timer p name s d target)
 unfolding cancel_timer
@@ -154,7 +167,8 @@ pub edit_budget-alters : {p : Image} (b : ℕ) (f : Budget → Budget) → Alter
 unfolding Right
 edit_budget-alters b f = record { at = λ w right. right }
 
-pub change_member-keeps : (p : Image) (name : Who) (s : StatementNo) (t : world.Task) (is_right : Bool) (b : Option ℕ) → Keeps p (change_member p name s t is_right b)
+pub change_member-keeps : (p : Image) (name : Who) (s : StatementNo) (t : world.Task) (is_right : Bool) (b : Option ℕ)
+    → Keeps p (change_member p name s t is_right b)
 unfolding change_member
 change_member-keeps p name s t is_right b = search (raise_if-keeps, goes-keeps, then-keeps, changes-keeps, edit_task-alters) depth 8
 
@@ -168,7 +182,8 @@ remove_member-keeps p name s d e = search (sees-keeps, given-keeps, change_membe
 
 pub fill_budget-keeps : (p : Image) (name : Who) (s : StatementNo) (d : DeclNo) (e : ExprNo) (f : ℤ → Budget → Budget) → Keeps p (fill_budget p name s d e f)
 unfolding fill_budget
-fill_budget-keeps p name s d e f = search (sees-keeps, given-keeps, with_room_for_release-keeps, raise_if-keeps, goes-keeps, then-keeps, changes-keeps, edit_budget-alters) depth 12
+fill_budget-keeps p name s d e f =
+    search (sees-keeps, given-keeps, with_room_for_release-keeps, raise_if-keeps, goes-keeps, then-keeps, changes-keeps, edit_budget-alters) depth 12
 
 pub replenish-keeps : (p : Image) (name : Who) (s : StatementNo) (d : DeclNo) (e : ExprNo) → Keeps p (replenish p name s d e)
 unfolding replenish
@@ -180,7 +195,8 @@ add_to_budget-keeps p name s d e = search (fill_budget-keeps)
 
 pub set_budget-keeps : (p : Image) (name : Who) (s : StatementNo) (d : DeclNo) (handler : Option HandlerName) → Keeps p (set_budget p name s d handler)
 unfolding set_budget
-set_budget-keeps p name s d handler = search (sees-keeps, given-keeps, with_room_for_release-keeps, raise_if-keeps, goes-keeps, then-keeps, changes-keeps, edit_budget-alters) depth 12
+set_budget-keeps p name s d handler =
+    search (sees-keeps, given-keeps, with_room_for_release-keeps, raise_if-keeps, goes-keeps, then-keeps, changes-keeps, edit_budget-alters) depth 12
 
 pub cancel_budget-keeps : (p : Image) (name : Who) (s : StatementNo) (d : DeclNo) (target : VariableName) → Keeps p (cancel_budget p name s d target)
 unfolding cancel_budget
@@ -201,7 +217,11 @@ unfolding Right
 charge_group-alters {p = p} t = record { at = λ w right. (charge_budget-alters {p = p} (task_of w (who.Task t)).budget).at w right }
 
 pub charge_task-alters : (p : Image) (t : TaskNo) → Alters p (charge_task p t)
-charge_task-alters p t = record { at = λ w right. (edit_task-alters (who.Task t) (quantum_spent_by p)).at (charge_group t (charge_clock t w)) ((charge_group-alters t).at (charge_clock t w) ((charge_clock-alters t).at w right)) }
+charge_task-alters p t = record {
+  at =
+      λ w right. (edit_task-alters (who.Task t) (quantum_spent_by p)).at (charge_group t (charge_clock t w))
+      ((charge_group-alters t).at (charge_clock t w) ((charge_clock-alters t).at w right));
+}
 
 pub charge-alters : (p : Image) (name : Who) → Alters p (charge p name)
 charge-alters p (who.Task t) = record { at = λ w right. (charge_task-alters p t).at w right }

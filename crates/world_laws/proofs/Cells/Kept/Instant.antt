@@ -15,10 +15,14 @@ use Rattle.profile_machine.specs.declared.world.tasks.Waiting.TheVariants as wai
 use Rattle.profile_machine.specs.Steps.{Step, changes, nothing, settles, rests, ◌▷◌}
 use Rattle.profile_machine.specs.Tasks.{task_of}
 use Rattle.profile_machine.specs.Appointments.{first_due}
-use Rattle.profile_machine.specs.Instant.{effect, is_over, effect_of_runner, finish_action, with_port, with_masked, with_kept_interrupt, interrupt_comes, deliver_kept_interrupt, script_item, with_script, take_item, items_due, script_items, take_delay, end_delay, time_out, come_due, take_due, all_due, appointments_due, expire, expire_timer, no_timers_due, timers_due, run_out, no_budget_due, budgets_due, spend_quantum, quantum_spent, instant}
+use Rattle.profile_machine.specs.Instant.{effect, is_over, effect_of_runner, finish_action, with_port, with_masked, with_kept_interrupt}
+use Rattle.profile_machine.specs.Instant.{interrupt_comes, deliver_kept_interrupt, script_item, with_script, take_item, items_due, script_items}
+use Rattle.profile_machine.specs.Instant.{take_delay, end_delay, time_out, come_due, take_due, all_due, appointments_due, expire, expire_timer}
+use Rattle.profile_machine.specs.Instant.{no_timers_due, timers_due, run_out, no_budget_due, budgets_due, spend_quantum, quantum_spent, instant}
 use Rattle.profile_machine.specs.Masters.{terminate}
 use Rattle.profile_machine.specs.Values.{value}
-use Rattle.world_laws.proofs.Cells.RightCells.{Right, Keeps, Alters, Leads, then-keeps, nothing-keeps, changes-keeps, says-keeps, looks-keeps, branch-keeps, when-keeps, for_some-keeps, for_each-keeps, then-leads, rests-leads, watches-leads, settles-leads, branch-leads}
+use Rattle.world_laws.proofs.Cells.RightCells.{Right, Keeps, Alters, Leads, then-keeps, nothing-keeps, changes-keeps, says-keeps, looks-keeps, branch-keeps}
+use Rattle.world_laws.proofs.Cells.RightCells.{when-keeps, for_some-keeps, for_each-keeps, then-leads, rests-leads, watches-leads, settles-leads, branch-leads}
 use Rattle.world_laws.proofs.Cells.Kept.Tasks.{edit_task-alters}
 use Rattle.world_laws.proofs.Cells.Kept.Dispatching.{to_tail-keeps, ready-keeps}
 use Rattle.world_laws.proofs.Cells.Kept.Frames.{goes-keeps, open_sequence-keeps, open_if_ready-keeps}
@@ -75,7 +79,8 @@ pub take_item-keeps : (p : Image) (now : ℕ) (again : Step) (script : List (ℤ
 take_item-keeps p now again [] kept = nothing-keeps
 take_item-keeps p now again (x ∷ xs) kept =
     branch-keeps (int_le x.0 (pos now)) (changes (with_script xs) ▷ script_item p x.1 ▷ again) nothing
-    (then-keeps (changes (with_script xs)) _ (changes-keeps _ (with_script-alters xs)) (then-keeps (script_item p x.1) again (script_item-keeps p x.1) kept)) nothing-keeps
+    (then-keeps (changes (with_script xs)) _ (changes-keeps _ (with_script-alters xs))
+    (then-keeps (script_item p x.1) again (script_item-keeps p x.1) kept)) nothing-keeps
 
 pub items_due-keeps : (fuel : ℕ) (p : Image) → Keeps p (items_due fuel p)
 unfolding items_due
@@ -111,7 +116,8 @@ take_due-keeps p again (Some a) kept = search (changes-keeps, drop_appointment-a
 pub all_due-keeps : (fuel : ℕ) (p : Image) (events : Bool) → Keeps p (all_due fuel p events)
 unfolding all_due
 all_due-keeps zero p events = nothing-keeps
-all_due-keeps (suc fuel) p events = looks-keeps _ (λ w right. take_due-keeps p (all_due fuel p events) (first_due events w.time w.appointments) (all_due-keeps fuel p events))
+all_due-keeps (suc fuel) p events =
+    looks-keeps _ (λ w right. take_due-keeps p (all_due fuel p events) (first_due events w.time w.appointments) (all_due-keeps fuel p events))
 
 -- ---- timers whose value the last tick reached; each is then clear
 
@@ -150,7 +156,10 @@ spend_quantum-keeps p (Some (who.Task t)) = search (looks-keeps, when-keeps, say
 
 effect_of_runner-leads : (p : Image) (by : Option Who) → Leads p (effect_of_runner p by)
 effect_of_runner-leads p None = rests-leads
-effect_of_runner-leads p (Some name) = watches-leads _ (λ w. branch-leads (is_over (task_of w name).ticks_left) (settles p (effect p name)) rests (settles-leads p (effect p name) (effect-keeps p name)) rests-leads)
+effect_of_runner-leads p (Some name) =
+    watches-leads _
+    (λ w.
+    branch-leads (is_over (task_of w name).ticks_left) (settles p (effect p name)) rests (settles-leads p (effect p name) (effect-keeps p name)) rests-leads)
 
 finish_action-leads : (p : Image) → Leads p (finish_action p)
 finish_action-leads p = watches-leads _ (λ w. effect_of_runner-leads p w.ran)
@@ -171,4 +180,5 @@ quantum_spent-leads : (p : Image) → Leads p (quantum_spent p)
 quantum_spent-leads p = search (settles-leads, looks-keeps, spend_quantum-keeps)
 
 pub instant-leads : (p : Image) → Leads p (instant p)
-instant-leads p = search (then-leads, finish_action-leads, script_items-leads, appointments_due-leads, timers_due-leads, budgets_due-leads, quantum_spent-leads) depth 9
+instant-leads p =
+    search (then-leads, finish_action-leads, script_items-leads, appointments_due-leads, timers_due-leads, budgets_due-leads, quantum_spent-leads) depth 9

@@ -6,8 +6,10 @@ use Rattle.profile_image.specs.declared.image.Image.{Image}
 use Rattle.profile_machine.specs.declared.world.tasks.Task.{Task}
 use Rattle.profile_machine.specs.declared.world.calls.Call.{Call}
 use Rattle.profile_machine.specs.declared.world.lines.Part.{Part}
-use Rattle.profile_machine.specs.Masters.{gone_by_completion, wake_activator, end_group, end_activation_by, end_activation, complete_with, complete, wake_master, forget_task, terminate, leave_by_terminate}
-use Rattle.world_laws.proofs.Cells.RightCells.{Right, Keeps, Alters, then-keeps, nothing-keeps, changes-keeps, looks-keeps, cond-keeps, when-keeps, for_some-keeps, for_each-keeps}
+use Rattle.profile_machine.specs.Masters.{gone_by_completion, wake_activator, end_group, end_activation_by, end_activation}
+use Rattle.profile_machine.specs.Masters.{complete_with, complete, wake_master, forget_task, terminate, leave_by_terminate}
+use Rattle.world_laws.proofs.Cells.RightCells.{Right, Keeps, Alters, then-keeps, nothing-keeps, changes-keeps}
+use Rattle.world_laws.proofs.Cells.RightCells.{looks-keeps, cond-keeps, when-keeps, for_some-keeps, for_each-keeps}
 use Rattle.world_laws.proofs.Cells.Kept.Tasks.{edit_task-alters}
 use Rattle.world_laws.proofs.Cells.Kept.Dispatching.{ready-keeps}
 use Rattle.world_laws.proofs.Cells.Kept.Frames.{leaves-keeps, raises-keeps, open_sequence-keeps}
@@ -43,7 +45,8 @@ end_activation-keeps p actor name failed = search (looks-keeps, end_activation_b
 
 pub complete_with-keeps : (p : Image) (actor name : Who) (calls : List Call) (failed : Bool) → Keeps p (complete_with p actor name calls failed)
 unfolding complete_with
-complete_with-keeps p actor name calls failed = search (changes-keeps, edit_task-alters, then-keeps, for_each-keeps, gone_by_completion-keeps, end_activation-keeps) depth 10
+complete_with-keeps p actor name calls failed =
+    search (changes-keeps, edit_task-alters, then-keeps, for_each-keeps, gone_by_completion-keeps, end_activation-keeps) depth 10
 
 pub complete-keeps : (p : Image) (actor name : Who) → Keeps p (complete p actor name)
 unfolding complete
@@ -59,7 +62,8 @@ forget_task-alters name = record { at = λ w right. right }
 
 pub terminate-keeps : (p : Image) (actor name : Who) → Keeps p (terminate p actor name)
 unfolding terminate
-terminate-keeps p actor name = search (looks-keeps, complete-keeps, then-keeps, changes-keeps, drop_delay-alters, forget_task-alters, for_some-keeps, wake_master-keeps) depth 14
+terminate-keeps p actor name =
+    search (looks-keeps, complete-keeps, then-keeps, changes-keeps, drop_delay-alters, forget_task-alters, for_some-keeps, wake_master-keeps) depth 14
 
 -- ---- terminate alternatives (9.7.1, 9.3)
 

@@ -18,8 +18,11 @@ use Rattle.profile_machine.specs.declared.world.lines.Part.{Part}
 use Rattle.profile_machine.specs.Frames.{in_protected}
 use Rattle.profile_machine.specs.Calls.{place_of_entry, take_call, put_call}
 use Rattle.profile_machine.specs.Masters.{part_of}
-use Rattle.profile_machine.specs.Priorities.{placed_anew, reprioritize, reprioritize_own, replace_in, says_base, set_base, says_deadline, set_deadline, take_base, take_deadline, set_deferred, placing_of, defer_base, set_or_defer_base, set_base_of, set_priority, set_quantum, defer_deadline, set_or_defer_deadline, set_deadline_of, delay_with_deadline, delay_and_set_deadline}
-use Rattle.world_laws.proofs.Cells.RightCells.{Right, Keeps, Alters, then-keeps, nothing-keeps, changes-keeps, says-keeps, looks-keeps, sees-keeps, branch-keeps, when-keeps, for_some-keeps}
+use Rattle.profile_machine.specs.Priorities.{placed_anew, reprioritize, reprioritize_own, replace_in, says_base, set_base, says_deadline, set_deadline}
+use Rattle.profile_machine.specs.Priorities.{take_base, take_deadline, set_deferred, placing_of, defer_base, set_or_defer_base, set_base_of, set_priority}
+use Rattle.profile_machine.specs.Priorities.{set_quantum, defer_deadline, set_or_defer_deadline, set_deadline_of, delay_with_deadline, delay_and_set_deadline}
+use Rattle.world_laws.proofs.Cells.RightCells.{Right, Keeps, Alters, then-keeps, nothing-keeps, changes-keeps, says-keeps}
+use Rattle.world_laws.proofs.Cells.RightCells.{looks-keeps, sees-keeps, branch-keeps, when-keeps, for_some-keeps}
 use Rattle.world_laws.proofs.Cells.Kept.Tasks.{edit_task-alters}
 use Rattle.world_laws.proofs.Cells.Kept.Dispatching.{to_tail-keeps}
 use Rattle.world_laws.proofs.Cells.Kept.Frames.{goes-keeps, given-keeps, raise_if-keeps}
@@ -30,7 +33,9 @@ use Rattle.world_laws.proofs.Cells.Kept.Statements.{delay_to-keeps}
 
 pub placed_anew-alters : (queuing : Queuing) (p : Image) (c : Call) (level : ℕ) → Alters p (placed_anew queuing p c level)
 placed_anew-alters queuing.Fifo p c level = record { at = λ w right. right }
-placed_anew-alters queuing.Priority p c level = record { at = λ w right. (edit_queue-alters c.owner (place_of_entry p c.entry) (λ q. put_call queuing.Priority w c.number level (take_call c.number q))).at w right }
+placed_anew-alters queuing.Priority p c level = record {
+  at = λ w right. (edit_queue-alters c.owner (place_of_entry p c.entry) (λ q. put_call queuing.Priority w c.number level (take_call c.number q))).at w right;
+}
 
 pub reprioritize-keeps : (p : Image) (level : ℕ) (c : Call) → Keeps p (reprioritize p level c)
 unfolding reprioritize
@@ -64,7 +69,8 @@ says_deadline-keeps part who.Agent d = search (nothing-keeps)
 
 pub set_deadline-keeps : (p : Image) (part placing : Part) (name : Who) (d : ℤ) → Keeps p (set_deadline p part placing name d)
 unfolding set_deadline
-set_deadline-keeps p part placing name d = search (changes-keeps, edit_task-alters, then-keeps, says_deadline-keeps, looks-keeps, when-keeps, to_tail-keeps) depth 11
+set_deadline-keeps p part placing name d =
+    search (changes-keeps, edit_task-alters, then-keeps, says_deadline-keeps, looks-keeps, when-keeps, to_tail-keeps) depth 11
 
 -- ---- what was deferred is set at the end of the outermost protected action
 
@@ -91,7 +97,9 @@ defer_base-keeps name level = search (changes-keeps, edit_task-alters)
 pub set_or_defer_base-keeps : (p : Image) (actor name : Who) (level : ℕ) → Keeps p (set_or_defer_base p actor name level)
 unfolding set_or_defer_base
 set_or_defer_base-keeps p actor name level =
-    looks-keeps _ (λ w right. branch-keeps (in_protected w name) (defer_base name level) (set_base p (part_of actor name) (placing_of actor name) name level) (search (defer_base-keeps)) (search (set_base-keeps)))
+    looks-keeps _
+    (λ w right. branch-keeps (in_protected w name) (defer_base name level) (set_base p (part_of actor name) (placing_of actor name) name level)
+    (search (defer_base-keeps)) (search (set_base-keeps)))
 
 pub set_base_of-keeps : (p : Image) (actor : Who) (s : StatementNo) (level : ℕ) (found : Option world.Task) → Keeps p (set_base_of p actor s level found)
 unfolding set_base_of
@@ -121,7 +129,9 @@ defer_deadline-keeps name d = search (changes-keeps, edit_task-alters)
 pub set_or_defer_deadline-keeps : (p : Image) (actor name : Who) (d : ℤ) → Keeps p (set_or_defer_deadline p actor name d)
 unfolding set_or_defer_deadline
 set_or_defer_deadline-keeps p actor name d =
-    looks-keeps _ (λ w right. branch-keeps (in_protected w name && has_edf p) (defer_deadline name d) (set_deadline p (part_of actor name) (placing_of actor name) name d) (search (defer_deadline-keeps)) (search (set_deadline-keeps)))
+    looks-keeps _
+    (λ w right. branch-keeps (in_protected w name && has_edf p) (defer_deadline name d) (set_deadline p (part_of actor name) (placing_of actor name) name d)
+    (search (defer_deadline-keeps)) (search (set_deadline-keeps)))
 
 pub set_deadline_of-keeps : (p : Image) (name : Who) (s : StatementNo) (e : ExprNo) (task : Option ExprNo) → Keeps p (set_deadline_of p name s e task)
 unfolding set_deadline_of

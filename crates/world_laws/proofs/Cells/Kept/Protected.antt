@@ -21,7 +21,9 @@ use Rattle.profile_machine.specs.declared.world.marks.ProtectedMark.{ProtectedMa
 use Rattle.profile_machine.specs.declared.world.calls.Call.{Call}
 use Rattle.profile_machine.specs.declared.world.lines.Part.{Part}
 use Rattle.profile_machine.specs.Steps.{Step, says, ◌▷◌}
-use Rattle.profile_machine.specs.Protected.{find_held, enter_or, where_let_inside, open_action, begin_action_on, begin_operation, call_operation_of, call_operation, begin_own_operation, call_own_operation, edit_top_protected, begin_call, body_opens, has_room_for_body, serve_call}
+use Rattle.profile_machine.specs.Protected.{find_held, enter_or, where_let_inside, open_action, begin_action_on, begin_operation}
+use Rattle.profile_machine.specs.Protected.{call_operation_of, call_operation, begin_own_operation, call_own_operation}
+use Rattle.profile_machine.specs.Protected.{edit_top_protected, begin_call, body_opens, has_room_for_body, serve_call}
 use Rattle.profile_machine.specs.Handlers.{release}
 use Rattle.profile_machine.specs.Act.{call}
 use Rattle.world_laws.proofs.Cells.RightCells.{Keeps, Alters, then-keeps, changes-keeps, says-keeps, looks-keeps, sees-keeps, branch-keeps}
@@ -38,7 +40,8 @@ pub find_held-keeps : (p : Image) (name : Who) (o : ObjectNo) (mode : Mode) → 
 unfolding find_held
 find_held-keeps p name o mode = search (says-keeps, then-keeps, to_tail-keeps) depth 6
 
-pub enter_or-keeps : (p : Image) (name : Who) (o : ObjectNo) (mode : Mode) (step : Step) (is : Entering) → Keeps p step → Keeps p (enter_or p name o mode step is)
+pub enter_or-keeps : (p : Image) (name : Who) (o : ObjectNo) (mode : Mode) (step : Step) (is : Entering) → Keeps p step
+    → Keeps p (enter_or p name o mode step is)
 enter_or-keeps p name o mode step entering_is.SameObject kept = search (raises-keeps)
 enter_or-keeps p name o mode step entering_is.AboveCeiling kept = search (raises-keeps)
 enter_or-keeps p name o mode step entering_is.Held kept = search (find_held-keeps)
@@ -52,30 +55,38 @@ where_let_inside-keeps p name o mode step kept = search (looks-keeps, enter_or-k
 pub open_action-alters : {p : Image} (name : Who) (o : ObjectNo) (mode : Mode) → Alters p (open_action name o mode)
 open_action-alters name o mode = search (edit_object-alters)
 
-pub begin_action_on-keeps : (p : Image) (name : Who) (o : ObjectNo) (mode : Mode) (call : Option CallNo) (release : Option ℕ) → Keeps p (begin_action_on p name o mode call release)
+pub begin_action_on-keeps : (p : Image) (name : Who) (o : ObjectNo) (mode : Mode) (call : Option CallNo) (release : Option ℕ)
+    → Keeps p (begin_action_on p name o mode call release)
 unfolding begin_action_on
-begin_action_on-keeps p name o mode call release = search (says-keeps, then-keeps, changes-keeps, open_action-alters, looks-keeps, inherit_running-keeps, push-alters) depth 14
+begin_action_on-keeps p name o mode call release =
+    search (says-keeps, then-keeps, changes-keeps, open_action-alters, looks-keeps, inherit_running-keeps, push-alters) depth 14
 
 -- ---- a protected procedure or function called from outside (9.5.1)
 
-pub begin_operation-keeps : (p : Image) (name : Who) (s : StatementNo) (f : SubprogramNo) (o : ObjectNo) (h : Handed) (to : ResultTo) → Keeps p (begin_operation p name s f o h to)
+pub begin_operation-keeps : (p : Image) (name : Who) (s : StatementNo) (f : SubprogramNo) (o : ObjectNo) (h : Handed) (to : ResultTo)
+    → Keeps p (begin_operation p name s f o h to)
 unfolding begin_operation
 begin_operation-keeps p name s f o h to = search (goes-keeps, then-keeps, begin_action_on-keeps, looks-keeps, changes-keeps, open_scope-alters) depth 10
 
-pub call_operation_of-keeps : (p : Image) (name : Who) (s : StatementNo) (f : SubprogramNo) (actuals : List Actual) (to : Destination) (o : ObjectNo) → Keeps p (call_operation_of p name s f actuals to o)
+pub call_operation_of-keeps : (p : Image) (name : Who) (s : StatementNo) (f : SubprogramNo) (actuals : List Actual) (to : Destination) (o : ObjectNo)
+    → Keeps p (call_operation_of p name s f actuals to o)
 unfolding call_operation_of
-call_operation_of-keeps p name s f actuals to o = search (looks-keeps, raise_if-keeps, with_room-keeps, handing-keeps, where_let_inside-keeps, begin_operation-keeps) depth 9
+call_operation_of-keeps p name s f actuals to o =
+    search (looks-keeps, raise_if-keeps, with_room-keeps, handing-keeps, where_let_inside-keeps, begin_operation-keeps) depth 9
 
-pub call_operation-keeps : (p : Image) (name : Who) (s : StatementNo) (d : DeclNo) (f : SubprogramNo) (actuals : List Actual) (to : Destination) → Keeps p (call_operation p name s d f actuals to)
+pub call_operation-keeps : (p : Image) (name : Who) (s : StatementNo) (d : DeclNo) (f : SubprogramNo) (actuals : List Actual) (to : Destination)
+    → Keeps p (call_operation p name s d f actuals to)
 unfolding call_operation
 call_operation-keeps p name s d f actuals to = search (sees-keeps, given-keeps, call_operation_of-keeps) depth 6
 
-pub begin_own_operation-keeps : (p : Image) (name : Who) (s : StatementNo) (f : SubprogramNo) (found : Option ObjectNo) (h : Handed) (to : ResultTo) → Keeps p (begin_own_operation p name s f found h to)
+pub begin_own_operation-keeps : (p : Image) (name : Who) (s : StatementNo) (f : SubprogramNo) (found : Option ObjectNo) (h : Handed) (to : ResultTo)
+    → Keeps p (begin_own_operation p name s f found h to)
 unfolding begin_own_operation
 begin_own_operation-keeps p name s f None h to = search (raises-keeps)
 begin_own_operation-keeps p name s f (Some o) h to = search (looks-keeps, begin_body-keeps)
 
-pub call_own_operation-keeps : (p : Image) (name : Who) (s : StatementNo) (f : SubprogramNo) (actuals : List Actual) (to : Destination) → Keeps p (call_own_operation p name s f actuals to)
+pub call_own_operation-keeps : (p : Image) (name : Who) (s : StatementNo) (f : SubprogramNo) (actuals : List Actual) (to : Destination)
+    → Keeps p (call_own_operation p name s f actuals to)
 unfolding call_own_operation
 call_own_operation-keeps p name s f actuals to = search (with_room-keeps, handing-keeps, sees-keeps, begin_own_operation-keeps) depth 7
 
@@ -92,8 +103,10 @@ pub body_opens-keeps : (p : Image) (name : Who) (o : ObjectNo) (c : Call) → Ke
 unfolding body_opens
 body_opens-keeps p name o c = search (changes-keeps, edit_top_protected-alters, then-keeps, looks-keeps, open_scope-alters) depth 9
 
-pub serve_call-keeps : (p : Image) (part : Part) (name : Who) (o : ObjectNo) (c : Call) (then_ otherwise : Step) → Keeps p then_ → Keeps p otherwise → Keeps p (serve_call p part name o c then_ otherwise)
+pub serve_call-keeps : (p : Image) (part : Part) (name : Who) (o : ObjectNo) (c : Call) (then_ otherwise : Step) → Keeps p then_ → Keeps p otherwise
+    → Keeps p (serve_call p part name o c then_ otherwise)
 serve_call-keeps p part name o c then_ otherwise kept also_kept =
     looks-keeps _ (λ w right. then-keeps (begin_call p part name c) _ (begin_call-keeps p part name c)
-    (branch-keeps (has_room_for_body p w name c.entry) (body_opens p name o c ▷ then_) (says part (line.Finish name c.number (meeting.Raised exception.Storage)) ▷ otherwise)
+    (branch-keeps (has_room_for_body p w name c.entry) (body_opens p name o c ▷ then_)
+    (says part (line.Finish name c.number (meeting.Raised exception.Storage)) ▷ otherwise)
     (search (body_opens-keeps, then-keeps)) (search (says-keeps, then-keeps))))

@@ -26,12 +26,17 @@ use Rattle.profile_machine.specs.Frames.{new_frame}
 use Rattle.profile_machine.specs.Scopes.{begin_scope, next_id, plainly, innermost}
 use Rattle.profile_machine.specs.Appointments.{drop_delay}
 use Rattle.profile_machine.specs.Calls.{parameters_of}
-use Rattle.profile_machine.specs.Rendezvous.{accept_scope, open_accept, has_room_for_accept, begin_accept, finish_without_room, accept_with_room, accept_call, meet_with_room, meet_without_room, meet, accept_or_wait, accept, accept_chosen, wait_at_select, appoint_delay, select_delay, select_wait, select_otherwise, select_by_call, select_open, selective_accept, gone_sent, meet_sent, arrive_at, arrive, finish_accept, finish_rendezvous, behind_accept, end_in_accept}
+use Rattle.profile_machine.specs.Rendezvous.{accept_scope, open_accept, has_room_for_accept, begin_accept, finish_without_room, accept_with_room}
+use Rattle.profile_machine.specs.Rendezvous.{accept_call, meet_with_room, meet_without_room, meet, accept_or_wait, accept, accept_chosen, wait_at_select}
+use Rattle.profile_machine.specs.Rendezvous.{appoint_delay, select_delay, select_wait, select_otherwise, select_by_call, select_open, selective_accept}
+use Rattle.profile_machine.specs.Rendezvous.{gone_sent, meet_sent, arrive_at, arrive, finish_accept, finish_rendezvous, behind_accept, end_in_accept}
 use Rattle.profile_machine.specs.Masters.{terminate}
-use Rattle.world_laws.proofs.Cells.RightCells.{Keeps, Alters, then-keeps, nothing-keeps, changes-keeps, says-keeps, looks-keeps, sees-keeps, branch-keeps, for_some-keeps, unchanged-alters}
+use Rattle.world_laws.proofs.Cells.RightCells.{Keeps, Alters, then-keeps, nothing-keeps, changes-keeps, says-keeps}
+use Rattle.world_laws.proofs.Cells.RightCells.{looks-keeps, sees-keeps, branch-keeps, for_some-keeps, unchanged-alters}
 use Rattle.world_laws.proofs.Cells.Kept.Tasks.{edit_task-alters}
 use Rattle.world_laws.proofs.Cells.Kept.Dispatching.{ready-keeps, block-keeps}
-use Rattle.world_laws.proofs.Cells.Kept.Frames.{goes-keeps, push-alters, pop-alters, raises-keeps, open_sequence-keeps, pass_on-keeps, given-keeps, raise_if-keeps}
+use Rattle.world_laws.proofs.Cells.Kept.Frames.{goes-keeps, push-alters, pop-alters, raises-keeps}
+use Rattle.world_laws.proofs.Cells.Kept.Frames.{open_sequence-keeps, pass_on-keeps, given-keeps, raise_if-keeps}
 use Rattle.world_laws.proofs.Cells.Kept.Scopes.{begin_scope-alters, end_scope-alters}
 use Rattle.world_laws.proofs.Cells.Kept.Inheritance.{inherit-alters, inherit_running-keeps, lose_running-keeps}
 use Rattle.world_laws.proofs.Cells.Kept.Appointments.{appoint-alters, drop_delay-alters}
@@ -68,16 +73,22 @@ pub accept_call-keeps : (p : Image) (name : Who) (s : StatementNo) (c : CallNo) 
 unfolding accept_call
 accept_call-keeps p name s c = search (with_call-keeps, begin_accept-keeps, then-keeps, looks-keeps, accept_with_room-keeps) depth 8
 
-pub meet_with_room-keeps : (p : Image) (part : Part) (name : Who) (s : StatementNo) (c : Call) (then_ : Step) → Keeps p then_ → Keeps p (meet_with_room p part name s c then_)
-meet_with_room-keeps p part name s c then_ kept = search (begin_accept-keeps, then-keeps, changes-keeps, open_accept-alters, inherit-alters, ready-keeps, open_sequence-keeps) depth 14
+pub meet_with_room-keeps : (p : Image) (part : Part) (name : Who) (s : StatementNo) (c : Call) (then_ : Step) → Keeps p then_
+    → Keeps p (meet_with_room p part name s c then_)
+meet_with_room-keeps p part name s c then_ kept =
+    search (begin_accept-keeps, then-keeps, changes-keeps, open_accept-alters, inherit-alters, ready-keeps, open_sequence-keeps) depth 14
 
-pub meet_without_room-keeps : (p : Image) (part : Part) (name : Who) (s : StatementNo) (c : Call) (otherwise : Step) → Keeps p otherwise → Keeps p (meet_without_room p part name s c otherwise)
+pub meet_without_room-keeps : (p : Image) (part : Part) (name : Who) (s : StatementNo) (c : Call) (otherwise : Step) → Keeps p otherwise
+    → Keeps p (meet_without_room p part name s c otherwise)
 meet_without_room-keeps p part name s c otherwise kept = search (begin_accept-keeps, then-keeps, finish_without_room-keeps, ready-keeps, raises-keeps) depth 11
 
-pub meet-keeps : (p : Image) (part : Part) (name : Who) (s : StatementNo) (c : Call) (then_ otherwise : Step) → Keeps p then_ → Keeps p otherwise → Keeps p (meet p part name s c then_ otherwise)
+pub meet-keeps : (p : Image) (part : Part) (name : Who) (s : StatementNo) (c : Call) (then_ otherwise : Step) → Keeps p then_ → Keeps p otherwise
+    → Keeps p (meet p part name s c then_ otherwise)
 meet-keeps p part name s c then_ otherwise kept also_kept =
     then-keeps (changes (drop_delay name)) _ (changes-keeps _ (drop_delay-alters name))
-    (looks-keeps _ (λ w right. branch-keeps (has_room_for_accept p w name s) (meet_with_room p part name s c then_) (meet_without_room p part name s c otherwise) (meet_with_room-keeps p part name s c then_ kept) (meet_without_room-keeps p part name s c otherwise also_kept)))
+    (looks-keeps _
+    (λ w right. branch-keeps (has_room_for_accept p w name s) (meet_with_room p part name s c then_) (meet_without_room p part name s c otherwise)
+    (meet_with_room-keeps p part name s c then_ kept) (meet_without_room-keeps p part name s c otherwise also_kept)))
 
 -- ---- the accept statement (9.5.2)
 
@@ -96,7 +107,8 @@ pub accept_chosen-keeps : (p : Image) (name : Who) (accepts : List StatementNo) 
 unfolding accept_chosen
 accept_chosen-keeps p name accepts c = search (with_call-keeps, for_some-keeps, accept_call-keeps) depth 6
 
-pub wait_at_select-keeps : {p : Image} (name : Who) (accepts : List StatementNo) (delay : Option StatementNo) (test : Bool) → Keeps p (wait_at_select name accepts delay test)
+pub wait_at_select-keeps : {p : Image} (name : Who) (accepts : List StatementNo) (delay : Option StatementNo) (test : Bool)
+    → Keeps p (wait_at_select name accepts delay test)
 unfolding wait_at_select
 wait_at_select-keeps name accepts delay true = search (changes-keeps, edit_task-alters)
 wait_at_select-keeps name accepts delay false = search (block-keeps)
@@ -105,31 +117,38 @@ pub appoint_delay-alters : {p : Image} (name : Who) (m : ℤ) → Alters p (appo
 appoint_delay-alters (who.Task t) m = search (appoint-alters)
 appoint_delay-alters who.Agent m = search (unchanged-alters)
 
-pub select_delay-keeps : (p : Image) (name : Who) (s : StatementNo) (accepts : List StatementNo) (m : DelayMoment) (terminate test : Bool) → Keeps p (select_delay p name s accepts m terminate test)
+pub select_delay-keeps : (p : Image) (name : Who) (s : StatementNo) (accepts : List StatementNo) (m : DelayMoment) (terminate test : Bool)
+    → Keeps p (select_delay p name s accepts m terminate test)
 unfolding select_delay
 select_delay-keeps p name s accepts m terminate true = search (goes-keeps)
 select_delay-keeps p name s accepts m terminate false = search (goes-keeps, then-keeps, changes-keeps, appoint_delay-alters, wait_at_select-keeps) depth 10
 
-pub select_wait-keeps : (p : Image) (name : Who) (s : StatementNo) (accepts : List StatementNo) (terminate : Bool) (found : Option DelayMoment) → Keeps p (select_wait p name s accepts terminate found)
+pub select_wait-keeps : (p : Image) (name : Who) (s : StatementNo) (accepts : List StatementNo) (terminate : Bool) (found : Option DelayMoment)
+    → Keeps p (select_wait p name s accepts terminate found)
 unfolding select_wait
 select_wait-keeps p name s accepts terminate None = search (goes-keeps, then-keeps, wait_at_select-keeps) depth 7
 select_wait-keeps p name s accepts terminate (Some m) = search (looks-keeps, select_delay-keeps) depth 6
 
-pub select_otherwise-keeps : (p : Image) (name : Who) (s : StatementNo) (kinds : List SelectKind) (m : Option DelayMoment) (found : Option StatementNo) → Keeps p (select_otherwise p name s kinds m found)
+pub select_otherwise-keeps : (p : Image) (name : Who) (s : StatementNo) (kinds : List SelectKind) (m : Option DelayMoment) (found : Option StatementNo)
+    → Keeps p (select_otherwise p name s kinds m found)
 unfolding select_otherwise
 select_otherwise-keeps p name s kinds m (Some otherwise) = search (goes-keeps)
 select_otherwise-keeps p name s kinds m None = search (select_wait-keeps)
 
-pub select_by_call-keeps : (p : Image) (name : Who) (s : StatementNo) (kinds : List SelectKind) (m : Option DelayMoment) (otherwise : Option StatementNo) (found : Option CallNo) → Keeps p (select_by_call p name s kinds m otherwise found)
+pub select_by_call-keeps : (p : Image) (name : Who) (s : StatementNo) (kinds : List SelectKind) (m : Option DelayMoment) (otherwise : Option StatementNo)
+    (found : Option CallNo)
+    → Keeps p (select_by_call p name s kinds m otherwise found)
 unfolding select_by_call
 select_by_call-keeps p name s kinds m otherwise (Some c) = search (accept_chosen-keeps)
 select_by_call-keeps p name s kinds m otherwise None = search (select_otherwise-keeps)
 
-pub select_open-keeps : (p : Image) (name : Who) (s : StatementNo) (otherwise : Option StatementNo) (kinds : List SelectKind) (moments : List DelayMoment) → Keeps p (select_open p name s otherwise kinds moments)
+pub select_open-keeps : (p : Image) (name : Who) (s : StatementNo) (otherwise : Option StatementNo) (kinds : List SelectKind) (moments : List DelayMoment)
+    → Keeps p (select_open p name s otherwise kinds moments)
 unfolding select_open
 select_open-keeps p name s otherwise kinds moments = search (raise_if-keeps, looks-keeps, select_by_call-keeps) depth 6
 
-pub selective_accept-keeps : (p : Image) (name : Who) (s : StatementNo) (alternatives : List SelectAlternative) (otherwise : Option StatementNo) → Keeps p (selective_accept p name s alternatives otherwise)
+pub selective_accept-keeps : (p : Image) (name : Who) (s : StatementNo) (alternatives : List SelectAlternative) (otherwise : Option StatementNo)
+    → Keeps p (selective_accept p name s alternatives otherwise)
 unfolding selective_accept
 selective_accept-keeps p name s alternatives otherwise = search (sees-keeps, raise_if-keeps, given-keeps, select_open-keeps) depth 8
 
@@ -179,4 +198,16 @@ behind_accept-keeps p name how.Terminate = search (pass_on-keeps)
 
 pub end_in_accept-keeps : (p : Image) (name : Who) (m : AcceptMark) (leaving : Leaving) → Keeps p (end_in_accept p name m leaving)
 unfolding end_in_accept
-end_in_accept-keeps p name m leaving = search (looks-keeps, changes-keeps, pop-alters, then-keeps, end_scope-alters, edit_call-alters, with_call-keeps, finish_rendezvous-keeps, lose_running-keeps, behind_accept-keeps) depth 14
+end_in_accept-keeps p name m leaving =
+    search (
+      looks-keeps,
+      changes-keeps,
+      pop-alters,
+      then-keeps,
+      end_scope-alters,
+      edit_call-alters,
+      with_call-keeps,
+      finish_rendezvous-keeps,
+      lose_running-keeps,
+      behind_accept-keeps,
+    ) depth 14

@@ -13,9 +13,11 @@ use Rattle.profile_machine.specs.declared.world.appointments.Due.TheVariants as 
 use Rattle.profile_machine.specs.declared.world.lines.Part.{Part}
 use Rattle.profile_machine.specs.Appointments.{appoint}
 use Rattle.profile_machine.specs.Calls.{call_of}
-use Rattle.profile_machine.specs.Sending.{open_abortable, cancel_at_once, may_time_out, appoint_timeout, wait_for_call, wait_or_cancel, not_accepted, send_on, cancel_sent, begin_abortable, timeout_again, sent_not_begun_by, sent_not_begun}
+use Rattle.profile_machine.specs.Sending.{open_abortable, cancel_at_once, may_time_out, appoint_timeout, wait_for_call, wait_or_cancel}
+use Rattle.profile_machine.specs.Sending.{not_accepted, send_on, cancel_sent, begin_abortable, timeout_again, sent_not_begun_by, sent_not_begun}
 use Rattle.profile_machine.specs.Act.{call}
-use Rattle.world_laws.proofs.Cells.RightCells.{Right, Keeps, Alters, then-keeps, nothing-keeps, changes-keeps, says-keeps, looks-keeps, when-keeps, unchanged-alters}
+use Rattle.world_laws.proofs.Cells.RightCells.{Right, Keeps, Alters, then-keeps, nothing-keeps, changes-keeps}
+use Rattle.world_laws.proofs.Cells.RightCells.{says-keeps, looks-keeps, when-keeps, unchanged-alters}
 use Rattle.world_laws.proofs.Cells.Kept.Dispatching.{ready-keeps, block-keeps}
 use Rattle.world_laws.proofs.Cells.Kept.Frames.{push-alters}
 use Rattle.world_laws.proofs.Cells.Kept.Appointments.{appoint-alters}
@@ -39,7 +41,11 @@ either-right p false v w a b = b
 
 pub appoint_timeout-alters : (p : Image) (c : CallNo) (moment : Option ℤ) → Alters p (appoint_timeout p c moment)
 appoint_timeout-alters p c None = record { at = λ w right. right }
-appoint_timeout-alters p c (Some moment) = record { at = λ w right. either-right p (may_time_out p w (call_of w c)) (appoint (due_for.Timeout c) moment w) w ((appoint-alters (due_for.Timeout c) moment).at w right) right }
+appoint_timeout-alters p c (Some moment) = record {
+  at =
+      λ w right.
+      either-right p (may_time_out p w (call_of w c)) (appoint (due_for.Timeout c) moment w) w ((appoint-alters (due_for.Timeout c) moment).at w right) right;
+}
 
 pub wait_for_call-keeps : {p : Image} (c : Call) → Keeps p (wait_for_call c)
 unfolding wait_for_call

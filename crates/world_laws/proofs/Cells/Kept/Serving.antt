@@ -17,7 +17,10 @@ use Rattle.profile_machine.specs.declared.world.calls.Sending.{Sending}
 use Rattle.profile_machine.specs.Steps.{Step}
 use Rattle.profile_machine.specs.Protected.{served_next}
 use Rattle.profile_machine.specs.Values.{object_of}
-use Rattle.profile_machine.specs.Serving.{serves_nothing, serve_ends, end_release, close_action, wait_or_unwind, wait_for_own, resume_own, behind_action, release_object, settle_sent, begins_part, chosen_is_sent, serve_chosen, serve_next, serve_calls, go_on_by_mode, end_operation, finish_raised, finish_well, finish_call, end_entry_body, end_in_protected_by, end_in_protected, keep_values, end_body_of_entry}
+use Rattle.profile_machine.specs.Serving.{serves_nothing, serve_ends, end_release, close_action, wait_or_unwind, wait_for_own, resume_own}
+use Rattle.profile_machine.specs.Serving.{behind_action, release_object, settle_sent, begins_part, chosen_is_sent, serve_chosen}
+use Rattle.profile_machine.specs.Serving.{serve_next, serve_calls, go_on_by_mode, end_operation, finish_raised, finish_well, finish_call}
+use Rattle.profile_machine.specs.Serving.{end_entry_body, end_in_protected_by, end_in_protected, keep_values, end_body_of_entry}
 use Rattle.profile_machine.specs.Handlers.{release}
 use Rattle.profile_machine.specs.Act.{call}
 use Rattle.world_laws.proofs.Cells.RightCells.{Right, Keeps, Alters, then-keeps, nothing-keeps, changes-keeps, says-keeps, looks-keeps, when-keeps}
@@ -72,7 +75,8 @@ behind_action-keeps p name m None (Some c) = search (with_call-keeps, resume_own
 
 pub release_object-keeps : (p : Image) (name : Who) (m : ProtectedMark) → Keeps p (release_object p name m)
 unfolding release_object
-release_object-keeps p name m = search (says-keeps, then-keeps, changes-keeps, pop-alters, close_action-alters, lose_running-keeps, set_deferred-keeps, behind_action-keeps) depth 14
+release_object-keeps p name m =
+    search (says-keeps, then-keeps, changes-keeps, pop-alters, close_action-alters, lose_running-keeps, set_deferred-keeps, behind_action-keeps) depth 14
 
 -- ---- the next call is served, or the object is released (9.5.3)
 
@@ -87,7 +91,8 @@ unfolding begins_part
 begins_part-keeps p true c = search (begin_abortable-keeps)
 begins_part-keeps p false c = search (nothing-keeps)
 
-pub serve_chosen-keeps : (p : Image) (name : Who) (m : ProtectedMark) (is_sent : Bool) (again : Step) (found : Option CallNo) → Keeps p again → Keeps p (serve_chosen p name m is_sent again found)
+pub serve_chosen-keeps : (p : Image) (name : Who) (m : ProtectedMark) (is_sent : Bool) (again : Step) (found : Option CallNo) → Keeps p again
+    → Keeps p (serve_chosen p name m is_sent again found)
 serve_chosen-keeps p name m is_sent again None kept = search (release_object-keeps)
 serve_chosen-keeps p name m is_sent again (Some c) kept = search (with_call-keeps, serve_call-keeps, begins_part-keeps, deliver-keeps, then-keeps) depth 8
 
@@ -134,9 +139,11 @@ finish_call-keeps p name m how.Terminate c = search (finish_well-keeps)
 
 pub end_entry_body-keeps : (p : Image) (name : Who) (m : ProtectedMark) (leaving : Leaving) (c : CallNo) → Keeps p (end_entry_body p name m leaving c)
 unfolding end_entry_body
-end_entry_body-keeps p name m leaving c = search (changes-keeps, edit_top_protected-alters, then-keeps, edit_top-alters, with_call-keeps, finish_call-keeps) depth 11
+end_entry_body-keeps p name m leaving c =
+    search (changes-keeps, edit_top_protected-alters, then-keeps, edit_top-alters, with_call-keeps, finish_call-keeps) depth 11
 
-pub end_in_protected_by-keeps : (p : Image) (name : Who) (m : ProtectedMark) (leaving : Leaving) (found : Option CallNo) → Keeps p (end_in_protected_by p name m leaving found)
+pub end_in_protected_by-keeps : (p : Image) (name : Who) (m : ProtectedMark) (leaving : Leaving) (found : Option CallNo)
+    → Keeps p (end_in_protected_by p name m leaving found)
 unfolding end_in_protected_by
 end_in_protected_by-keeps p name m leaving None = search (end_operation-keeps)
 end_in_protected_by-keeps p name m leaving (Some c) = search (end_entry_body-keeps)

@@ -22,8 +22,11 @@ use Rattle.profile_machine.specs.Frames.{given}
 use Rattle.profile_machine.specs.Operators.{Valued}
 use Rattle.profile_machine.specs.Values.{Seen, value, variable, object_cell}
 use Rattle.profile_machine.specs.CallEnds.{store}
-use Rattle.profile_machine.specs.Statements.{becomes, null, assign, cells_from, copy_cells, array_copied, assign_array, if_statement, go_to_alternative, case_statement, while_turn, loop_cell, put, first_bound, last_bound, bounds_set, for_bounds, first_turn, advance, later_turn, exit_where, exit_statement, block_statement, raise_again, wait_until, delay_to, delay_until, put_line}
-use Rattle.world_laws.proofs.Cells.RightCells.{Right, Keeps, Alters, Gives, then-keeps, nothing-keeps, changes-keeps, says-keeps, looks-keeps, sees-keeps, next-alters, ok-gives, bind-gives}
+use Rattle.profile_machine.specs.Statements.{becomes, null, assign, cells_from, copy_cells, array_copied, assign_array, if_statement, go_to_alternative}
+use Rattle.profile_machine.specs.Statements.{case_statement, while_turn, loop_cell, put, first_bound, last_bound, bounds_set, for_bounds, first_turn, advance}
+use Rattle.profile_machine.specs.Statements.{later_turn, exit_where, exit_statement, block_statement, raise_again, wait_until, delay_to, delay_until, put_line}
+use Rattle.world_laws.proofs.Cells.RightCells.{Right, Keeps, Alters, Gives, then-keeps, nothing-keeps, changes-keeps}
+use Rattle.world_laws.proofs.Cells.RightCells.{says-keeps, looks-keeps, sees-keeps, next-alters, ok-gives, bind-gives}
 use Rattle.world_laws.proofs.Cells.Kept.Dispatching.{to_tail-keeps, block-keeps}
 use Rattle.world_laws.proofs.Cells.Kept.Frames.{goes-keeps, raises-keeps, exit_loop-keeps, given-keeps, given_right-keeps, raise_if-keeps, with_room-keeps}
 use Rattle.world_laws.proofs.Cells.Kept.Scopes.{put_cells-alters, write_cell-alters, open_scope-alters}
@@ -33,7 +36,8 @@ use Rattle.ceiling_laws.proofs.Fine.Kept.Statements.{bounds_put}
 
 pub becomes-keeps : {p : Image} (part : Part) (name : Who) (result : Valued World) → Gives p result → Keeps p (becomes part name result)
 unfolding becomes
-becomes-keeps part name result given = given_right-keeps part name result (λ next. changes (λ _. next)) given (λ next right. changes-keeps _ (next-alters next right))
+becomes-keeps part name result given =
+    given_right-keeps part name result (λ next. changes (λ _. next)) given (λ next right. changes-keeps _ (next-alters next right))
 
 -- ---- null (5.1), assignment (5.2)
 
@@ -41,7 +45,8 @@ pub null-keeps : (p : Image) (name : Who) (s : StatementNo) → Keeps p (null p 
 unfolding null
 null-keeps p name s = search (goes-keeps)
 
-assigned-gives : {p : Image} (text : Image) (q : Seen) (target : VariableName) (e : ExprNo) → Right p q.world → Gives p (variable q target >>= λ v. value q e >>= λ x. store text v x q.world)
+assigned-gives : {p : Image} (text : Image) (q : Seen) (target : VariableName) (e : ExprNo) → Right p q.world
+    → Gives p (variable q target >>= λ v. value q e >>= λ x. store text v x q.world)
 assigned-gives text q target e right =
     bind-gives (variable q target) (λ v. value q e >>= λ x. store text v x q.world) (λ v.
     bind-gives (value q e) (λ x. store text v x q.world) (λ x. store-gives text v x q.world right))
@@ -51,7 +56,9 @@ unfolding assign
 assign-keeps p name s target e = search (given_right-keeps, sees-keeps, given-keeps, changes-keeps, then-keeps, goes-keeps, next-alters, assigned-gives) depth 8
 
 pub copy_cells-alters : {p : Image} (text : Image) (target source : Variable) → Alters p (copy_cells text target source)
-copy_cells-alters text target source = record { at = λ w right. (put_cells-alters target.within target.place (cells_from w source (declaration_of text source.declared).cells)).at w right }
+copy_cells-alters text target source = record {
+  at = λ w right. (put_cells-alters target.within target.place (cells_from w source (declaration_of text source.declared).cells)).at w right;
+}
 
 array_copied-gives : {p : Image} (text : Image) (q : Seen) (target source : ObjectName) → Right p q.world → Gives p (array_copied text q target source)
 array_copied-gives text q target source right =
@@ -61,11 +68,13 @@ array_copied-gives text q target source right =
 
 pub assign_array-keeps : (p : Image) (name : Who) (s : StatementNo) (target source : ObjectName) → Keeps p (assign_array p name s target source)
 unfolding assign_array
-assign_array-keeps p name s target source = search (given_right-keeps, sees-keeps, given-keeps, changes-keeps, then-keeps, goes-keeps, next-alters, array_copied-gives) depth 8
+assign_array-keeps p name s target source =
+    search (given_right-keeps, sees-keeps, given-keeps, changes-keeps, then-keeps, goes-keeps, next-alters, array_copied-gives) depth 8
 
 -- ---- if and case (5.3, 5.4)
 
-pub if_statement-keeps : (p : Image) (name : Who) (e : ExprNo) (first : StatementNo) (otherwise : Option StatementNo) → Keeps p (if_statement p name e first otherwise)
+pub if_statement-keeps : (p : Image) (name : Who) (e : ExprNo) (first : StatementNo) (otherwise : Option StatementNo)
+    → Keeps p (if_statement p name e first otherwise)
 unfolding if_statement
 if_statement-keeps p name e first otherwise = search (sees-keeps, given-keeps, goes-keeps) depth 6
 
@@ -91,7 +100,8 @@ bounds_put-gives : {p : Image} (q : Seen) (reverse : Bool) (l h : Value) (x y : 
 unfolding bounds_put
 bounds_put-gives q reverse l h x y right =
     let first = put x (first_bound reverse l h) q.world in
-    ok-gives (put y (last_bound reverse l h) first) ((put-alters y (last_bound reverse l h)).at first ((put-alters x (first_bound reverse l h)).at q.world right))
+    ok-gives (put y (last_bound reverse l h) first)
+    ((put-alters y (last_bound reverse l h)).at first ((put-alters x (first_bound reverse l h)).at q.world right))
 
 bounds_set-gives : {p : Image} (q : Seen) (d : DeclNo) (reverse : Bool) (low high : ExprNo) → Right p q.world → Gives p (bounds_set q d reverse low high)
 unfolding bounds_put
@@ -101,20 +111,25 @@ bounds_set-gives q d reverse low high right =
     bind-gives (loop_cell q d 0) (λ x. loop_cell q d 1 >>= bounds_put q reverse l h x) (λ x.
     bind-gives (loop_cell q d 1) (bounds_put q reverse l h x) (λ y. bounds_put-gives q reverse l h x y right))))
 
-pub for_bounds-keeps : (p : Image) (name : Who) (d : DeclNo) (reverse : Bool) (low high : ExprNo) (turn : StatementNo) → Keeps p (for_bounds p name d reverse low high turn)
+pub for_bounds-keeps : (p : Image) (name : Who) (d : DeclNo) (reverse : Bool) (low high : ExprNo) (turn : StatementNo)
+    → Keeps p (for_bounds p name d reverse low high turn)
 unfolding for_bounds
-for_bounds-keeps p name d reverse low high turn = search (given_right-keeps, sees-keeps, given-keeps, changes-keeps, then-keeps, goes-keeps, next-alters, bounds_set-gives) depth 8
+for_bounds-keeps p name d reverse low high turn =
+    search (given_right-keeps, sees-keeps, given-keeps, changes-keeps, then-keeps, goes-keeps, next-alters, bounds_set-gives) depth 8
 
-pub first_turn-keeps : (p : Image) (name : Who) (s : StatementNo) (d : DeclNo) (reverse : Bool) (body : StatementNo) → Keeps p (first_turn p name s d reverse body)
+pub first_turn-keeps : (p : Image) (name : Who) (s : StatementNo) (d : DeclNo) (reverse : Bool) (body : StatementNo)
+    → Keeps p (first_turn p name s d reverse body)
 unfolding first_turn
 first_turn-keeps p name s d reverse body = search (sees-keeps, given-keeps, goes-keeps) depth 6
 
-pub advance-keeps : {p : Image} (name : Who) (x : Variable) (reverse : Bool) (v : Value) (body : StatementNo) (past : Option StatementNo) (test : Bool) → Keeps p (advance name x reverse v body past test)
+pub advance-keeps : {p : Image} (name : Who) (x : Variable) (reverse : Bool) (v : Value) (body : StatementNo) (past : Option StatementNo) (test : Bool)
+    → Keeps p (advance name x reverse v body past test)
 unfolding advance
 advance-keeps name x reverse v body past true = search (goes-keeps)
 advance-keeps name x reverse v body past false = search (changes-keeps, put-alters, then-keeps, goes-keeps) depth 7
 
-pub later_turn-keeps : (p : Image) (name : Who) (s : StatementNo) (d : DeclNo) (reverse : Bool) (body : StatementNo) → Keeps p (later_turn p name s d reverse body)
+pub later_turn-keeps : (p : Image) (name : Who) (s : StatementNo) (d : DeclNo) (reverse : Bool) (body : StatementNo)
+    → Keeps p (later_turn p name s d reverse body)
 unfolding later_turn
 later_turn-keeps p name s d reverse body = search (sees-keeps, given-keeps, advance-keeps) depth 7
 

@@ -20,8 +20,13 @@ use Rattle.profile_machine.specs.declared.world.lines.Part.{Part}
 use Rattle.profile_machine.specs.Steps.{Step}
 use Rattle.profile_machine.specs.Frames.{has_room, pass_on}
 use Rattle.profile_machine.specs.Controlled.{next_to_finalize, finalize}
-use Rattle.profile_machine.specs.Tasking.{add_task, says_created, create_task, create, fall_from, unit_of_task, begin_task, says_done, fail_to_begin, activate_one, await_group, activate_group, activate, end_own_activation, end_made, complete_if_task, wait_for_dependents, leave_region, end_environment, end_task, is_normal, end_body, behind_scope, says_left, end_of_scope, go_on_leaving, end_scope_mark_of, end_scope_mark, says_abort, abort_one, unwind_by, unwind_one, abort_all, abort_statement, block_at_terminate, take_terminates, unwind_all}
-use Rattle.world_laws.proofs.Cells.RightCells.{Right, Keeps, Alters, then-keeps, nothing-keeps, changes-keeps, says-keeps, looks-keeps, sees-keeps, branch-keeps, cond-keeps, option-keeps, when-keeps, for_some-keeps, for_each-keeps}
+use Rattle.profile_machine.specs.Tasking.{add_task, says_created, create_task, create, fall_from, unit_of_task, begin_task, says_done, fail_to_begin}
+use Rattle.profile_machine.specs.Tasking.{activate_one, await_group, activate_group, activate, end_own_activation, end_made, complete_if_task}
+use Rattle.profile_machine.specs.Tasking.{wait_for_dependents, leave_region, end_environment, end_task, is_normal, end_body, behind_scope, says_left}
+use Rattle.profile_machine.specs.Tasking.{end_of_scope, go_on_leaving, end_scope_mark_of, end_scope_mark, says_abort, abort_one, unwind_by}
+use Rattle.profile_machine.specs.Tasking.{unwind_one, abort_all, abort_statement, block_at_terminate, take_terminates, unwind_all}
+use Rattle.world_laws.proofs.Cells.RightCells.{Right, Keeps, Alters, then-keeps, nothing-keeps, changes-keeps, says-keeps, looks-keeps}
+use Rattle.world_laws.proofs.Cells.RightCells.{sees-keeps, branch-keeps, cond-keeps, option-keeps, when-keeps, for_some-keeps, for_each-keeps}
 use Rattle.world_laws.proofs.Cells.Kept.Tasks.{edit_task-alters}
 use Rattle.world_laws.proofs.Cells.Kept.Dispatching.{to_head-keeps, ready-keeps, says_block-keeps, block-keeps}
 use Rattle.world_laws.proofs.Cells.Kept.Frames.{edit_top-alters, goes-keeps, pop-alters, raises-keeps, pass_on-keeps, given-keeps, raise_if-keeps}
@@ -45,7 +50,8 @@ says_created-keeps d t = search (looks-keeps, says-keeps)
 
 pub create_task-keeps : (p : Image) (name : Who) (s : StatementNo) (d : DeclNo) (id : Option ScopeId) (t : world.Task) → Keeps p (create_task p name s d id t)
 unfolding create_task
-create_task-keeps p name s d id t = search (goes-keeps, then-keeps, changes-keeps, add_task-alters, for_some-keeps, looks-keeps, set_thing-alters, says_created-keeps) depth 14
+create_task-keeps p name s d id t =
+    search (goes-keeps, then-keeps, changes-keeps, add_task-alters, for_some-keeps, looks-keeps, set_thing-alters, says_created-keeps) depth 14
 
 pub create-keeps : (p : Image) (name : Who) (s : StatementNo) (d : DeclNo) (declarative_part : ℕ) → Keeps p (create p name s d declarative_part)
 unfolding create
@@ -73,7 +79,9 @@ fail_to_begin-keeps p activator t = search (says-keeps, then-keeps, says_done-ke
 pub activate_one-keeps : (p : Image) (activator : Who) (level : ℕ) (t : world.Task) → Keeps p (activate_one p activator level t)
 unfolding activate_one
 activate_one-keeps p activator level t =
-    looks-keeps _ (λ w right. branch-keeps (has_room w t.who 1 (scope_of p (unit_of_task p t).scope).size) (begin_task p activator level t) (fail_to_begin p activator t) (search (begin_task-keeps)) (search (fail_to_begin-keeps)))
+    looks-keeps _
+    (λ w right. branch-keeps (has_room w t.who 1 (scope_of p (unit_of_task p t).scope).size) (begin_task p activator level t) (fail_to_begin p activator t)
+    (search (begin_task-keeps)) (search (fail_to_begin-keeps)))
 
 pub await_group-keeps : {p : Image} (name : Who) (test failed : Bool) → Keeps p (await_group name test failed)
 unfolding await_group
@@ -83,7 +91,8 @@ await_group-keeps name false false = search (nothing-keeps)
 
 pub activate_group-keeps : (p : Image) (name : Who) (s : StatementNo) (declarative_part : ℕ) → Keeps p (activate_group p name s declarative_part)
 unfolding activate_group
-activate_group-keeps p name s declarative_part = search (looks-keeps, goes-keeps, then-keeps, changes-keeps, edit_task-alters, for_each-keeps, activate_one-keeps, await_group-keeps) depth 14
+activate_group-keeps p name s declarative_part =
+    search (looks-keeps, goes-keeps, then-keeps, changes-keeps, edit_task-alters, for_each-keeps, activate_one-keeps, await_group-keeps) depth 14
 
 pub activate-keeps : (p : Image) (name : Who) (s : StatementNo) (declarative_part : ℕ) → Keeps p (activate p name s declarative_part)
 unfolding activate
@@ -109,7 +118,19 @@ wait_for_dependents-keeps name r = search (looks-keeps, when-keeps, block-keeps)
 
 pub leave_region-keeps : (p : Image) (name : Who) (m : ScopeMark) (leaving : Leaving) (r : RegionNo) → Keeps p (leave_region p name m leaving r)
 unfolding leave_region
-leave_region-keeps p name m leaving r = search (changes-keeps, edit_top_scope-alters, then-keeps, edit_top-alters, says-keeps, looks-keeps, for_each-keeps, end_made-keeps, complete_if_task-keeps, wait_for_dependents-keeps) depth 14
+leave_region-keeps p name m leaving r =
+    search (
+      changes-keeps,
+      edit_top_scope-alters,
+      then-keeps,
+      edit_top-alters,
+      says-keeps,
+      looks-keeps,
+      for_each-keeps,
+      end_made-keeps,
+      complete_if_task-keeps,
+      wait_for_dependents-keeps,
+    ) depth 14
 
 -- ---- a scope has ended
 
@@ -119,12 +140,14 @@ end_environment-alters leaving = record { at = λ w right. right }
 
 pub end_task-keeps : (p : Image) (name : Who) (leaving : Leaving) → Keeps p (end_task p name leaving)
 unfolding end_task
-end_task-keeps p name leaving = search (says_done-keeps, then-keeps, looks-keeps, end_activation-keeps, terminate-keeps, when-keeps, changes-keeps, end_environment-alters) depth 13
+end_task-keeps p name leaving =
+    search (says_done-keeps, then-keeps, looks-keeps, end_activation-keeps, terminate-keeps, when-keeps, changes-keeps, end_environment-alters) depth 13
 
 pub end_body-keeps : (p : Image) (name : Who) (leaving : Leaving) (normally : Step) → Keeps p normally → Keeps p (end_body p name leaving normally)
 end_body-keeps p name leaving normally kept = branch-keeps (is_normal leaving) normally (pass_on p name leaving) kept (pass_on-keeps p name leaving)
 
-pub behind_scope-keeps : (p : Image) (name : Who) (purpose : Purpose) (cells : List Value) (leaving : Leaving) → Keeps p (behind_scope p name purpose cells leaving)
+pub behind_scope-keeps : (p : Image) (name : Who) (purpose : Purpose) (cells : List Value) (leaving : Leaving)
+    → Keeps p (behind_scope p name purpose cells leaving)
 unfolding behind_scope
 behind_scope-keeps p name (opened_for.Block s) cells leaving = search (pass_on-keeps)
 behind_scope-keeps p name (opened_for.Subprogram back to) cells leaving = search (end_body-keeps, end_subprogram-keeps)
@@ -137,14 +160,20 @@ says_left-keeps name m leaving = search (for_some-keeps, says-keeps, then-keeps,
 
 pub end_of_scope-keeps : (p : Image) (name : Who) (m : ScopeMark) (leaving : Leaving) → Keeps p (end_of_scope p name m leaving)
 unfolding end_of_scope
-end_of_scope-keeps p name m leaving = search (looks-keeps, changes-keeps, pop-alters, then-keeps, end_scope-alters, says_left-keeps, behind_scope-keeps) depth 13
+end_of_scope-keeps p name m leaving =
+    search (looks-keeps, changes-keeps, pop-alters, then-keeps, end_scope-alters, says_left-keeps, behind_scope-keeps) depth 13
 
-pub go_on_leaving-keeps : (p : Image) (name : Who) (m : ScopeMark) (leaving : Leaving) (r : RegionNo) (test : Bool) → Keeps p (go_on_leaving p name m leaving r test)
+pub go_on_leaving-keeps : (p : Image) (name : Who) (m : ScopeMark) (leaving : Leaving) (r : RegionNo) (test : Bool)
+    → Keeps p (go_on_leaving p name m leaving r test)
 unfolding go_on_leaving
 go_on_leaving-keeps p name m leaving r false = leave_region-keeps p name m leaving r
-go_on_leaving-keeps p name m leaving r true = looks-keeps _ (λ w right. option-keeps (next_to_finalize w r) (end_of_scope p name m leaving) (λ x. finalize p name x) (end_of_scope-keeps p name m leaving) (λ x. finalize-keeps p name x))
+go_on_leaving-keeps p name m leaving r true =
+    looks-keeps _
+    (λ w right. option-keeps (next_to_finalize w r) (end_of_scope p name m leaving) (λ x. finalize p name x) (end_of_scope-keeps p name m leaving)
+    (λ x. finalize-keeps p name x))
 
-pub end_scope_mark_of-keeps : (p : Image) (name : Who) (m : ScopeMark) (leaving : Leaving) (found : Option RegionNo) → Keeps p (end_scope_mark_of p name m leaving found)
+pub end_scope_mark_of-keeps : (p : Image) (name : Who) (m : ScopeMark) (leaving : Leaving) (found : Option RegionNo)
+    → Keeps p (end_scope_mark_of p name m leaving found)
 unfolding end_scope_mark_of
 end_scope_mark_of-keeps p name m leaving None = search (end_of_scope-keeps)
 end_scope_mark_of-keeps p name m leaving (Some r) = search (go_on_leaving-keeps)

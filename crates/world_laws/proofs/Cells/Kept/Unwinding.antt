@@ -36,7 +36,8 @@ wake_and_leave-keeps p part name = search (stop_waiting-keeps, then-keeps, leave
 
 pub unwind_blocked-keeps : (p : Image) (part : Part) (name : Who) (waiting : Waiting) → Keeps p (unwind_blocked p part name waiting)
 unfolding unwind_blocked
-unwind_blocked-keeps p part name (waits_for.Call c) = search (attempt-keeps, changes-keeps, forget_call-alters, then-keeps, wake_and_leave-keeps, nothing-keeps) depth 9
+unwind_blocked-keeps p part name (waits_for.Call c) =
+    search (attempt-keeps, changes-keeps, forget_call-alters, then-keeps, wake_and_leave-keeps, nothing-keeps) depth 9
 unwind_blocked-keeps p part name (waits_for.EndOfCall c) = search (nothing-keeps)
 unwind_blocked-keeps p part name waits_for.Activation = search (wake_and_leave-keeps)
 unwind_blocked-keeps p part name waits_for.Moment = search (wake_and_leave-keeps)

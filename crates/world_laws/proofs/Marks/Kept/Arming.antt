@@ -84,23 +84,31 @@ module _ {G : GoodWorld} {May Other : Naming} {R : StepRelation} {Q : MoveRelati
   unfolding From
   led_looks-from f w a said = a said
 
-  led_raise_if-from : (name : Who) (test : Bool) (e : Raised) (step : Step) (w : World) → G w → (test ≡ false → From (Led G) w step) → From (Led G) w (raise_if name test e step)
-  led_raise_if-from name true e step w good k = led-from (raises Own name e) w (keeps-from (chains moves) (raises Own name e) w good (raises-keeps (plain_steps moves) Own name e))
+  led_raise_if-from : (name : Who) (test : Bool) (e : Raised) (step : Step) (w : World) → G w → (test ≡ false → From (Led G) w step)
+      → From (Led G) w (raise_if name test e step)
+  led_raise_if-from name true e step w good k =
+      led-from (raises Own name e) w (keeps-from (chains moves) (raises Own name e) w good (raises-keeps (plain_steps moves) Own name e))
   led_raise_if-from name false e step w good k = k refl
 
-  led_given-from : {X : Type 0} (part : Part) (name : Who) (result : Result X Raised) (f : X → Step) (w : World) → G w → ((x : X) → From (Led G) w (f x)) → From (Led G) w (given part name result f)
+  led_given-from : {X : Type 0} (part : Part) (name : Who) (result : Result X Raised) (f : X → Step) (w : World) → G w → ((x : X) → From (Led G) w (f x))
+      → From (Led G) w (given part name result f)
   led_given-from part name (Ok x) f w good k = k x
-  led_given-from part name (Err e) f w good k = led-from (raises part name e) w (keeps-from (chains moves) (raises part name e) w good (raises-keeps (plain_steps moves) part name e))
+  led_given-from part name (Err e) f w good k =
+      led-from (raises part name e) w (keeps-from (chains moves) (raises part name e) w good (raises-keeps (plain_steps moves) part name e))
 
-  led_branch-from : (name : Who) (test : Bool) (e : Raised) (step : Step) (w : World) → G w → From (Led G) w step → From (Led G) w (elim test as (λ _. Step) [ true ↦ step | false ↦ raises Own name e ])
+  led_branch-from : (name : Who) (test : Bool) (e : Raised) (step : Step) (w : World) → G w → From (Led G) w step
+      → From (Led G) w (elim test as (λ _. Step) [ true ↦ step | false ↦ raises Own name e ])
   led_branch-from name true e step w good k = k
-  led_branch-from name false e step w good k = led-from (raises Own name e) w (keeps-from (chains moves) (raises Own name e) w good (raises-keeps (plain_steps moves) Own name e))
+  led_branch-from name false e step w good k =
+      led-from (raises Own name e) w (keeps-from (chains moves) (raises Own name e) w good (raises-keeps (plain_steps moves) Own name e))
 
   led_with_room-from : (name : Who) (marks cells : ℕ) (step : Step) (w : World) → G w → From (Led G) w step → From (Led G) w (with_room name marks cells step)
   led_with_room-from name marks cells step w good k =
-      led_looks-from (λ v. elim (has_room v name marks cells) as (λ _. Step) [ true ↦ step | false ↦ raises Own name exception.Storage ]) w (led_branch-from name (has_room w name marks cells) exception.Storage step w good k)
+      led_looks-from (λ v. elim (has_room v name marks cells) as (λ _. Step) [ true ↦ step | false ↦ raises Own name exception.Storage ]) w
+      (led_branch-from name (has_room w name marks cells) exception.Storage step w good k)
 
-  led_goes_then-from : (name : Who) (onward : Option StatementNo) (g : Step) (w : World) → G w → (G (edit_top name (goes_on onward) w) → From (Led G) (edit_top name (goes_on onward) w) g) → From (Led G) w (goes name onward ▷ g)
+  led_goes_then-from : (name : Who) (onward : Option StatementNo) (g : Step) (w : World) → G w
+      → (G (edit_top name (goes_on onward) w) → From (Led G) (edit_top name (goes_on onward) w) g) → From (Led G) w (goes name onward ▷ g)
   unfolding goes Alters
   led_goes_then-from name onward g w good k =
       let gone = edit_top-alters moves name (goes_on onward) (λ x. refl) (λ x. refl) w good in
@@ -118,7 +126,8 @@ module _ {G : GoodWorld} {May Other : Naming} {R : StepRelation} {Q : MoveRelati
     settles_led-from p step w a = settled-led p w (step w []) (a [])
 
     -- the abortable part opens above the mark on top, and the moment is set for it
-    appoint_trigger-from : (p : Image) (name : Who) (s : StatementNo) (g : Frame) (m : ℤ) (w : World) → G (open_abortable p name s None w) → Begun name w → top_of w name ≡ Some g → From (Led G) (open_abortable p name s None w) (changes (appoint_trigger name (length (frames_of w name)) m))
+    appoint_trigger-from : (p : Image) (name : Who) (s : StatementNo) (g : Frame) (m : ℤ) (w : World) → G (open_abortable p name s None w) → Begun name w
+        → top_of w name ≡ Some g → From (Led G) (open_abortable p name s None w) (changes (appoint_trigger name (length (frames_of w name)) m))
     appoint_trigger-from p (who.Task t) s g m w good begun top =
         let v = open_abortable p (who.Task t) s None w in
         let f = new_frame (new_abortable_mark s None) (abortable_in (form_of p s)) in
@@ -128,37 +137,47 @@ module _ {G : GoodWorld} {May Other : Naming} {R : StepRelation} {Q : MoveRelati
         (begun_edited (who.Task t) (λ u. with_frames (f ∷ u.frames) u) w (λ u. refl) (λ u. refl) begun))
     appoint_trigger-from p who.Agent s g m w good begun top = led_changes-from (λ v. v) (open_abortable p who.Agent s None w) good
 
-    opens_until : (p : Image) (name : Who) (s : StatementNo) (m : ℤ) (g : Frame) (w : World) → G w → Calm name w → Begun name w → top_of w name ≡ Some g → From (Led G) w (looks (λ v. changes (open_abortable p name s None) ▷ changes (appoint_trigger name (length (frames_of v name)) m)))
+    opens_until : (p : Image) (name : Who) (s : StatementNo) (m : ℤ) (g : Frame) (w : World) → G w → Calm name w → Begun name w → top_of w name ≡ Some g
+        → From (Led G) w (looks (λ v. changes (open_abortable p name s None) ▷ changes (appoint_trigger name (length (frames_of v name)) m)))
     opens_until p name s m g w good calm begun top =
         let opened = moves.opens_part name (new_frame (new_abortable_mark s None) (abortable_in (form_of p s))) w good calm refl refl refl in
         led_looks-from (λ v. changes (open_abortable p name s None) ▷ changes (appoint_trigger name (length (frames_of v name)) m)) w
         (led_changes_then-from (open_abortable p name s None) _ w
         (appoint_trigger-from p name s g m w (moves.behind w (open_abortable p name s None w) opened) begun top))
 
-    trigger_delay-from : (p : Image) (name : Who) (s trigger : StatementNo) (m : ℤ) (test : Bool) (g : Frame) (w : World) → G w → Calm name w → Begun name w → top_of w name ≡ Some g → From (Led G) w (trigger_delay p name s trigger m test)
+    trigger_delay-from : (p : Image) (name : Who) (s trigger : StatementNo) (m : ℤ) (test : Bool) (g : Frame) (w : World) → G w → Calm name w → Begun name w
+        → top_of w name ≡ Some g → From (Led G) w (trigger_delay p name s trigger m test)
     unfolding trigger_delay
-    trigger_delay-from p name s trigger m false g w good calm begun top = led-from _ w (keeps-from (chains moves) _ w good (goes-keeps moves name (next_of p trigger)))
+    trigger_delay-from p name s trigger m false g w good calm begun top =
+        led-from _ w (keeps-from (chains moves) _ w good (goes-keeps moves name (next_of p trigger)))
     trigger_delay-from p name s trigger m true g w good calm begun top =
         let onward = λ (t : Task). with_frames (edit_first (goes_on (next_of p s)) t.frames) t in
         led_with_room-from name 1 0 _ w good
         (led_goes_then-from name (next_of p s) _ w good (λ good_onward.
         opens_until p name s m (goes_on (next_of p s) g) (edit_top name (goes_on (next_of p s)) w) good_onward
-        (calm_edited name onward w (λ t. refl) (λ t. refl) calm) (begun_edited name onward w (λ t. refl) (λ t. refl) begun) (top_edited name (goes_on (next_of p s)) g w top)))
+        (calm_edited name onward w (λ t. refl) (λ t. refl) calm) (begun_edited name onward w (λ t. refl) (λ t. refl) begun)
+        (top_edited name (goes_on (next_of p s)) g w top)))
 
-    async_delay-from : (p : Image) (name : Who) (s trigger : StatementNo) (g : Frame) (w : World) → G w → Calm name w → Begun name w → top_of w name ≡ Some g → From (Led G) w (async_delay p name s trigger)
+    async_delay-from : (p : Image) (name : Who) (s trigger : StatementNo) (g : Frame) (w : World) → G w → Calm name w → Begun name w → top_of w name ≡ Some g
+        → From (Led G) w (async_delay p name s trigger)
     unfolding async_delay
     async_delay-from p name s trigger g w good calm begun top =
-        led_looks-from (λ v. raise_if name (is_forbidden v name call_kind.Triggering) exception.Program (given Own name (delay_moment (seen_by p v name) trigger) (λ m. trigger_delay p name s trigger m (int_lt (pos v.time) m)))) w
+        led_looks-from
+        (λ v. raise_if name (is_forbidden v name call_kind.Triggering) exception.Program
+        (given Own name (delay_moment (seen_by p v name) trigger) (λ m. trigger_delay p name s trigger m (int_lt (pos v.time) m)))) w
         (led_raise_if-from name (is_forbidden w name call_kind.Triggering) exception.Program _ w good (λ allowed.
         led_given-from Own name (delay_moment (seen_by p w name) trigger) _ w good (λ m.
         trigger_delay-from p name s trigger m (int_lt (pos w.time) m) g w good calm begun top)))
 
     module _ {Owns : Who → RegionNo → Type 0} (openings : Openings G May Other Owns R) where
-      async_by_trigger-from : (p : Image) (name : Who) (s trigger : StatementNo) (form : StatementForm) (g : Frame) (w : World) → G w → Calm name w → Begun name w → top_of w name ≡ Some g → From (Led G) w (async_by_trigger p name s trigger form)
+      async_by_trigger-from : (p : Image) (name : Who) (s trigger : StatementNo) (form : StatementForm) (g : Frame) (w : World) → G w → Calm name w
+          → Begun name w → top_of w name ≡ Some g → From (Led G) w (async_by_trigger p name s trigger form)
       unfolding async_by_trigger
-      async_by_trigger-from p name s trigger (form.EntryCall entry owner actuals) g w good calm begun top = led-from _ w (keeps-from (chains moves) _ w good (entry_call-keeps moves openings p name call_kind.Triggering s))
+      async_by_trigger-from p name s trigger (form.EntryCall entry owner actuals) g w good calm begun top =
+          led-from _ w (keeps-from (chains moves) _ w good (entry_call-keeps moves openings p name call_kind.Triggering s))
       async_by_trigger-from p name s trigger _ g w good calm begun top = async_delay-from p name s trigger g w good calm begun top
 
-      pub asynchronous_select-from : (p : Image) (name : Who) (s trigger : StatementNo) (g : Frame) (w : World) → G w → Calm name w → Begun name w → top_of w name ≡ Some g → From (Led G) w (asynchronous_select p name s trigger)
+      pub asynchronous_select-from : (p : Image) (name : Who) (s trigger : StatementNo) (g : Frame) (w : World) → G w → Calm name w → Begun name w
+          → top_of w name ≡ Some g → From (Led G) w (asynchronous_select p name s trigger)
       unfolding asynchronous_select
       asynchronous_select-from p name s trigger g w good calm begun top = async_by_trigger-from p name s trigger (form_of p trigger) g w good calm begun top

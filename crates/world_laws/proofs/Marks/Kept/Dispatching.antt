@@ -13,7 +13,8 @@ use Rattle.profile_image.specs.Program.{is_robin_level, edf_low}
 use Rattle.profile_machine.specs.declared.world.lines.Part.{Part}
 use Rattle.profile_machine.specs.Steps.{changes, says, ◌▷◌, Step}
 use Rattle.profile_machine.specs.Tasks.{task_of, edit_task, with_state}
-use Rattle.profile_machine.specs.Dispatching.{active, level_kept_by, keep_level, deadline_shown, says_ready, granted, grant_quantum, to_tail, to_head, ready, word_of, says_block, block, without_kept_level}
+use Rattle.profile_machine.specs.Dispatching.{active, level_kept_by, keep_level, deadline_shown, says_ready, granted, grant_quantum}
+use Rattle.profile_machine.specs.Dispatching.{to_tail, to_head, ready, word_of, says_block, block, without_kept_level}
 use Rattle.std.proofs.Common.{◌≡◌, refl, Some, [], ◌∷◌, ◌++◌}
 use Rattle.std.specs.Prelude.{false}
 use Rattle.machine_laws.proofs.Moves.{StepRelation, MoveRelation}
@@ -23,7 +24,8 @@ use Rattle.world_laws.proofs.Marks.Kept.Tasks.{edit_task-alters}
 use Rattle.machine_laws.proofs.FineMoves.{GoodWorld, Naming, ready_line}
 use Rattle.machine_laws.proofs.Kept.Dispatching.{full_quantum-frames, full_quantum-state, full_quantum-who}
 use Rattle.line_laws.proofs.Leaving.FineMoves.{ready_world}
-use Rattle.machine_laws.proofs.Kept.Combinators.{Alters, From, Keeps, Kept, changes-keeps, from-keeps, looks_at-from, said-from, said-keeps, then-keeps, then-kept}
+use Rattle.machine_laws.proofs.Kept.Combinators.{Alters, From, Keeps, Kept, changes-keeps, from-keeps}
+use Rattle.machine_laws.proofs.Kept.Combinators.{looks_at-from, said-from, said-keeps, then-keeps, then-kept}
 
 full_quantum-abnormal : (b : Bool) (n : ℕ) (t : Task) → (cond b (record t { quantum = n }) t).abnormal ≡ t.abnormal
 full_quantum-abnormal true n t = refl
@@ -32,12 +34,16 @@ full_quantum-abnormal false n t = refl
 module _ {G : GoodWorld} {May Other : Naming} {R : StepRelation} {Q : MoveRelation} (moves : FineMoves G May Other R Q) where
   pub keep_level-alters : (p : Image) (name : Who) → Alters G R (keep_level p name)
   unfolding Alters
-  keep_level-alters p name w good = moves.edits_task name (λ t. record t { kept_level = level_kept_by p w t (edf_low p t.base) }) w good (λ t. refl) (λ t. refl) (λ t. refl) (λ t. refl)
+  keep_level-alters p name w good =
+      moves.edits_task name (λ t. record t { kept_level = level_kept_by p w t (edf_low p t.base) }) w good (λ t. refl) (λ t. refl) (λ t. refl) (λ t. refl)
 
   pub says_ready-keeps : (p : Image) (part : Part) (name : Who) (end : QueueEnd) → May name → Keeps G R (says_ready p part name end)
   unfolding says_ready
   says_ready-keeps p part name end may =
-      from-keeps (chains moves) _ (λ w good. looks_at-from (chains moves) (λ v. says part (line.Ready name (active p (task_of v name)) end (deadline_shown p (task_of v name)))) w (said-from (chains moves) part (line.Ready name (active p (task_of w name)) end (deadline_shown p (task_of w name))) w (moves.places p part name end w good may)))
+      from-keeps (chains moves) _
+      (λ w good. looks_at-from (chains moves) (λ v. says part (line.Ready name (active p (task_of v name)) end (deadline_shown p (task_of v name)))) w
+      (said-from (chains moves) part (line.Ready name (active p (task_of w name)) end (deadline_shown p (task_of w name))) w
+      (moves.places p part name end w good may)))
 
   pub grant_quantum-alters : (p : Image) (name : Who) → Alters G R (grant_quantum p name)
   unfolding Alters
@@ -65,12 +71,15 @@ module _ {G : GoodWorld} {May Other : Naming} {R : StepRelation} {Q : MoveRelati
   pub runnable-keeps : (name : Who) → Other name → Keeps G R (changes (edit_task name (with_state Runnable)))
   runnable-keeps name other = changes-keeps (chains moves) (edit_task name (with_state Runnable)) (with_runnable-alters name other)
 
-  with_blocked-alters : (name : Who) (waiting : Waiting) → Other name → ends_call (Some waiting) ≡ false → Alters G R (edit_task name (with_state (Blocked waiting)))
+  with_blocked-alters : (name : Who) (waiting : Waiting) → Other name → ends_call (Some waiting) ≡ false
+      → Alters G R (edit_task name (with_state (Blocked waiting)))
   unfolding Alters
   with_blocked-alters name waiting other no_end w good = moves.blocks name waiting w good other no_end
 
-  pub blocked-keeps : (name : Who) (waiting : Waiting) → Other name → ends_call (Some waiting) ≡ false → Keeps G R (changes (edit_task name (with_state (Blocked waiting))))
-  blocked-keeps name waiting other no_end = changes-keeps (chains moves) (edit_task name (with_state (Blocked waiting))) (with_blocked-alters name waiting other no_end)
+  pub blocked-keeps : (name : Who) (waiting : Waiting) → Other name → ends_call (Some waiting) ≡ false
+      → Keeps G R (changes (edit_task name (with_state (Blocked waiting))))
+  blocked-keeps name waiting other no_end =
+      changes-keeps (chains moves) (edit_task name (with_state (Blocked waiting))) (with_blocked-alters name waiting other no_end)
 
   pub ready-keeps : (p : Image) (part : Part) (name : Who) → Other name → Keeps G R (ready p part name)
   unfolding ready
@@ -79,7 +88,8 @@ module _ {G : GoodWorld} {May Other : Naming} {R : StepRelation} {Q : MoveRelati
       (search (changes-keeps, then-keeps, keep_level-alters, to_tail-keeps, moves.other_may, chains))
 
   -- who has become ready, and what is done then
-  pub ready-told : (p : Image) (part : Part) (name : Who) (w : World) → G w → Other name → R w (ready_line p part name Tail (ready_world p name w) ∷ []) (ready_world p name w)
+  pub ready-told : (p : Image) (part : Part) (name : Who) (w : World) → G w → Other name
+      → R w (ready_line p part name Tail (ready_world p name w) ∷ []) (ready_world p name w)
   unfolding Alters
   ready-told p part name w good other =
       let runnable = edit_task name (with_state Runnable) w in
@@ -93,7 +103,8 @@ module _ {G : GoodWorld} {May Other : Naming} {R : StepRelation} {Q : MoveRelati
       (moves.goes_on runnable kept granted_world {xs = []} {ys = ready_line p part name Tail granted_world ∷ []} second
       (moves.goes_on kept granted_world granted_world {xs = []} {ys = ready_line p part name Tail granted_world ∷ []} third placed))
 
-  pub ready_then-from : (p : Image) (part : Part) (name : Who) (g : Step) (w : World) → G w → Other name → (G (ready_world p name w) → From R (ready_world p name w) g) → From R w (ready p part name ▷ g)
+  pub ready_then-from : (p : Image) (part : Part) (name : Who) (g : Step) (w : World) → G w → Other name
+      → (G (ready_world p name w) → From R (ready_world p name w) g) → From R w (ready p part name ▷ g)
   unfolding ready to_tail says_ready From Kept
   ready_then-from p part name g w good other next said =
       let v = ready_world p name w in
@@ -104,10 +115,12 @@ module _ {G : GoodWorld} {May Other : Naming} {R : StepRelation} {Q : MoveRelati
   pub says_block-keeps : (part : Part) (name : Who) (waiting : Waiting) → Other name → Keeps G R (says_block part name waiting)
   unfolding says_block
   says_block-keeps part name waiting other =
-      then-keeps (chains moves) (changes (edit_task name without_kept_level)) (says part (line.Block name (word_of waiting))) (search (changes-keeps, edit_task-alters, chains))
+      then-keeps (chains moves) (changes (edit_task name without_kept_level)) (says part (line.Block name (word_of waiting)))
+      (search (changes-keeps, edit_task-alters, chains))
       (said-keeps (chains moves) part (line.Block name (word_of waiting)) (λ w good. moves.says_blocked part name waiting w good other))
 
   pub block-keeps : (part : Part) (name : Who) (waiting : Waiting) → Other name → ends_call (Some waiting) ≡ false → Keeps G R (block part name waiting)
   unfolding block
   block-keeps part name waiting other no_end =
-      then-keeps (chains moves) (changes (edit_task name (with_state (Blocked waiting)))) (says_block part name waiting) (blocked-keeps name waiting other no_end) (says_block-keeps part name waiting other)
+      then-keeps (chains moves) (changes (edit_task name (with_state (Blocked waiting)))) (says_block part name waiting)
+      (blocked-keeps name waiting other no_end) (says_block-keeps part name waiting other)

@@ -33,7 +33,9 @@ use Rattle.profile_machine.specs.Values.{object_of}
 use Rattle.profile_machine.specs.Inheritance.{inherit_running}
 use Rattle.profile_machine.specs.Steps.{Step, Done, done, goes_on_with, says, changes, ◌▷◌}
 use Rattle.std.proofs.Common.{◌≡◌, refl, ◌∙◌, append_assoc}
-use Rattle.profile_machine.specs.Protected.{entering, ceiling_of, new_protected_mark, mode_of, find_held, enter_or, where_let_inside, open_action, begin_action_on, begin_operation, call_operation_of, call_operation, begin_own_operation, call_own_operation, edit_top_protected, begin_call, body_opens, has_room_for_body, serve_call, edit_protected}
+use Rattle.profile_machine.specs.Protected.{entering, ceiling_of, new_protected_mark, mode_of, find_held, enter_or, where_let_inside, open_action}
+use Rattle.profile_machine.specs.Protected.{begin_action_on, begin_operation, call_operation_of, call_operation, begin_own_operation, call_own_operation}
+use Rattle.profile_machine.specs.Protected.{edit_top_protected, begin_call, body_opens, has_room_for_body, serve_call, edit_protected}
 use Rattle.machine_laws.proofs.Moves.{StepRelation, MoveRelation, LetsIn, FindsHeld, own}
 use Rattle.world_laws.proofs.Marks.FineMoves.{FineMoves, Openings, chains, says-keeps}
 use Rattle.machine_laws.proofs.Kept.Entering.{entering-inside, entering-held, LetsIn-same, edit_task-objects}
@@ -47,13 +49,15 @@ use Rattle.ann_base.specs.declared.identities.RegionNo.{RegionNo}
 use Rattle.profile_machine.specs.declared.world.marks.Mark.{Mark}
 use Rattle.profile_machine.specs.declared.world.marks.Mark.TheVariants.{Scope, Handled, InProtected, InAccept, Abortable, InInitialize, InFinalize, InAssign}
 use Rattle.machine_laws.proofs.FineMoves.{GoodWorld, Naming}
-use Rattle.machine_laws.proofs.Kept.Combinators.{Alters, From, Keeps, Kept, branch-keeps, changes-keeps, keeps-from, looks-from, looks-keeps, said-from, sees-keeps, then-from, then-keeps}
+use Rattle.machine_laws.proofs.Kept.Combinators.{Alters, From, Keeps, Kept, branch-keeps, changes-keeps, keeps-from}
+use Rattle.machine_laws.proofs.Kept.Combinators.{looks-from, looks-keeps, said-from, sees-keeps, then-from, then-keeps}
 use Rattle.machine_laws.proofs.Plain.Frames.{raises-keeps, given-keeps, raise_if-keeps, with_room-keeps}
 use Rattle.machine_laws.proofs.Plain.Calls.{edit_call-alters, unqueued-alters}
 use Rattle.machine_laws.proofs.Plain.Subprograms.{handing-keeps}
 
 -- the release and the object of a protected action are not edited, nor what another mark is
-pub protected-nature : (f : ProtectedMark → ProtectedMark) → ((m : ProtectedMark) → (f m).release ≡ m.release) → ((m : ProtectedMark) → (f m).object ≡ m.object) → (mark : Mark) → nature (edit_protected f mark) ≡ nature mark
+pub protected-nature : (f : ProtectedMark → ProtectedMark) → ((m : ProtectedMark) → (f m).release ≡ m.release) → ((m : ProtectedMark) → (f m).object ≡ m.object)
+    → (mark : Mark) → nature (edit_protected f mark) ≡ nature mark
 protected-nature f same alike (Scope m) = refl
 protected-nature f same alike (Handled s) = refl
 protected-nature f same alike (InProtected m) = refl
@@ -64,68 +68,92 @@ protected-nature f same alike (InFinalize o) = refl
 protected-nature f same alike (InAssign m) = refl
 
 module _ {G : GoodWorld} {May Other : Naming} {R : StepRelation} {Q : MoveRelation} (moves : FineMoves G May Other R Q) where
-  pub find_held-from : (p : Image) (name : Who) (o : ObjectNo) (mode : Mode) (w : World) → G w → May name → FindsHeld name o mode w → From R w (find_held p name o mode)
+  pub find_held-from : (p : Image) (name : Who) (o : ObjectNo) (mode : Mode) (w : World) → G w → May name → FindsHeld name o mode w
+      → From R w (find_held p name o mode)
   unfolding find_held
   find_held-from p name o mode w good may h =
-      then-from (chains moves) (says Own (line.Held name o mode)) (to_tail p ThePlacing name) w (said-from (chains moves) Own (line.Held name o mode) w (moves.finds_held name o mode w good h)) (to_tail-keeps moves p ThePlacing name may)
+      then-from (chains moves) (says Own (line.Held name o mode)) (to_tail p ThePlacing name) w
+      (said-from (chains moves) Own (line.Held name o mode) w (moves.finds_held name o mode w good h)) (to_tail-keeps moves p ThePlacing name may)
 
-  enter_or-from : (p : Image) (name : Who) (o : ObjectNo) (mode : Mode) (step : Step) (w : World) (is : Entering) → G w → May name → entering p w name o mode ≡ is → (LetsIn name o mode w → From R w step) → From R w (enter_or p name o mode step is)
-  enter_or-from p name o mode step w entering_is.SameObject good may e kept = keeps-from (chains moves) (raises Own name exception.Program) w good (raises-keeps (plain_steps moves) Own name exception.Program)
-  enter_or-from p name o mode step w entering_is.AboveCeiling good may e kept = keeps-from (chains moves) (raises Own name exception.Program) w good (raises-keeps (plain_steps moves) Own name exception.Program)
+  enter_or-from : (p : Image) (name : Who) (o : ObjectNo) (mode : Mode) (step : Step) (w : World) (is : Entering) → G w → May name
+      → entering p w name o mode ≡ is → (LetsIn name o mode w → From R w step) → From R w (enter_or p name o mode step is)
+  enter_or-from p name o mode step w entering_is.SameObject good may e kept =
+      keeps-from (chains moves) (raises Own name exception.Program) w good (raises-keeps (plain_steps moves) Own name exception.Program)
+  enter_or-from p name o mode step w entering_is.AboveCeiling good may e kept =
+      keeps-from (chains moves) (raises Own name exception.Program) w good (raises-keeps (plain_steps moves) Own name exception.Program)
   enter_or-from p name o mode step w entering_is.Held good may e kept = find_held-from p name o mode w good may (entering-held p w name o mode e)
   enter_or-from p name o mode step w entering_is.Inside good may e kept = kept (entering-inside p w name o mode e)
 
   -- the step is done where somebody is let in
-  pub where_let_inside-keeps : (p : Image) (name : Who) (o : ObjectNo) (mode : Mode) (step : Step) → May name → ((w : World) → G w → LetsIn name o mode w → From R w step) → Keeps G R (where_let_inside p name o mode step)
+  pub where_let_inside-keeps : (p : Image) (name : Who) (o : ObjectNo) (mode : Mode) (step : Step) → May name
+      → ((w : World) → G w → LetsIn name o mode w → From R w step) → Keeps G R (where_let_inside p name o mode step)
   where_let_inside-keeps p name o mode step may kept =
       looks-from (chains moves) _ (λ w good. enter_or-from p name o mode step w (entering p w name o mode) good may refl (kept w good))
 
   -- an action begins: what is done between `enter` and the mark is done inside
-  entered-kept : (name : Who) (o : ObjectNo) (mode : Mode) (call : Option CallNo) (release : Option ℕ) (w : World) (said : List Said) (d : Done) → G w → LetsIn name o mode w → Kept R (open_action name o mode w) (said ++ own (line.Enter name o mode) ∷ []) d
+  entered-kept : (name : Who) (o : ObjectNo) (mode : Mode) (call : Option CallNo) (release : Option ℕ) (w : World) (said : List Said) (d : Done) → G w
+      → LetsIn name o mode w → Kept R (open_action name o mode w) (said ++ own (line.Enter name o mode) ∷ []) d
       → Kept R w said (goes_on_with (changes (push name (new_frame (new_protected_mark o mode call release) None))) d)
   unfolding Kept
-  entered-kept name o mode call release w said (done v ys) good h k =
-      (own (line.Enter name o mode) ∷ k.0, k.1 ∙ append_assoc said (own (line.Enter name o mode) ∷ []) k.0, moves.begins name o mode call release w v good h k.2)
+  entered-kept name o mode call release w said (done v ys) good h k = (
+    own (line.Enter name o mode) ∷ k.0,
+    k.1 ∙ append_assoc said (own (line.Enter name o mode) ∷ []) k.0,
+    moves.begins name o mode call release w v good h k.2,
+  )
 
-  pub begin_action_on-from : (p : Image) (name : Who) (o : ObjectNo) (mode : Mode) (call : Option CallNo) (release : Option ℕ) (w : World) → G w → May name → LetsIn name o mode w → From R w (begin_action_on p name o mode call release)
+  pub begin_action_on-from : (p : Image) (name : Who) (o : ObjectNo) (mode : Mode) (call : Option CallNo) (release : Option ℕ) (w : World) → G w → May name
+      → LetsIn name o mode w → From R w (begin_action_on p name o mode call release)
   unfolding begin_action_on From
   begin_action_on-from p name o mode call release w good may h said =
       let v = open_action name o mode w in
-      entered-kept name o mode call release w said (inherit_running p name (inherited_by.Ceiling o) (ceiling_of (object_of v o)) v (said ++ own (line.Enter name o mode) ∷ [])) good h
-      (keeps-from (chains moves) (inherit_running p name (inherited_by.Ceiling o) (ceiling_of (object_of v o))) v (moves.inside name o mode w good) (inherit_running-keeps moves p name (inherited_by.Ceiling o) (ceiling_of (object_of v o)) may) (said ++ own (line.Enter name o mode) ∷ []))
+      entered-kept name o mode call release w said
+      (inherit_running p name (inherited_by.Ceiling o) (ceiling_of (object_of v o)) v (said ++ own (line.Enter name o mode) ∷ [])) good h
+      (keeps-from (chains moves) (inherit_running p name (inherited_by.Ceiling o) (ceiling_of (object_of v o))) v (moves.inside name o mode w good)
+      (inherit_running-keeps moves p name (inherited_by.Ceiling o) (ceiling_of (object_of v o)) may) (said ++ own (line.Enter name o mode) ∷ []))
 
-  pub edit_top_protected-alters : (name : Who) (f : ProtectedMark → ProtectedMark) → ((m : ProtectedMark) → (f m).release ≡ m.release) → ((m : ProtectedMark) → (f m).object ≡ m.object) → Alters G R (edit_top_protected name f)
-  edit_top_protected-alters name f same alike = edit_top-alters moves name (λ x. with_mark (edit_protected f x.mark) x) (λ x. protected-nature f same alike x.mark) (λ x. refl)
+  pub edit_top_protected-alters : (name : Who) (f : ProtectedMark → ProtectedMark) → ((m : ProtectedMark) → (f m).release ≡ m.release)
+      → ((m : ProtectedMark) → (f m).object ≡ m.object) → Alters G R (edit_top_protected name f)
+  edit_top_protected-alters name f same alike =
+      edit_top-alters moves name (λ x. with_mark (edit_protected f x.mark) x) (λ x. protected-nature f same alike x.mark) (λ x. refl)
 
   pub begin_call-keeps : (p : Image) (part : Part) (name : Who) (c : Call) → Keeps G R (begin_call p part name c)
   unfolding begin_call
   begin_call-keeps p part name c = search (changes-keeps, unqueued-alters, then-keeps, edit_call-alters, says-keeps, chains, plain_steps) depth 9
 
-module _ {G : GoodWorld} {May Other : Naming} {Owns : Who → RegionNo → Type 0} {R : StepRelation} {Q : MoveRelation} (moves : FineMoves G May Other R Q) (openings : Openings G May Other Owns R) where
-  pub begin_operation-from : (p : Image) (name : Who) (s : StatementNo) (f : SubprogramNo) (o : ObjectNo) (h : Handed) (to : ResultTo) (w : World) → G w → May name → LetsIn name o (mode_of (subprogram_of p f)) w → From R w (begin_operation p name s f o h to)
+module _ {G : GoodWorld} {May Other : Naming} {Owns : Who → RegionNo → Type 0} {R : StepRelation} {Q : MoveRelation} (moves : FineMoves G May Other R Q)
+    (openings : Openings G May Other Owns R) where
+  pub begin_operation-from : (p : Image) (name : Who) (s : StatementNo) (f : SubprogramNo) (o : ObjectNo) (h : Handed) (to : ResultTo) (w : World) → G w
+      → May name → LetsIn name o (mode_of (subprogram_of p f)) w → From R w (begin_operation p name s f o h to)
   unfolding begin_operation
   begin_operation-from p name s f o h to w good may lets =
       let onward = edit_top name (goes_on (next_of p s)) w in
-      let still : LetsIn name o (mode_of (subprogram_of p f)) onward = LetsIn-same name o (mode_of (subprogram_of p f)) w onward (edit_task-objects name (λ t. with_frames (edit_first (goes_on (next_of p s)) t.frames) t) w) lets in
+      let still : LetsIn name o (mode_of (subprogram_of p f)) onward =
+      LetsIn-same name o (mode_of (subprogram_of p f)) w onward
+      (edit_task-objects name (λ t. with_frames (edit_first (goes_on (next_of p s)) t.frames) t) w) lets in
       goes_then-from moves name (next_of p s) _ w good (λ good_onward.
       then-from (chains moves) (begin_action_on p name o (mode_of (subprogram_of p f)) None None) _ onward
       (begin_action_on-from moves p name o (mode_of (subprogram_of p f)) None None onward good_onward may still)
       (search (looks-keeps, changes-keeps, open_scope-alters, chains) depth 7))
 
-  pub call_operation_of-keeps : (p : Image) (name : Who) (s : StatementNo) (f : SubprogramNo) (actuals : List Actual) (to : Destination) (o : ObjectNo) → May name → Keeps G R (call_operation_of p name s f actuals to o)
+  pub call_operation_of-keeps : (p : Image) (name : Who) (s : StatementNo) (f : SubprogramNo) (actuals : List Actual) (to : Destination) (o : ObjectNo)
+      → May name → Keeps G R (call_operation_of p name s f actuals to o)
   unfolding call_operation_of
-  call_operation_of-keeps p name s f actuals to o may = search (looks-keeps, raise_if-keeps, with_room-keeps, handing-keeps, where_let_inside-keeps, begin_operation-from, chains, plain_steps) depth 11
+  call_operation_of-keeps p name s f actuals to o may =
+      search (looks-keeps, raise_if-keeps, with_room-keeps, handing-keeps, where_let_inside-keeps, begin_operation-from, chains, plain_steps) depth 11
 
-  pub call_operation-keeps : (p : Image) (name : Who) (s : StatementNo) (d : DeclNo) (f : SubprogramNo) (actuals : List Actual) (to : Destination) → May name → Keeps G R (call_operation p name s d f actuals to)
+  pub call_operation-keeps : (p : Image) (name : Who) (s : StatementNo) (d : DeclNo) (f : SubprogramNo) (actuals : List Actual) (to : Destination) → May name
+      → Keeps G R (call_operation p name s d f actuals to)
   unfolding call_operation
   call_operation-keeps p name s d f actuals to may = search (sees-keeps, given-keeps, call_operation_of-keeps, chains, plain_steps) depth 8
 
-  pub begin_own_operation-keeps : (p : Image) (name : Who) (s : StatementNo) (f : SubprogramNo) (o : Option ObjectNo) (h : Handed) (to : ResultTo) → May name → Keeps G R (begin_own_operation p name s f o h to)
+  pub begin_own_operation-keeps : (p : Image) (name : Who) (s : StatementNo) (f : SubprogramNo) (o : Option ObjectNo) (h : Handed) (to : ResultTo) → May name
+      → Keeps G R (begin_own_operation p name s f o h to)
   unfolding begin_own_operation
   begin_own_operation-keeps p name s f None h to may = search (raises-keeps, plain_steps)
   begin_own_operation-keeps p name s f (Some o) h to may = search (looks-keeps, begin_body-keeps, chains)
 
-  pub call_own_operation-keeps : (p : Image) (name : Who) (s : StatementNo) (f : SubprogramNo) (actuals : List Actual) (to : Destination) → May name → Keeps G R (call_own_operation p name s f actuals to)
+  pub call_own_operation-keeps : (p : Image) (name : Who) (s : StatementNo) (f : SubprogramNo) (actuals : List Actual) (to : Destination) → May name
+      → Keeps G R (call_own_operation p name s f actuals to)
   unfolding call_own_operation
   call_own_operation-keeps p name s f actuals to may = search (with_room-keeps, handing-keeps, sees-keeps, begin_own_operation-keeps, chains, plain_steps)
 
@@ -133,5 +161,11 @@ module _ {G : GoodWorld} {May Other : Naming} {Owns : Who → RegionNo → Type 
   unfolding body_opens
   body_opens-keeps p name o c may = search (changes-keeps, edit_top_protected-alters, then-keeps, looks-keeps, open_scope-alters, chains) depth 7
 
-  pub serve_call-keeps : (p : Image) (part : Part) (name : Who) (o : ObjectNo) (c : Call) (then_ otherwise : Step) → May name → Keeps G R then_ → Keeps G R otherwise → Keeps G R (serve_call p part name o c then_ otherwise)
-  serve_call-keeps p part name o c then_ otherwise may kept also_kept = looks-keeps (chains moves) _ (λ w. then-keeps (chains moves) (begin_call p part name c) _ (search (begin_call-keeps)) (branch-keeps (chains moves) (has_room_for_body p w name c.entry) (body_opens p name o c ▷ then_) (says part (line.Finish name c.number (meeting.Raised exception.Storage)) ▷ otherwise) (search (body_opens-keeps, then-keeps, chains)) (search (says-keeps, then-keeps, chains))))
+  pub serve_call-keeps : (p : Image) (part : Part) (name : Who) (o : ObjectNo) (c : Call) (then_ otherwise : Step) → May name → Keeps G R then_
+      → Keeps G R otherwise → Keeps G R (serve_call p part name o c then_ otherwise)
+  serve_call-keeps p part name o c then_ otherwise may kept also_kept =
+      looks-keeps (chains moves) _
+      (λ w. then-keeps (chains moves) (begin_call p part name c) _ (search (begin_call-keeps))
+      (branch-keeps (chains moves) (has_room_for_body p w name c.entry) (body_opens p name o c ▷ then_)
+      (says part (line.Finish name c.number (meeting.Raised exception.Storage)) ▷ otherwise) (search (body_opens-keeps, then-keeps, chains))
+      (search (says-keeps, then-keeps, chains))))

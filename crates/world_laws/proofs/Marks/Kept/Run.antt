@@ -19,7 +19,8 @@ use Rattle.profile_machine.specs.Steps.{rests}
 use Rattle.profile_machine.specs.Tasks.{task_of, with_ticks}
 use Rattle.profile_machine.specs.Cost.{cost}
 use Rattle.profile_machine.specs.Handlers.{charge}
-use Rattle.profile_machine.specs.Run.{opens, say, silently, says_run, with_serving, serve_if_free, serve, begin_action, one_tick_less, spend_tick, says_idle, environment}
+use Rattle.profile_machine.specs.Run.{opens, say, silently, says_run, with_serving, serve_if_free, serve}
+use Rattle.profile_machine.specs.Run.{begin_action, one_tick_less, spend_tick, says_idle, environment}
 use Rattle.machine_laws.proofs.Moves.{StepRelation, MoveRelation}
 use Rattle.machine_laws.specs.LineKinds.{is_of_tock}
 use Rattle.world_laws.proofs.Marks.Kept.Dispatching.{to_tail-keeps}
@@ -47,11 +48,14 @@ module _ {G : GoodWorld} {R : StepRelation} {Q : MoveRelation} (moves : RegionMo
 
   begin_action-alters : (p : Image) (name : Who) → Alters G R (begin_action p name)
   unfolding Alters
-  begin_action-alters p name w good = moves.fine.edits_task name (with_ticks (Some (unwrap_or (task_of w name).ticks_left (cost p w name)))) w good (λ t. refl) (λ t. refl) (λ t. refl) (λ t. refl)
+  begin_action-alters p name w good =
+      moves.fine.edits_task name (with_ticks (Some (unwrap_or (task_of w name).ticks_left (cost p w name)))) w good (λ t. refl) (λ t. refl) (λ t. refl)
+      (λ t. refl)
 
   spend_tick-alters : (name : Who) → Alters G R (spend_tick name)
   unfolding Alters
-  spend_tick-alters name w good = moves.fine.edits_task name (λ t. with_ticks (one_tick_less t.ticks_left) t) w good (λ t. refl) (λ t. refl) (λ t. refl) (λ t. refl)
+  spend_tick-alters name w good =
+      moves.fine.edits_task name (λ t. with_ticks (one_tick_less t.ticks_left) t) w good (λ t. refl) (λ t. refl) (λ t. refl) (λ t. refl)
 
   silently-leads : (f : World → World) → Alters G R f → Leads G Q (silently f)
   unfolding Leads Alters
@@ -75,7 +79,9 @@ module _ {G : GoodWorld} {R : StepRelation} {Q : MoveRelation} (moves : RegionMo
     says_idle-leads None w good = moves.fine.rests w good
     says_idle-leads (Some name) w good = say-leads line.Idle refl w good
 
-    serve_if_free-leads : (serving : Option Release) (frames : List Frame) (releases : List Release) (w : World) → G w → w.releases ≡ releases → let done = serve_if_free serving frames releases w in Q w done.1 done.0
+    serve_if_free-leads : (serving : Option Release) (frames : List Frame) (releases : List Release) (w : World) → G w → w.releases ≡ releases →
+        let done = serve_if_free serving frames releases w in
+        Q w done.1 done.0
     serve_if_free-leads None [] [] w good a = moves.fine.rests w good
     serve_if_free-leads None [] (r ∷ rest) w good a =
         let v = with_serving r rest w in
@@ -95,4 +101,5 @@ module _ {G : GoodWorld} {R : StepRelation} {Q : MoveRelation} (moves : RegionMo
         then-leads (move_chains moves.fine) _ _ (watches-leads (move_chains moves.fine) _ (λ w. says_run-leads name w.ran))
         (then-leads (move_chains moves.fine) _ _ (serve-leads name)
         (then-leads (move_chains moves.fine) _ _ (silently-leads (begin_action p name) (begin_action-alters p name))
-        (then-leads (move_chains moves.fine) _ _ (silently-leads (charge p name) (charge-alters moves.fine p name)) (silently-leads (spend_tick name) (spend_tick-alters name)))))
+        (then-leads (move_chains moves.fine) _ _ (silently-leads (charge p name) (charge-alters moves.fine p name))
+        (silently-leads (spend_tick name) (spend_tick-alters name)))))

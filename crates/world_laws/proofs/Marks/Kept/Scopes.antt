@@ -21,6 +21,7 @@ module _ {G : GoodWorld} {May Other : Naming} {R : StepRelation} {Q : MoveRelati
   end_scope-alters id w good = moves.ends_scope id w good
 
 module _ {G : GoodWorld} {May Other : Naming} {Owns : Who → RegionNo → Type 0} {R : StepRelation} (openings : Openings G May Other Owns R) where
-  pub open_scope-alters : (p : Image) (name : Who) (scope : ScopeNo) (b : Beginning) (purpose : Purpose) → May name → is_task_scope purpose ≡ false → Alters G R (open_scope p name scope b purpose)
+  pub open_scope-alters : (p : Image) (name : Who) (scope : ScopeNo) (b : Beginning) (purpose : Purpose) → May name → is_task_scope purpose ≡ false
+      → Alters G R (open_scope p name scope b purpose)
   unfolding Alters
   open_scope-alters p name scope b purpose may within w good = openings.opens_scope p name scope b purpose w good may within

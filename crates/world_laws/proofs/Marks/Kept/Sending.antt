@@ -14,7 +14,9 @@ use Rattle.profile_machine.specs.declared.world.lines.Part.{Part}
 use Rattle.profile_machine.specs.Steps.{changes}
 use Rattle.profile_machine.specs.Appointments.{appoint}
 use Rattle.profile_machine.specs.Calls.{call_of}
-use Rattle.profile_machine.specs.Sending.{open_abortable, is_not_future, is_conditional, is_to_be_cancelled, cancel_at_once, appoint_timeout, wait_for_call, wait_or_cancel, not_accepted, send_on, cancel_sent, begin_abortable, timeout_again, sent_not_begun_by, sent_not_begun, new_abortable_mark, abortable_in, may_time_out}
+use Rattle.profile_machine.specs.Sending.{open_abortable, is_not_future, is_conditional, is_to_be_cancelled, cancel_at_once, appoint_timeout}
+use Rattle.profile_machine.specs.Sending.{wait_for_call, wait_or_cancel, not_accepted, send_on, cancel_sent, begin_abortable, timeout_again}
+use Rattle.profile_machine.specs.Sending.{sent_not_begun_by, sent_not_begun, new_abortable_mark, abortable_in, may_time_out}
 use Rattle.machine_laws.proofs.Moves.{StepRelation, MoveRelation}
 use Rattle.world_laws.proofs.Marks.FineMoves.{FineMoves, chains, says-keeps}
 use Rattle.world_laws.proofs.Marks.Kept.Dispatching.{ready-keeps, block-keeps}
@@ -23,7 +25,8 @@ use Rattle.profile_image.specs.Program.{form_of}
 use Rattle.profile_machine.specs.Frames.{new_frame}
 use Rattle.machine_laws.proofs.FineMoves.{GoodWorld, Naming}
 use Rattle.machine_laws.proofs.Kept.Sending.{last_is_false}
-use Rattle.machine_laws.proofs.Kept.Combinators.{Alters, From, Keeps, changes-from, changes-keeps, keeps-from, looks-from, looks-keeps, nothing-keeps, then-from, then-keeps, unchanged-alters, when-keeps}
+use Rattle.machine_laws.proofs.Kept.Combinators.{Alters, From, Keeps, changes-from, changes-keeps, keeps-from, looks-from}
+use Rattle.machine_laws.proofs.Kept.Combinators.{looks-keeps, nothing-keeps, then-from, then-keeps, unchanged-alters, when-keeps}
 use Rattle.machine_laws.proofs.Plain.Calls.{edit_call-alters, with_call-keeps, says_call-keeps, unqueued-alters, attempt_with-keeps}
 use Rattle.machine_laws.proofs.Plain.Results.{resume-keeps}
 use Rattle.world_laws.proofs.Marks.Kept.Frames.{plain_steps}
@@ -32,30 +35,37 @@ use Rattle.machine_laws.proofs.Plain.PlainSteps.{anybody}
 -- of a test that fails, unless the first part is why
 
 module _ {G : GoodWorld} {May Other : Naming} {R : StepRelation} {Q : MoveRelation} (moves : FineMoves G May Other R Q) where
-  pub open_abortable-alters : (p : Image) (name : Who) (select : StatementNo) (call : CallNo) → Other name → Alters G R (open_abortable p name select (Some call))
+  pub open_abortable-alters : (p : Image) (name : Who) (select : StatementNo) (call : CallNo) → Other name
+      → Alters G R (open_abortable p name select (Some call))
   unfolding Alters
-  open_abortable-alters p name select call other w good = moves.opens_abortable name (new_frame (new_abortable_mark select (Some call)) (abortable_in (form_of p select))) w good other refl refl refl refl
+  open_abortable-alters p name select call other w good =
+      moves.opens_abortable name (new_frame (new_abortable_mark select (Some call)) (abortable_in (form_of p select))) w good other refl refl refl refl
 
   pub cancel_at_once-keeps : (p : Image) (part : Part) (c : Call) → Keeps G R (cancel_at_once p part c)
   unfolding cancel_at_once
   cancel_at_once-keeps p part c = search (attempt_with-keeps, resume-keeps, nothing-keeps, chains, plain_steps, anybody)
 
-  appoint_timeout-from : (p : Image) (c : CallNo) (moment : Option ℤ) (w : World) → G w → is_not_future w.time moment ≡ false → From R w (changes (appoint_timeout p c moment))
-  appoint_timeout-from p c None w good later = keeps-from (chains moves) (changes (λ v. v)) w good (changes-keeps (chains moves) (λ v. v) (unchanged-alters (chains moves)))
-  appoint_timeout-from p c (Some moment) w good later = changes-from (chains moves) (appoint_timeout p c (Some moment)) w (timed (may_time_out p w (call_of w c))) where
-    timed : (may : Bool) → R w [] (cond may (appoint (due_for.Timeout c) moment w) w)
-    timed true = moves.appoints (due_for.Timeout c) moment w good refl
-    timed false = moves.stays w good
+  appoint_timeout-from : (p : Image) (c : CallNo) (moment : Option ℤ) (w : World) → G w → is_not_future w.time moment ≡ false
+      → From R w (changes (appoint_timeout p c moment))
+  appoint_timeout-from p c None w good later =
+      keeps-from (chains moves) (changes (λ v. v)) w good (changes-keeps (chains moves) (λ v. v) (unchanged-alters (chains moves)))
+  appoint_timeout-from p c (Some moment) w good later =
+      changes-from (chains moves) (appoint_timeout p c (Some moment)) w (timed (may_time_out p w (call_of w c))) where
+        timed : (may : Bool) → R w [] (cond may (appoint (due_for.Timeout c) moment w) w)
+        timed true = moves.appoints (due_for.Timeout c) moment w good refl
+        timed false = moves.stays w good
 
   pub wait_for_call-keeps : (c : Call) → Keeps G R (wait_for_call c)
   unfolding wait_for_call
   wait_for_call-keeps c = search (block-keeps, moves.task_other)
 
-  wait_or_cancel-from : (p : Image) (part : Part) (c : Call) (test : Bool) (w : World) → G w → is_not_future w.time c.moment ≡ test → From R w (wait_or_cancel p part c test)
+  wait_or_cancel-from : (p : Image) (part : Part) (c : Call) (test : Bool) (w : World) → G w → is_not_future w.time c.moment ≡ test
+      → From R w (wait_or_cancel p part c test)
   unfolding wait_or_cancel
   wait_or_cancel-from p part c true w good is = keeps-from (chains moves) (cancel_at_once p part c) w good (cancel_at_once-keeps p part c)
   wait_or_cancel-from p part c false w good is =
-      then-from (chains moves) (changes (appoint_timeout p c.number c.moment)) (wait_for_call c) w (appoint_timeout-from p c.number c.moment w good is) (wait_for_call-keeps c)
+      then-from (chains moves) (changes (appoint_timeout p c.number c.moment)) (wait_for_call c) w (appoint_timeout-from p c.number c.moment w good is)
+      (wait_for_call-keeps c)
 
   pub not_accepted-keeps : (p : Image) (part : Part) (c : Call) (kind : CallKind) → Keeps G R (not_accepted p part c kind)
   unfolding not_accepted
@@ -74,10 +84,14 @@ module _ {G : GoodWorld} {May Other : Naming} {R : StepRelation} {Q : MoveRelati
 
   pub begin_abortable-keeps : (p : Image) (c : CallNo) → Keeps G R (begin_abortable p c)
   unfolding begin_abortable
-  begin_abortable-keeps p c = search (with_call-keeps, looks-keeps, when-keeps, changes-keeps, open_abortable-alters, then-keeps, ready-keeps, moves.task_other, chains, plain_steps) depth 10
+  begin_abortable-keeps p c =
+      search
+      (with_call-keeps, looks-keeps, when-keeps, changes-keeps, open_abortable-alters, then-keeps, ready-keeps, moves.task_other, chains, plain_steps) depth 10
 
-  unless_firm-from : (p : Image) (firm : Bool) (c : Call) (w : World) → G w → (firm ≡ false → is_not_future w.time c.moment ≡ false) → From R w (changes (cond firm (λ v. v) (appoint_timeout p c.number c.moment)))
-  unless_firm-from p true c w good later = keeps-from (chains moves) (changes (λ v. v)) w good (changes-keeps (chains moves) (λ v. v) (unchanged-alters (chains moves)))
+  unless_firm-from : (p : Image) (firm : Bool) (c : Call) (w : World) → G w → (firm ≡ false → is_not_future w.time c.moment ≡ false)
+      → From R w (changes (cond firm (λ v. v) (appoint_timeout p c.number c.moment)))
+  unless_firm-from p true c w good later =
+      keeps-from (chains moves) (changes (λ v. v)) w good (changes-keeps (chains moves) (λ v. v) (unchanged-alters (chains moves)))
   unless_firm-from p false c w good later = appoint_timeout-from p c.number c.moment w good (later refl)
 
   sent_not_begun_by-from : (p : Image) (c : Call) (test : Bool) (w : World) → G w → is_to_be_cancelled w.time c ≡ test → From R w (sent_not_begun_by p c test)
@@ -90,4 +104,6 @@ module _ {G : GoodWorld} {May Other : Naming} {R : StepRelation} {Q : MoveRelati
 
   pub sent_not_begun-keeps : (p : Image) (c : CallNo) → Keeps G R (sent_not_begun p c)
   unfolding sent_not_begun
-  sent_not_begun-keeps p c = with_call-keeps (plain_steps moves) c _ (λ d. looks-from (chains moves) _ (λ w good. sent_not_begun_by-from p d (is_to_be_cancelled w.time d) w good refl))
+  sent_not_begun-keeps p c =
+      with_call-keeps (plain_steps moves) c _
+      (λ d. looks-from (chains moves) _ (λ w good. sent_not_begun_by-from p d (is_to_be_cancelled w.time d) w good refl))

@@ -29,7 +29,8 @@ use Rattle.profile_machine.specs.Sending.{send_on}
 use Rattle.profile_machine.specs.Unwinding.{may_unwind}
 use Rattle.line_laws.proofs.Exits.TaskEdits.{one_of-is}
 use Rattle.machine_laws.proofs.Kept.Protected.{protected-nature}
-use Rattle.line_laws.proofs.Exits.Steady.{Holds, action_on_top, Steady, says-steady, changes-steady, edit_top-spares, edit_top_protected-spares, deliver-steady, enqueue-steady, send_on-steady, settle_sent-steady, begin_call-steady}
+use Rattle.line_laws.proofs.Exits.Steady.{Holds, action_on_top, Steady, says-steady, changes-steady, edit_top-spares, edit_top_protected-spares}
+use Rattle.line_laws.proofs.Exits.Steady.{deliver-steady, enqueue-steady, send_on-steady, settle_sent-steady, begin_call-steady}
 use Rattle.profile_machine.specs.declared.world.tasks.Cause.TheVariants as inherited_by
 use Rattle.profile_machine.specs.Frames.{frames_of, edit_top, pop}
 use Rattle.profile_machine.specs.Inheritance.{lose_running}
@@ -42,7 +43,11 @@ use Rattle.profile_machine.specs.Dispatching.{block}
 use Rattle.profile_machine.specs.Steps.{Step, Done, done, goes_on_with, says, changes, looks, when, nothing, for_some, ◌▷◌}
 use Rattle.profile_machine.specs.Protected.{served_next, edit_top_protected, begin_call, body_opens, serve_call, has_room_for_body}
 use Rattle.profile_machine.specs.Values.{object_of}
-use Rattle.profile_machine.specs.Serving.{serves_nothing, is_served_now, serve_ends, end_release, close_action, wait_or_unwind, wait_for_own, resume_own, behind_action, release_object, settle_sent, begins_part, chosen_is_sent, serve_chosen, serve_next, serve_calls, go_on_by_mode, end_operation, finish_raised, finish_well, finish_call, end_entry_body, end_in_protected_by, end_in_protected, part_of_start, with_body_left, no_longer_serves, not_left, outcome_by, is_own_call, may_open_abortable}
+use Rattle.profile_machine.specs.Serving.{serves_nothing, is_served_now, serve_ends, end_release, close_action, wait_or_unwind}
+use Rattle.profile_machine.specs.Serving.{wait_for_own, resume_own, behind_action, release_object, settle_sent, begins_part, chosen_is_sent}
+use Rattle.profile_machine.specs.Serving.{serve_chosen, serve_next, serve_calls, go_on_by_mode, end_operation, finish_raised, finish_well}
+use Rattle.profile_machine.specs.Serving.{finish_call, end_entry_body, end_in_protected_by, end_in_protected, part_of_start, with_body_left}
+use Rattle.profile_machine.specs.Serving.{no_longer_serves, not_left, outcome_by, is_own_call, may_open_abortable}
 use Rattle.std.proofs.Common.{◌≡◌, refl, sym, subst, ap, ◌∙◌}
 use Rattle.machine_laws.proofs.Moves.{StepRelation, MoveRelation, own}
 use Rattle.world_laws.proofs.Marks.FineMoves.{RegionMoves, chains, says-keeps}
@@ -57,7 +62,8 @@ use Rattle.world_laws.proofs.Marks.Kept.Protected.{edit_top_protected-alters, be
 use Rattle.world_laws.proofs.Marks.Kept.Priorities.{set_deferred-keeps}
 use Rattle.world_laws.proofs.Marks.Kept.Sending.{open_abortable-alters, wait_for_call-keeps, send_on-keeps, begin_abortable-keeps, sent_not_begun-keeps}
 use Rattle.machine_laws.proofs.FineMoves.{GoodWorld}
-use Rattle.machine_laws.proofs.Kept.Combinators.{From, Keeps, Kept, changes-keeps, either-from, keeps-from, looks-from, looks-keeps, looks_at-from, nothing-keeps, then-from, then-keeps, then-kept, when-keeps, world_behind}
+use Rattle.machine_laws.proofs.Kept.Combinators.{From, Keeps, Kept, changes-keeps, either-from, keeps-from, looks-from, looks-keeps}
+use Rattle.machine_laws.proofs.Kept.Combinators.{looks_at-from, nothing-keeps, then-from, then-keeps, then-kept, when-keeps, world_behind}
 use Rattle.machine_laws.proofs.Plain.Frames.{pass_on-keeps}
 use Rattle.machine_laws.proofs.Plain.Calls.{forget_call-alters, with_call-keeps, enqueue-keeps, attempt_with-keeps}
 use Rattle.machine_laws.proofs.Plain.Results.{resume-keeps}
@@ -74,11 +80,14 @@ module _ {G : GoodWorld} {R : StepRelation} {Q : MoveRelation} (moves : RegionMo
   serve_ends-from : (r : Release) (n : ℕ) (w : World) → G w → w.serving ≡ Some r → n ≡ r.number → From R w (serve_ends n)
   unfolding serve_ends
   serve_ends-from r n w good is e =
-      then-from (chains moves.fine) (says Own (line.Served n) ▷ changes serves_nothing) (looks (λ v. when (is_empty v.releases) (block TheBlock who.Agent waits_for.Release))) w
+      then-from (chains moves.fine) (says Own (line.Served n) ▷ changes serves_nothing)
+      (looks (λ v. when (is_empty v.releases) (block TheBlock who.Agent waits_for.Release))) w
       (told_served-from r n w good is e)
-      (looks-keeps (chains moves.fine) _ (λ v. when-keeps (chains moves.fine) (is_empty v.releases) _ (block-keeps moves.fine TheBlock who.Agent waits_for.Release tt refl)))
+      (looks-keeps (chains moves.fine) _
+      (λ v. when-keeps (chains moves.fine) (is_empty v.releases) _ (block-keeps moves.fine TheBlock who.Agent waits_for.Release tt refl)))
 
-  end_served-from : (n : ℕ) (w : World) (serving : Option Release) (test : Bool) → G w → w.serving ≡ serving → is_served_now n serving ≡ test → From R w (when test (serve_ends n))
+  end_served-from : (n : ℕ) (w : World) (serving : Option Release) (test : Bool) → G w → w.serving ≡ serving → is_served_now n serving ≡ test
+      → From R w (when test (serve_ends n))
   end_served-from n w None true good is e = cc
   end_served-from n w (Some r) true good is e = serve_ends-from r n w good is (eqb-true n r.number e)
   end_served-from n w serving false good is e = keeps-from (chains moves.fine) nothing w good (nothing-keeps (chains moves.fine))
@@ -95,11 +104,13 @@ module _ {G : GoodWorld} {R : StepRelation} {Q : MoveRelation} (moves : RegionMo
   Held me o w = G w × Holds action_on_top me o w
 
   -- a step that leaves it there, and what is done behind it
-  kept_then : (me : Who) (o : ObjectNo) (g : Step) (w : World) (said : List Said) (d : Done) → Kept R w said d → Holds action_on_top me o (world_behind d) → ((v : World) → Held me o v → From R v g) → Kept R w said (goes_on_with g d)
+  kept_then : (me : Who) (o : ObjectNo) (g : Step) (w : World) (said : List Said) (d : Done) → Kept R w said d → Holds action_on_top me o (world_behind d)
+      → ((v : World) → Held me o v → From R v g) → Kept R w said (goes_on_with g d)
   unfolding From Kept
   kept_then me o g w said (done v ys) a h k = then-kept (chains moves.fine) w v said ys (g v ys) a (k v (moves.fine.behind w v a.2, h) ys)
 
-  step_then : (me : Who) (o : ObjectNo) (f g : Step) (w : World) → Held me o w → Keeps G R f → Steady action_on_top me o f → ((v : World) → Held me o v → From R v g) → From R w (f ▷ g)
+  step_then : (me : Who) (o : ObjectNo) (f g : Step) (w : World) → Held me o w → Keeps G R f → Steady action_on_top me o f
+      → ((v : World) → Held me o v → From R v g) → From R w (f ▷ g)
   unfolding From Keeps Steady
   step_then me o f g w h a b k said = kept_then me o g w said (f w said) (a w h.0 said) (b w h.1 said) k
 
@@ -110,15 +121,23 @@ module _ {G : GoodWorld} {R : StepRelation} {Q : MoveRelation} (moves : RegionMo
   call_then : (me : Who) (o : ObjectNo) (c : CallNo) (f : Call → Step) (w : World) → Held me o w → ((d : Call) → From R w (f d)) → From R w (with_call c f)
   call_then me o c f w h k = looks_at-from (chains moves.fine) (λ v. for_some (call_of v c) f) w (some_from (call_of w c) f w h.0 k)
 
-  told_exit-from : (name : Who) (m : ProtectedMark) (w : World) → Held name m.object w → From R w (says Own (line.Exit name m.object) ▷ changes (pop name) ▷ changes (close_action name m.object))
+  told_exit-from : (name : Who) (m : ProtectedMark) (w : World) → Held name m.object w
+      → From R w (says Own (line.Exit name m.object) ▷ changes (pop name) ▷ changes (close_action name m.object))
   unfolding From Kept
-  told_exit-from name m w h said =
-      (own (line.Exit name m.object) ∷ [], refl, moves.exits.exits name m w h.0 tt (sym (ap (λ (t : Task). action_first (natures t.frames)) (one_of-is w name)) ∙ h.1.0) (subst (λ (t : Task). FreeIn name t.state) (one_of-is w name) h.1.1))
+  told_exit-from name m w h said = (
+    own (line.Exit name m.object) ∷ [],
+    refl,
+    moves.exits.exits name m w h.0 tt (sym (ap (λ (t : Task). action_first (natures t.frames)) (one_of-is w name)) ∙ h.1.0)
+        (subst (λ (t : Task). FreeIn name t.state) (one_of-is w name) h.1.1),
+  )
 
   wait_or_unwind-keeps : (p : Image) (name : Who) (c : Call) (test : Bool) → Keeps G R (wait_or_unwind p name c test)
   unfolding wait_or_unwind
   wait_or_unwind-keeps p name c true =
-      attempt_with-keeps (plain_steps moves.fine) p Own c _ _ (then-keeps (chains moves.fine) _ _ (changes-keeps (chains moves.fine) _ (forget_call-alters (plain_steps moves.fine) c.number)) (leaves-keeps moves.fine name how.Abort)) (wait_for_call-keeps moves.fine c)
+      attempt_with-keeps (plain_steps moves.fine) p Own c _ _
+      (then-keeps (chains moves.fine) _ _ (changes-keeps (chains moves.fine) _ (forget_call-alters (plain_steps moves.fine) c.number))
+      (leaves-keeps moves.fine name how.Abort))
+      (wait_for_call-keeps moves.fine c)
   wait_or_unwind-keeps p name c false = wait_for_call-keeps moves.fine c
 
   wait_for_own-keeps : (p : Image) (name : Who) (c : Call) (test : Bool) → Keeps G R (wait_for_own p name c test)
@@ -140,7 +159,8 @@ module _ {G : GoodWorld} {R : StepRelation} {Q : MoveRelation} (moves : RegionMo
   release_object-from : (p : Image) (name : Who) (m : ProtectedMark) (w : World) → Held name m.object w → From R w (release_object p name m)
   unfolding release_object
   release_object-from p name m w h =
-      then-from (chains moves.fine) (says Own (line.Exit name m.object) ▷ changes (pop name) ▷ changes (close_action name m.object)) (lose_running p name (inherited_by.Ceiling m.object) ▷ set_deferred p name ▷ behind_action p name m m.release m.own_call) w
+      then-from (chains moves.fine) (says Own (line.Exit name m.object) ▷ changes (pop name) ▷ changes (close_action name m.object))
+      (lose_running p name (inherited_by.Ceiling m.object) ▷ set_deferred p name ▷ behind_action p name m m.release m.own_call) w
       (told_exit-from name m w h)
       (then-keeps (chains moves.fine) _ _ (lose_running-keeps moves.fine p name (inherited_by.Ceiling m.object) tt)
       (then-keeps (chains moves.fine) _ _ (set_deferred-keeps moves.fine p name tt) (behind_action-keeps p name m m.release m.own_call)))
@@ -158,20 +178,33 @@ module _ {G : GoodWorld} {R : StepRelation} {Q : MoveRelation} (moves : RegionMo
 
   -- queued calls are served, and then the object is released
   module _ (p : Image) (name : Who) (m : ProtectedMark) where
-    served-from : (is_sent : Bool) (c : CallNo) (d : Call) (again : Step) (w : World) → ((v : World) → Held name m.object v → From R v again) → Held name m.object w
-        → From R w (serve_call p (part_of_start is_sent) name m.object d (begins_part p is_sent c) (deliver p (part_of_start is_sent) c (call_ended.ToRaise exception.Storage) ▷ again))
+    served-from : (is_sent : Bool) (c : CallNo) (d : Call) (again : Step) (w : World) → ((v : World) → Held name m.object v → From R v again)
+        → Held name m.object w
+        → From R w (serve_call p (part_of_start is_sent) name m.object d (begins_part p is_sent c)
+        (deliver p (part_of_start is_sent) c (call_ended.ToRaise exception.Storage) ▷ again))
     served-from is_sent c d again w onward h =
         let part = part_of_start is_sent in
         let otherwise = deliver p part c (call_ended.ToRaise exception.Storage) ▷ again in
-        let by_room = λ (b : Bool). elim b as (λ _. Step) [ true ↦ body_opens p name m.object d ▷ begins_part p is_sent c | false ↦ says part (line.Finish name d.number (meeting.Raised exception.Storage)) ▷ otherwise ] in
+        let by_room =
+        λ (b : Bool). elim b as (λ _. Step) [
+          | true ↦ body_opens p name m.object d ▷ begins_part p is_sent c
+          | false ↦ says part (line.Finish name d.number (meeting.Raised exception.Storage)) ▷ otherwise
+        ] in
         looks_at-from (chains moves.fine) (λ v. begin_call p part name d ▷ by_room (has_room_for_body p v name d.entry)) w
-        (step_then name m.object (begin_call p part name d) (by_room (has_room_for_body p w name d.entry)) w h (begin_call-keeps moves.fine p part name d) (begin_call-steady action_on_top name m.object p part name d)
-        (λ v k. either-from (chains moves.fine) (has_room_for_body p w name d.entry) (body_opens p name m.object d ▷ begins_part p is_sent c) (says part (line.Finish name d.number (meeting.Raised exception.Storage)) ▷ otherwise) v
-        (keeps-from (chains moves.fine) _ v k.0 (then-keeps (chains moves.fine) _ _ (body_opens-keeps moves.fine moves.openings p name m.object d tt) (begins_part-keeps p is_sent c)))
-        (step_then name m.object (says part (line.Finish name d.number (meeting.Raised exception.Storage))) otherwise v k (says-keeps moves.fine part (line.Finish name d.number (meeting.Raised exception.Storage)) refl) (says-steady action_on_top name m.object part _)
-        (λ u l. step_then name m.object (deliver p part c (call_ended.ToRaise exception.Storage)) again u l (deliver-keeps moves.fine p part c (call_ended.ToRaise exception.Storage)) (deliver-steady action_on_top name m.object p part c (call_ended.ToRaise exception.Storage)) onward))))
+        (step_then name m.object (begin_call p part name d) (by_room (has_room_for_body p w name d.entry)) w h (begin_call-keeps moves.fine p part name d)
+        (begin_call-steady action_on_top name m.object p part name d)
+        (λ v k. either-from (chains moves.fine) (has_room_for_body p w name d.entry) (body_opens p name m.object d ▷ begins_part p is_sent c)
+        (says part (line.Finish name d.number (meeting.Raised exception.Storage)) ▷ otherwise) v
+        (keeps-from (chains moves.fine) _ v k.0
+        (then-keeps (chains moves.fine) _ _ (body_opens-keeps moves.fine moves.openings p name m.object d tt) (begins_part-keeps p is_sent c)))
+        (step_then name m.object (says part (line.Finish name d.number (meeting.Raised exception.Storage))) otherwise v k
+        (says-keeps moves.fine part (line.Finish name d.number (meeting.Raised exception.Storage)) refl) (says-steady action_on_top name m.object part _)
+        (λ u l. step_then name m.object (deliver p part c (call_ended.ToRaise exception.Storage)) again u l
+        (deliver-keeps moves.fine p part c (call_ended.ToRaise exception.Storage))
+        (deliver-steady action_on_top name m.object p part c (call_ended.ToRaise exception.Storage)) onward))))
 
-    serve_chosen-from : (is_sent : Bool) (again : Step) (chosen : Option CallNo) (w : World) → ((v : World) → Held name m.object v → From R v again) → Held name m.object w → From R w (serve_chosen p name m is_sent again chosen)
+    serve_chosen-from : (is_sent : Bool) (again : Step) (chosen : Option CallNo) (w : World) → ((v : World) → Held name m.object v → From R v again)
+        → Held name m.object w → From R w (serve_chosen p name m is_sent again chosen)
     serve_chosen-from is_sent again None w onward h = release_object-from p name m w h
     serve_chosen-from is_sent again (Some c) w onward h = call_then name m.object c _ w h (λ d. served-from is_sent c d again w onward h)
 
@@ -180,13 +213,17 @@ module _ {G : GoodWorld} {R : StepRelation} {Q : MoveRelation} (moves : RegionMo
     serve_next-from zero sent w h = release_object-from p name m w h
     serve_next-from (suc fuel) sent w h =
         let chosen = λ (v : World). served_next p v name (object_of v m.object) in
-        looks_at-from (chains moves.fine) (λ v. settle_sent p sent (chosen_is_sent sent (chosen v)) ▷ serve_chosen p name m (chosen_is_sent sent (chosen v)) (serve_next fuel p name m None) (chosen v)) w
-        (step_then name m.object (settle_sent p sent (chosen_is_sent sent (chosen w))) _ w h (settle_sent-keeps p sent (chosen_is_sent sent (chosen w))) (settle_sent-steady action_on_top name m.object p sent (chosen_is_sent sent (chosen w)))
+        looks_at-from (chains moves.fine)
+        (λ v. settle_sent p sent (chosen_is_sent sent (chosen v))
+        ▷ serve_chosen p name m (chosen_is_sent sent (chosen v)) (serve_next fuel p name m None) (chosen v)) w
+        (step_then name m.object (settle_sent p sent (chosen_is_sent sent (chosen w))) _ w h (settle_sent-keeps p sent (chosen_is_sent sent (chosen w)))
+        (settle_sent-steady action_on_top name m.object p sent (chosen_is_sent sent (chosen w)))
         (λ v k. serve_chosen-from (chosen_is_sent sent (chosen w)) (serve_next fuel p name m None) (chosen w) v (λ u l. serve_next-from fuel None u l) k))
 
     serve_calls-from : (sent : Option CallNo) (w : World) → Held name m.object w → From R w (serve_calls p name m sent)
     unfolding serve_calls
-    serve_calls-from sent w h = looks_at-from (chains moves.fine) (λ v. serve_next (suc (length v.calls)) p name m sent) w (serve_next-from (suc (length w.calls)) sent w h)
+    serve_calls-from sent w h =
+        looks_at-from (chains moves.fine) (λ v. serve_next (suc (length v.calls)) p name m sent) w (serve_next-from (suc (length w.calls)) sent w h)
 
     by_mode-from : (mode : Mode) (w : World) → Held name m.object w → From R w (go_on_by_mode p name m mode)
     unfolding go_on_by_mode
@@ -196,20 +233,28 @@ module _ {G : GoodWorld} {R : StepRelation} {Q : MoveRelation} (moves : RegionMo
     raised-from : (c : Call) (e : Raised) (w : World) → Held name m.object w → From R w (finish_raised p name m c e)
     unfolding finish_raised
     raised-from c e w h =
-        step_then name m.object (says TheFinish (line.Finish name c.number (meeting.Raised e))) _ w h (says-keeps moves.fine TheFinish (line.Finish name c.number (meeting.Raised e)) refl) (says-steady action_on_top name m.object TheFinish _)
-        (λ v k. step_then name m.object (deliver p TheFinish c.number (outcome_by (is_own_call name m.own_call c) e)) _ v k (deliver-keeps moves.fine p TheFinish c.number (outcome_by (is_own_call name m.own_call c) e)) (deliver-steady action_on_top name m.object p TheFinish c.number (outcome_by (is_own_call name m.own_call c) e))
+        step_then name m.object (says TheFinish (line.Finish name c.number (meeting.Raised e))) _ w h
+        (says-keeps moves.fine TheFinish (line.Finish name c.number (meeting.Raised e)) refl) (says-steady action_on_top name m.object TheFinish _)
+        (λ v k. step_then name m.object (deliver p TheFinish c.number (outcome_by (is_own_call name m.own_call c) e)) _ v k
+        (deliver-keeps moves.fine p TheFinish c.number (outcome_by (is_own_call name m.own_call c) e))
+        (deliver-steady action_on_top name m.object p TheFinish c.number (outcome_by (is_own_call name m.own_call c) e))
         (λ u l. serve_calls-from None u l))
 
     well-from : (c : Call) (sending : Option Sending) (w : World) → Held name m.object w → From R w (finish_well p name m c sending)
     unfolding finish_well
     well-from c None w h =
-        step_then name m.object (says TheFinish (line.Finish name c.number meeting.Ok)) _ w h (says-keeps moves.fine TheFinish (line.Finish name c.number meeting.Ok) refl) (says-steady action_on_top name m.object TheFinish _)
-        (λ v k. step_then name m.object (deliver p TheFinish c.number call_ended.Finished) _ v k (deliver-keeps moves.fine p TheFinish c.number call_ended.Finished) (deliver-steady action_on_top name m.object p TheFinish c.number call_ended.Finished)
+        step_then name m.object (says TheFinish (line.Finish name c.number meeting.Ok)) _ w h
+        (says-keeps moves.fine TheFinish (line.Finish name c.number meeting.Ok) refl) (says-steady action_on_top name m.object TheFinish _)
+        (λ v k. step_then name m.object (deliver p TheFinish c.number call_ended.Finished) _ v k
+        (deliver-keeps moves.fine p TheFinish c.number call_ended.Finished)
+        (deliver-steady action_on_top name m.object p TheFinish c.number call_ended.Finished)
         (λ u l. serve_calls-from None u l))
     well-from c (Some s) w h =
-        step_then name m.object (says TheFinish (line.Finish name c.number meeting.Requeue)) _ w h (says-keeps moves.fine TheFinish (line.Finish name c.number meeting.Requeue) refl) (says-steady action_on_top name m.object TheFinish _)
+        step_then name m.object (says TheFinish (line.Finish name c.number meeting.Requeue)) _ w h
+        (says-keeps moves.fine TheFinish (line.Finish name c.number meeting.Requeue) refl) (says-steady action_on_top name m.object TheFinish _)
         (λ v k. step_then name m.object (send_on c.number s) _ v k (send_on-keeps moves.fine c.number s) (send_on-steady action_on_top name m.object c.number s)
-        (λ u l. step_then name m.object (enqueue p c.number) _ u l (enqueue-keeps (plain_steps moves.fine) p c.number) (enqueue-steady action_on_top name m.object p c.number)
+        (λ u l. step_then name m.object (enqueue p c.number) _ u l (enqueue-keeps (plain_steps moves.fine) p c.number)
+        (enqueue-steady action_on_top name m.object p c.number)
         (λ t n. serve_calls-from (Some c.number) t n)))
 
     finish-from : (leaving : Leaving) (c : Call) (w : World) → Held name m.object w → From R w (finish_call p name m leaving c)
@@ -223,15 +268,23 @@ module _ {G : GoodWorld} {R : StepRelation} {Q : MoveRelation} (moves : RegionMo
 
   -- a body in the action has ended
   module _ (p : Image) (name : Who) (m : ProtectedMark) (leaving : Leaving) where
-    edits_then : (f : ProtectedMark → ProtectedMark) (g : Step) (w : World) → ((x : ProtectedMark) → (f x).release ≡ x.release) → ((x : ProtectedMark) → (f x).object ≡ x.object) → Held name m.object w → ((v : World) → Held name m.object v → From R v g)
+    edits_then : (f : ProtectedMark → ProtectedMark) (g : Step) (w : World) → ((x : ProtectedMark) → (f x).release ≡ x.release)
+        → ((x : ProtectedMark) → (f x).object ≡ x.object) → Held name m.object w → ((v : World) → Held name m.object v → From R v g)
         → From R w (changes (edit_top_protected name f) ▷ changes (edit_top name not_left) ▷ g)
     edits_then f g w same alike h onward =
-        step_then name m.object (changes (edit_top_protected name f)) _ w h (changes-keeps (chains moves.fine) _ (edit_top_protected-alters moves.fine name f same alike)) (changes-steady action_on_top name m.object _ (edit_top_protected-spares action_on_top name m.object name f (λ k. protected-nature f same alike (InProtected k))))
-        (λ v k. step_then name m.object (changes (edit_top name not_left)) g v k (changes-keeps (chains moves.fine) _ (edit_top-alters moves.fine name not_left (λ x. refl) (λ x. refl))) (changes-steady action_on_top name m.object _ (edit_top-spares action_on_top name m.object name not_left (λ x. refl))) onward)
+        step_then name m.object (changes (edit_top_protected name f)) _ w h
+        (changes-keeps (chains moves.fine) _ (edit_top_protected-alters moves.fine name f same alike))
+        (changes-steady action_on_top name m.object _
+        (edit_top_protected-spares action_on_top name m.object name f (λ k. protected-nature f same alike (InProtected k))))
+        (λ v k. step_then name m.object (changes (edit_top name not_left)) g v k
+        (changes-keeps (chains moves.fine) _ (edit_top-alters moves.fine name not_left (λ x. refl) (λ x. refl)))
+        (changes-steady action_on_top name m.object _ (edit_top-spares action_on_top name m.object name not_left (λ x. refl))) onward)
 
     operation-from : (w : World) → Held name m.object w → From R w (end_operation p name m leaving)
     unfolding end_operation
-    operation-from w h = edits_then (with_body_left leaving) (go_on_by_mode p name (with_body_left leaving m) m.mode) w (λ x. refl) (λ x. refl) h (λ v k. by_mode-from p name (with_body_left leaving m) m.mode v k)
+    operation-from w h =
+        edits_then (with_body_left leaving) (go_on_by_mode p name (with_body_left leaving m) m.mode) w (λ x. refl) (λ x. refl) h
+        (λ v k. by_mode-from p name (with_body_left leaving m) m.mode v k)
 
     entry_body-from : (c : CallNo) (w : World) → Held name m.object w → From R w (end_entry_body p name m leaving c)
     unfolding end_entry_body

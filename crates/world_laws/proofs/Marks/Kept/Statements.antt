@@ -29,14 +29,17 @@ use Rattle.world_laws.proofs.Marks.Kept.Dispatching.{to_tail-keeps, block-keeps}
 use Rattle.world_laws.proofs.Marks.Kept.Scopes.{open_scope-alters}
 use Rattle.world_laws.proofs.Marks.Kept.Appointments.{appoint-from}
 use Rattle.machine_laws.proofs.FineMoves.{GoodWorld, Naming}
-use Rattle.machine_laws.proofs.Kept.Combinators.{From, Keeps, changes-keeps, keeps-from, looks-from, looks-keeps, nothing-keeps, said-keeps, then-from, then-keeps}
+use Rattle.machine_laws.proofs.Kept.Combinators.{From, Keeps, changes-keeps, keeps-from, looks-from}
+use Rattle.machine_laws.proofs.Kept.Combinators.{looks-keeps, nothing-keeps, said-keeps, then-from, then-keeps}
 use Rattle.machine_laws.proofs.Plain.Frames.{raises-keeps, given-keeps, raise_if-keeps, with_room-keeps}
 
 module _ {G : GoodWorld} {May Other : Naming} {R : StepRelation} {Q : MoveRelation} (moves : FineMoves G May Other R Q) where
-  wait_until-from : (p : Image) (name : Who) (until : ℤ) (test : Bool) (w : World) → G w → int_lt (pos w.time) until ≡ test → From R w (wait_until p name until test)
+  wait_until-from : (p : Image) (name : Who) (until : ℤ) (test : Bool) (w : World) → G w → int_lt (pos w.time) until ≡ test
+      → From R w (wait_until p name until test)
   unfolding wait_until
   wait_until-from p (who.Task t) until true w good is =
-      then-from (chains moves) (changes (appoint (due_for.Delay t) until)) (block TheBlock (who.Task t) waits_for.Moment) w (appoint-from moves (due_for.Delay t) until w good refl) (search (block-keeps, moves.task_other))
+      then-from (chains moves) (changes (appoint (due_for.Delay t) until)) (block TheBlock (who.Task t) waits_for.Moment) w
+      (appoint-from moves (due_for.Delay t) until w good refl) (search (block-keeps, moves.task_other))
   wait_until-from p (who.Task t) until false w good is = keeps-from (chains moves) _ w good (search (to_tail-keeps, moves.other_may, moves.task_other))
   wait_until-from p who.Agent until future w good is = keeps-from (chains moves) _ w good (search (nothing-keeps, chains))
 
@@ -48,18 +51,23 @@ module _ {G : GoodWorld} {May Other : Naming} {R : StepRelation} {Q : MoveRelati
   unfolding delay_until
   delay_until-keeps p name s until = search (looks-keeps, raise_if-keeps, given-keeps, goes-keeps, then-keeps, delay_to-keeps, chains, plain_steps) depth 9
 
-  put_text-keeps : (p : Image) → Puts G R p → (name : Who) (s : StatementNo) (pieces : List Piece) (v : World) (text : Valued (List ℕ)) → form_of p s ≡ form.PutLine pieces → text_of_pieces (seen_by p v name) pieces ≡ text → Keeps G R (given Own name text (λ text. goes name (next_of p s) ▷ says Own (line.Put name text)))
+  put_text-keeps : (p : Image) → Puts G R p → (name : Who) (s : StatementNo) (pieces : List Piece) (v : World) (text : Valued (List ℕ))
+      → form_of p s ≡ form.PutLine pieces → text_of_pieces (seen_by p v name) pieces ≡ text
+      → Keeps G R (given Own name text (λ text. goes name (next_of p s) ▷ says Own (line.Put name text)))
   put_text-keeps p puts name s pieces v (Ok text) is e =
       then-keeps (chains moves) (goes name (next_of p s)) (says Own (line.Put name text)) (goes-keeps moves name (next_of p s))
       (said-keeps (chains moves) Own (line.Put name text) (λ w good. puts.puts name s pieces text v w good is e))
   put_text-keeps p puts name s pieces v (Err raised) is e = raises-keeps (plain_steps moves) Own name raised
 
-  pub put_line-keeps : (p : Image) → Puts G R p → (name : Who) (s : StatementNo) (pieces : List Piece) → form_of p s ≡ form.PutLine pieces → Keeps G R (put_line p name s pieces)
+  pub put_line-keeps : (p : Image) → Puts G R p → (name : Who) (s : StatementNo) (pieces : List Piece) → form_of p s ≡ form.PutLine pieces
+      → Keeps G R (put_line p name s pieces)
   unfolding put_line
   put_line-keeps p puts name s pieces is =
       looks-keeps (chains moves) _ (λ v. put_text-keeps p puts name s pieces v (text_of_pieces (seen_by p v name) pieces) is refl)
 
-module _ {G : GoodWorld} {May Other : Naming} {Owns : Who → RegionNo → Type 0} {R : StepRelation} {Q : MoveRelation} (moves : FineMoves G May Other R Q) (openings : Openings G May Other Owns R) where
+module _ {G : GoodWorld} {May Other : Naming} {Owns : Who → RegionNo → Type 0} {R : StepRelation} {Q : MoveRelation} (moves : FineMoves G May Other R Q)
+    (openings : Openings G May Other Owns R) where
   pub block_statement-keeps : (p : Image) (name : Who) (s : StatementNo) (scope : ScopeNo) → May name → Keeps G R (block_statement p name s scope)
   unfolding block_statement
-  block_statement-keeps p name s scope may = search (with_room-keeps, goes-keeps, then-keeps, looks-keeps, changes-keeps, open_scope-alters, chains, plain_steps)
+  block_statement-keeps p name s scope may =
+      search (with_room-keeps, goes-keeps, then-keeps, looks-keeps, changes-keeps, open_scope-alters, chains, plain_steps)

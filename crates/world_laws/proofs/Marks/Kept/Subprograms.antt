@@ -20,11 +20,14 @@ use Rattle.machine_laws.proofs.Kept.Combinators.{Keeps, changes-keeps, sees-keep
 use Rattle.machine_laws.proofs.Plain.Frames.{with_room-keeps}
 use Rattle.machine_laws.proofs.Plain.Subprograms.{handing-keeps}
 
-module _ {G : GoodWorld} {May Other : Naming} {Owns : Who → RegionNo → Type 0} {R : StepRelation} {Q : MoveRelation} (moves : FineMoves G May Other R Q) (openings : Openings G May Other Owns R) where
-  pub begin_body-keeps : (p : Image) (name : Who) (s : StatementNo) (f : SubprogramNo) (b : Beginning) (h : Handed) (to : ResultTo) → May name → Keeps G R (begin_body p name s f b h to)
+module _ {G : GoodWorld} {May Other : Naming} {Owns : Who → RegionNo → Type 0} {R : StepRelation} {Q : MoveRelation} (moves : FineMoves G May Other R Q)
+    (openings : Openings G May Other Owns R) where
+  pub begin_body-keeps : (p : Image) (name : Who) (s : StatementNo) (f : SubprogramNo) (b : Beginning) (h : Handed) (to : ResultTo) → May name
+      → Keeps G R (begin_body p name s f b h to)
   unfolding begin_body
   begin_body-keeps p name s f b h to may = search (goes-keeps, then-keeps, changes-keeps, open_scope-alters, chains)
 
-  pub call_subprogram-keeps : (p : Image) (name : Who) (s : StatementNo) (f : SubprogramNo) (actuals : List Actual) (to : Destination) → May name → Keeps G R (call_subprogram p name s f actuals to)
+  pub call_subprogram-keeps : (p : Image) (name : Who) (s : StatementNo) (f : SubprogramNo) (actuals : List Actual) (to : Destination) → May name
+      → Keeps G R (call_subprogram p name s f actuals to)
   unfolding call_subprogram
   call_subprogram-keeps p name s f actuals to may = search (with_room-keeps, handing-keeps, sees-keeps, begin_body-keeps, chains, plain_steps)

@@ -32,7 +32,8 @@ module _ {G : GoodWorld} {May Other : Naming} {R : StepRelation} {Q : MoveRelati
 
   pub unwind_blocked-keeps : (p : Image) (part : Part) (name : Who) (waiting : Waiting) → Other name → Keeps G R (unwind_blocked p part name waiting)
   unfolding unwind_blocked
-  unwind_blocked-keeps p part name (waits_for.Call c) other = search (attempt-keeps, changes-keeps, forget_call-alters, then-keeps, wake_and_leave-keeps, nothing-keeps, chains, plain_steps)
+  unwind_blocked-keeps p part name (waits_for.Call c) other =
+      search (attempt-keeps, changes-keeps, forget_call-alters, then-keeps, wake_and_leave-keeps, nothing-keeps, chains, plain_steps)
   unwind_blocked-keeps p part name (waits_for.EndOfCall c) other = search (nothing-keeps, chains)
   unwind_blocked-keeps p part name waits_for.Activation other = search (wake_and_leave-keeps)
   unwind_blocked-keeps p part name waits_for.Moment other = search (wake_and_leave-keeps)

@@ -5,24 +5,35 @@ use Rattle.ceiling_laws.proofs.Fine.Cores.{CallerIn}
 use Rattle.world_laws.proofs.Places.ActingMoves.{ActingMoves, Lasting, LastingOf}
 use Rattle.ceiling_laws.proofs.Fine.Kept.CallEnds.{end_top_abortable-keeps}
 use Rattle.ceiling_laws.proofs.Fine.Kept.Calls.{attempt_with-leads}
-use Rattle.ceiling_laws.proofs.Fine.Kept.Controlled.{assign_controlled-keeps, end_in_assign-keeps, end_in_finalize-keeps, end_in_initialize-keeps, initialize-keeps}
+use Rattle.ceiling_laws.proofs.Fine.Kept.Controlled.{assign_controlled-keeps, end_in_assign-keeps}
+use Rattle.ceiling_laws.proofs.Fine.Kept.Controlled.{end_in_finalize-keeps, end_in_initialize-keeps, initialize-keeps}
 use Rattle.ceiling_laws.proofs.Fine.Kept.Declarations.{declare-keeps}
 use Rattle.world_laws.proofs.Places.Kept.EntryCalls.{asynchronous_select-leads, entry_call-leads, requeue-keeps}
-use Rattle.ceiling_laws.proofs.Fine.Kept.Frames.{edit_top-alters, goes-keeps, open_if_ready-keeps, pass_on-keeps, pop-alters, raises-keeps, weakly, with_room-keeps}
-use Rattle.world_laws.proofs.Places.Kept.Handlers.{add_member-keeps, add_to_budget-keeps, call_handler-leads, cancel_budget-keeps, cancel_event-keeps, cancel_timer-keeps, remove_member-keeps, replenish-keeps, set_budget-keeps, set_event-keeps, set_timer-keeps}
-use Rattle.world_laws.proofs.Places.Kept.Priorities.{delay_and_set_deadline-leads, delay_until-leads, set_deadline_of-leads, set_priority-leads, set_quantum-keeps}
+use Rattle.ceiling_laws.proofs.Fine.Kept.Frames.{edit_top-alters, goes-keeps, open_if_ready-keeps, pass_on-keeps}
+use Rattle.ceiling_laws.proofs.Fine.Kept.Frames.{pop-alters, raises-keeps, weakly, with_room-keeps}
+use Rattle.world_laws.proofs.Places.Kept.Handlers.{add_member-keeps, add_to_budget-keeps, call_handler-leads, cancel_budget-keeps, cancel_event-keeps}
+use Rattle.world_laws.proofs.Places.Kept.Handlers.{cancel_timer-keeps, remove_member-keeps, replenish-keeps, set_budget-keeps, set_event-keeps, set_timer-keeps}
+use Rattle.world_laws.proofs.Places.Kept.Priorities.{delay_and_set_deadline-leads, delay_until-leads}
+use Rattle.world_laws.proofs.Places.Kept.Priorities.{set_deadline_of-leads, set_priority-leads, set_quantum-keeps}
 use Rattle.world_laws.proofs.Places.Kept.Protected.{call_operation-leads, call_own_operation-keeps}
 use Rattle.world_laws.proofs.Places.Kept.Rendezvous.{accept-leads, end_in_accept-keeps, goes_later, not_later, selective_accept-leads}
 use Rattle.ceiling_laws.proofs.Fine.Kept.Scopes.{drop_appointment-alters, open_scope-alters}
 use Rattle.world_laws.proofs.Places.Kept.Serving.{end_in_protected-leads}
-use Rattle.ceiling_laws.proofs.Fine.Kept.Statements.{assign-keeps, assign_array-keeps, block_statement-keeps, case_statement-keeps, exit_statement-keeps, first_turn-keeps, for_bounds-keeps, if_statement-keeps, later_turn-keeps, null-keeps, put_line-keeps, raise_again-keeps, while_turn-keeps}
+use Rattle.ceiling_laws.proofs.Fine.Kept.Statements.{assign-keeps, assign_array-keeps, block_statement-keeps, case_statement-keeps}
+use Rattle.ceiling_laws.proofs.Fine.Kept.Statements.{exit_statement-keeps, first_turn-keeps, for_bounds-keeps, if_statement-keeps}
+use Rattle.ceiling_laws.proofs.Fine.Kept.Statements.{later_turn-keeps, null-keeps, put_line-keeps, raise_again-keeps, while_turn-keeps}
 use Rattle.ceiling_laws.proofs.Fine.Kept.Subprograms.{call_subprogram-keeps, return-keeps, return_value-keeps}
-use Rattle.world_laws.proofs.Places.Kept.Tasking.{abort_statement-keeps, activate-leads, create-leads, end_own_activation-keeps, end_scope_mark-leads, take_terminates-leads, unwind_all-keeps}
+use Rattle.world_laws.proofs.Places.Kept.Tasking.{abort_statement-keeps, activate-leads, create-leads, end_own_activation-keeps}
+use Rattle.world_laws.proofs.Places.Kept.Tasking.{end_scope_mark-leads, take_terminates-leads, unwind_all-keeps}
 use Rattle.ceiling_laws.proofs.Fine.Kept.Tasks.{calls_in, edit_task-alters}
 use Rattle.ceiling_laws.proofs.Fine.LevelMoves.{Silences}
 use Rattle.world_laws.proofs.Places.Owning.{OwnCall, edit-calls}
-use Rattle.ceiling_laws.proofs.Runs.Triples.{Alters, At, Keeps, Leads, State, With, changes-keeps, changes-leads, cond-leads, for_some-leads, from-leads, from_at, looks-keeps, looks-leads, looks-with, nothing-keeps, option-leads, sees-leads, then-keeps, then-leads, to-leads, unchanged-alters}
-use Rattle.profile_machine.specs.Act.{act, act_frame, act_statement, act_top, act_without, behind_handled, below, call, call_main, drop_trigger, end_abortable_by, end_handled, end_in_abortable, end_mark, end_top, handle_or_pass, handler_for, keeping, wait_for_trigger, waiting_mark}
+use Rattle.ceiling_laws.proofs.Runs.Triples.{Alters, At, Keeps, Leads, State, With, changes-keeps, changes-leads, cond-leads}
+use Rattle.ceiling_laws.proofs.Runs.Triples.{for_some-leads, from-leads, from_at, looks-keeps, looks-leads, looks-with, nothing-keeps}
+use Rattle.ceiling_laws.proofs.Runs.Triples.{option-leads, sees-leads, then-keeps, then-leads, to-leads, unchanged-alters}
+use Rattle.profile_machine.specs.Act.{act, act_frame, act_statement, act_top, act_without, behind_handled, below, call}
+use Rattle.profile_machine.specs.Act.{call_main, drop_trigger, end_abortable_by, end_handled, end_in_abortable, end_mark}
+use Rattle.profile_machine.specs.Act.{end_top, handle_or_pass, handler_for, keeping, wait_for_trigger, waiting_mark}
 use Rattle.profile_machine.specs.Appointments.{is_trigger_of}
 use Rattle.profile_machine.specs.CallEnds.{edit_abortable}
 use Rattle.profile_machine.specs.Calls.{attempt_with, call_of, with_call}
@@ -72,7 +83,8 @@ module _ {X : State} (quiet : Silences X) where
   handle_or_pass-keeps : (p : Image) (name : Who) (e : Raised) (next : Option StatementNo) → Keeps X (handle_or_pass p name e next)
   unfolding handle_or_pass
   handle_or_pass-keeps p name e None = pass_on-keeps quiet p name (how.Exception e)
-  handle_or_pass-keeps p name e (Some first) = then-keeps _ _ (changes-keeps _ (edit_top-alters quiet name (λ f. with_mark (keeping e f.mark) f))) (goes-keeps quiet name (Some first))
+  handle_or_pass-keeps p name e (Some first) =
+      then-keeps _ _ (changes-keeps _ (edit_top-alters quiet name (λ f. with_mark (keeping e f.mark) f))) (goes-keeps quiet name (Some first))
 
   behind_handled-keeps : (p : Image) (name : Who) (s : StatementNo) (leaving : Leaving) → Keeps X (behind_handled p name s leaving)
   unfolding behind_handled
@@ -114,7 +126,8 @@ inside_by : (name : Who) (v : World) (f : Frame) → name ≡ who.Agent → top_
 inside_by (who.Task t) v f is top h = absurd cc
 inside_by who.Agent v f is top h = inside_top v.agent.frames f top h
 
-ticked_found : (name : Who) (w : World) (found : Option Task) → task_at w name ≡ found → (edit_task_found name (with_ticks None) w found).agent.frames ≡ w.agent.frames
+ticked_found : (name : Who) (w : World) (found : Option Task) → task_at w name ≡ found
+    → (edit_task_found name (with_ticks None) w found).agent.frames ≡ w.agent.frames
 ticked_found name w None is = refl
 ticked_found (who.Task n) w (Some t) is = refl
 ticked_found who.Agent w (Some t) is = let one : w.agent ≡ t = cc in ap (λ (u : Task). u.frames) (sym one)
@@ -123,10 +136,12 @@ agent-ticked : (name : Who) (w : World) → (edit_task name (with_ticks None) w)
 agent-ticked name w = ticked_found name w (task_at w name) refl
 
 -- who acts has the marks that it had
-acting_found : (name : Who) (w : World) (found : Option Task) → task_at w name ≡ found → frames_of (edit_task_found name (with_ticks None) w found) name ≡ frames_of w name
+acting_found : (name : Who) (w : World) (found : Option Task) → task_at w name ≡ found
+    → frames_of (edit_task_found name (with_ticks None) w found) name ≡ frames_of w name
 acting_found name w None is = refl
 acting_found (who.Task n) w (Some t) is =
-    ap (λ (r : Option Task). (unwrap_or r nobody).frames) (set_where-found (who.Task n) t (with_ticks None t) w.tasks is refl) ∙ sym (ap (λ (r : Option Task). (unwrap_or r nobody).frames) is)
+    ap (λ (r : Option Task). (unwrap_or r nobody).frames) (set_where-found (who.Task n) t (with_ticks None t) w.tasks is refl)
+    ∙ sym (ap (λ (r : Option Task). (unwrap_or r nobody).frames) is)
 acting_found who.Agent w (Some t) is = let one : w.agent ≡ t = cc in ap (λ (u : Task). u.frames) (sym one)
 
 acting-ticked : (name : Who) (w : World) → frames_of (edit_task name (with_ticks None) w) name ≡ frames_of w name
@@ -147,10 +162,14 @@ pub record MayAct (name : Who) (w : World) : Type 0 where
 may-ticked : (name : Who) (w : World) → MayAct name w → MayAct name (edit_task name (with_ticks None) w)
 may-ticked name w h = record {
   inside = subst InsideOrNone (sym (agent-ticked name w)) h.inside;
-  tops = subst (λ q. TopsEntered q name (frames_of (edit_task name (with_ticks None) w) name)) (sym (edit-calls name (with_ticks None) w)) (subst (TopsEntered (calls_in w) name) (sym (acting-ticked name w)) h.tops);
+  tops =
+      subst (λ q. TopsEntered q name (frames_of (edit_task name (with_ticks None) w) name)) (sym (edit-calls name (with_ticks None) w))
+      (subst (TopsEntered (calls_in w) name) (sym (acting-ticked name w)) h.tops);
 }
 
-module _ {p : Image} {actor : Who} {Fits : Fitting} {Sleeps : Sleeping} {May : Admitting} {Listed Unmade : World → Naming} {F I L W Y B D Z : State} {O V : World → State} {N : Lasting} {E : LastingOf} (acting : ActingMoves p actor Fits Sleeps May Listed Unmade F I L W Y B D Z O V N E) where
+module _ {p : Image} {actor : Who} {Fits : Fitting} {Sleeps : Sleeping} {May : Admitting} {Listed Unmade : World → Naming} {F I L W Y B D Z : State}
+    {O V : World → State} {N : Lasting} {E : LastingOf}
+    (acting : ActingMoves p actor Fits Sleeps May Listed Unmade F I L W Y B D Z O V N E) where
   -- who acts goes on, blocks, or comes to its select
   at_first : (step : Step) → Keeps F step → Leads F W step
   at_first step kept = weakly acting.fresh (not_later acting) step kept
@@ -170,7 +189,10 @@ module _ {p : Image} {actor : Who} {Fits : Fitting} {Sleeps : Sleeping} {May : A
   wait_for_trigger-leads : (c : Call) (leaving : Leaving) → Leads I Y (wait_for_trigger actor c leaving)
   unfolding wait_for_trigger
   wait_for_trigger-leads c leaving =
-      then-leads _ _ (changes-keeps _ (edit_top-alters acting.later.base.quiet actor (λ f. with_mark (edit_abortable waiting_mark f.mark) (record f { left_as = Some leaving })))) (acting.blocks (waits_for.EndOfCall c.number) refl)
+      then-leads _ _
+      (changes-keeps _
+      (edit_top-alters acting.later.base.quiet actor (λ f. with_mark (edit_abortable waiting_mark f.mark) (record f { left_as = Some leaving }))))
+      (acting.blocks (waits_for.EndOfCall c.number) refl)
 
   ends_top : Leads I Y (end_top p actor)
   ends_top = to-leads (end_top p actor) (end_top-keeps acting.later.base.quiet p actor) acting.ceases
@@ -178,9 +200,13 @@ module _ {p : Image} {actor : Who} {Fits : Fitting} {Sleeps : Sleeping} {May : A
   end_abortable_by-leads : (m : AbortableMark) (leaving : Leaving) → Leads I Y (end_abortable_by p actor m leaving)
   unfolding end_abortable_by
   end_abortable_by-leads m leaving =
-      option-leads m.call (looks (λ w. changes (drop_trigger actor (below (frames_of w actor)))) ▷ end_top p actor) (λ c. with_call c (λ d. attempt_with p Own d (end_top p actor) (wait_for_trigger actor d leaving)))
+      option-leads m.call (looks (λ w. changes (drop_trigger actor (below (frames_of w actor)))) ▷ end_top p actor)
+      (λ c. with_call c (λ d. attempt_with p Own d (end_top p actor) (wait_for_trigger actor d leaving)))
       (then-leads _ _ (looks-keeps _ (λ w. changes-keeps _ (drop_trigger-alters acting.later.base.quiet actor (below (frames_of w actor))))) ends_top)
-      (λ c. looks-leads _ (λ w. for_some-leads (call_of w c) _ acting.ceases (λ d. attempt_with-leads acting.later.base.quiet p Own d (end_top p actor) (wait_for_trigger actor d leaving) ends_top (wait_for_trigger-leads d leaving))))
+      (λ c. looks-leads _
+      (λ w. for_some-leads (call_of w c) _ acting.ceases
+      (λ d.
+      attempt_with-leads acting.later.base.quiet p Own d (end_top p actor) (wait_for_trigger actor d leaving) ends_top (wait_for_trigger-leads d leaving))))
 
   end_in_abortable-leads : (m : AbortableMark) (leaving : Leaving) → Leads I Y (end_in_abortable p actor m leaving)
   unfolding end_in_abortable
@@ -212,13 +238,17 @@ module _ {p : Image} {actor : Who} {Fits : Fitting} {Sleeps : Sleeping} {May : A
   act_statement-leads v inside s (form.Assign target e) = from_at _ (at_first _ (assign-keeps acting.fresh p actor s target e))
   act_statement-leads v inside s (form.AssignArray target source) = from_at _ (at_first _ (assign_array-keeps acting.fresh p actor s target source))
   act_statement-leads v inside s (form.AssignControlled target source) = from_at _ (at_first _ (assign_controlled-keeps acting.fresh p actor s target source))
-  act_statement-leads v inside s (form.If condition first otherwise) = from_at _ (at_first _ (if_statement-keeps acting.fresh p actor condition first otherwise))
+  act_statement-leads v inside s (form.If condition first otherwise) =
+      from_at _ (at_first _ (if_statement-keeps acting.fresh p actor condition first otherwise))
   act_statement-leads v inside s (form.Case selector alternatives) = from_at _ (at_first _ (case_statement-keeps acting.fresh p actor selector alternatives))
   act_statement-leads v inside s (form.Loop body within) = from_at _ (at_first _ (goes-keeps acting.fresh actor (Some body)))
   act_statement-leads v inside s (form.While condition body within) = from_at _ (at_first _ (while_turn-keeps acting.fresh p actor s condition body))
-  act_statement-leads v inside s (form.For parameter reverse low high turn within) = from_at _ (at_first _ (for_bounds-keeps acting.fresh p actor parameter reverse low high turn))
-  act_statement-leads v inside s (form.FirstTurn parameter reverse body) = from_at _ (at_first _ (first_turn-keeps acting.fresh p actor s parameter reverse body))
-  act_statement-leads v inside s (form.LaterTurn parameter reverse body) = from_at _ (at_first _ (later_turn-keeps acting.fresh p actor s parameter reverse body))
+  act_statement-leads v inside s (form.For parameter reverse low high turn within) =
+      from_at _ (at_first _ (for_bounds-keeps acting.fresh p actor parameter reverse low high turn))
+  act_statement-leads v inside s (form.FirstTurn parameter reverse body) =
+      from_at _ (at_first _ (first_turn-keeps acting.fresh p actor s parameter reverse body))
+  act_statement-leads v inside s (form.LaterTurn parameter reverse body) =
+      from_at _ (at_first _ (later_turn-keeps acting.fresh p actor s parameter reverse body))
   act_statement-leads v inside s (form.Exit condition of_loop) = from_at _ (at_first _ (exit_statement-keeps acting.fresh p actor s of_loop condition))
   act_statement-leads v inside s (form.Block scope) = from_at _ (at_first _ (block_statement-keeps acting.fresh p actor s scope))
   act_statement-leads v inside s form.Return = from_at _ (at_first _ (return-keeps acting.fresh actor))
@@ -237,9 +267,11 @@ module _ {p : Image} {actor : Who} {Fits : Fitting} {Sleeps : Sleeping} {May : A
   act_statement-leads v inside s (form.SelectiveAccept alternatives otherwise) = from_at _ (selective_accept-leads acting s alternatives otherwise)
   act_statement-leads v inside s (form.Abort tasks) = from_at _ (later_on _ (abort_statement-keeps acting s tasks))
   act_statement-leads v inside s (form.Requeue entry owner with_abort) = from_at _ (at_first _ (requeue-keeps acting.fresh p actor entry owner with_abort))
-  act_statement-leads v inside s (form.SetEvent event set handler) = from_at _ (later_on _ (set_event-keeps acting.later.base (acting.later.fits_own who.Agent) actor s event set handler))
+  act_statement-leads v inside s (form.SetEvent event set handler) =
+      from_at _ (later_on _ (set_event-keeps acting.later.base (acting.later.fits_own who.Agent) actor s event set handler))
   act_statement-leads v inside s (form.CancelEvent event cancelled) = from_at _ (at_first _ (cancel_event-keeps acting.fresh p actor s event cancelled))
-  act_statement-leads v inside s (form.SetTimer timer set handler) = from_at _ (later_on _ (set_timer-keeps acting.later.base (acting.later.fits_own who.Agent) actor s timer set handler))
+  act_statement-leads v inside s (form.SetTimer timer set handler) =
+      from_at _ (later_on _ (set_timer-keeps acting.later.base (acting.later.fits_own who.Agent) actor s timer set handler))
   act_statement-leads v inside s (form.CancelTimer timer cancelled) = from_at _ (at_first _ (cancel_timer-keeps acting.fresh p actor s timer cancelled))
   act_statement-leads v inside s (form.AddTask budget task) = from_at _ (at_first _ (add_member-keeps acting.fresh p actor s budget task))
   act_statement-leads v inside s (form.RemoveTask budget task) = from_at _ (at_first _ (remove_member-keeps acting.fresh p actor s budget task))
@@ -252,19 +284,23 @@ module _ {p : Image} {actor : Who} {Fits : Fitting} {Sleeps : Sleeping} {May : A
   act_statement-leads v inside s (form.SetDeadline deadline task) = from_at _ (without _ (set_deadline_of-leads acting s deadline task))
   act_statement-leads v inside s (form.DelayUntilAndSetDeadline until offset) = last_at v _ (delay_and_set_deadline-leads acting v s until offset inside)
 
-  end_mark-leads : (v : World) (f : Frame) (mark : Mark) → ((m : ProtectedMark) → mark ≡ InProtected m → EnteredBy (calls_in v) actor m) → Leads (At F v) W (end_mark p actor f mark)
+  end_mark-leads : (v : World) (f : Frame) (mark : Mark) → ((m : ProtectedMark) → mark ≡ InProtected m → EnteredBy (calls_in v) actor m)
+      → Leads (At F v) W (end_mark p actor f mark)
   unfolding end_mark
   end_mark-leads v f (Scope m) own = from_at _ (end_scope_mark-leads acting m (leaving_of f))
   end_mark-leads v f (Handled s) own = from_at _ (at_first _ (end_handled-keeps acting.fresh p actor s (leaving_of f)))
   end_mark-leads v f (InProtected m) own =
-      to-leads _ (from-leads (end_in_protected p actor m (leaving_of f)) (λ w said h. (acting.starts w said h.0, subst (λ u. OwnCall m.own_call actor u) (sym h.1) (own m refl).0)) (end_in_protected-leads acting m (leaving_of f) (own m refl).1)) acting.rests
+      to-leads _ (from-leads (end_in_protected p actor m (leaving_of f))
+      (λ w said h. (acting.starts w said h.0, subst (λ u. OwnCall m.own_call actor u) (sym h.1) (own m refl).0))
+      (end_in_protected-leads acting m (leaving_of f) (own m refl).1)) acting.rests
   end_mark-leads v f (InAccept m) own = from_at _ (later_on _ (end_in_accept-keeps acting m (leaving_of f)))
   end_mark-leads v f (Abortable m) own = from_at _ (at_last _ (end_in_abortable-leads m (leaving_of f)))
   end_mark-leads v f (InInitialize l) own = from_at _ (at_first _ (end_in_initialize-keeps acting.fresh p actor l (leaving_of f)))
   end_mark-leads v f (InFinalize o) own = from_at _ (at_first _ (end_in_finalize-keeps acting.fresh p actor (leaving_of f)))
   end_mark-leads v f (InAssign m) own = from_at _ (at_first _ (end_in_assign-keeps acting.fresh p actor m f.left_as))
 
-  act_frame-leads : (v : World) → InsideIfAgent v → (f : Frame) → ((m : ProtectedMark) → f.mark ≡ InProtected m → EnteredBy (calls_in v) actor m) → (next : Option StatementNo) → Leads (At F v) W (act_frame p actor f next)
+  act_frame-leads : (v : World) → InsideIfAgent v → (f : Frame) → ((m : ProtectedMark) → f.mark ≡ InProtected m → EnteredBy (calls_in v) actor m)
+      → (next : Option StatementNo) → Leads (At F v) W (act_frame p actor f next)
   unfolding act_frame
   act_frame-leads v inside f own (Some s) = act_statement-leads v inside s (form_of p s)
   act_frame-leads v inside f own None = end_mark-leads v f f.mark own
@@ -290,7 +326,9 @@ module _ {p : Image} {actor : Who} {Fits : Fitting} {Sleeps : Sleeping} {May : A
   unfolding effect
   effect-leads =
       then-leads (changes (edit_task actor (with_ticks None))) _
-      (changes-leads (edit_task actor (with_ticks None)) (λ w said h. ((edit_task-alters acting.fresh actor (with_ticks None) (λ t. refl)).turns w said h.0, may-ticked actor w h.1)))
+      (changes-leads (edit_task actor (with_ticks None))
+      (λ w said h. ((edit_task-alters acting.fresh actor (with_ticks None) (λ t. refl)).turns w said h.0, may-ticked actor w h.1)))
       (then-leads (act p actor) _ act-leads
       (then-leads (open_if_ready p actor) _ (open_if_ready-keeps acting.choosing.quiet p actor)
-      (then-leads (take_terminates p actor) _ (take_terminates-leads acting.choosing) (unwind_all-keeps acting.over actor (λ name apart. (acting.later.fits_other name, apart))))))
+      (then-leads (take_terminates p actor) _ (take_terminates-leads acting.choosing)
+      (unwind_all-keeps acting.over actor (λ name apart. (acting.later.fits_other name, apart))))))

@@ -9,8 +9,10 @@ use Rattle.ceiling_laws.proofs.Fine.Cores.{Same}
 use Rattle.world_laws.proofs.Places.ActingMoves.{ActingMoves, Lasting, LastingOf}
 use Rattle.ceiling_laws.proofs.Fine.Kept.CallEnds.{gone-keeps}
 use Rattle.ceiling_laws.proofs.Fine.Kept.Calls.{edit_call-alters, enqueue-keeps, forget_call-alters, says_call-keeps}
-use Rattle.ceiling_laws.proofs.Fine.Kept.Frames.{given-keeps, given-through, goes-keeps, leaves-keeps, raise_if-keeps, raise_if-through, raises-keeps, weakly, with_room-keeps, with_room-through}
-use Rattle.world_laws.proofs.Places.Kept.Protected.{Admitted, admitted_changes, admitted_says, begin_action_on-leads, has_entered, not_yet, serve_call-leads, where_let_inside-leads}
+use Rattle.ceiling_laws.proofs.Fine.Kept.Frames.{given-keeps, given-through, goes-keeps, leaves-keeps, raise_if-keeps}
+use Rattle.ceiling_laws.proofs.Fine.Kept.Frames.{raise_if-through, raises-keeps, weakly, with_room-keeps, with_room-through}
+use Rattle.world_laws.proofs.Places.Kept.Protected.{Admitted, admitted_changes, admitted_says, begin_action_on-leads}
+use Rattle.world_laws.proofs.Places.Kept.Protected.{has_entered, not_yet, serve_call-leads, where_let_inside-leads}
 use Rattle.world_laws.proofs.Places.Kept.Rendezvous.{accepting_sleeps, meet-leads, meet_without_room-leads}
 use Rattle.ceiling_laws.proofs.Fine.Kept.Scopes.{appoint-alters}
 use Rattle.world_laws.proofs.Places.Kept.Sending.{not_accepted-leads, open_abortable-alters}
@@ -18,10 +20,15 @@ use Rattle.ceiling_laws.proofs.Fine.Kept.Tasks.{same-alters, says-keeps}
 use Rattle.ceiling_laws.proofs.Fine.Kept.Waking.{asleep_at, asleep_quiet}
 use Rattle.ceiling_laws.proofs.Fine.LevelMoves.{Silences}
 use Rattle.ceiling_laws.proofs.Fine.SameLemmas.{edit_task-same}
-use Rattle.ceiling_laws.proofs.Runs.Triples.{Alters, At, Keeps, Leads, State, With, branch-leads, changes-keeps, from-leads, from_at, looks-keeps, looks-leads, looks-with, nothing-keeps, sees-keeps, sees-leads, then-keeps, then-leads, to-leads, unchanged-alters}
+use Rattle.ceiling_laws.proofs.Runs.Triples.{Alters, At, Keeps, Leads, State, With, branch-leads, changes-keeps, from-leads, from_at, looks-keeps, looks-leads}
+use Rattle.ceiling_laws.proofs.Runs.Triples.{looks-with, nothing-keeps, sees-keeps, sees-leads, then-keeps, then-leads, to-leads, unchanged-alters}
 use Rattle.profile_machine.specs.Calls.{is_full, says_call}
 use Rattle.profile_machine.specs.Dispatching.{active_of, block}
-use Rattle.profile_machine.specs.EntryCalls.{add_call, appoint_trigger, async_by_trigger, async_delay, asynchronous_select, call_accepted_by, call_by_barrier, call_callable, call_closed, call_gone, call_meets, call_named, call_not_met, call_object, call_owner, call_passes, call_queues, call_refused, call_runs, call_runs_if_room, call_task, call_without_room, end_at_once, entry_call, entry_parameters, has_room_for_action, is_forbidden, make_call, mark_sending, marks_if_queued, named_call, new_call, numbered, owner_of_entry, requeue, timed_moment, trigger_delay, with_sending}
+use Rattle.profile_machine.specs.EntryCalls.{add_call, appoint_trigger, async_by_trigger, async_delay, asynchronous_select, call_accepted_by, call_by_barrier}
+use Rattle.profile_machine.specs.EntryCalls.{call_callable, call_closed, call_gone, call_meets, call_named, call_not_met, call_object, call_owner}
+use Rattle.profile_machine.specs.EntryCalls.{call_passes, call_queues, call_refused, call_runs, call_runs_if_room, call_task, call_without_room, end_at_once}
+use Rattle.profile_machine.specs.EntryCalls.{entry_call, entry_parameters, has_room_for_action, is_forbidden, make_call, mark_sending, marks_if_queued}
+use Rattle.profile_machine.specs.EntryCalls.{named_call, new_call, numbered, owner_of_entry, requeue, timed_moment, trigger_delay, with_sending}
 use Rattle.profile_machine.specs.Frames.{edit_first, edit_top, frames_of, goes, goes_on, raises, with_room}
 use Rattle.profile_image.specs.Program.{entry_of, form_of, next_of}
 use Rattle.profile_machine.specs.Protected.{begin_action_on, is_barrier_open, where_let_inside}
@@ -59,7 +66,15 @@ use Rattle.ceiling_laws.proofs.Runs.ActingMoves.{Admitting}
 use Rattle.machine_laws.proofs.FineMoves.{Naming}
 
 add_call-same : (c : Call) (w : World) → Same w (add_call c w)
-add_call-same c w = record { tasks = refl; agent = refl; objects = refl; drawn_tasks = refl; drawn_objects = refl; callers = λ k n m. added-caller c w.calls w.drawn.calls n k m; delays = λ t e. e }
+add_call-same c w = record {
+  tasks = refl;
+  agent = refl;
+  objects = refl;
+  drawn_tasks = refl;
+  drawn_objects = refl;
+  callers = λ k n m. added-caller c w.calls w.drawn.calls n k m;
+  delays = λ t e. e;
+}
 
 module _ {X : State} (quiet : Silences X) where
   pub add_call-alters : (c : Call) → Alters X (add_call c)
@@ -81,12 +96,18 @@ module _ {X : State} (quiet : Silences X) where
   unfolding trigger_delay
   trigger_delay-keeps p name s trigger m false = goes-keeps quiet name (next_of p trigger)
   trigger_delay-keeps p name s trigger m true =
-      with_room-keeps quiet name 1 0 _ (then-keeps _ _ (goes-keeps quiet name (next_of p s)) (looks-keeps _ (λ w. then-keeps _ _ (changes-keeps _ (open_abortable-alters quiet p name s None)) (changes-keeps _ (appoint_trigger-alters name (length (frames_of w name)) m)))))
+      with_room-keeps quiet name 1 0 _
+      (then-keeps _ _ (goes-keeps quiet name (next_of p s))
+      (looks-keeps _
+      (λ w. then-keeps _ _ (changes-keeps _ (open_abortable-alters quiet p name s None))
+      (changes-keeps _ (appoint_trigger-alters name (length (frames_of w name)) m)))))
 
   pub async_delay-keeps : (p : Image) (name : Who) (s trigger : StatementNo) → Keeps X (async_delay p name s trigger)
   unfolding async_delay
   async_delay-keeps p name s trigger =
-      sees-keeps p name _ (λ q. raise_if-keeps quiet name (is_forbidden q.world name call_kind.Triggering) exception.Program _ (given-keeps quiet Own name (delay_moment q trigger) _ (λ m. trigger_delay-keeps p name s trigger m (int_lt (pos q.world.time) m))))
+      sees-keeps p name _
+      (λ q. raise_if-keeps quiet name (is_forbidden q.world name call_kind.Triggering) exception.Program _
+      (given-keeps quiet Own name (delay_moment q trigger) _ (λ m. trigger_delay-keeps p name s trigger m (int_lt (pos q.world.time) m))))
 
   pub mark_sending-alters : (c : Option CallNo) (o : Owner) (e : EntryNo) (with_abort : Bool) → Alters X (mark_sending c o e with_abort)
   mark_sending-alters None o e with_abort = unchanged-alters
@@ -95,15 +116,22 @@ module _ {X : State} (quiet : Silences X) where
   pub requeue-keeps : (p : Image) (name : Who) (e : EntryNo) (o : EntryOwner) (with_abort : Bool) → Keeps X (requeue p name e o with_abort)
   unfolding requeue
   requeue-keeps p name e o with_abort =
-      sees-keeps p name _ (λ q. given-keeps quiet Own name (owner_of_entry q e o) _ (λ target. then-keeps _ _ (changes-keeps _ (mark_sending-alters (call_that_returns (frames_of q.world name)) target e with_abort)) (leaves-keeps quiet name how.Return)))
+      sees-keeps p name _
+      (λ q. given-keeps quiet Own name (owner_of_entry q e o) _
+      (λ target. then-keeps _ _ (changes-keeps _ (mark_sending-alters (call_that_returns (frames_of q.world name)) target e with_abort))
+      (leaves-keeps quiet name how.Return)))
 
 -- ---- by who acts
 
-module _ {p : Image} {actor : Who} {Fits : Fitting} {Sleeps : Sleeping} {May : Admitting} {Listed Unmade : World → Naming} {F I L W Y B D Z : State} {O V : World → State} {N : Lasting} {E : LastingOf} (acting : ActingMoves p actor Fits Sleeps May Listed Unmade F I L W Y B D Z O V N E) where
+module _ {p : Image} {actor : Who} {Fits : Fitting} {Sleeps : Sleeping} {May : Admitting} {Listed Unmade : World → Naming} {F I L W Y B D Z : State}
+    {O V : World → State} {N : Lasting} {E : LastingOf}
+    (acting : ActingMoves p actor Fits Sleeps May Listed Unmade F I L W Y B D Z O V N E) where
   make_call-leads : (c : Call) (step : Call → Step) → ((n : ℕ) → Leads I Y (step (numbered n c))) → Leads I Y (make_call p c step)
   make_call-leads c step kept =
       then-leads _ _ (goes-keeps acting.later.base.quiet (who.Task c.caller) (next_of p c.statement))
-      (looks-leads _ (λ w. then-leads _ _ (changes-keeps _ (add_call-alters acting.later.base.quiet c)) (then-leads _ _ (says_call-keeps acting.later.base.quiet TheCall (numbered (suc w.drawn.calls) c)) (kept (suc w.drawn.calls)))))
+      (looks-leads _
+      (λ w. then-leads _ _ (changes-keeps _ (add_call-alters acting.later.base.quiet c))
+      (then-leads _ _ (says_call-keeps acting.later.base.quiet TheCall (numbered (suc w.drawn.calls) c)) (kept (suc w.drawn.calls)))))
 
   -- where it goes on
   on_so : (step : Step) → Keeps I step → Leads I Y step
@@ -115,16 +143,20 @@ module _ {p : Image} {actor : Who} {Fits : Fitting} {Sleeps : Sleeping} {May : A
   call_meets-leads : (t : TaskNo) (s : StatementNo) (c : Call) → who.Task c.caller ≡ actor → Leads (With I (λ w. Sleeps w (who.Task t))) Y (call_meets p t s c)
   unfolding call_meets
   call_meets-leads t s c is =
-      meet-leads acting.later.base (OfOther (who.Task t)) (who.Task t) s c (block TheBlock (who.Task c.caller) (waits_for.Call c.number)) (end_at_once TheFinish c exception.Storage) (acting.later.fits_other (who.Task t))
+      meet-leads acting.later.base (OfOther (who.Task t)) (who.Task t) s c (block TheBlock (who.Task c.caller) (waits_for.Call c.number))
+      (end_at_once TheFinish c exception.Storage) (acting.later.fits_other (who.Task t))
       (subst (λ n. Leads I Y (block TheBlock n (waits_for.Call c.number))) (sym is) (acting.blocks (waits_for.Call c.number) refl))
-      (to-leads _ (meet_without_room-leads acting.later.base (OfOther (who.Task t)) (who.Task t) s c (end_at_once TheFinish c exception.Storage) (acting.later.fits_other (who.Task t)) (end_at_once-keeps (asleep_quiet acting.later.base (who.Task t)) TheFinish c exception.Storage)) acting.ceases)
+      (to-leads _ (meet_without_room-leads acting.later.base (OfOther (who.Task t)) (who.Task t) s c (end_at_once TheFinish c exception.Storage)
+      (acting.later.fits_other (who.Task t)) (end_at_once-keeps (asleep_quiet acting.later.base (who.Task t)) TheFinish c exception.Storage)) acting.ceases)
 
-  make_meeting-leads : (t : TaskNo) (s : StatementNo) (c : Call) → who.Task c.caller ≡ actor → Leads (With I (λ w. Sleeps w (who.Task t))) Y (make_call p c (call_meets p t s))
+  make_meeting-leads : (t : TaskNo) (s : StatementNo) (c : Call) → who.Task c.caller ≡ actor
+      → Leads (With I (λ w. Sleeps w (who.Task t))) Y (make_call p c (call_meets p t s))
   make_meeting-leads t s c is =
       let quiet = asleep_quiet acting.later.base (who.Task t) in
       then-leads (goes (who.Task c.caller) (next_of p c.statement)) _ (goes-keeps quiet (who.Task c.caller) (next_of p c.statement))
       (looks-leads _ (λ w. then-leads (changes (add_call c)) _ (changes-keeps _ (add_call-alters quiet c))
-      (then-leads (says_call TheCall (numbered (suc w.drawn.calls) c)) _ (says_call-keeps quiet TheCall (numbered (suc w.drawn.calls) c)) (call_meets-leads t s (numbered (suc w.drawn.calls) c) is))))
+      (then-leads (says_call TheCall (numbered (suc w.drawn.calls) c)) _ (says_call-keeps quiet TheCall (numbered (suc w.drawn.calls) c))
+      (call_meets-leads t s (numbered (suc w.drawn.calls) c) is))))
 
   call_queues-leads : (c : Call) → who.Task c.caller ≡ actor → Leads I Y (call_queues p c)
   unfolding call_queues
@@ -132,12 +164,18 @@ module _ {p : Image} {actor : Who} {Fits : Fitting} {Sleeps : Sleeping} {May : A
 
   call_not_met-leads : (c : Call) (test : Bool) → who.Task c.caller ≡ actor → Leads I Y (call_not_met p c test)
   unfolding call_not_met
-  call_not_met-leads c true is = make_call-leads c (λ d. end_at_once Own d exception.Program) (λ n. on_so _ (end_at_once-keeps acting.later.base.quiet Own (numbered n c) exception.Program))
-  call_not_met-leads c false is = with_room-through acting.later.base.quiet (λ w k h. h) acting.ceases (who.Task c.caller) (marks_if_queued c.kind) 0 _ (make_call-leads c (call_queues p) (λ n. call_queues-leads (numbered n c) is))
+  call_not_met-leads c true is =
+      make_call-leads c (λ d. end_at_once Own d exception.Program)
+      (λ n. on_so _ (end_at_once-keeps acting.later.base.quiet Own (numbered n c) exception.Program))
+  call_not_met-leads c false is =
+      with_room-through acting.later.base.quiet (λ w k h. h) acting.ceases (who.Task c.caller) (marks_if_queued c.kind) 0 _
+      (make_call-leads c (call_queues p) (λ n. call_queues-leads (numbered n c) is))
 
-  call_accepted_by-at : (v : World) (t : TaskNo) (c : Call) (next : Option StatementNo) → accept_for p c.entry (waiting_of v (who.Task t)) ≡ next → who.Task c.caller ≡ actor → Leads (At I v) Y (call_accepted_by p t c next)
+  call_accepted_by-at : (v : World) (t : TaskNo) (c : Call) (next : Option StatementNo) → accept_for p c.entry (waiting_of v (who.Task t)) ≡ next
+      → who.Task c.caller ≡ actor → Leads (At I v) Y (call_accepted_by p t c next)
   unfolding call_accepted_by
-  call_accepted_by-at v t c (Some s) e is = asleep_at acting.later.base (who.Task t) v _ (accepting_sleeps acting.later.base v c.entry (who.Task t) s e) (make_meeting-leads t s c is)
+  call_accepted_by-at v t c (Some s) e is =
+      asleep_at acting.later.base (who.Task t) v _ (accepting_sleeps acting.later.base v c.entry (who.Task t) s e) (make_meeting-leads t s c is)
   call_accepted_by-at v t c None e is = from_at _ (looks-leads _ (λ w. call_not_met-leads c (is_full p w c.owner c.entry) is))
 
   call_callable-leads : (t : TaskNo) (c : Call) (test : Bool) → who.Task c.caller ≡ actor → Leads I Y (call_callable p t c test)
@@ -154,18 +192,24 @@ module _ {p : Image} {actor : Who} {Fits : Fitting} {Sleeps : Sleeping} {May : A
   enters_as : (o : ObjectNo) (name : Who) → name ≡ actor → Leads (Admitted acting o) I (says Own (line.Enter name o Write))
   enters_as o name is = subst (λ n. Leads (Admitted acting o) I (says Own (line.Enter n o Write))) (sym is) (acting.enters o Write)
 
-  make_entering-leads : {G : State} (o : ObjectNo) (c : Call) (step : Call → Step) → ((n : ℕ) → Leads (Admitted acting o) G (step (numbered n c))) → Leads (Admitted acting o) G (make_call p c step)
+  make_entering-leads : {G : State} (o : ObjectNo) (c : Call) (step : Call → Step) → ((n : ℕ) → Leads (Admitted acting o) G (step (numbered n c)))
+      → Leads (Admitted acting o) G (make_call p c step)
   unfolding goes says_call
   make_entering-leads o c step kept =
-      then-leads (changes (edit_top (who.Task c.caller) (goes_on (next_of p c.statement)))) _ (admitted_changes acting o _ (λ w. edit_task-same (who.Task c.caller) (λ t. with_frames (edit_first (goes_on (next_of p c.statement)) t.frames) t) w (λ t. refl)))
+      then-leads (changes (edit_top (who.Task c.caller) (goes_on (next_of p c.statement)))) _
+      (admitted_changes acting o _
+      (λ w. edit_task-same (who.Task c.caller) (λ t. with_frames (edit_first (goes_on (next_of p c.statement)) t.frames) t) w (λ t. refl)))
       (looks-leads _ (λ w. then-leads (changes (add_call c)) _ (admitted_changes acting o (add_call c) (add_call-same c))
-      (let d = numbered (suc w.drawn.calls) c in then-leads (says TheCall (line.Call d.caller d.number d.owner d.entry d.priority)) _ (admitted_says acting o TheCall (line.Call d.caller d.number d.owner d.entry d.priority) refl) (kept (suc w.drawn.calls)))))
+      (let d = numbered (suc w.drawn.calls) c in
+      then-leads (says TheCall (line.Call d.caller d.number d.owner d.entry d.priority)) _
+      (admitted_says acting o TheCall (line.Call d.caller d.number d.owner d.entry d.priority) refl) (kept (suc w.drawn.calls)))))
 
   call_runs-leads : (o : ObjectNo) (c : Call) → who.Task c.caller ≡ actor → Leads (Admitted acting o) I (call_runs p o c)
   unfolding call_runs
   call_runs-leads o c is =
       then-leads (begin_action_on p (who.Task c.caller) o Write (Some c.number) None) _
-      (subst (λ n. Leads (Admitted acting o) I (begin_action_on p n o Write (Some c.number) None)) (sym is) (begin_action_on-leads acting o Write (Some c.number) None))
+      (subst (λ n. Leads (Admitted acting o) I (begin_action_on p n o Write (Some c.number) None)) (sym is)
+      (begin_action_on-leads acting o Write (Some c.number) None))
       (serve_call-leads acting.later.base.quiet p Own (who.Task c.caller) o c nothing nothing nothing-keeps nothing-keeps)
 
   call_without_room-leads : (o : ObjectNo) (c : Call) → who.Task c.caller ≡ actor → Leads (Admitted acting o) I (call_without_room o c)
@@ -180,31 +224,41 @@ module _ {p : Image} {actor : Who} {Fits : Fitting} {Sleeps : Sleeping} {May : A
 
   call_runs_if_room-leads : (o : ObjectNo) (c : Call) → who.Task c.caller ≡ actor → Leads (Admitted acting o) I (call_runs_if_room p o c)
   unfolding call_runs_if_room
-  call_runs_if_room-leads o c is = looks-leads _ (λ w. branch-leads (has_room_for_action p w c) (call_runs p o c) (call_without_room o c) (call_runs-leads o c is) (call_without_room-leads o c is))
+  call_runs_if_room-leads o c is =
+      looks-leads _
+      (λ w. branch-leads (has_room_for_action p w c) (call_runs p o c) (call_without_room o c) (call_runs-leads o c is) (call_without_room-leads o c is))
 
   call_passes-leads : (o : ObjectNo) (c : Call) → who.Task c.caller ≡ actor → Leads (Admitted acting o) Y (call_passes p o c)
   unfolding call_passes
   call_passes-leads o c is =
       then-leads (says Own (line.Enter (who.Task c.caller) o Write)) _ (enters_as o (who.Task c.caller) is)
-      (then-leads _ _ (enqueue-keeps acting.later.base.quiet p c.number) (then-leads _ _ (says-keeps acting.later.base.quiet Own (line.Exit (who.Task c.caller) o) refl) (not_accepted-leads acting Own c c.kind is)))
+      (then-leads _ _ (enqueue-keeps acting.later.base.quiet p c.number)
+      (then-leads _ _ (says-keeps acting.later.base.quiet Own (line.Exit (who.Task c.caller) o) refl) (not_accepted-leads acting Own c c.kind is)))
 
   call_refused-leads : (o : ObjectNo) (c : Call) → who.Task c.caller ≡ actor → Leads (Admitted acting o) I (call_refused o c)
   unfolding call_refused
   call_refused-leads o c is =
       then-leads (says Own (line.Enter (who.Task c.caller) o Write)) _ (enters_as o (who.Task c.caller) is)
-      (then-keeps _ _ (says-keeps acting.later.base.quiet Own (line.Exit (who.Task c.caller) o) refl) (end_at_once-keeps acting.later.base.quiet Own c exception.Program))
+      (then-keeps _ _ (says-keeps acting.later.base.quiet Own (line.Exit (who.Task c.caller) o) refl)
+      (end_at_once-keeps acting.later.base.quiet Own c exception.Program))
 
-  room_admitted : (o : ObjectNo) (name : Who) (marks cells : ℕ) (step : Step) → Leads (Admitted acting o) Y step → Leads (Admitted acting o) Y (with_room name marks cells step)
+  room_admitted : (o : ObjectNo) (name : Who) (marks cells : ℕ) (step : Step) → Leads (Admitted acting o) Y step
+      → Leads (Admitted acting o) Y (with_room name marks cells step)
   room_admitted o name marks cells step kept = with_room-through acting.fresh (λ w k h. h.0) (not_yet acting) name marks cells step kept
 
   call_closed-leads : (o : ObjectNo) (c : Call) (test : Bool) → who.Task c.caller ≡ actor → Leads (Admitted acting o) Y (call_closed p o c test)
   unfolding call_closed
-  call_closed-leads o c true is = has_entered acting (make_call p c (call_refused o)) (make_entering-leads o c (call_refused o) (λ n. call_refused-leads o (numbered n c) is))
-  call_closed-leads o c false is = room_admitted o (who.Task c.caller) (marks_if_queued c.kind) 0 _ (make_entering-leads o c (call_passes p o) (λ n. call_passes-leads o (numbered n c) is))
+  call_closed-leads o c true is =
+      has_entered acting (make_call p c (call_refused o)) (make_entering-leads o c (call_refused o) (λ n. call_refused-leads o (numbered n c) is))
+  call_closed-leads o c false is =
+      room_admitted o (who.Task c.caller) (marks_if_queued c.kind) 0 _ (make_entering-leads o c (call_passes p o) (λ n. call_passes-leads o (numbered n c) is))
 
   call_by_barrier-leads : (o : ObjectNo) (c : Call) (test : Bool) → who.Task c.caller ≡ actor → Leads (Admitted acting o) Y (call_by_barrier p o c test)
   unfolding call_by_barrier
-  call_by_barrier-leads o c true is = room_admitted o (who.Task c.caller) 1 0 _ (has_entered acting (make_call p c (call_runs_if_room p o)) (make_entering-leads o c (call_runs_if_room p o) (λ n. call_runs_if_room-leads o (numbered n c) is)))
+  call_by_barrier-leads o c true is =
+      room_admitted o (who.Task c.caller) 1 0 _
+      (has_entered acting (make_call p c (call_runs_if_room p o))
+      (make_entering-leads o c (call_runs_if_room p o) (λ n. call_runs_if_room-leads o (numbered n c) is)))
   call_by_barrier-leads o c false is = looks-leads _ (λ w. call_closed-leads o c (is_full p w c.owner c.entry) is)
 
   call_object-leads : (o : ObjectNo) (c : Call) → who.Task c.caller ≡ actor → Leads F Y (call_object p o c)
@@ -224,12 +278,17 @@ module _ {p : Image} {actor : Who} {Fits : Fitting} {Sleeps : Sleeping} {May : A
       sees-leads p (who.Task t) _ (λ q.
       given-through acting.fresh (λ w k h. h) (not_yet acting) Own (who.Task t) (owner_of_entry q n.entry n.owner) _ (λ o.
       given-through acting.fresh (λ w k h. h) (not_yet acting) Own (who.Task t) (entry_parameters q (entry_of p n.entry).formals n.actuals) _ (λ parameters.
-      given-through acting.fresh (λ w k h. h) (not_yet acting) Own (who.Task t) (timed_moment q (form_of p s)) _ (λ m. call_owner-leads (new_call t kind s n o (active_of p q.world (who.Task t)) parameters m) o is))))
+      given-through acting.fresh (λ w k h. h) (not_yet acting) Own (who.Task t) (timed_moment q (form_of p s)) _
+      (λ m. call_owner-leads (new_call t kind s n o (active_of p q.world (who.Task t)) parameters m) o is))))
 
   entry_call_by : (name : Who) (kind : CallKind) (s : StatementNo) → name ≡ actor → Leads F Y (entry_call p name kind s)
   unfolding entry_call
-  entry_call_by (who.Task t) kind s is = looks-leads _ (λ w. raise_if-through acting.fresh (λ v k h. h) (not_yet acting) (who.Task t) (is_forbidden w (who.Task t) kind) exception.Program _ (call_named-leads t kind s (named_call p s) is))
-  entry_call_by who.Agent kind s is = weakly acting.fresh (not_yet acting) (raises Own who.Agent exception.Program) (raises-keeps acting.fresh Own who.Agent exception.Program)
+  entry_call_by (who.Task t) kind s is =
+      looks-leads _
+      (λ w. raise_if-through acting.fresh (λ v k h. h) (not_yet acting) (who.Task t) (is_forbidden w (who.Task t) kind) exception.Program _
+      (call_named-leads t kind s (named_call p s) is))
+  entry_call_by who.Agent kind s is =
+      weakly acting.fresh (not_yet acting) (raises Own who.Agent exception.Program) (raises-keeps acting.fresh Own who.Agent exception.Program)
 
   pub entry_call-leads : (kind : CallKind) (s : StatementNo) → Leads F Y (entry_call p actor kind s)
   entry_call-leads kind s = entry_call_by actor kind s refl

@@ -7,13 +7,16 @@ use Rattle.ceiling_laws.proofs.Fine.Kept.Calls.{edit_call-alters, edit_queue-alt
 use Rattle.ceiling_laws.proofs.Fine.Kept.Frames.{given-keeps, given-through, goes-keeps, raise_if-through, raises-keeps, weakly}
 use Rattle.ceiling_laws.proofs.Fine.Kept.Tasks.{plain-alters, says-keeps}
 use Rattle.ceiling_laws.proofs.Fine.LevelMoves.{Silences}
-use Rattle.ceiling_laws.proofs.Runs.Triples.{Alters, At, Keeps, Leads, State, changes-keeps, for_some-keeps, looks-keeps, looks-leads, nothing-keeps, nothing-leads, sees-keeps, sees-leads, then-keeps, then-leads, to-leads, unchanged-alters, when-keeps}
+use Rattle.ceiling_laws.proofs.Runs.Triples.{Alters, At, Keeps, Leads, State, changes-keeps, for_some-keeps, looks-keeps, looks-leads, nothing-keeps}
+use Rattle.ceiling_laws.proofs.Runs.Triples.{nothing-leads, sees-keeps, sees-leads, then-keeps, then-leads, to-leads, unchanged-alters, when-keeps}
 use Rattle.profile_machine.specs.Calls.{place_of_entry, put_call, take_call}
 use Rattle.profile_machine.specs.Dispatching.{active_of, block, to_tail}
 use Rattle.profile_machine.specs.Frames.{given, goes, in_protected, raise_if}
 use Rattle.profile_machine.specs.Operators.{Valued, held_moment, ticks}
 use Rattle.profile_machine.specs.Appointments.{appoint}
-use Rattle.profile_machine.specs.Priorities.{call_waited_for, delay_and_set_deadline, delay_with_deadline, is_edf_base, is_queued, placed_anew, priority_in_range, quantum_of, reprioritize, reprioritize_own, says_deadline, set_base_of, set_deadline_of, set_or_defer_base, set_priority, set_quantum, with_priority}
+use Rattle.profile_machine.specs.Priorities.{call_waited_for, delay_and_set_deadline, delay_with_deadline, is_edf_base, is_queued}
+use Rattle.profile_machine.specs.Priorities.{placed_anew, priority_in_range, quantum_of, reprioritize, reprioritize_own, says_deadline}
+use Rattle.profile_machine.specs.Priorities.{set_base_of, set_deadline_of, set_or_defer_base, set_priority, set_quantum, with_priority}
 use Rattle.profile_image.specs.Program.{interrupt_priority, next_of}
 use Rattle.profile_machine.specs.Steps.{Step, changes}
 use Rattle.profile_machine.specs.Statements.{delay_to, delay_until, wait_until}
@@ -46,7 +49,9 @@ use Rattle.machine_laws.proofs.FineMoves.{Naming}
 
 module _ {X : State} (quiet : Silences X) where
   set_level-alters : (level ticks : ℕ) → Alters X (λ w. record w { quanta = edit_at level (λ _. ticks) w.quanta })
-  set_level-alters level ticks = plain-alters quiet (λ w. record w { quanta = edit_at level (λ _. ticks) w.quanta }) (λ w. refl) (λ w. refl) (λ w. refl) (λ w. refl) (λ w. refl) (λ w t e. e)
+  set_level-alters level ticks =
+      plain-alters quiet (λ w. record w { quanta = edit_at level (λ _. ticks) w.quanta }) (λ w. refl) (λ w. refl) (λ w. refl) (λ w. refl) (λ w. refl)
+      (λ w t e. e)
 
   pub set_quantum-keeps : (p : Image) (name : Who) (s : StatementNo) (level quantum : ExprNo) → Keeps X (set_quantum p name s level quantum)
   unfolding set_quantum
@@ -63,23 +68,34 @@ module _ {X : State} (quiet : Silences X) where
   -- the call of somebody who waits gets its active priority
   placed_anew-alters : (queuing : Queuing) (p : Image) (c : Call) (level : ℕ) → Alters X (placed_anew queuing p c level)
   placed_anew-alters queuing.Fifo p c level = unchanged-alters
-  placed_anew-alters queuing.Priority p c level = record { turns = λ w said h. (edit_queue-alters quiet c.owner (place_of_entry p c.entry) (λ q. put_call queuing.Priority w c.number level (take_call c.number q))).turns w said h }
+  placed_anew-alters queuing.Priority p c level = record {
+    turns =
+        λ w said h.
+        (edit_queue-alters quiet c.owner (place_of_entry p c.entry) (λ q. put_call queuing.Priority w c.number level (take_call c.number q))).turns w said h;
+  }
 
   reprioritize-keeps : (p : Image) (level : ℕ) (c : Call) → Keeps X (reprioritize p level c)
   unfolding reprioritize
-  reprioritize-keeps p level c = when-keeps (is_queued c) _ (then-keeps _ _ (changes-keeps _ (edit_call-alters quiet c.number (with_priority level) (λ d. refl) (λ d. refl))) (changes-keeps _ (placed_anew-alters p.policies.queuing p c level)))
+  reprioritize-keeps p level c =
+      when-keeps (is_queued c) _
+      (then-keeps _ _ (changes-keeps _ (edit_call-alters quiet c.number (with_priority level) (λ d. refl) (λ d. refl)))
+      (changes-keeps _ (placed_anew-alters p.policies.queuing p c level)))
 
   pub reprioritize_own-keeps : (p : Image) (name : Who) (waiting : Waiting) → Keeps X (reprioritize_own p name waiting)
   unfolding reprioritize_own
-  reprioritize_own-keeps p name waiting = looks-keeps _ (λ w. for_some-keeps (call_waited_for waiting) _ (λ c. with_call-keeps quiet c _ (reprioritize-keeps p (active_of p w name))))
+  reprioritize_own-keeps p name waiting =
+      looks-keeps _ (λ w. for_some-keeps (call_waited_for waiting) _ (λ c. with_call-keeps quiet c _ (reprioritize-keeps p (active_of p w name))))
 
-module _ {p : Image} {actor : Who} {Fits : Fitting} {Sleeps : Sleeping} {May : Admitting} {Listed Unmade : World → Naming} {F I L W Y B D Z : State} {O V : World → State} {N : Lasting} {E : LastingOf} (acting : ActingMoves p actor Fits Sleeps May Listed Unmade F I L W Y B D Z O V N E) where
+module _ {p : Image} {actor : Who} {Fits : Fitting} {Sleeps : Sleeping} {May : Admitting} {Listed Unmade : World → Naming} {F I L W Y B D Z : State}
+    {O V : World → State} {N : Lasting} {E : LastingOf}
+    (acting : ActingMoves p actor Fits Sleeps May Listed Unmade F I L W Y B D Z O V N E) where
   -- who was found by the name of a task is one
   base_of_named : (t : TaskNo) (name : Who) (level : ℕ) → same_who (who.Task t) name ≡ true → Leads F I (set_or_defer_base p actor name level)
   base_of_named t (who.Task n) level is = acting.sets_base n level
   base_of_named t who.Agent level is = absurd cc
 
-  base_of_found : (s : StatementNo) (level : ℕ) (t : TaskNo) (tasks : List world.Task) (found : Option world.Task) → found_task (who.Task t) tasks ≡ found → Leads F I (set_base_of p actor s level found)
+  base_of_found : (s : StatementNo) (level : ℕ) (t : TaskNo) (tasks : List world.Task) (found : Option world.Task) → found_task (who.Task t) tasks ≡ found
+      → Leads F I (set_base_of p actor s level found)
   unfolding set_base_of
   base_of_found s level t tasks None is = weakly acting.fresh acting.starts (goes actor (next_of p s)) (goes-keeps acting.fresh actor (next_of p s))
   base_of_found s level t tasks (Some u) is =
@@ -108,7 +124,8 @@ module _ {p : Image} {actor : Who} {Fits : Fitting} {Sleeps : Sleeping} {May : A
   wait_until-leads : (name : Who) (until : ℤ) (future : Bool) → name ≡ actor → Leads I Y (wait_until p name until future)
   unfolding wait_until
   wait_until-leads (who.Task t) until true is =
-      then-leads _ _ (changes-keeps _ (acting.appoints t until is)) (subst (λ n. Leads I Y (block TheBlock n waits_for.Moment)) (sym is) (acting.blocks waits_for.Moment refl))
+      then-leads _ _ (changes-keeps _ (acting.appoints t until is))
+      (subst (λ n. Leads I Y (block TheBlock n waits_for.Moment)) (sym is) (acting.blocks waits_for.Moment refl))
   wait_until-leads (who.Task t) until false is = subst (λ n. Leads I Y (to_tail p ThePlacing n)) (sym is) (to-leads _ acting.tails acting.ceases)
   wait_until-leads who.Agent until future is = nothing-leads acting.ceases
 
@@ -119,7 +136,9 @@ module _ {p : Image} {actor : Who} {Fits : Fitting} {Sleeps : Sleeping} {May : A
   pub delay_until-leads : (s : StatementNo) (until : Valued ℤ) → Leads I Y (delay_until p actor s until)
   unfolding delay_until
   delay_until-leads s until =
-      looks-leads _ (λ w. raise_if-through acting.later.base.quiet (λ v k h. h) acting.ceases actor (in_protected w actor) exception.Program _ (given-through acting.later.base.quiet (λ v k h. h) acting.ceases Own actor until _ (λ m.
+      looks-leads _
+      (λ w. raise_if-through acting.later.base.quiet (λ v k h. h) acting.ceases actor (in_protected w actor) exception.Program _
+      (given-through acting.later.base.quiet (λ v k h. h) acting.ceases Own actor until _ (λ m.
       then-leads _ _ (goes-keeps acting.later.base.quiet actor (next_of p s)) (delay_to-leads m))))
 
   -- a task that has been given a deadline waits, or goes to the tail
@@ -145,14 +164,17 @@ module _ {p : Image} {actor : Who} {Fits : Fitting} {Sleeps : Sleeping} {May : A
   raises_inside false step is = absurd cc
 
   dated_seen : (s : StatementNo) (until offset : ExprNo) (q : Seen) → (actor ≡ who.Agent → in_protected q.world actor ≡ true)
-      → Leads I Y (raise_if actor (in_protected q.world actor) exception.Program (given Own actor (moment q until) (λ m. given Own actor (moment q offset) (λ o. delay_with_deadline p actor s m o))))
+      → Leads I Y (raise_if actor (in_protected q.world actor) exception.Program
+      (given Own actor (moment q until) (λ m. given Own actor (moment q offset) (λ o. delay_with_deadline p actor s m o))))
   dated_seen s until offset q inside =
       by_test (same_who actor who.Agent)
       (λ agent. raises_inside (in_protected q.world actor) _ (inside (who-is actor who.Agent agent)))
       (λ task. raise_if-through acting.later.base.quiet (λ v k h. h) acting.ceases actor (in_protected q.world actor) exception.Program _
-      (given-through acting.later.base.quiet (λ v k h. h) acting.ceases Own actor (moment q until) _ (λ m. given-through acting.later.base.quiet (λ v k h. h) acting.ceases Own actor (moment q offset) _ (λ o. delay_with_deadline-leads s m o task))))
+      (given-through acting.later.base.quiet (λ v k h. h) acting.ceases Own actor (moment q until) _
+      (λ m. given-through acting.later.base.quiet (λ v k h. h) acting.ceases Own actor (moment q offset) _ (λ o. delay_with_deadline-leads s m o task))))
 
-  pub delay_and_set_deadline-leads : (v : World) (s : StatementNo) (until offset : ExprNo) → (actor ≡ who.Agent → in_protected v actor ≡ true) → Leads (At I v) Y (delay_and_set_deadline p actor s until offset)
+  pub delay_and_set_deadline-leads : (v : World) (s : StatementNo) (until offset : ExprNo) → (actor ≡ who.Agent → in_protected v actor ≡ true)
+      → Leads (At I v) Y (delay_and_set_deadline p actor s until offset)
   unfolding delay_and_set_deadline
   delay_and_set_deadline-leads v s until offset inside = record {
     runs = λ w said h. (dated_seen s until offset (seen_by p w actor) (λ is. ap (λ u. in_protected u actor) h.1 ∙ inside is)).runs w said h.0;

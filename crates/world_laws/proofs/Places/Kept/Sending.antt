@@ -8,7 +8,8 @@ use Rattle.ceiling_laws.proofs.Fine.Kept.Scopes.{appoint-alters}
 use Rattle.ceiling_laws.proofs.Fine.Kept.Tasks.{says-keeps}
 use Rattle.ceiling_laws.proofs.Fine.Kept.Waking.{asleep_at, asleep_quiet}
 use Rattle.ceiling_laws.proofs.Fine.LevelMoves.{BaseMoves, Silences}
-use Rattle.ceiling_laws.proofs.Runs.Triples.{Alters, At, Keeps, Leads, State, changes-keeps, from_at, looks-keeps, looks-leads, looks-with, nothing-keeps, then-keeps, then-leads, to-leads, unchanged-alters}
+use Rattle.ceiling_laws.proofs.Runs.Triples.{Alters, At, Keeps, Leads, State, changes-keeps, from_at, looks-keeps, looks-leads}
+use Rattle.ceiling_laws.proofs.Runs.Triples.{looks-with, nothing-keeps, then-keeps, then-leads, to-leads, unchanged-alters}
 use Rattle.profile_machine.specs.Act.{call}
 use Rattle.profile_machine.specs.CallEnds.{abortable_depth, resume, waits_for_call}
 use Rattle.profile_machine.specs.Dispatching.{block, ready}
@@ -16,7 +17,9 @@ use Rattle.profile_machine.specs.Frames.{has_room, new_frame}
 use Rattle.profile_image.specs.Program.{form_of}
 use Rattle.profile_machine.specs.Calls.{call_of}
 use Rattle.profile_machine.specs.Appointments.{appoint}
-use Rattle.profile_machine.specs.Sending.{abortable_in, appoint_timeout, begin_abortable, cancel_at_once, cancel_sent, is_not_future, is_to_be_cancelled, is_triggering, may_begin_abortable, new_abortable_mark, not_accepted, open_abortable, send_on, sent_call, sent_not_begun, sent_not_begun_by, timeout_again, wait_for_call, wait_or_cancel, may_time_out}
+use Rattle.profile_machine.specs.Sending.{abortable_in, appoint_timeout, begin_abortable, cancel_at_once, cancel_sent, is_not_future, is_to_be_cancelled}
+use Rattle.profile_machine.specs.Sending.{is_triggering, may_begin_abortable, new_abortable_mark, not_accepted, open_abortable, send_on, sent_call}
+use Rattle.profile_machine.specs.Sending.{sent_not_begun, sent_not_begun_by, timeout_again, wait_for_call, wait_or_cancel, may_time_out}
 use Rattle.profile_machine.specs.Steps.{changes, nothing, when, ◌▷◌}
 use Rattle.profile_machine.specs.Tasks.{task_of, waiting_of}
 use Rattle.profile_machine.specs.Values.{moment}
@@ -50,7 +53,8 @@ module _ {X : State} (quiet : Silences X) where
 
   pub cancel_at_once-keeps : (p : Image) (part : Part) (c : Call) → Keeps X (cancel_at_once p part c)
   unfolding cancel_at_once
-  cancel_at_once-keeps p part c = attempt_with-keeps quiet p part c (resume p part c call_ended.Cancelled) nothing (resume-keeps quiet p part c call_ended.Cancelled) nothing-keeps
+  cancel_at_once-keeps p part c =
+      attempt_with-keeps quiet p part c (resume p part c call_ended.Cancelled) nothing (resume-keeps quiet p part c call_ended.Cancelled) nothing-keeps
 
   pub appoint_timeout-alters : (p : Image) (c : CallNo) (moment : Option ℤ) → Alters X (appoint_timeout p c moment)
   appoint_timeout-alters p c None = unchanged-alters
@@ -68,7 +72,9 @@ module _ {X : State} (quiet : Silences X) where
 
   pub send_on-keeps : (c : CallNo) (s : Sending) → Keeps X (send_on c s)
   unfolding send_on
-  send_on-keeps c s = then-keeps _ _ (changes-keeps _ (edit_call-alters quiet c (sent_call s) (λ d. refl) (λ d. refl))) (with_call-keeps quiet c _ (says_call-keeps quiet TheFinish))
+  send_on-keeps c s =
+      then-keeps _ _ (changes-keeps _ (edit_call-alters quiet c (sent_call s) (λ d. refl) (λ d. refl)))
+      (with_call-keeps quiet c _ (says_call-keeps quiet TheFinish))
 
 -- ---- a call that was sent on
 
@@ -77,17 +83,22 @@ module _ {p : Image} {Fits : Fitting} {Sleeps : Sleeping} {X : State} (moves : B
   unfolding cancel_sent
   cancel_sent-keeps c =
       then-keeps _ _ (changes-keeps _ (unqueued-alters moves.quiet p c))
-      (then-keeps _ _ (says-keeps moves.quiet TheFinish (line.Cancel c.caller c.number) refl) (deliver-keeps moves TheFinish c.number call_ended.Cancelled fits_finish))
+      (then-keeps _ _ (says-keeps moves.quiet TheFinish (line.Cancel c.caller c.number) refl)
+      (deliver-keeps moves TheFinish c.number call_ended.Cancelled fits_finish))
 
   -- where it waits for the call its abortable part opens
-  opens_at : (v : World) (d : Call) (test : Bool) → may_begin_abortable v d ≡ test → Leads (At X v) X (when test (changes (open_abortable p (who.Task d.caller) d.statement (Some d.number)) ▷ ready p TheFinish (who.Task d.caller)))
+  opens_at : (v : World) (d : Call) (test : Bool) → may_begin_abortable v d ≡ test
+      → Leads (At X v) X (when test (changes (open_abortable p (who.Task d.caller) d.statement (Some d.number)) ▷ ready p TheFinish (who.Task d.caller)))
   opens_at v d false is = from_at nothing nothing-keeps
   opens_at v d true is =
       let name = who.Task d.caller in
       let few = is_triggering d.kind && is_none (abortable_depth v d) && not d.firm && not d.attempted && is_none d.outcome in
-      let waits : waits_for_call d.number (waiting_of v name) ≡ true = (and_parts few (waits_for_call d.number (waiting_of v name)) ((and_parts (few && waits_for_call d.number (waiting_of v name)) (has_room v name 1 0) is).0)).1 in
+      let waits : waits_for_call d.number (waiting_of v name) ≡ true =
+      (and_parts few (waits_for_call d.number (waiting_of v name))
+      ((and_parts (few && waits_for_call d.number (waiting_of v name)) (has_room v name 1 0) is).0)).1 in
       asleep_at moves name v _ (moves.sleeps v name (waiting-blocked (waits_for_call d.number) refl (task_of v name).state waits))
-      (then-leads _ (ready p TheFinish name) (changes-keeps _ (open_abortable-alters (asleep_quiet moves name) p name d.statement (Some d.number))) (moves.wakes TheFinish name (fits_finish name)))
+      (then-leads _ (ready p TheFinish name) (changes-keeps _ (open_abortable-alters (asleep_quiet moves name) p name d.statement (Some d.number)))
+      (moves.wakes TheFinish name (fits_finish name)))
 
   pub begin_abortable-keeps : (c : CallNo) → Keeps X (begin_abortable p c)
   unfolding begin_abortable
@@ -104,7 +115,9 @@ module _ {p : Image} {Fits : Fitting} {Sleeps : Sleeping} {X : State} (moves : B
 
 -- ---- who acts waits for its call
 
-module _ {p : Image} {actor : Who} {Fits : Fitting} {Sleeps : Sleeping} {May : Admitting} {Listed Unmade : World → Naming} {F I L W Y B D Z : State} {O V : World → State} {N : Lasting} {E : LastingOf} (acting : ActingMoves p actor Fits Sleeps May Listed Unmade F I L W Y B D Z O V N E) where
+module _ {p : Image} {actor : Who} {Fits : Fitting} {Sleeps : Sleeping} {May : Admitting} {Listed Unmade : World → Naming} {F I L W Y B D Z : State}
+    {O V : World → State} {N : Lasting} {E : LastingOf}
+    (acting : ActingMoves p actor Fits Sleeps May Listed Unmade F I L W Y B D Z O V N E) where
   pub wait_for_call-leads : (c : Call) → who.Task c.caller ≡ actor → Leads I Y (wait_for_call c)
   unfolding wait_for_call
   wait_for_call-leads c is = subst (λ n. Leads I Y (block TheBlock n (waits_for.Call c.number))) (sym is) (acting.blocks (waits_for.Call c.number) refl)
@@ -115,11 +128,13 @@ module _ {p : Image} {actor : Who} {Fits : Fitting} {Sleeps : Sleeping} {May : A
   wait_or_cancel-leads : (part : Part) (c : Call) (test : Bool) → who.Task c.caller ≡ actor → Leads I Y (wait_or_cancel p part c test)
   unfolding wait_or_cancel
   wait_or_cancel-leads part c true is = cancelled-leads part c
-  wait_or_cancel-leads part c false is = then-leads _ _ (changes-keeps _ (appoint_timeout-alters acting.later.base.quiet p c.number c.moment)) (wait_for_call-leads c is)
+  wait_or_cancel-leads part c false is =
+      then-leads _ _ (changes-keeps _ (appoint_timeout-alters acting.later.base.quiet p c.number c.moment)) (wait_for_call-leads c is)
 
   pub not_accepted-leads : (part : Part) (c : Call) (kind : CallKind) → who.Task c.caller ≡ actor → Leads I Y (not_accepted p part c kind)
   unfolding not_accepted
   not_accepted-leads part c call_kind.Plain is = wait_for_call-leads c is
   not_accepted-leads part c call_kind.Conditional is = cancelled-leads part c
   not_accepted-leads part c call_kind.Timed is = looks-leads _ (λ w. wait_or_cancel-leads part c (is_not_future w.time c.moment) is)
-  not_accepted-leads part c call_kind.Triggering is = to-leads _ (changes-keeps _ (open_abortable-alters acting.later.base.quiet p (who.Task c.caller) c.statement (Some c.number))) acting.ceases
+  not_accepted-leads part c call_kind.Triggering is =
+      to-leads _ (changes-keeps _ (open_abortable-alters acting.later.base.quiet p (who.Task c.caller) c.statement (Some c.number))) acting.ceases

@@ -3,7 +3,8 @@ use Rattle.ann_base.specs.declared.exceptions.Raised.TheVariants as exception
 use Rattle.ann_base.specs.declared.identities.RegionNo.{RegionNo}
 use Rattle.world_laws.proofs.Places.ActingMoves.{ActingMoves, AreApart, IsNew, Lasting, LastingOf, SelectMoves}
 use Rattle.ceiling_laws.proofs.Fine.Kept.Controlled.{edit_top_scope-alters, finalize-keeps}
-use Rattle.ceiling_laws.proofs.Fine.Kept.Frames.{edit_top-alters, given-keeps, given-through, goes-keeps, pass_on-keeps, pop-alters, raise_if-keeps, raise_if-through, raises-keeps, weakly}
+use Rattle.ceiling_laws.proofs.Fine.Kept.Frames.{edit_top-alters, given-keeps, given-through, goes-keeps, pass_on-keeps}
+use Rattle.ceiling_laws.proofs.Fine.Kept.Frames.{pop-alters, raise_if-keeps, raise_if-through, raises-keeps, weakly}
 use Rattle.world_laws.proofs.Places.Kept.Masters.{complete-keeps, end_activation-keeps, fits_part, leave_by_terminate-keeps, terminate-leads}
 use Rattle.ceiling_laws.proofs.Fine.Kept.Scopes.{end_scope-alters, open_scope-alters}
 use Rattle.world_laws.proofs.Places.Kept.Serving.{end_body_of_entry-keeps}
@@ -11,18 +12,27 @@ use Rattle.ceiling_laws.proofs.Fine.Kept.Subprograms.{end_subprogram-keeps}
 use Rattle.ceiling_laws.proofs.Fine.Kept.Tasks.{edit_task-alters, plain-alters, says-keeps}
 use Rattle.ceiling_laws.proofs.Fine.Kept.Unwinding.{leave_by_abort-keeps, strike_outermost-alters, unwind-keeps}
 use Rattle.ceiling_laws.proofs.Fine.LevelMoves.{BaseMoves, Silences}
-use Rattle.ceiling_laws.proofs.Runs.Triples.{Alters, At, Keeps, Leads, State, branch-keeps, branch-leads, changes-keeps, for_each-keeps, for_some-keeps, from-leads, looks-keeps, looks-leads, looks-with, nothing-keeps, nothing-leads, sees-keeps, then-keeps, then-leads, to-leads, when-keeps, when-leads}
+use Rattle.ceiling_laws.proofs.Runs.Triples.{Alters, At, Keeps, Leads, State, branch-keeps, branch-leads, changes-keeps, for_each-keeps}
+use Rattle.ceiling_laws.proofs.Runs.Triples.{for_some-keeps, from-leads, looks-keeps, looks-leads, looks-with, nothing-keeps}
+use Rattle.ceiling_laws.proofs.Runs.Triples.{nothing-leads, sees-keeps, then-keeps, then-leads, to-leads, when-keeps, when-leads}
 use Rattle.profile_machine.specs.Controlled.{finalize, next_to_finalize}
 use Rattle.profile_machine.specs.Dispatching.{active_of, says_block}
 use Rattle.profile_machine.specs.Frames.{frames_of, goes, has_room, in_protected, is_deferred, pass_on, pop}
 use Rattle.profile_machine.specs.Inheritance.{inherit}
-use Rattle.profile_machine.specs.Masters.{all_at_terminate, complete, end_activation, has_activating, has_dependents, is_at_terminate, is_region_being_left, leave_by_terminate, masters_of, may_terminate, terminate, waits_at_terminate}
+use Rattle.profile_machine.specs.Masters.{all_at_terminate, complete, end_activation, has_activating, has_dependents, is_at_terminate}
+use Rattle.profile_machine.specs.Masters.{is_region_being_left, leave_by_terminate, masters_of, may_terminate, terminate, waits_at_terminate}
 use Rattle.profile_image.specs.Program.{declaration_of, next_of, scope_of, task_unit_of}
 use Rattle.profile_machine.specs.Scopes.{cells_of, end_scope, home, open_scope, plainly, scope_in_use}
 use Rattle.profile_machine.specs.Serving.{end_body_of_entry}
 use Rattle.profile_machine.specs.Steps.{Step, changes, for_each, looks, says, when}
 use Rattle.profile_machine.specs.Subprograms.{end_subprogram}
-use Rattle.profile_machine.specs.Tasking.{abnormal_task, abort_all, abort_one, abort_statement, activate, activate_group, activate_one, activated_task, await_group, begin_task, behind_scope, being_left_mark, block_at_terminate, complete_if_task, create, create_task, created_task, end_body, end_environment, end_made, end_of_scope, end_own_activation, end_scope_mark, end_scope_mark_of, end_task, fail_to_begin, fails_by, fall_from, go_on_leaving, group_fails, is_environment, is_made_in, is_normal, is_task_scope, is_to_abort, is_to_activate, leave_region, leaves_as, left_by, left_so_frame, named_tasks, no_failure, optional_span, raises_behind, says_abort, says_done, says_left, take_terminates, top_region_of_scope, unit_of_declaration, unit_of_task, unwind_all, unwind_by, unwind_one, wait_for_dependents}
+use Rattle.profile_machine.specs.Tasking.{abnormal_task, abort_all, abort_one, abort_statement, activate, activate_group, activate_one, activated_task}
+use Rattle.profile_machine.specs.Tasking.{await_group, begin_task, behind_scope, being_left_mark, block_at_terminate, complete_if_task, create, create_task}
+use Rattle.profile_machine.specs.Tasking.{created_task, end_body, end_environment, end_made, end_of_scope, end_own_activation, end_scope_mark}
+use Rattle.profile_machine.specs.Tasking.{end_scope_mark_of, end_task, fail_to_begin, fails_by, fall_from, go_on_leaving, group_fails, is_environment}
+use Rattle.profile_machine.specs.Tasking.{is_made_in, is_normal, is_task_scope, is_to_abort, is_to_activate, leave_region, leaves_as, left_by, left_so_frame}
+use Rattle.profile_machine.specs.Tasking.{named_tasks, no_failure, optional_span, raises_behind, says_abort, says_done, says_left, take_terminates}
+use Rattle.profile_machine.specs.Tasking.{top_region_of_scope, unit_of_declaration, unit_of_task, unwind_all, unwind_by, unwind_one, wait_for_dependents}
 use Rattle.profile_machine.specs.Tasks.{edit_task, is_made, is_runnable, is_runnable_state, task_of, waiting_in, waiting_of}
 use Rattle.profile_machine.specs.Unwinding.{any_struck, may_unwind, strike_outermost, unwind, unwind_in}
 use Rattle.profile_machine.specs.Values.{seen_by}
@@ -62,7 +72,8 @@ use Rattle.line_laws.proofs.Leaving.TaskLemmas.{same_self}
 use Rattle.line_laws.proofs.Ticks.StuckLemmas.{first_of_three}
 
 -- of tasks that bear other names those for which a test holds do
-none_if : (name : Who) (t : world.Task) (kept : List world.Task) (found b : Bool) → (found || list_any (λ u. same_who name u.who) kept) ≡ false → same_who name t.who ≡ found → list_any (λ u. same_who name u.who) (cond b (t ∷ kept) kept) ≡ false
+none_if : (name : Who) (t : world.Task) (kept : List world.Task) (found b : Bool) → (found || list_any (λ u. same_who name u.who) kept) ≡ false
+    → same_who name t.who ≡ found → list_any (λ u. same_who name u.who) (cond b (t ∷ kept) kept) ≡ false
 none_if name t kept true b e is = absurd cc
 none_if name t kept false true e is = ap (λ c. c || list_any (λ u. same_who name u.who) kept) is ∙ e
 none_if name t kept false false e is = e
@@ -71,13 +82,16 @@ or_last : (a b c : Bool) → (a || b) ≡ false → (b ≡ false → c ≡ false
 or_last true b c e onward = absurd cc
 or_last false b c e onward = onward e
 
-none-filtered : (name : Who) (test : world.Task → Bool) (ts : List world.Task) → list_any (λ u. same_who name u.who) ts ≡ false → list_any (λ u. same_who name u.who) (filter test ts) ≡ false
+none-filtered : (name : Who) (test : world.Task → Bool) (ts : List world.Task) → list_any (λ u. same_who name u.who) ts ≡ false
+    → list_any (λ u. same_who name u.who) (filter test ts) ≡ false
 none-filtered name test [] e = refl
 none-filtered name test (t ∷ ts) e =
     none_if name t (filter test ts) (same_who name t.who) (test t)
-    (or_last (same_who name t.who) (list_any (λ u. same_who name u.who) ts) (list_any (λ u. same_who name u.who) (filter test ts)) e (λ k. none-filtered name test ts k)) refl
+    (or_last (same_who name t.who) (list_any (λ u. same_who name u.who) ts) (list_any (λ u. same_who name u.who) (filter test ts)) e
+    (λ k. none-filtered name test ts k)) refl
 
-apart_if : (t : world.Task) (kept : List world.Task) (b : Bool) → list_any (λ u. same_who t.who u.who) kept ≡ false → AreApart kept → AreApart (cond b (t ∷ kept) kept)
+apart_if : (t : world.Task) (kept : List world.Task) (b : Bool) → list_any (λ u. same_who t.who u.who) kept ≡ false → AreApart kept
+    → AreApart (cond b (t ∷ kept) kept)
 apart_if t kept true e a = (e, a)
 apart_if t kept false e a = a
 
@@ -89,33 +103,44 @@ apart-filtered test (t ∷ ts) a = apart_if t (filter test ts) (test t) (none-fi
 among-first : (t : world.Task) (rest : List world.Task) → list_any (λ u. same_who t.who u.who) (t ∷ rest) ≡ true
 among-first t rest = ap (λ b. b || list_any (λ u. same_who t.who u.who) rest) (same_self t.who)
 
-among-more : (t u : world.Task) (rest : List world.Task) → list_any (λ x. same_who t.who x.who) rest ≡ true → list_any (λ x. same_who t.who x.who) (u ∷ rest) ≡ true
+among-more : (t u : world.Task) (rest : List world.Task) → list_any (λ x. same_who t.who x.who) rest ≡ true
+    → list_any (λ x. same_who t.who x.who) (u ∷ rest) ≡ true
 among-more t u rest e = or_right (same_who t.who u.who) (list_any (λ x. same_who t.who x.who) rest) e
 
 each-among : (ts : List world.Task) → EachTask (λ t. list_any (λ u. same_who t.who u.who) ts ≡ true) ts
 each-among [] = tt
-each-among (t ∷ ts) = (among-first t ts, each-on (λ u. list_any (λ x. same_who u.who x.who) ts ≡ true) (λ u. list_any (λ x. same_who u.who x.who) (t ∷ ts) ≡ true) ts (λ u e. among-more u t ts e) (each-among ts))
+each-among (t ∷ ts) = (
+  among-first t ts,
+  each-on (λ u. list_any (λ x. same_who u.who x.who) ts ≡ true) (λ u. list_any (λ x. same_who u.who x.who) (t ∷ ts) ≡ true) ts (λ u e. among-more u t ts e)
+      (each-among ts),
+)
 
-among_filtered : (test : world.Task → Bool) (t u : world.Task) (ts : List world.Task) (b : Bool) → list_any (λ x. same_who t.who x.who) ts ≡ true → list_any (λ x. same_who t.who x.who) (cond b (u ∷ ts) ts) ≡ true
+among_filtered : (test : world.Task → Bool) (t u : world.Task) (ts : List world.Task) (b : Bool) → list_any (λ x. same_who t.who x.who) ts ≡ true
+    → list_any (λ x. same_who t.who x.who) (cond b (u ∷ ts) ts) ≡ true
 among_filtered test t u ts true e = among-more t u ts e
 among_filtered test t u ts false e = e
 
-among_kept : (test : world.Task → Bool) (t : world.Task) (ts : List world.Task) (b : Bool) → b ≡ true → list_any (λ x. same_who t.who x.who) (cond b (t ∷ ts) ts) ≡ true
+among_kept : (test : world.Task → Bool) (t : world.Task) (ts : List world.Task) (b : Bool) → b ≡ true
+    → list_any (λ x. same_who t.who x.who) (cond b (t ∷ ts) ts) ≡ true
 among_kept test t ts true e = among-first t ts
 among_kept test t ts false e = absurd cc
 
-each-among-filter : (test : world.Task → Bool) (ts : List world.Task) → EachTask (λ t. test t ≡ true → list_any (λ u. same_who t.who u.who) (filter test ts) ≡ true) ts
+each-among-filter : (test : world.Task → Bool) (ts : List world.Task)
+    → EachTask (λ t. test t ≡ true → list_any (λ u. same_who t.who u.who) (filter test ts) ≡ true) ts
 each-among-filter test [] = tt
 each-among-filter test (t ∷ ts) = (
   (λ e. among_kept test t (filter test ts) (test t) e),
-  each-on (λ u. test u ≡ true → list_any (λ x. same_who u.who x.who) (filter test ts) ≡ true) (λ u. test u ≡ true → list_any (λ x. same_who u.who x.who) (cond (test t) (t ∷ filter test ts) (filter test ts)) ≡ true) ts (λ u f e. among_filtered test u t (filter test ts) (test t) (f e)) (each-among-filter test ts),
+  each-on (λ u. test u ≡ true → list_any (λ x. same_who u.who x.who) (filter test ts) ≡ true)
+      (λ u. test u ≡ true → list_any (λ x. same_who u.who x.who) (cond (test t) (t ∷ filter test ts) (filter test ts)) ≡ true) ts
+      (λ u f e. among_filtered test u t (filter test ts) (test t) (f e)) (each-among-filter test ts),
 )
 
 module _ {X : State} (quiet : Silences X) where
   pub says_left-keeps : (name : Who) (m : ScopeMark) (leaving : Leaving) → Keeps X (says_left name m leaving)
   unfolding says_left
   says_left-keeps name m leaving =
-      then-keeps _ _ (for_some-keeps m.region _ (λ r. says-keeps quiet Own (line.Left name r) refl)) (when-keeps (raises_behind m leaving) _ (says-keeps quiet Own (line.Raise name exception.Program) refl))
+      then-keeps _ _ (for_some-keeps m.region _ (λ r. says-keeps quiet Own (line.Left name r) refl))
+      (when-keeps (raises_behind m leaving) _ (says-keeps quiet Own (line.Raise name exception.Program) refl))
 
   pub says_abort-keeps : (actor name : Who) → Keeps X (says_abort actor name)
   unfolding says_abort
@@ -137,14 +162,18 @@ module _ {X : State} (quiet : Silences X) (p : Image) where
   unwinds_running : (v : World) (name : Who) → is_runnable (task_of v name) ≡ true → Leads (At X v) X (unwind p Own name)
   unfolding unwind
   unwinds_running v name runs = record {
-    runs = λ w said h. (when-keeps (may_unwind (frames_of w name)) _ (in_running name (task_of w name).state (subst (λ u. is_runnable (task_of u name) ≡ true) (sym h.1) runs))).runs w said h.0;
+    runs =
+        λ w said h. (when-keeps (may_unwind (frames_of w name)) _
+        (in_running name (task_of w name).state (subst (λ u. is_runnable (task_of u name) ≡ true) (sym h.1) runs))).runs w said h.0;
   }
 
-module _ {p : Image} {Fits : Fitting} {Sleeps : Sleeping} {X : State} (moves : BaseMoves p Fits Sleeps X) (actor : Who) (fits : (name : Who) → same_who actor name ≡ false → Fits (OfOther name) name) where
+module _ {p : Image} {Fits : Fitting} {Sleeps : Sleeping} {X : State} (moves : BaseMoves p Fits Sleeps X) (actor : Who)
+    (fits : (name : Who) → same_who actor name ≡ false → Fits (OfOther name) name) where
   unwind_by-keeps : (name : Who) (acts : Bool) → same_who actor name ≡ acts → Keeps X (unwind_by p name acts)
   unfolding unwind_by
   unwind_by-keeps name false apart = unwind-keeps moves (OfOther name) name (fits name apart)
-  unwind_by-keeps name true same = looks-with _ (λ v said h. when-leads (is_runnable (task_of v name)) _ (λ runs. unwinds_running moves.quiet p v name runs) (λ w s k. k.0))
+  unwind_by-keeps name true same =
+      looks-with _ (λ v said h. when-leads (is_runnable (task_of v name)) _ (λ runs. unwinds_running moves.quiet p v name runs) (λ w s k. k.0))
 
   unwind_one-keeps : (t : world.Task) → Keeps X (unwind_one p actor t)
   unfolding unwind_one
@@ -163,9 +192,11 @@ module _ {p : Image} {actor : Who} {Listed : World → Naming} {W Y : State} {V 
   settled_at : (v w : World) (said : List Said) → waits_at_terminate (waiting_of v actor) ≡ false → At W v w said → Y w said
   settled_at v w said is h = choosing.settles w said (ap (λ u. waits_at_terminate (waiting_of u actor)) h.1 ∙ is) h.0
 
-  block_if-leads : (v : World) (waiting : Waiting) (test : Bool) → waits_at_terminate (waiting_of v actor) ≡ test → Leads (At W v) Y (when test (says_block TheBlock actor waiting))
+  block_if-leads : (v : World) (waiting : Waiting) (test : Bool) → waits_at_terminate (waiting_of v actor) ≡ test
+      → Leads (At W v) Y (when test (says_block TheBlock actor waiting))
   block_if-leads v waiting true is =
-      from-leads (says_block TheBlock actor waiting) (λ w said h. (h.0, ap (λ u. waits_at_terminate (waiting_of u actor)) h.1 ∙ is)) (choosing.says_blocked waiting)
+      from-leads (says_block TheBlock actor waiting) (λ w said h. (h.0, ap (λ u. waits_at_terminate (waiting_of u actor)) h.1 ∙ is))
+      (choosing.says_blocked waiting)
   block_if-leads v waiting false is = nothing-leads (λ w said h. settled_at v w said is h)
 
   block_at_terminate-leads : (v : World) (waiting : Option Waiting) → waiting_of v actor ≡ waiting → Leads (At W v) Y (block_at_terminate actor waiting)
@@ -183,15 +214,22 @@ module _ {p : Image} {actor : Who} {Listed : World → Naming} {W Y : State} {V 
   leaving_each : (v : World) (said : List Said) → W v said → EachTask (Leaves v) (filter (may_terminate v) v.tasks)
   leaving_each v said h =
       let tasks = filter (may_terminate v) v.tasks in
-      each-both (λ t. Listed v t.who) (λ t. Waits v t × (may_terminate v t ≡ true)) (Leaves v) tasks (λ t listed k. (listed, λ same. k.0 same ((and_parts (is_at_terminate t) (list_any (λ r. is_region_being_left v r && all_at_terminate v r) (masters_of v t)) k.1).0)))
+      each-both (λ t. Listed v t.who) (λ t. Waits v t × (may_terminate v t ≡ true)) (Leaves v) tasks
+      (λ t listed k. (
+        listed,
+        λ same. k.0 same ((and_parts (is_at_terminate t) (list_any (λ r. is_region_being_left v r && all_at_terminate v r) (masters_of v t)) k.1).0),
+      ))
       (filter-each (λ t. Listed v t.who) (may_terminate v) v.tasks (choosing.listed v said h))
-      (each-both (Waits v) (λ t. may_terminate v t ≡ true) (λ t. Waits v t × (may_terminate v t ≡ true)) tasks (λ t a b. (a, b)) (filter-each (Waits v) (may_terminate v) v.tasks (choosing.waits v said h)) (filter-tested (may_terminate v) v.tasks))
+      (each-both (Waits v) (λ t. may_terminate v t ≡ true) (λ t. Waits v t × (may_terminate v t ≡ true)) tasks (λ t a b. (a, b))
+      (filter-each (Waits v) (may_terminate v) v.tasks (choosing.waits v said h)) (filter-tested (may_terminate v) v.tasks))
 
   leave_each-leads : (v : World) (said : List Said) → W v said → Leads (At W v) W (for_each (filter (may_terminate v) v.tasks) (leave_by_terminate p actor))
   leave_each-leads v said h =
       let tasks = filter (may_terminate v) v.tasks in
       from-leads _ (λ w more k. subst (λ u. V v u more) (sym k.1) (choosing.looks_at v more (subst (λ u. W u more) k.1 k.0)))
-      (to-leads _ (for_each_task-keeps (Leaves v) tasks (leave_by_terminate p actor) (leaving_each v said h) (λ t leaves. leave_by_terminate-keeps choosing v t leaves.0 leaves.1)) (λ w more k. choosing.looked v w more k))
+      (to-leads _ (for_each_task-keeps (Leaves v) tasks (leave_by_terminate p actor) (leaving_each v said h)
+      (λ t leaves. leave_by_terminate-keeps choosing v t leaves.0 leaves.1))
+      (λ w more k. choosing.looked v w more k))
 
   pub take_terminates-leads : Leads W Y (take_terminates p actor)
   unfolding take_terminates
@@ -199,9 +237,13 @@ module _ {p : Image} {actor : Who} {Listed : World → Naming} {W Y : State} {V 
       then-leads (looks (λ w. for_each (filter (may_terminate w) w.tasks) (leave_by_terminate p actor))) _ (looks-with _ leave_each-leads)
       (looks-with _ (λ v said h. block_at_terminate-leads v (waiting_of v actor) refl))
 
-module _ {p : Image} {actor : Who} {Fits : Fitting} {Sleeps : Sleeping} {May : Admitting} {Listed Unmade : World → Naming} {F I L W Y B D Z : State} {O V : World → State} {N : Lasting} {E : LastingOf} (acting : ActingMoves p actor Fits Sleeps May Listed Unmade F I L W Y B D Z O V N E) where
-  create_task-at : (v : World) (s : StatementNo) (d : DeclNo) (id : Option ScopeId) (t : world.Task) → IsNew p t v → Leads (At F v) I (create_task p actor s d id t)
-  create_task-at v s d id t new = from-leads (create_task p actor s d id t) (λ w said h. (h.0, subst (λ u. IsNew p t u) (sym h.1) new)) (acting.creates s d id t)
+module _ {p : Image} {actor : Who} {Fits : Fitting} {Sleeps : Sleeping} {May : Admitting} {Listed Unmade : World → Naming} {F I L W Y B D Z : State}
+    {O V : World → State} {N : Lasting} {E : LastingOf}
+    (acting : ActingMoves p actor Fits Sleeps May Listed Unmade F I L W Y B D Z O V N E) where
+  create_task-at : (v : World) (s : StatementNo) (d : DeclNo) (id : Option ScopeId) (t : world.Task) → IsNew p t v
+      → Leads (At F v) I (create_task p actor s d id t)
+  create_task-at v s d id t new =
+      from-leads (create_task p actor s d id t) (λ w said h. (h.0, subst (λ u. IsNew p t u) (sym h.1) new)) (acting.creates s d id t)
 
   pub create-leads : (s : StatementNo) (d : DeclNo) (part : ℕ) → Leads F I (create p actor s d part)
   unfolding create
@@ -209,39 +251,55 @@ module _ {p : Image} {actor : Who} {Fits : Fitting} {Sleeps : Sleeping} {May : A
       looks-with _ (λ v said h. let q = seen_by p v actor in
       raise_if-through acting.fresh (λ w k m. m.0) acting.starts actor (in_protected v actor || is_deferred v actor) exception.Program _
       (raise_if-through acting.fresh (λ w k m. m.0) acting.starts actor (leb 256 (length v.tasks)) exception.Storage _
-      (given-through acting.fresh (λ w k m. m.0) acting.starts Own actor (optional_span q (task_unit_of p (unit_of_declaration p d)).relative_deadline) _ (λ span.
-      create_task-at v s d (home v (declaration_of p d).scope q.within) (created_task q d (unit_of_declaration p d) part span v.drawn.tasks) (record { numbered = refl; made = refl; undeferred = refl })))))
+      (given-through acting.fresh (λ w k m. m.0) acting.starts Own actor (optional_span q (task_unit_of p (unit_of_declaration p d)).relative_deadline) _
+      (λ span.
+      create_task-at v s d (home v (declaration_of p d).scope q.within) (created_task q d (unit_of_declaration p d) part span v.drawn.tasks)
+      (record { numbered = refl; made = refl; undeferred = refl })))))
 
   -- ---- activation
 
   -- a task that was made since a world has ended
   end_one-leads : (v : World) (rest : List world.Task) (name : Who) → Leads (E v rest name) (N v rest) (terminate p actor name)
-  end_one-leads v rest name = terminate-leads (acting.since v rest) actor (fits_part acting.later) (λ w said h. acting.found_since v w rest said h) (acting.ending v rest name) name (acting.loses_ended v rest name) (acting.forgets v rest name)
+  end_one-leads v rest name =
+      terminate-leads (acting.since v rest) actor (fits_part acting.later) (λ w said h. acting.found_since v w rest said h) (acting.ending v rest name) name
+      (acting.loses_ended v rest name) (acting.forgets v rest name)
 
-  fail_to_begin-keeps : (v : World) (rest : List world.Task) (t : world.Task) → Unmade v t.who → list_any (λ u. same_who t.who u.who) rest ≡ true → Keeps (N v rest) (fail_to_begin p actor t)
+  fail_to_begin-keeps : (v : World) (rest : List world.Task) (t : world.Task) → Unmade v t.who → list_any (λ u. same_who t.who u.who) rest ≡ true
+      → Keeps (N v rest) (fail_to_begin p actor t)
   unfolding fail_to_begin
   fail_to_begin-keeps v rest t other among =
-      then-leads (says (OfOther t.who) (line.Raise t.who exception.Storage)) _ (says-keeps (acting.since v rest).quiet (OfOther t.who) (line.Raise t.who exception.Storage) refl)
+      then-leads (says (OfOther t.who) (line.Raise t.who exception.Storage)) _
+      (says-keeps (acting.since v rest).quiet (OfOther t.who) (line.Raise t.who exception.Storage) refl)
       (then-leads (says_done (OfOther t.who) t.who) _ (acting.ends_other v rest t.who other among)
-      (then-leads (changes (edit_task actor group_fails)) _ (changes-keeps _ (edit_task-alters (acting.ending v rest t.who).quiet actor group_fails (λ u. refl))) (end_one-leads v rest t.who)))
+      (then-leads (changes (edit_task actor group_fails)) _
+      (changes-keeps _ (edit_task-alters (acting.ending v rest t.who).quiet actor group_fails (λ u. refl))) (end_one-leads v rest t.who)))
 
   -- the first of those that have only been made becomes ready
-  begin_task-leads : (v : World) (level : ℕ) (t : world.Task) (rest : List world.Task) → Unmade v t.who → list_any (λ u. same_who t.who u.who) rest ≡ false → Leads (N v (t ∷ rest)) (N v rest) (begin_task p actor level t)
+  begin_task-leads : (v : World) (level : ℕ) (t : world.Task) (rest : List world.Task) → Unmade v t.who → list_any (λ u. same_who t.who u.who) rest ≡ false
+      → Leads (N v (t ∷ rest)) (N v rest) (begin_task p actor level t)
   unfolding begin_task
   begin_task-leads v level t rest other differs =
-      looks-leads _ (λ w. then-leads (changes (open_scope p t.who (unit_of_task p t).scope (plainly t.outer) opened_for.Task)) _ (changes-keeps _ (open_scope-alters (acting.since v (t ∷ rest)).quiet p t.who (unit_of_task p t).scope (plainly t.outer) opened_for.Task))
+      looks-leads _
+      (λ w. then-leads (changes (open_scope p t.who (unit_of_task p t).scope (plainly t.outer) opened_for.Task)) _
+      (changes-keeps _ (open_scope-alters (acting.since v (t ∷ rest)).quiet p t.who (unit_of_task p t).scope (plainly t.outer) opened_for.Task))
       (then-leads (changes (edit_task t.who (activated_task actor w.time))) _ (changes-keeps _ (acting.dates_activation v t rest actor w.time other))
-      (then-leads (changes (inherit t.who inherited_by.Activation level)) _ (changes-keeps _ (acting.inherits_activation v t rest level other)) (acting.activates v t rest other differs))))
+      (then-leads (changes (inherit t.who inherited_by.Activation level)) _ (changes-keeps _ (acting.inherits_activation v t rest level other))
+      (acting.activates v t rest other differs))))
 
-  activate_one-leads : (v : World) (level : ℕ) (t : world.Task) (rest : List world.Task) → Unmade v t.who → list_any (λ u. same_who t.who u.who) rest ≡ false → Leads (N v (t ∷ rest)) (N v rest) (activate_one p actor level t)
+  activate_one-leads : (v : World) (level : ℕ) (t : world.Task) (rest : List world.Task) → Unmade v t.who → list_any (λ u. same_who t.who u.who) rest ≡ false
+      → Leads (N v (t ∷ rest)) (N v rest) (activate_one p actor level t)
   unfolding activate_one
   activate_one-leads v level t rest other differs =
-      looks-leads _ (λ w. branch-leads (has_room w t.who 1 (scope_of p (unit_of_task p t).scope).size) (begin_task p actor level t) (fail_to_begin p actor t) (begin_task-leads v level t rest other differs)
+      looks-leads _
+      (λ w. branch-leads (has_room w t.who 1 (scope_of p (unit_of_task p t).scope).size) (begin_task p actor level t) (fail_to_begin p actor t)
+      (begin_task-leads v level t rest other differs)
       (to-leads (fail_to_begin p actor t) (fail_to_begin-keeps v (t ∷ rest) t other (among-first t rest)) (λ u said h. acting.since_less v u t rest said h)))
 
-  activate_each-leads : (v : World) (level : ℕ) (tasks : List world.Task) → EachTask (λ t. Unmade v t.who) tasks → AreApart tasks → Leads (N v tasks) (N v []) (for_each tasks (activate_one p actor level))
+  activate_each-leads : (v : World) (level : ℕ) (tasks : List world.Task) → EachTask (λ t. Unmade v t.who) tasks → AreApart tasks
+      → Leads (N v tasks) (N v []) (for_each tasks (activate_one p actor level))
   activate_each-leads v level [] each differ = nothing-keeps
-  activate_each-leads v level (t ∷ rest) each differ = then-leads (activate_one p actor level t) _ (activate_one-leads v level t rest each.0 differ.0) (activate_each-leads v level rest each.1 differ.1)
+  activate_each-leads v level (t ∷ rest) each differ =
+      then-leads (activate_one p actor level t) _ (activate_one-leads v level t rest each.0 differ.0) (activate_each-leads v level rest each.1 differ.1)
 
   await_group-leads : (begins failed : Bool) → Leads I Y (await_group actor begins failed)
   unfolding await_group
@@ -250,15 +308,18 @@ module _ {p : Image} {actor : Who} {Fits : Fitting} {Sleeps : Sleeping} {May : A
   await_group-leads false false = nothing-leads acting.ceases
 
   -- of the tasks of a list those that are made are others
-  made_each : (v : World) (said : List Said) → I v said → (test : world.Task → Bool) → ((t : world.Task) → test t ≡ true → is_made t ≡ true) → EachTask (λ t. Unmade v t.who) (filter test v.tasks)
+  made_each : (v : World) (said : List Said) → I v said → (test : world.Task → Bool) → ((t : world.Task) → test t ≡ true → is_made t ≡ true)
+      → EachTask (λ t. Unmade v t.who) (filter test v.tasks)
   made_each v said h test made =
       each-both (λ t. is_made t ≡ true → Unmade v t.who) (λ t. test t ≡ true) (λ t. Unmade v t.who) (filter test v.tasks) (λ t f e. f (made t e))
       (filter-each (λ t. is_made t ≡ true → Unmade v t.who) test v.tasks (acting.made_differ v said h)) (filter-tested test v.tasks)
 
   -- what is kept since a world, from that world on
-  since_at : (v : World) (rest left : List world.Task) (step : Step) → EachTask (λ t. Unmade v t.who) rest → Leads (N v rest) (N v left) step → Leads (At I v) I step
+  since_at : (v : World) (rest left : List world.Task) (step : Step) → EachTask (λ t. Unmade v t.who) rest → Leads (N v rest) (N v left) step
+      → Leads (At I v) I step
   since_at v rest left step unmade kept =
-      from-leads step (λ w said h. subst (λ u. N v rest u said) (sym h.1) (acting.since_now v rest said unmade (subst (λ u. I u said) h.1 h.0))) (to-leads step kept (λ w said h. acting.since_then v w left said h))
+      from-leads step (λ w said h. subst (λ u. N v rest u said) (sym h.1) (acting.since_now v rest said unmade (subst (λ u. I u said) h.1 h.0)))
+      (to-leads step kept (λ w said h. acting.since_then v w left said h))
 
   activate_group-leads : (s : StatementNo) (part : ℕ) → Leads I Y (activate_group p actor s part)
   unfolding activate_group
@@ -267,7 +328,9 @@ module _ {p : Image} {actor : Who} {Fits : Fitting} {Sleeps : Sleeping} {May : A
       (looks-with _ (λ v said h.
       let test = is_to_activate (top_region_of_scope v actor) part in
       let tasks = filter test v.tasks in
-      let unmade = made_each v said h test (λ t e. first_of_three (is_made t) (is_the same_region t.master (top_region_of_scope v actor)) (eqb t.declarative_part part) e) in
+      let unmade =
+      made_each v said h test
+      (λ t e. first_of_three (is_made t) (is_the same_region t.master (top_region_of_scope v actor)) (eqb t.declarative_part part) e) in
       since_at v tasks [] _ unmade (then-leads (goes actor (next_of p s)) _ (goes-keeps (acting.since v tasks).quiet actor (next_of p s))
       (then-leads (changes (edit_task actor no_failure)) _ (changes-keeps _ (edit_task-alters (acting.since v tasks).quiet actor no_failure (λ u. refl)))
       (activate_each-leads v (active_of p v actor) tasks unmade (apart-filtered test v.tasks (acting.apart v said h)))))))
@@ -275,7 +338,10 @@ module _ {p : Image} {actor : Who} {Fits : Fitting} {Sleeps : Sleeping} {May : A
 
   pub activate-leads : (s : StatementNo) (part : ℕ) → Leads I Y (activate p actor s part)
   unfolding activate
-  activate-leads s part = looks-leads _ (λ w. raise_if-through acting.later.base.quiet (λ v k h. h) acting.ceases actor (in_protected w actor || is_deferred w actor) exception.Program _ (activate_group-leads s part))
+  activate-leads s part =
+      looks-leads _
+      (λ w. raise_if-through acting.later.base.quiet (λ v k h. h) acting.ceases actor (in_protected w actor || is_deferred w actor) exception.Program _
+      (activate_group-leads s part))
 
   -- ---- who acts may have fallen
 
@@ -287,26 +353,32 @@ module _ {p : Image} {actor : Who} {Fits : Fitting} {Sleeps : Sleeping} {May : A
   end_own_activation-keeps s =
       looks-with _ (λ v said h. let base = acting.owing v in
       from-leads _ (owing_at v) (then-leads (goes actor (next_of p s)) _ (goes-keeps base.quiet actor (next_of p s))
-      (then-leads (end_activation p actor actor false) (fall_from p actor v) (end_activation-keeps base actor (fits_part acting.later) actor (acting.loses_owed v) false) (acting.pays v))))
+      (then-leads (end_activation p actor actor false) (fall_from p actor v)
+      (end_activation-keeps base actor (fits_part acting.later) actor (acting.loses_owed v) false) (acting.pays v))))
 
   complete_if_task-keeps : (purpose : Purpose) → Keeps I (complete_if_task p actor purpose)
   unfolding complete_if_task
   complete_if_task-keeps purpose =
       looks-with _ (λ v said h. let base = acting.owing v in
       when-leads (is_task_scope purpose) _ (λ is. from-leads _ (owing_at v)
-      (then-leads (complete p actor actor) (fall_from p actor v) (complete-keeps base actor (fits_part acting.later) actor (acting.loses_owed v)) (acting.pays v)))
+      (then-leads (complete p actor actor) (fall_from p actor v) (complete-keeps base actor (fits_part acting.later) actor (acting.loses_owed v))
+      (acting.pays v)))
       (λ w k m. m.0))
 
   -- ---- a scope is left
 
-  end_made-keeps : (v : World) (rest : List world.Task) (t : world.Task) → Unmade v t.who → list_any (λ u. same_who t.who u.who) rest ≡ true → Keeps (N v rest) (end_made p actor t)
+  end_made-keeps : (v : World) (rest : List world.Task) (t : world.Task) → Unmade v t.who → list_any (λ u. same_who t.who u.who) rest ≡ true
+      → Keeps (N v rest) (end_made p actor t)
   unfolding end_made
-  end_made-keeps v rest t other among = then-leads (says_done (OfOther t.who) t.who) (terminate p actor t.who) (acting.ends_other v rest t.who other among) (end_one-leads v rest t.who)
+  end_made-keeps v rest t other among =
+      then-leads (says_done (OfOther t.who) t.who) (terminate p actor t.who) (acting.ends_other v rest t.who other among) (end_one-leads v rest t.who)
 
   -- of the tasks of a list those that are made end
-  end_each-keeps : (v : World) (rest tasks : List world.Task) → EachTask (λ t. Unmade v t.who) tasks → EachTask (λ t. list_any (λ u. same_who t.who u.who) rest ≡ true) tasks → Keeps (N v rest) (for_each tasks (end_made p actor))
+  end_each-keeps : (v : World) (rest tasks : List world.Task) → EachTask (λ t. Unmade v t.who) tasks
+      → EachTask (λ t. list_any (λ u. same_who t.who u.who) rest ≡ true) tasks → Keeps (N v rest) (for_each tasks (end_made p actor))
   end_each-keeps v rest [] unmade among = nothing-keeps
-  end_each-keeps v rest (t ∷ tasks) unmade among = then-keeps (end_made p actor t) _ (end_made-keeps v rest t unmade.0 among.0) (end_each-keeps v rest tasks unmade.1 among.1)
+  end_each-keeps v rest (t ∷ tasks) unmade among =
+      then-keeps (end_made p actor t) _ (end_made-keeps v rest t unmade.0 among.0) (end_each-keeps v rest tasks unmade.1 among.1)
 
   wait_for_dependents-leads : (r : RegionNo) → Leads I Y (wait_for_dependents actor r)
   unfolding wait_for_dependents
@@ -328,9 +400,12 @@ module _ {p : Image} {actor : Who} {Fits : Fitting} {Sleeps : Sleeping} {May : A
   unfolding end_task
   end_task-leads leaving =
       then-leads (says_done Own actor) _ acting.ends
-      (then-leads (looks (λ w. end_activation p actor actor (fails_by w actor leaving))) _ (looks-keeps _ (λ w. end_activation-keeps acting.dying actor (fits_part acting.later) actor acting.loses_last (fails_by w actor leaving)))
-      (then-leads (terminate p actor actor) _ (terminate-leads acting.gone actor (fits_part acting.later) acting.found_asleep acting.dying actor acting.loses_last acting.forgets_actor)
-      (to-leads _ (when-keeps (is_environment actor) _ (changes-keeps _ (end_environment-alters acting.gone.quiet leaving))) (λ w said h. acting.rests w said (acting.ended w said h)))))
+      (then-leads (looks (λ w. end_activation p actor actor (fails_by w actor leaving))) _
+      (looks-keeps _ (λ w. end_activation-keeps acting.dying actor (fits_part acting.later) actor acting.loses_last (fails_by w actor leaving)))
+      (then-leads (terminate p actor actor) _
+      (terminate-leads acting.gone actor (fits_part acting.later) acting.found_asleep acting.dying actor acting.loses_last acting.forgets_actor)
+      (to-leads _ (when-keeps (is_environment actor) _ (changes-keeps _ (end_environment-alters acting.gone.quiet leaving)))
+      (λ w said h. acting.rests w said (acting.ended w said h)))))
 
   -- what holds at first holds where who acts has said nothing more
   not_left : (w : World) (said : List Said) → F w said → W w said
@@ -340,13 +415,17 @@ module _ {p : Image} {actor : Who} {Fits : Fitting} {Sleeps : Sleeping} {May : A
   at_first step kept = weakly acting.fresh not_left step kept
 
   end_body-keeps : (leaving : Leaving) (normally : Step) → Keeps F normally → Leads F W (end_body p actor leaving normally)
-  end_body-keeps leaving normally kept = at_first (end_body p actor leaving normally) (branch-keeps (is_normal leaving) normally (pass_on p actor leaving) kept (pass_on-keeps acting.fresh p actor leaving))
+  end_body-keeps leaving normally kept =
+      at_first (end_body p actor leaving normally)
+      (branch-keeps (is_normal leaving) normally (pass_on p actor leaving) kept (pass_on-keeps acting.fresh p actor leaving))
 
   behind_scope-leads : (purpose : Purpose) (cells : List Value) (leaving : Leaving) → Leads F W (behind_scope p actor purpose cells leaving)
   unfolding behind_scope
   behind_scope-leads (opened_for.Block s) cells leaving = at_first (pass_on p actor leaving) (pass_on-keeps acting.fresh p actor leaving)
-  behind_scope-leads (opened_for.Subprogram back to) cells leaving = end_body-keeps leaving (end_subprogram p actor cells back to leaving) (end_subprogram-keeps acting.fresh p actor cells back to leaving)
-  behind_scope-leads (opened_for.EntryBody c) cells leaving = end_body-keeps leaving (end_body_of_entry p c cells leaving) (end_body_of_entry-keeps acting.fresh p c cells leaving)
+  behind_scope-leads (opened_for.Subprogram back to) cells leaving =
+      end_body-keeps leaving (end_subprogram p actor cells back to leaving) (end_subprogram-keeps acting.fresh p actor cells back to leaving)
+  behind_scope-leads (opened_for.EntryBody c) cells leaving =
+      end_body-keeps leaving (end_body_of_entry p c cells leaving) (end_body_of_entry-keeps acting.fresh p c cells leaving)
   behind_scope-leads opened_for.Task cells leaving = end_task-leads leaving
 
   end_of_scope-leads : (m : ScopeMark) (leaving : Leaving) → Leads F W (end_of_scope p actor m leaving)
@@ -354,9 +433,11 @@ module _ {p : Image} {actor : Who} {Fits : Fitting} {Sleeps : Sleeping} {May : A
   end_of_scope-leads m leaving =
       looks-leads _ (λ w. then-leads (changes (pop actor)) _ (changes-keeps _ (pop-alters acting.fresh actor))
       (then-leads (changes (end_scope m.within)) _ (changes-keeps _ (end_scope-alters acting.fresh m.within))
-      (then-leads (says_left actor m leaving) _ (says_left-keeps acting.fresh actor m leaving) (behind_scope-leads m.purpose (cells_of (scope_in_use w m.within)) (left_by m leaving)))))
+      (then-leads (says_left actor m leaving) _ (says_left-keeps acting.fresh actor m leaving)
+      (behind_scope-leads m.purpose (cells_of (scope_in_use w m.within)) (left_by m leaving)))))
 
-  next_finalized-leads : (m : ScopeMark) (leaving : Leaving) (found : Option Registered) → Leads F W (elim found as (λ _. Step) [ None ↦ end_of_scope p actor m leaving | Some x ↦ finalize p actor x ])
+  next_finalized-leads : (m : ScopeMark) (leaving : Leaving) (found : Option Registered)
+      → Leads F W (elim found as (λ _. Step) [ None ↦ end_of_scope p actor m leaving | Some x ↦ finalize p actor x ])
   next_finalized-leads m leaving None = end_of_scope-leads m leaving
   next_finalized-leads m leaving (Some x) = at_first (finalize p actor x) (finalize-keeps acting.fresh p actor x)
 
@@ -380,7 +461,9 @@ module _ {p : Image} {actor : Who} {Fits : Fitting} {Sleeps : Sleeping} {May : A
   abbrev Aborted : World → List world.Task → world.Task → Type 0
   Aborted v rest t = is_made t ≡ true → Unmade v t.who × (list_any (λ u. same_who t.who u.who) rest ≡ true)
 
-  struck_or_ended : (v : World) (rest : List world.Task) (t : world.Task) (b : Bool) → (b ≡ true → Unmade v t.who × (list_any (λ u. same_who t.who u.who) rest ≡ true)) → Keeps (N v rest) (cond b (end_made p actor t) (changes (strike_outermost t.who)))
+  struck_or_ended : (v : World) (rest : List world.Task) (t : world.Task) (b : Bool)
+      → (b ≡ true → Unmade v t.who × (list_any (λ u. same_who t.who u.who) rest ≡ true))
+      → Keeps (N v rest) (cond b (end_made p actor t) (changes (strike_outermost t.who)))
   struck_or_ended v rest t true other = end_made-keeps v rest t (other refl).0 (other refl).1
   struck_or_ended v rest t false other = changes-keeps _ (strike_outermost-alters (acting.since v rest).quiet t.who)
 
@@ -392,18 +475,24 @@ module _ {p : Image} {actor : Who} {Fits : Fitting} {Sleeps : Sleeping} {May : A
   unfolding abort_all
   abort_all-keeps v rest tasks others =
       then-keeps _ _ (for_each-keeps tasks _ (λ t. changes-keeps _ (edit_task-alters (acting.since v rest).quiet t.who abnormal_task (λ u. refl))))
-      (then-keeps _ _ (for_each_task-keeps (Aborted v rest) tasks (abort_one p actor) others (abort_one-keeps v rest)) (unwind_each-keeps (acting.since v rest) actor (λ name apart. acting.later.fits_other name) tasks))
+      (then-keeps _ _ (for_each_task-keeps (Aborted v rest) tasks (abort_one p actor) others (abort_one-keeps v rest))
+      (unwind_each-keeps (acting.since v rest) actor (λ name apart. acting.later.fits_other name) tasks))
 
   aborted_each : (v : World) (said : List Said) → I v said → EachTask (Aborted v (filter is_made v.tasks)) v.tasks
   aborted_each v said h =
-      each-both (λ t. is_made t ≡ true → Unmade v t.who) (λ t. is_made t ≡ true → list_any (λ u. same_who t.who u.who) (filter is_made v.tasks) ≡ true) (Aborted v (filter is_made v.tasks)) v.tasks (λ t a b e. (a e, b e))
+      each-both (λ t. is_made t ≡ true → Unmade v t.who) (λ t. is_made t ≡ true → list_any (λ u. same_who t.who u.who) (filter is_made v.tasks) ≡ true)
+      (Aborted v (filter is_made v.tasks)) v.tasks (λ t a b e. (a e, b e))
       (acting.made_differ v said h) (each-among-filter is_made v.tasks)
 
   pub abort_statement-keeps : (s : StatementNo) (tasks : List DeclNo) → Keeps I (abort_statement p actor s tasks)
   unfolding abort_statement
   abort_statement-keeps s tasks =
-      sees-keeps p actor _ (λ q. raise_if-keeps acting.later.base.quiet actor (in_protected q.world actor) exception.Program _ (given-keeps acting.later.base.quiet Own actor (named_tasks q tasks) _ (λ aborted.
+      sees-keeps p actor _
+      (λ q. raise_if-keeps acting.later.base.quiet actor (in_protected q.world actor) exception.Program _
+      (given-keeps acting.later.base.quiet Own actor (named_tasks q tasks) _ (λ aborted.
       then-keeps _ _ (goes-keeps acting.later.base.quiet actor (next_of p s))
       (looks-with _ (λ v said h.
       let made = filter is_made v.tasks in
-      since_at v made made _ (made_each v said h is_made (λ t e. e)) (abort_all-keeps v made (filter (is_to_abort v aborted) v.tasks) (filter-each (Aborted v made) (is_to_abort v aborted) v.tasks (aborted_each v said h))))))))
+      since_at v made made _ (made_each v said h is_made (λ t e. e))
+      (abort_all-keeps v made (filter (is_to_abort v aborted) v.tasks)
+      (filter-each (Aborted v made) (is_to_abort v aborted) v.tasks (aborted_each v said h))))))))

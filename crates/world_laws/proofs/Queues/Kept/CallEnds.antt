@@ -32,13 +32,16 @@ use Rattle.line_laws.proofs.Exits.TaskEdits as edits_of
 use Rattle.profile_machine.specs.Dispatching.{active, level_kept_by, granted, ready, keep_level, grant_quantum, to_tail, says_ready}
 use Rattle.profile_machine.specs.Frames.{frames_of}
 use Rattle.profile_machine.specs.Calls.{call_of, edit_call, forget_call, unqueued, is_cancellable, attempt_on, attempt_with}
-use Rattle.profile_machine.specs.Unwinding.{struck_frame, edit_last, strike_outermost, may_unwind, leave_by_abort, stop_waiting, wake_and_leave, unwind_blocked, unwind_in, unwind}
+use Rattle.profile_machine.specs.Unwinding.{struck_frame, edit_last, strike_outermost, may_unwind, leave_by_abort}
+use Rattle.profile_machine.specs.Unwinding.{stop_waiting, wake_and_leave, unwind_blocked, unwind_in, unwind}
 use Rattle.profile_machine.specs.CallEnds.{go_by_outcome, onward_when_done, onward_when_cancelled, resume, store, or_stored, copy_back, with_results}
 use Rattle.world_laws.proofs.Queues.CallChanges.{Directed, forget_call-calm, unqueued-calm, unqueued-out}
 use Rattle.world_laws.proofs.Queues.CallLists.{call_number}
 use Rattle.world_laws.proofs.Queues.Calming.{task-edited}
-use Rattle.world_laws.proofs.Queues.Kept.Combinators.{Calms, From, Gives, Keeps, Quiets, calms-from, changes-calms, changes-from, looks_at-from, nothing-from, stays-calm, then-after, then-calms, then-from, when-from, with_call-from}
-use Rattle.world_laws.proofs.Queues.Kept.Frames.{Same, drop_delay-quiets, edit_call-quiets, edit_task-quiets, goes-keeps, grant_quantum-quiets, keep_level-quiets, leaves-calms, leaves-keeps, raises-keeps, ready-calms, runnable-quiets, store-gives}
+use Rattle.world_laws.proofs.Queues.Kept.Combinators.{Calms, From, Gives, Keeps, Quiets, calms-from, changes-calms, changes-from, looks_at-from}
+use Rattle.world_laws.proofs.Queues.Kept.Combinators.{nothing-from, stays-calm, then-after, then-calms, then-from, when-from, with_call-from}
+use Rattle.world_laws.proofs.Queues.Kept.Frames.{Same, drop_delay-quiets, edit_call-quiets, edit_task-quiets, goes-keeps, grant_quantum-quiets}
+use Rattle.world_laws.proofs.Queues.Kept.Frames.{keep_level-quiets, leaves-calms, leaves-keeps, raises-keeps, ready-calms, runnable-quiets, store-gives}
 use Rattle.world_laws.proofs.Queues.Softening.{marks-calm}
 use Rattle.world_laws.proofs.Queues.Standing.{Awake, Calm, Good, Kind, Out, any_kind, calm-awake, calm-good, calm-then, is_ending, nature, natures, waits_end}
 use Rattle.world_laws.proofs.Queues.Listed.{none-waits}
@@ -46,7 +49,15 @@ use Rattle.world_laws.proofs.Queues.Listed.{none-waits}
 -- ---- cancellation is attempted
 
 pub attempted-same : Same (λ d. record d { attempted = true })
-attempted-same = record { number = λ d. refl; owner = λ d. refl; entry = λ d. refl; caller = λ d. refl; begun = λ d. refl; outcome = λ d. refl; firm = λ d. refl }
+attempted-same = record {
+  number = λ d. refl;
+  owner = λ d. refl;
+  entry = λ d. refl;
+  caller = λ d. refl;
+  begun = λ d. refl;
+  outcome = λ d. refl;
+  firm = λ d. refl;
+}
 
 same-record : (c : Call) (w : World) → call_of w c.number ≡ Some c → Directed c w
 same-record c w is o k h d e = let one : d ≡ c = some-one d c (sym e ∙ is) in (ap (λ (x : Call). x.owner) one, ap (λ (x : Call). x.entry) one) where
@@ -61,13 +72,20 @@ pub found-directed : (c : CallNo) (w : World) (d : Call) → call_of w c ≡ Som
 found-directed c w d is = same-record d w (subst (λ n. call_of w n ≡ Some d) (sym (found-number c w d is)) is)
 
 -- where it cancels the call, that is in no queue any more
-attempt-by : {E : Kind} (p : Image) (part : Part) (c : Call) (cancels stays : Step) (w : World) (b : Bool) → From E (unqueued p c w) cancels → ((v : World) → Calm E w v → From E v stays)
-    → From E w ((elim b as (λ _. Step) [ true ↦ changes (unqueued p c) ▷ says part (line.Cancel c.caller c.number) | false ↦ changes (edit_call c.number (λ d. record d { attempted = true })) ]) ▷ elim b as (λ _. Step) [ true ↦ cancels | false ↦ stays ])
+attempt-by : {E : Kind} (p : Image) (part : Part) (c : Call) (cancels stays : Step) (w : World) (b : Bool) → From E (unqueued p c w) cancels
+    → ((v : World) → Calm E w v → From E v stays)
+    → From E w ((elim b as (λ _. Step) [
+      | true ↦ changes (unqueued p c) ▷ says part (line.Cancel c.caller c.number)
+      | false ↦ changes (edit_call c.number (λ d. record d { attempted = true }))
+    ])
+    ▷ elim b as (λ _. Step) [ true ↦ cancels | false ↦ stays ])
 attempt-by p part c cancels stays w true k l = record { leads = λ said. calm-then w (unqueued p c w) _ (unqueued-calm p c w) (k.leads _) }
-attempt-by p part c cancels stays w false k l = then-after _ stays w (changes-from _ w ((edit_call-quiets c.number (λ d. record d { attempted = true }) attempted-same).at w)) l
+attempt-by p part c cancels stays w false k l =
+    then-after _ stays w (changes-from _ w ((edit_call-quiets c.number (λ d. record d { attempted = true }) attempted-same).at w)) l
 
 pub attempt_with-from : {E : Kind} (p : Image) (part : Part) (c : Call) (cancels stays : Step) (w : World) → Good p w → Directed c w
-    → (Good p (unqueued p c w) → Out c.number (unqueued p c w) → From E (unqueued p c w) cancels) → ((v : World) → Calm E w v → From E v stays) → From E w (attempt_with p part c cancels stays)
+    → (Good p (unqueued p c w) → Out c.number (unqueued p c w) → From E (unqueued p c w) cancels) → ((v : World) → Calm E w v → From E v stays)
+    → From E w (attempt_with p part c cancels stays)
 unfolding attempt_on
 attempt_with-from p part c cancels stays w good directed k l =
     let out : Calm any_kind w (unqueued p c w) = unqueued-calm p c w in
@@ -79,19 +97,24 @@ wake_and_leave-calms : {E : Kind} (p : Image) (part : Part) (name : Who) → Cal
 unfolding wake_and_leave stop_waiting leave_by_abort
 wake_and_leave-calms p part name =
     then-calms _ _ (then-calms _ _ (changes-calms _ (drop_delay-quiets name)) (ready-calms p part name))
-    (then-calms _ _ (changes-calms _ (edit_task-quiets name (with_ticks None) (λ t. refl) (λ t. refl) (λ t. refl) (λ t. refl) (λ t. refl))) (leaves-calms name how.Abort))
+    (then-calms _ _ (changes-calms _ (edit_task-quiets name (with_ticks None) (λ t. refl) (λ t. refl) (λ t. refl) (λ t. refl) (λ t. refl)))
+    (leaves-calms name how.Abort))
 
 leave_by_abort-calms : {E : Kind} (name : Who) → Calms E (leave_by_abort name)
 unfolding leave_by_abort
-leave_by_abort-calms name = then-calms _ _ (changes-calms _ (edit_task-quiets name (with_ticks None) (λ t. refl) (λ t. refl) (λ t. refl) (λ t. refl) (λ t. refl))) (leaves-calms name how.Abort)
+leave_by_abort-calms name =
+    then-calms _ _ (changes-calms _ (edit_task-quiets name (with_ticks None) (λ t. refl) (λ t. refl) (λ t. refl) (λ t. refl) (λ t. refl)))
+    (leaves-calms name how.Abort)
 
-unwind_blocked-from : {E : Kind} (p : Image) (part : Part) (name : Who) (waiting : Waiting) (w : World) → ((x : CallNo) → E.stay x ≡ false) → Good p w → From E w (unwind_blocked p part name waiting)
+unwind_blocked-from : {E : Kind} (p : Image) (part : Part) (name : Who) (waiting : Waiting) (w : World) → ((x : CallNo) → E.stay x ≡ false) → Good p w
+    → From E w (unwind_blocked p part name waiting)
 unfolding unwind_blocked
 unwind_blocked-from p part name (waits_for.Call c) w loose good =
     with_call-from c _ w (λ d is.
     attempt_with-from p part d (changes (forget_call c) ▷ wake_and_leave p part name) nothing w good (found-directed c w d is)
     (λ good_out out. let gone : Out c (unqueued p d w) = subst (λ n. Out n (unqueued p d w)) (found-number c w d is) out in
-    then-after _ _ (unqueued p d w) (changes-from (forget_call c) (unqueued p d w) (forget_call-calm c (unqueued p d w) (loose c) gone)) (λ v calm. calms-from _ v (wake_and_leave-calms p part name)))
+    then-after _ _ (unqueued p d w) (changes-from (forget_call c) (unqueued p d w) (forget_call-calm c (unqueued p d w) (loose c) gone))
+    (λ v calm. calms-from _ v (wake_and_leave-calms p part name)))
     (λ v calm. nothing-from v))
 unwind_blocked-from p part name (waits_for.EndOfCall c) w loose good = nothing-from w
 unwind_blocked-from p part name waits_for.Activation w loose good = calms-from _ w (wake_and_leave-calms p part name)
@@ -101,7 +124,8 @@ unwind_blocked-from p part name (waits_for.Select accepts delay terminate) w loo
 unwind_blocked-from p part name (waits_for.Dependents r) w loose good = calms-from _ w (wake_and_leave-calms p part name)
 unwind_blocked-from p part name waits_for.Release w loose good = nothing-from w
 
-unwind_in-from : {E : Kind} (p : Image) (part : Part) (name : Who) (state : State) (w : World) → ((x : CallNo) → E.stay x ≡ false) → Good p w → From E w (unwind_in p part name state)
+unwind_in-from : {E : Kind} (p : Image) (part : Part) (name : Who) (state : State) (w : World) → ((x : CallNo) → E.stay x ≡ false) → Good p w
+    → From E w (unwind_in p part name state)
 unfolding unwind_in
 unwind_in-from p part name Made w loose good = nothing-from w
 unwind_in-from p part name Runnable w loose good = calms-from _ w (leave_by_abort-calms name)
@@ -109,7 +133,9 @@ unwind_in-from p part name (Blocked waiting) w loose good = unwind_blocked-from 
 
 pub unwind-from : {E : Kind} (p : Image) (part : Part) (name : Who) (w : World) → ((x : CallNo) → E.stay x ≡ false) → Good p w → From E w (unwind p part name)
 unfolding unwind
-unwind-from p part name w loose good = looks_at-from (λ v. when (may_unwind (frames_of v name)) (unwind_in p part name (task_of v name).state)) w (when-from (may_unwind (frames_of w name)) _ w (λ is. unwind_in-from p part name (task_of w name).state w loose good))
+unwind-from p part name w loose good =
+    looks_at-from (λ v. when (may_unwind (frames_of v name)) (unwind_in p part name (task_of v name).state)) w
+    (when-from (may_unwind (frames_of w name)) _ w (λ is. unwind_in-from p part name (task_of w name).state w loose good))
 
 last-natures : (fs : List Frame) → natures (edit_last struck_frame fs) ≡ natures fs
 last-natures [] = refl
@@ -133,7 +159,8 @@ pub readied-calm : {E : Kind} (p : Image) (name : Who) (w : World) → Calm E w 
 readied-calm p name w =
     let one = edit_task name (with_state Runnable) w in
     let two = keep_level p name one in
-    calm-then w one (readied p name w) ((runnable-quiets name).at w) (calm-then one two (readied p name w) ((keep_level-quiets p name).at one) ((grant_quantum-quiets p name).at two))
+    calm-then w one (readied p name w) ((runnable-quiets name).at w)
+    (calm-then one two (readied p name w) ((keep_level-quiets p name).at one) ((grant_quantum-quiets p name).at two))
 
 pub ready_then-from : {E : Kind} (p : Image) (part : Part) (name : Who) (g : Step) (w : World) → From E (readied p name w) g → From E w (ready p part name ▷ g)
 unfolding ready to_tail says_ready
@@ -153,14 +180,16 @@ pub readied-awake : (p : Image) (name : Who) (w : World) → Awake name (readied
 readied-awake p name w =
     let one = edit_task name (with_state Runnable) w in
     let two = keep_level p name one in
-    let onward : Calm any_kind one (readied p name w) = calm-then one two (readied p name w) ((keep_level-quiets p name).at one) ((grant_quantum-quiets p name).at two) in
+    let onward : Calm any_kind one (readied p name w) =
+    calm-then one two (readied p name w) ((keep_level-quiets p name).at one) ((grant_quantum-quiets p name).at two) in
     calm-awake one (readied p name w) onward name (runnable-awake name w)
 
 pub readied-unwaited : (p : Image) (name : Who) (w : World) (c : CallNo) → waiting_of (readied p name w) name ≡ waits_end c → ⊥
 readied-unwaited p name w c is =
     let one = edit_task name (with_state Runnable) w in
     let two = keep_level p name one in
-    let onward : Calm any_kind one (readied p name w) = calm-then one two (readied p name w) ((keep_level-quiets p name).at one) ((grant_quantum-quiets p name).at two) in
+    let onward : Calm any_kind one (readied p name w) =
+    calm-then one two (readied p name w) ((keep_level-quiets p name).at one) ((grant_quantum-quiets p name).at two) in
     none-waits c (sym (runnable-waiting name w) ∙ (onward.ends name c is).0)
 
 granted-frames : (p : Image) (quanta : List ℕ) (t : Task) → (granted p quanta t).frames ≡ t.frames
@@ -179,26 +208,33 @@ pub readied-frames : (p : Image) (name : Who) (w : World) (me : Who) → frames_
 readied-frames p name w me =
     let one = edit_task name (with_state Runnable) w in
     let two = keep_level p name one in
-    task-edited name (granted p two.quanta) two (granted-who p two.quanta) (λ m t u. u.frames ≡ t.frames) (λ m. refl) (granted-frames p two.quanta (task_of two name)) me
-    ∙ task-edited name (λ t. record t { kept_level = level_kept_by p one t (edf_low p t.base) }) one (λ t. refl) (λ m t u. u.frames ≡ t.frames) (λ m. refl) refl me
+    task-edited name (granted p two.quanta) two (granted-who p two.quanta) (λ m t u. u.frames ≡ t.frames) (λ m. refl)
+    (granted-frames p two.quanta (task_of two name)) me
+    ∙ task-edited name (λ t. record t { kept_level = level_kept_by p one t (edf_low p t.base) }) one (λ t. refl) (λ m t u. u.frames ≡ t.frames)
+    (λ m. refl) refl me
     ∙ task-edited name (with_state Runnable) w (λ t. refl) (λ m t u. u.frames ≡ t.frames) (λ m. refl) refl me
 
 -- ---- a caller goes on behind its call
 
-pub go_by_outcome-keeps : {E : Kind} (p : Image) (part : Part) (name : Who) (s : StatementNo) (outcome : Outcome) → Keeps E name (go_by_outcome p part name s outcome)
+pub go_by_outcome-keeps : {E : Kind} (p : Image) (part : Part) (name : Who) (s : StatementNo) (outcome : Outcome)
+    → Keeps E name (go_by_outcome p part name s outcome)
 unfolding go_by_outcome
 go_by_outcome-keeps p part name s call_ended.Finished = goes-keeps name (onward_when_done p s)
 go_by_outcome-keeps p part name s call_ended.Cancelled = goes-keeps name (onward_when_cancelled p s)
 go_by_outcome-keeps p part name s (call_ended.ToRaise e) = raises-keeps part name e
 go_by_outcome-keeps p part name s (call_ended.WasRaised e) = leaves-keeps name (how.Exception e)
 
-pub resume-from : {E : Kind} (p : Image) (part : Part) (c : Call) (outcome : Outcome) (w : World) → E.stay c.number ≡ false → Out c.number w → Awake (who.Task c.caller) w → From E w (resume p part c outcome)
+pub resume-from : {E : Kind} (p : Image) (part : Part) (c : Call) (outcome : Outcome) (w : World) → E.stay c.number ≡ false → Out c.number w
+    → Awake (who.Task c.caller) w → From E w (resume p part c outcome)
 unfolding resume
-resume-from p part c outcome w free out awake = then-from _ _ w awake (changes-from (forget_call c.number) w (forget_call-calm c.number w free out)) (go_by_outcome-keeps p part (who.Task c.caller) c.statement outcome)
+resume-from p part c outcome w free out awake =
+    then-from _ _ w awake (changes-from (forget_call c.number) w (forget_call-calm c.number w free out))
+    (go_by_outcome-keeps p part (who.Task c.caller) c.statement outcome)
 
 -- ---- results are copied back
 
-or_stored-calm : {E : Kind} (result : Valued World) (again : World → World × Bool) (w : World) → Gives E w result → ((v : World) → Calm E v (again v).0) → Calm E w (or_stored w result again).0
+or_stored-calm : {E : Kind} (result : Valued World) (again : World → World × Bool) (w : World) → Gives E w result → ((v : World) → Calm E v (again v).0)
+    → Calm E w (or_stored w result again).0
 or_stored-calm (Ok next) again w a b = calm-then w next (again next).0 a.world (b next)
 or_stored-calm (Err e) again w a b = stays-calm w
 
@@ -207,7 +243,8 @@ copy_back-calm p [] values w = stays-calm w
 copy_back-calm p (None ∷ results) [] w = stays-calm w
 copy_back-calm p (None ∷ results) (v ∷ values) w = copy_back-calm p results values w
 copy_back-calm p (Some target ∷ results) [] w = stays-calm w
-copy_back-calm p (Some target ∷ results) (v ∷ values) w = or_stored-calm (store p target v w) (copy_back p results values) w (store-gives p target v w) (copy_back-calm p results values)
+copy_back-calm p (Some target ∷ results) (v ∷ values) w =
+    or_stored-calm (store p target v w) (copy_back p results values) w (store-gives p target v w) (copy_back-calm p results values)
 
 pub with_results-calm : {E : Kind} (p : Image) (c : Call) (outcome : Outcome) (w : World) → Calm E w (with_results p c outcome w).0
 with_results-calm p c call_ended.Finished w = copy_back-calm p c.results c.values w

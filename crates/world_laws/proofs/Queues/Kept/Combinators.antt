@@ -146,7 +146,8 @@ looks-calms f a = from-calms (looks f) (λ w. looks_at-from f w (calms-from (f w
 pub sees-keeps : {E : Kind} {name : Who} (p : Image) (someone : Who) (f : Seen → Step) → ((q : Seen) → Keeps E name (f q)) → Keeps E name (sees p someone f)
 sees-keeps p someone f a = looks-keeps (λ w. f (seen_by p w someone)) (λ w. a (seen_by p w someone))
 
-pub branch-keeps : {E : Kind} {name : Who} (b : Bool) (f g : Step) → Keeps E name f → Keeps E name g → Keeps E name (elim b as (λ _. Step) [ true ↦ f | false ↦ g ])
+pub branch-keeps : {E : Kind} {name : Who} (b : Bool) (f g : Step) → Keeps E name f → Keeps E name g
+    → Keeps E name (elim b as (λ _. Step) [ true ↦ f | false ↦ g ])
 branch-keeps true f g a b = a
 branch-keeps false f g a b = b
 
@@ -183,7 +184,8 @@ pub for_each-calms : {E : Kind} {X : Type 0} (xs : List X) (f : X → Step) → 
 for_each-calms [] f a = nothing-calms
 for_each-calms (x ∷ xs) f a = then-calms (f x) (for_each xs f) (a x) (for_each-calms xs f a)
 
-found-from : {E : Kind} (c : CallNo) (found : Option Call) (f : Call → Step) (w : World) → call_of w c ≡ found → ((d : Call) → call_of w c ≡ Some d → From E w (f d)) → From E w (for_some found f)
+found-from : {E : Kind} (c : CallNo) (found : Option Call) (f : Call → Step) (w : World) → call_of w c ≡ found
+    → ((d : Call) → call_of w c ≡ Some d → From E w (f d)) → From E w (for_some found f)
 found-from c None f w is a = nothing-from w
 found-from c (Some d) f w is a = a d is
 

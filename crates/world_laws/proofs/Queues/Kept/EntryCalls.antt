@@ -33,7 +33,11 @@ use Rattle.profile_machine.specs.Tasks.{with_frames}
 use Rattle.profile_machine.specs.Calls.{call_of, says_call, enqueue, is_full}
 use Rattle.profile_machine.specs.Protected.{begin_action_on, is_barrier_open}
 use Rattle.profile_machine.specs.Sending.{open_abortable}
-use Rattle.profile_machine.specs.EntryCalls.{numbered, marks_if_queued, add_call, make_call, end_at_once, call_gone, call_meets, call_queues, call_not_met, call_accepted_by, call_callable, call_task, call_runs, call_without_room, has_room_for_action, call_runs_if_room, call_passes, call_refused, call_closed, call_by_barrier, call_object, call_owner, call_named, entry_call, appoint_trigger, trigger_delay, async_delay, async_by_trigger, asynchronous_select, mark_sending, requeue, is_forbidden}
+use Rattle.profile_machine.specs.EntryCalls.{numbered, marks_if_queued, add_call, make_call, end_at_once, call_gone, call_meets, call_queues}
+use Rattle.profile_machine.specs.EntryCalls.{call_not_met, call_accepted_by, call_callable, call_task, call_runs, call_without_room}
+use Rattle.profile_machine.specs.EntryCalls.{has_room_for_action, call_runs_if_room, call_passes, call_refused, call_closed, call_by_barrier}
+use Rattle.profile_machine.specs.EntryCalls.{call_object, call_owner, call_named, entry_call, appoint_trigger, trigger_delay, async_delay}
+use Rattle.profile_machine.specs.EntryCalls.{async_by_trigger, asynchronous_select, mark_sending, requeue, is_forbidden}
 use Rattle.profile_machine.specs.Rendezvous.{delay_moment}
 use Rattle.ann_base.specs.declared.exceptions.Raised.TheVariants as exception
 use Rattle.profile_machine.specs.declared.world.lines.Line.TheVariants as line
@@ -62,16 +66,21 @@ use Rattle.profile_machine.specs.declared.world.tasks.Task.{Task}
 use Rattle.world_laws.proofs.Queues.CallChanges.{Directed, appoint-calm, calm-directed, forget_call-calm, out-directed, unqueued-out}
 use Rattle.world_laws.proofs.Queues.CallLists.{same-call}
 use Rattle.world_laws.proofs.Queues.Kept.Actions.{begin_action_on-from, serve_call-onward, where_let_inside-acts}
-use Rattle.world_laws.proofs.Queues.Kept.Combinators.{From, Keeps, Quiets, any-keeps, calms-from, changes-calms, changes-from, keeps-from, sees-keeps, stays-calm, then-after, then-calms, unchanged-quiets}
+use Rattle.world_laws.proofs.Queues.Kept.Combinators.{From, Keeps, Quiets, any-keeps, calms-from, changes-calms, changes-from}
+use Rattle.world_laws.proofs.Queues.Kept.Combinators.{keeps-from, sees-keeps, stays-calm, then-after, then-calms, unchanged-quiets}
 use Rattle.world_laws.proofs.Queues.Kept.Ends.{gone_then-from}
 use Rattle.world_laws.proofs.Queues.Kept.Frames.{block-calms, edit_call-quiets, given-keeps, goes-keeps, leaves-calms, raises-calms, raises-keeps}
-use Rattle.world_laws.proofs.Queues.Kept.Onward.{Acts, Drawn, Onward, calm-onward, calm_then-onward, changes-onward, changes_then-onward, either-onward, given-acts, keeps-acts, looks-acts, looks_at-onward, nothing-onward, raise_if-acts, said_then-onward, sees-acts, then-acts, with_room-acts}
+use Rattle.world_laws.proofs.Queues.Kept.Onward.{Acts, Drawn, Onward, calm-onward, calm_then-onward, changes-onward, changes_then-onward}
+use Rattle.world_laws.proofs.Queues.Kept.Onward.{either-onward, given-acts, keeps-acts, looks-acts, looks_at-onward, nothing-onward}
+use Rattle.world_laws.proofs.Queues.Kept.Onward.{raise_if-acts, said_then-onward, sees-acts, then-acts, with_room-acts}
 use Rattle.world_laws.proofs.Queues.Kept.Queued.{enqueue_then-onward}
 use Rattle.world_laws.proofs.Queues.Kept.Rendezvous.{accepting-awake, meet-onward}
 use Rattle.world_laws.proofs.Queues.Kept.Sending.{not_accepted-from}
 use Rattle.world_laws.proofs.Queues.Moving.{Next, calm-next, next-then}
 use Rattle.world_laws.proofs.Queues.Softening.{natures-length, push-calm}
-use Rattle.world_laws.proofs.Queues.Standing.{Awake, Calm, Good, Idle, Kind, Out, Own, Stands, Waited, Waited_in, any_kind, awaits_at, calm-awake, calm-good, calm-idle, ends_by, fresh-idle, fresh-out, has_own, is_ending, natures, natures_of, quiet_kind, served, some_nature, Awaited, Open, Unfirm, none_late}
+use Rattle.world_laws.proofs.Queues.Standing.{Awake, Calm, Good, Idle, Kind, Out, Own, Stands, Waited, Waited_in, any_kind, awaits_at}
+use Rattle.world_laws.proofs.Queues.Standing.{calm-awake, calm-good, calm-idle, ends_by, fresh-idle, fresh-out, has_own, is_ending}
+use Rattle.world_laws.proofs.Queues.Standing.{natures, natures_of, quiet_kind, served, some_nature, Awaited, Open, Unfirm, none_late}
 
 -- ---- a call is made: nothing knows its number yet
 
@@ -115,7 +124,9 @@ module _ (p : Image) (c : Call) (w : World) (good : Good p w) where
   made-known x d e = by_number (eqb x.0 (suc w.drawn.calls)) refl where
     by_number : (b : Bool) → eqb x.0 (suc w.drawn.calls) ≡ b → x.0 ≤ suc w.drawn.calls
     by_number true is = let same : x.0 ≡ suc w.drawn.calls = eqb-true x.0 (suc w.drawn.calls) is in omega (arith, same)
-    by_number false is = let low : x.0 ≤ w.drawn.calls = good.known x d (sym (ap (λ b. cond b (Some (numbered (suc w.drawn.calls) c)) (call_of w x)) is) ∙ e) in omega (arith, low)
+    by_number false is =
+        let low : x.0 ≤ w.drawn.calls = good.known x d (sym (ap (λ b. cond b (Some (numbered (suc w.drawn.calls) c)) (call_of w x)) is) ∙ e) in
+        omega (arith, low)
 
   made-positive : (a : Who) (x : CallNo) → 0 < served x made a → 0 < served x w a
   made-positive a x h = subst (λ n. 0 < n) (made-served a x) h
@@ -124,10 +135,11 @@ module _ (p : Image) (c : Call) (w : World) (good : Good p w) where
   made-own a x own = (let low : x.0 ≤ w.drawn.calls = own.0 in omega (arith, low), λ d e. own.1 d (sym (made-old x own.0) ∙ e))
 
   made-awaited : (x : CallNo) → Awaited x w ⊎ (none_late x ≡ true) → Awaited x made ⊎ (none_late x ≡ true)
-  made-awaited x (inl a) = inl (by_owner a.owner a.place a.stands a.opens (λ d e. a.unfirm d (sym (made-old x (good.within a.owner a.place x a.stands)) ∙ e))) where
-    by_owner : (o : Owner) (k : ℕ) → Stands w o k x → Open w o → Unfirm x made → Awaited x made
-    by_owner (owned_by.Task t) k h open_ unfirm = record { owner = owned_by.Task t; place = k; stands = h; opens = open_; unfirm = unfirm }
-    by_owner (owned_by.Object o) k h open_ unfirm = record { owner = owned_by.Object o; place = k; stands = h; opens = tt; unfirm = unfirm }
+  made-awaited x (inl a) =
+      inl (by_owner a.owner a.place a.stands a.opens (λ d e. a.unfirm d (sym (made-old x (good.within a.owner a.place x a.stands)) ∙ e))) where
+        by_owner : (o : Owner) (k : ℕ) → Stands w o k x → Open w o → Unfirm x made → Awaited x made
+        by_owner (owned_by.Task t) k h open_ unfirm = record { owner = owned_by.Task t; place = k; stands = h; opens = open_; unfirm = unfirm }
+        by_owner (owned_by.Object o) k h open_ unfirm = record { owner = owned_by.Object o; place = k; stands = h; opens = tt; unfirm = unfirm }
   made-awaited x (inr e) = inr e
 
   pub made-good : Good p made
@@ -147,10 +159,14 @@ module _ (p : Image) (c : Call) (w : World) (good : Good p w) where
     named = good.named;
     present = good.present;
     owns = λ a x h. made-own a x (good.owns a x (subst (λ ns. some_nature (has_own x) ns ≡ true) (made-natures a) h));
-    ended = λ a x h. let end = good.ended a x (subst (λ ns. some_nature (ends_by x) ns ≡ true) (made-natures a) h) in (let low : x.0 ≤ w.drawn.calls = end.0 in omega (arith, low), λ d e. end.1 d (sym (made-old x end.0) ∙ e));
+    ended =
+        λ a x h. let end = good.ended a x (subst (λ ns. some_nature (ends_by x) ns ≡ true) (made-natures a) h) in
+        (let low : x.0 ≤ w.drawn.calls = end.0 in omega (arith, low), λ d e. end.1 d (sym (made-old x end.0) ∙ e));
     triggers = good.triggers;
     waits = λ a x h. let low : x.0 ≤ w.drawn.calls = good.waits a x (sym (made-waiting a) ∙ h) in omega (arith, low);
-    ends = λ a x d h e. let is = sym (made-waiting a) ∙ h in subst (λ fs. is_ending x fs ≡ true) (sym (made-frames a)) (good.ends a x d is (sym (made-old x (good.waits a x is)) ∙ e));
+    ends =
+        λ a x d h e. let is = sym (made-waiting a) ∙ h in
+        subst (λ fs. is_ending x fs ≡ true) (sym (made-frames a)) (good.ends a x d is (sym (made-old x (good.waits a x is)) ∙ e));
   }
 
   pub made-next : Next p w made
@@ -185,10 +201,12 @@ made-directed p d w m = out-directed d w m.out
 made-none : (p : Image) (d : Call) (w : World) → Made p d w → is_none d.outcome ≡ true → (x : Call) → call_of w d.number ≡ Some x → is_none x.outcome ≡ true
 made-none p d w m none x e = ap (λ (y : Call). is_none y.outcome) (sym (one-call d x (sym m.there ∙ e))) ∙ none
 
-pub make_call-onward : (p : Image) (c : Call) (step : Call → Step) (w : World) → Good p w → Awake (who.Task c.caller) w → ((n : ℕ) (v : World) → Next p w v → Made p (numbered n c) v → Onward p v (step (numbered n c))) → Onward p w (make_call p c step)
+pub make_call-onward : (p : Image) (c : Call) (step : Call → Step) (w : World) → Good p w → Awake (who.Task c.caller) w
+    → ((n : ℕ) (v : World) → Next p w v → Made p (numbered n c) v → Onward p v (step (numbered n c))) → Onward p w (make_call p c step)
 unfolding says_call
 make_call-onward p c step w good awake k =
-    calm_then-onward {E = quiet_kind} (goes (who.Task c.caller) (next_of p c.statement)) _ w good (keeps-from _ w awake (goes-keeps (who.Task c.caller) (next_of p c.statement))) (λ u calm good_u.
+    calm_then-onward {E = quiet_kind} (goes (who.Task c.caller) (next_of p c.statement)) _ w good
+    (keeps-from _ w awake (goes-keeps (who.Task c.caller) (next_of p c.statement))) (λ u calm good_u.
     let n = suc u.drawn.calls in
     let v = add_call c u in
     let next = made-next p c u good_u in
@@ -196,54 +214,83 @@ make_call-onward p c step w good awake k =
     looks_at-onward (λ x. changes (add_call c) ▷ says_call TheCall (numbered (suc x.drawn.calls) c) ▷ step (numbered (suc x.drawn.calls) c)) u
     (changes_then-onward (add_call c) _ u next
     (said_then-onward TheCall _ (step (numbered n c)) v
-    (k n v (next-then p w u v (calm-next p w u good calm) next) record { good = next.good; there = made-there p c u good_u; out = made-out p c u good_u; idle = made-idle p c u good_u; awake = next.awake (who.Task c.caller) awake_u }))))
+    (k n v (next-then p w u v (calm-next p w u good calm) next) record {
+      good = next.good;
+      there = made-there p c u good_u;
+      out = made-out p c u good_u;
+      idle = made-idle p c u good_u;
+      awake = next.awake (who.Task c.caller) awake_u;
+    }))))
 
-pub make_call-acts : (p : Image) (c : Call) (step : Call → Step) → ((n : ℕ) (w : World) → Made p (numbered n c) w → Onward p w (step (numbered n c))) → Acts p (who.Task c.caller) (make_call p c step)
+pub make_call-acts : (p : Image) (c : Call) (step : Call → Step) → ((n : ℕ) (w : World) → Made p (numbered n c) w → Onward p w (step (numbered n c)))
+    → Acts p (who.Task c.caller) (make_call p c step)
 make_call-acts p c step k = record { from = λ w good awake drawn. make_call-onward p c step w good awake (λ n v next made. k n v made) }
 
 -- ---- how a call goes on that was made
 
 end_at_once-from : (part : Part) (c : Call) (e : Raised) (w : World) → Out c.number w → From quiet_kind w (end_at_once part c e)
 unfolding end_at_once
-end_at_once-from part c e w out = then-after (changes (forget_call c.number)) _ w (changes-from (forget_call c.number) w (forget_call-calm c.number w refl out)) (λ v calm. calms-from _ v (raises-calms part (who.Task c.caller) e))
+end_at_once-from part c e w out =
+    then-after (changes (forget_call c.number)) _ w (changes-from (forget_call c.number) w (forget_call-calm c.number w refl out))
+    (λ v calm. calms-from _ v (raises-calms part (who.Task c.caller) e))
 
 end_at_once-onward : (p : Image) (part : Part) (c : Call) (e : Raised) (w : World) → Good p w → Out c.number w → Onward p w (end_at_once part c e)
 end_at_once-onward p part c e w good out = calm-onward {E = quiet_kind} _ w good (end_at_once-from part c e w out)
 
 call_gone-onward : (p : Image) (c : Call) (w : World) → Made p c w → Onward p w (call_gone p c)
 unfolding call_gone
-call_gone-onward p c w m = calm-onward {E = quiet_kind} _ w m.good (gone_then-from p of_part.Own c _ w (end_at_once-from of_part.Own c exception.Tasking (unqueued p c w) (unqueued-out p c w m.good (made-directed p c w m))))
+call_gone-onward p c w m =
+    calm-onward {E = quiet_kind} _ w m.good
+    (gone_then-from p of_part.Own c _ w (end_at_once-from of_part.Own c exception.Tasking (unqueued p c w) (unqueued-out p c w m.good (made-directed p c w m))))
 
-call_meets-onward : (p : Image) (t : TaskNo) (s : StatementNo) (c : Call) (w : World) → Made p c w → is_none c.outcome ≡ true → Awake (who.Task t) w → Onward p w (call_meets p t s c)
+call_meets-onward : (p : Image) (t : TaskNo) (s : StatementNo) (c : Call) (w : World) → Made p c w → is_none c.outcome ≡ true → Awake (who.Task t) w
+    → Onward p w (call_meets p t s c)
 unfolding call_meets
 call_meets-onward p t s c w m none awake =
-    meet-onward p (of_part.OfOther (who.Task t)) (who.Task t) s c _ _ w m.good (made-directed p c w m) m.idle (m.good.known c.number c m.there) (made-none p c w m none) awake
+    meet-onward p (of_part.OfOther (who.Task t)) (who.Task t) s c _ _ w m.good (made-directed p c w m) m.idle (m.good.known c.number c m.there)
+    (made-none p c w m none) awake
     (λ v next. calm-onward {E = quiet_kind} _ v next.good (calms-from _ v (block-calms TheBlock (who.Task c.caller) (waits_for.Call c.number) refl)))
     (λ v next out idle. end_at_once-onward p TheFinish c exception.Storage v next.good out)
 
-queued_then-onward : (p : Image) (c : Call) (g : Step) (w : World) → Made p c w → is_none c.outcome ≡ true → ((v : World) → Next p w v → Directed c v → Idle c.number v → Awake (who.Task c.caller) v → Onward p v g) → Onward p w (enqueue p c.number ▷ g)
+queued_then-onward : (p : Image) (c : Call) (g : Step) (w : World) → Made p c w → is_none c.outcome ≡ true
+    → ((v : World) → Next p w v → Directed c v → Idle c.number v → Awake (who.Task c.caller) v → Onward p v g) → Onward p w (enqueue p c.number ▷ g)
 queued_then-onward p c g w m none k =
-    enqueue_then-onward p c.number g w m.good m.out m.idle (made-none p c w m none) (λ v next queued idle directed frames. k v next (directed c m.there) idle (next.awake (who.Task c.caller) m.awake))
+    enqueue_then-onward p c.number g w m.good m.out m.idle (made-none p c w m none)
+    (λ v next queued idle directed frames. k v next (directed c m.there) idle (next.awake (who.Task c.caller) m.awake))
 
 call_queues-onward : (p : Image) (c : Call) (w : World) → Made p c w → is_none c.outcome ≡ true → Onward p w (call_queues p c)
 unfolding call_queues
-call_queues-onward p c w m none = queued_then-onward p c _ w m none (λ v next directed idle awake. calm-onward {E = quiet_kind} _ v next.good (not_accepted-from p of_part.Own c c.kind v next.good directed idle awake))
+call_queues-onward p c w m none =
+    queued_then-onward p c _ w m none
+    (λ v next directed idle awake. calm-onward {E = quiet_kind} _ v next.good (not_accepted-from p of_part.Own c c.kind v next.good directed idle awake))
 
 call_not_met-acts : (p : Image) (c : Call) (test : Bool) → is_none c.outcome ≡ true → Acts p (who.Task c.caller) (call_not_met p c test)
 unfolding call_not_met
-call_not_met-acts p c true none = make_call-acts p c (λ d. end_at_once of_part.Own d exception.Program) (λ n w m. end_at_once-onward p of_part.Own (numbered n c) exception.Program w m.good m.out)
-call_not_met-acts p c false none = with_room-acts (who.Task c.caller) (marks_if_queued c.kind) 0 _ (make_call-acts p c (call_queues p) (λ n w m. call_queues-onward p (numbered n c) w m none))
+call_not_met-acts p c true none =
+    make_call-acts p c (λ d. end_at_once of_part.Own d exception.Program)
+    (λ n w m. end_at_once-onward p of_part.Own (numbered n c) exception.Program w m.good m.out)
+call_not_met-acts p c false none =
+    with_room-acts (who.Task c.caller) (marks_if_queued c.kind) 0 _ (make_call-acts p c (call_queues p) (λ n w m. call_queues-onward p (numbered n c) w m none))
 
 -- the acceptor is awake still when the call has been made
-call_accepted_by-onward : (p : Image) (t : TaskNo) (c : Call) (next : Option StatementNo) (w : World) → is_none c.outcome ≡ true → accept_for p c.entry (waiting_of w (who.Task t)) ≡ next → Good p w → Awake (who.Task c.caller) w → Drawn (who.Task c.caller) w → Onward p w (call_accepted_by p t c next)
+call_accepted_by-onward : (p : Image) (t : TaskNo) (c : Call) (next : Option StatementNo) (w : World) → is_none c.outcome ≡ true
+    → accept_for p c.entry (waiting_of w (who.Task t)) ≡ next → Good p w → Awake (who.Task c.caller) w → Drawn (who.Task c.caller) w
+    → Onward p w (call_accepted_by p t c next)
 unfolding call_accepted_by
-call_accepted_by-onward p t c (Some s) w none is good awake drawn = make_call-onward p c (call_meets p t s) w good awake (λ n v next m. call_meets-onward p t s (numbered n c) v m none (next.awake (who.Task t) (accepting-awake p c.entry (who.Task t) w s is)))
-call_accepted_by-onward p t c None w none is good awake drawn = looks_at-onward (λ u. call_not_met p c (is_full p u c.owner c.entry)) w ((call_not_met-acts p c (is_full p w c.owner c.entry) none).from w good awake drawn)
+call_accepted_by-onward p t c (Some s) w none is good awake drawn =
+    make_call-onward p c (call_meets p t s) w good awake
+    (λ n v next m. call_meets-onward p t s (numbered n c) v m none (next.awake (who.Task t) (accepting-awake p c.entry (who.Task t) w s is)))
+call_accepted_by-onward p t c None w none is good awake drawn =
+    looks_at-onward (λ u. call_not_met p c (is_full p u c.owner c.entry)) w ((call_not_met-acts p c (is_full p w c.owner c.entry) none).from w good awake drawn)
 
 call_callable-acts : (p : Image) (t : TaskNo) (c : Call) (test : Bool) → is_none c.outcome ≡ true → Acts p (who.Task c.caller) (call_callable p t c test)
 unfolding call_callable
 call_callable-acts p t c false none = make_call-acts p c (call_gone p) (λ n w m. call_gone-onward p (numbered n c) w m)
-call_callable-acts p t c true none = record { from = λ w good awake drawn. looks_at-onward (λ v. call_accepted_by p t c (accept_for p c.entry (waiting_of v (who.Task t)))) w (call_accepted_by-onward p t c (accept_for p c.entry (waiting_of w (who.Task t))) w none refl good awake drawn) }
+call_callable-acts p t c true none = record {
+  from =
+      λ w good awake drawn. looks_at-onward (λ v. call_accepted_by p t c (accept_for p c.entry (waiting_of v (who.Task t)))) w
+      (call_accepted_by-onward p t c (accept_for p c.entry (waiting_of w (who.Task t))) w none refl good awake drawn);
+}
 
 call_task-acts : (p : Image) (t : TaskNo) (c : Call) → is_none c.outcome ≡ true → Acts p (who.Task c.caller) (call_task p t c)
 unfolding call_task
@@ -256,8 +303,11 @@ unfolding call_runs
 call_runs-onward p o c w m none =
     let name = who.Task c.caller in
     let own : Own name c.number w = (m.good.known c.number c m.there, λ d e. ap (λ (x : Call). who.Task x.caller) (sym (one-call c d (sym m.there ∙ e)))) in
-    calm_then-onward {E = quiet_kind} (begin_action_on p name o Write (Some c.number) None) _ w m.good (begin_action_on-from p name o Write (Some c.number) None w m.awake (λ x h. subst (λ n. Own name n w) (same-call c.number x h) own))
-    (λ v calm good. serve_call-onward p of_part.Own name o c nothing nothing v good (calm-awake w v calm name m.awake) (calm-directed c w v calm (made-directed p c w m)) (calm-idle w v calm c.number m.idle) (subst (λ n. c.number.0 ≤ n) (sym calm.drawn) (m.good.known c.number c m.there)) (none-calm v calm)
+    calm_then-onward {E = quiet_kind} (begin_action_on p name o Write (Some c.number) None) _ w m.good
+    (begin_action_on-from p name o Write (Some c.number) None w m.awake (λ x h. subst (λ n. Own name n w) (same-call c.number x h) own))
+    (λ v calm good. serve_call-onward p of_part.Own name o c nothing nothing v good (calm-awake w v calm name m.awake)
+    (calm-directed c w v calm (made-directed p c w m)) (calm-idle w v calm c.number m.idle)
+    (subst (λ n. c.number.0 ≤ n) (sym calm.drawn) (m.good.known c.number c m.there)) (none-calm v calm)
     (λ u next. nothing-onward u next.good) (λ good_u. nothing-onward _ good_u)) where
       none-calm : (v : World) → Calm quiet_kind w v → (d : Call) → call_of v c.number ≡ Some d → is_none d.outcome ≡ true
       none-calm v calm d e = let x = calm.calls c.number d e in ap is_none (x.steady refl).1 ∙ made-none p c w m none x.before x.found
@@ -265,35 +315,49 @@ call_runs-onward p o c w m none =
 call_without_room-onward : (p : Image) (o : ObjectNo) (c : Call) (w : World) → Made p c w → Onward p w (call_without_room o c)
 unfolding call_without_room
 call_without_room-onward p o c w m =
-    said_then-onward of_part.Own _ _ w (said_then-onward of_part.Own _ _ w (said_then-onward of_part.Own _ _ w (said_then-onward of_part.Own _ _ w (end_at_once-onward p of_part.Own c exception.Storage w m.good m.out))))
+    said_then-onward of_part.Own _ _ w
+    (said_then-onward of_part.Own _ _ w
+    (said_then-onward of_part.Own _ _ w (said_then-onward of_part.Own _ _ w (end_at_once-onward p of_part.Own c exception.Storage w m.good m.out))))
 
 call_runs_if_room-onward : (p : Image) (o : ObjectNo) (c : Call) (w : World) → Made p c w → is_none c.outcome ≡ true → Onward p w (call_runs_if_room p o c)
 unfolding call_runs_if_room
-call_runs_if_room-onward p o c w m none = looks_at-onward (λ v. elim (has_room_for_action p v c) as (λ _. Step) [ true ↦ call_runs p o c | false ↦ call_without_room o c ]) w (either-onward (has_room_for_action p w c) _ _ w (call_runs-onward p o c w m none) (call_without_room-onward p o c w m))
+call_runs_if_room-onward p o c w m none =
+    looks_at-onward (λ v. elim (has_room_for_action p v c) as (λ _. Step) [ true ↦ call_runs p o c | false ↦ call_without_room o c ]) w
+    (either-onward (has_room_for_action p w c) _ _ w (call_runs-onward p o c w m none) (call_without_room-onward p o c w m))
 
 call_passes-onward : (p : Image) (o : ObjectNo) (c : Call) (w : World) → Made p c w → is_none c.outcome ≡ true → Onward p w (call_passes p o c)
 unfolding call_passes
 call_passes-onward p o c w m none =
     said_then-onward of_part.Own (line.Enter (who.Task c.caller) o Write) _ w
-    (queued_then-onward p c _ w m none (λ v next directed idle awake. said_then-onward of_part.Own (line.Exit (who.Task c.caller) o) _ v (calm-onward {E = quiet_kind} _ v next.good (not_accepted-from p of_part.Own c c.kind v next.good directed idle awake))))
+    (queued_then-onward p c _ w m none
+    (λ v next directed idle awake. said_then-onward of_part.Own (line.Exit (who.Task c.caller) o) _ v
+    (calm-onward {E = quiet_kind} _ v next.good (not_accepted-from p of_part.Own c c.kind v next.good directed idle awake))))
 
 call_refused-onward : (p : Image) (o : ObjectNo) (c : Call) (w : World) → Made p c w → Onward p w (call_refused o c)
 unfolding call_refused
-call_refused-onward p o c w m = said_then-onward of_part.Own _ _ w (said_then-onward of_part.Own _ _ w (end_at_once-onward p of_part.Own c exception.Program w m.good m.out))
+call_refused-onward p o c w m =
+    said_then-onward of_part.Own _ _ w (said_then-onward of_part.Own _ _ w (end_at_once-onward p of_part.Own c exception.Program w m.good m.out))
 
 call_closed-acts : (p : Image) (o : ObjectNo) (c : Call) (test : Bool) → is_none c.outcome ≡ true → Acts p (who.Task c.caller) (call_closed p o c test)
 unfolding call_closed
 call_closed-acts p o c true none = make_call-acts p c (call_refused o) (λ n w m. call_refused-onward p o (numbered n c) w m)
-call_closed-acts p o c false none = with_room-acts (who.Task c.caller) (marks_if_queued c.kind) 0 _ (make_call-acts p c (call_passes p o) (λ n w m. call_passes-onward p o (numbered n c) w m none))
+call_closed-acts p o c false none =
+    with_room-acts (who.Task c.caller) (marks_if_queued c.kind) 0 _
+    (make_call-acts p c (call_passes p o) (λ n w m. call_passes-onward p o (numbered n c) w m none))
 
 call_by_barrier-acts : (p : Image) (o : ObjectNo) (c : Call) (test : Bool) → is_none c.outcome ≡ true → Acts p (who.Task c.caller) (call_by_barrier p o c test)
 unfolding call_by_barrier
-call_by_barrier-acts p o c true none = with_room-acts (who.Task c.caller) 1 0 _ (make_call-acts p c (call_runs_if_room p o) (λ n w m. call_runs_if_room-onward p o (numbered n c) w m none))
-call_by_barrier-acts p o c false none = looks-acts (λ w. call_closed p o c (is_full p w c.owner c.entry)) (λ w. call_closed-acts p o c (is_full p w c.owner c.entry) none)
+call_by_barrier-acts p o c true none =
+    with_room-acts (who.Task c.caller) 1 0 _ (make_call-acts p c (call_runs_if_room p o) (λ n w m. call_runs_if_room-onward p o (numbered n c) w m none))
+call_by_barrier-acts p o c false none =
+    looks-acts (λ w. call_closed p o c (is_full p w c.owner c.entry)) (λ w. call_closed-acts p o c (is_full p w c.owner c.entry) none)
 
 call_object-acts : (p : Image) (o : ObjectNo) (c : Call) → is_none c.outcome ≡ true → Acts p (who.Task c.caller) (call_object p o c)
 unfolding call_object
-call_object-acts p o c none = where_let_inside-acts p (who.Task c.caller) o Write _ (looks-acts (λ w. call_by_barrier p o c (is_barrier_open p w (who.Task c.caller) o c.entry)) (λ w. call_by_barrier-acts p o c (is_barrier_open p w (who.Task c.caller) o c.entry) none))
+call_object-acts p o c none =
+    where_let_inside-acts p (who.Task c.caller) o Write _
+    (looks-acts (λ w. call_by_barrier p o c (is_barrier_open p w (who.Task c.caller) o c.entry))
+    (λ w. call_by_barrier-acts p o c (is_barrier_open p w (who.Task c.caller) o c.entry) none))
 
 call_owner-acts : (p : Image) (c : Call) (o : Owner) → is_none c.outcome ≡ true → Acts p (who.Task c.caller) (call_owner p c o)
 unfolding call_owner
@@ -303,12 +367,17 @@ call_owner-acts p c (owned_by.Object o) none = call_object-acts p o c none
 call_named-acts : (p : Image) (t : TaskNo) (kind : CallKind) (s : StatementNo) (n : EntryCallNamed) → Acts p (who.Task t) (call_named p t kind s n)
 unfolding call_named
 call_named-acts p t kind s n =
-    sees-acts p (who.Task t) _ (λ q. given-acts of_part.Own (who.Task t) (owner_of_entry q n.entry n.owner) _ (λ o. given-acts of_part.Own (who.Task t) (entry_parameters q (entry_of p n.entry).formals n.actuals) _ (λ parameters.
-    given-acts of_part.Own (who.Task t) (timed_moment q (form_of p s)) _ (λ m. call_owner-acts p (new_call t kind s n o (active_of p q.world (who.Task t)) parameters m) o refl))))
+    sees-acts p (who.Task t) _
+    (λ q. given-acts of_part.Own (who.Task t) (owner_of_entry q n.entry n.owner) _
+    (λ o. given-acts of_part.Own (who.Task t) (entry_parameters q (entry_of p n.entry).formals n.actuals) _ (λ parameters.
+    given-acts of_part.Own (who.Task t) (timed_moment q (form_of p s)) _
+    (λ m. call_owner-acts p (new_call t kind s n o (active_of p q.world (who.Task t)) parameters m) o refl))))
 
 pub entry_call-acts : (p : Image) (name : Who) (kind : CallKind) (s : StatementNo) → Acts p name (entry_call p name kind s)
 unfolding entry_call
-entry_call-acts p (who.Task t) kind s = looks-acts (λ w. raise_if (who.Task t) (is_forbidden w (who.Task t) kind) exception.Program (call_named p t kind s (named_call p s))) (λ w. raise_if-acts (who.Task t) (is_forbidden w (who.Task t) kind) exception.Program _ (call_named-acts p t kind s (named_call p s)))
+entry_call-acts p (who.Task t) kind s =
+    looks-acts (λ w. raise_if (who.Task t) (is_forbidden w (who.Task t) kind) exception.Program (call_named p t kind s (named_call p s)))
+    (λ w. raise_if-acts (who.Task t) (is_forbidden w (who.Task t) kind) exception.Program _ (call_named-acts p t kind s (named_call p s)))
 entry_call-acts p who.Agent kind s = keeps-acts _ (raises-keeps of_part.Own who.Agent exception.Program)
 
 -- ---- the asynchronous select
@@ -317,31 +386,41 @@ abbrev opened : Image → Who → StatementNo → World → World
 opened p name s w = push name (new_frame (new_abortable_mark s None) (abortable_in (form_of p s))) w
 
 opened-calm : (p : Image) (name : Who) (s : StatementNo) (w : World) → Awake name w → Calm any_kind w (opened p name s w)
-opened-calm p name s w awake = push-calm name (new_frame (new_abortable_mark s None) (abortable_in (form_of p s))) w record { serves = λ c. refl; own = λ c h. cc; begun = λ c. refl; tops = λ is. cc } awake
+opened-calm p name s w awake =
+    push-calm name (new_frame (new_abortable_mark s None) (abortable_in (form_of p s))) w
+    record { serves = λ c. refl; own = λ c h. cc; begun = λ c. refl; tops = λ is. cc } awake
 
 opened-waited : (p : Image) (t : TaskNo) (s : StatementNo) (w : World) → Waited t (length (frames_of w (who.Task t))) (opened p (who.Task t) s w)
 opened-waited p t s w =
-    edits_of.edited_to (λ u. u ≡ task_of w (who.Task t)) (Waited_in (length (frames_of w (who.Task t)))) (who.Task t) (who.Task t) (λ u. with_frames (new_frame (new_abortable_mark s None) (abortable_in (form_of p s)) ∷ u.frames) u) w (λ u. refl)
-    (λ same u e. inl (ap (λ b. cond b true (awaits_at (length (frames_of w (who.Task t))) (natures u.frames))) (eq-eqb (length (natures u.frames)) (length (frames_of w (who.Task t))) (natures-length u.frames ∙ ap (λ (x : Task). length x.frames) e))))
+    edits_of.edited_to (λ u. u ≡ task_of w (who.Task t)) (Waited_in (length (frames_of w (who.Task t)))) (who.Task t) (who.Task t)
+    (λ u. with_frames (new_frame (new_abortable_mark s None) (abortable_in (form_of p s)) ∷ u.frames) u) w (λ u. refl)
+    (λ same u e. inl
+    (ap (λ b. cond b true (awaits_at (length (frames_of w (who.Task t))) (natures u.frames)))
+    (eq-eqb (length (natures u.frames)) (length (frames_of w (who.Task t))) (natures-length u.frames ∙ ap (λ (x : Task). length x.frames) e))))
     (λ apart u e. absurd (true≢false (sym (eq-eqb t.0 t.0 refl) ∙ apart))) (λ e. inr refl) refl
 
 -- the moment is set for it
-set-calm : (p : Image) (name : Who) (s : StatementNo) (m : ℤ) (w : World) → Awake name w → Drawn name w → Calm any_kind (opened p name s w) (appoint_trigger name (length (frames_of w name)) m (opened p name s w))
+set-calm : (p : Image) (name : Who) (s : StatementNo) (m : ℤ) (w : World) → Awake name w → Drawn name w
+    → Calm any_kind (opened p name s w) (appoint_trigger name (length (frames_of w name)) m (opened p name s w))
 set-calm p (who.Task t) s m w awake drawn =
     let v = opened p (who.Task t) s w in
     appoint-calm (due_for.Trigger t (length (frames_of w (who.Task t)))) m v (λ c e. cc) (λ n depth e. at n depth e) where
-      at : (n : TaskNo) (depth : ℕ) → is_trigger_of n depth (due_for.Trigger t (length (frames_of w (who.Task t)))) ≡ true → (n.0 < (opened p (who.Task t) s w).drawn.tasks) × Waited n depth (opened p (who.Task t) s w)
+      at : (n : TaskNo) (depth : ℕ) → is_trigger_of n depth (due_for.Trigger t (length (frames_of w (who.Task t)))) ≡ true
+          → (n.0 < (opened p (who.Task t) s w).drawn.tasks) × Waited n depth (opened p (who.Task t) s w)
       at n depth e =
           let parts = and_parts (same_task n t) (eqb depth (length (frames_of w (who.Task t)))) e in
           let one : t ≡ n = ap (λ (k : ℕ). record { 0 = k }) (sym (eqb-true n.0 t.0 parts.0)) in
           let deep : length (frames_of w (who.Task t)) ≡ depth = sym (eqb-true depth (length (frames_of w (who.Task t))) parts.1) in
           let grown = (opened-calm p (who.Task t) s w awake).tasks in
           let low : t.0 < w.drawn.tasks = drawn t refl in
-          let low_then : t.0 < (opened p (who.Task t) s w).drawn.tasks = omega (arith, low, grown) in
-          (subst (λ k. k.0 < (opened p (who.Task t) s w).drawn.tasks) one low_then, subst (λ k. Waited k depth (opened p (who.Task t) s w)) one (subst (λ d. Waited t d (opened p (who.Task t) s w)) deep (opened-waited p t s w)))
+          let low_then : t.0 < (opened p (who.Task t) s w).drawn.tasks = omega (arith, low, grown) in (
+            subst (λ k. k.0 < (opened p (who.Task t) s w).drawn.tasks) one low_then,
+            subst (λ k. Waited k depth (opened p (who.Task t) s w)) one (subst (λ d. Waited t d (opened p (who.Task t) s w)) deep (opened-waited p t s w)),
+          )
 set-calm p who.Agent s m w awake drawn = stays-calm _
 
-opens_until-acts : (p : Image) (name : Who) (s : StatementNo) (m : ℤ) → Acts p name (looks (λ v. changes (open_abortable p name s None) ▷ changes (appoint_trigger name (length (frames_of v name)) m)))
+opens_until-acts : (p : Image) (name : Who) (s : StatementNo) (m : ℤ)
+    → Acts p name (looks (λ v. changes (open_abortable p name s None) ▷ changes (appoint_trigger name (length (frames_of v name)) m)))
 opens_until-acts p name s m =
     record {
       from = λ w good awake drawn.
@@ -349,18 +428,22 @@ opens_until-acts p name s m =
           let first = opened-calm p name s w awake in
           looks_at-onward (λ u. changes (open_abortable p name s None) ▷ changes (appoint_trigger name (length (frames_of u name)) m)) w
           (changes_then-onward (open_abortable p name s None) _ w (calm-next p w v good first)
-          (changes-onward (appoint_trigger name (length (frames_of w name)) m) v (calm-next p v _ (calm-good p w v good first) (set-calm p name s m w awake drawn))));
+          (changes-onward (appoint_trigger name (length (frames_of w name)) m) v
+          (calm-next p v _ (calm-good p w v good first) (set-calm p name s m w awake drawn))));
     }
 
 trigger_delay-acts : (p : Image) (name : Who) (s trigger : StatementNo) (m : ℤ) (test : Bool) → Acts p name (trigger_delay p name s trigger m test)
 unfolding trigger_delay
 trigger_delay-acts p name s trigger m false = keeps-acts _ (goes-keeps name (next_of p trigger))
-trigger_delay-acts p name s trigger m true = with_room-acts name 1 0 _ (then-acts _ _ (keeps-acts _ (goes-keeps name (next_of p s))) (opens_until-acts p name s m))
+trigger_delay-acts p name s trigger m true =
+    with_room-acts name 1 0 _ (then-acts _ _ (keeps-acts _ (goes-keeps name (next_of p s))) (opens_until-acts p name s m))
 
 async_delay-acts : (p : Image) (name : Who) (s trigger : StatementNo) → Acts p name (async_delay p name s trigger)
 unfolding async_delay
 async_delay-acts p name s trigger =
-    sees-acts p name _ (λ q. raise_if-acts name (is_forbidden q.world name call_kind.Triggering) exception.Program _ (given-acts of_part.Own name (delay_moment q trigger) _ (λ m. trigger_delay-acts p name s trigger m (int_lt (pos q.world.time) m))))
+    sees-acts p name _
+    (λ q. raise_if-acts name (is_forbidden q.world name call_kind.Triggering) exception.Program _
+    (given-acts of_part.Own name (delay_moment q trigger) _ (λ m. trigger_delay-acts p name s trigger m (int_lt (pos q.world.time) m))))
 
 async_by_trigger-acts : (p : Image) (name : Who) (s trigger : StatementNo) (form : StatementForm) → Acts p name (async_by_trigger p name s trigger form)
 unfolding async_by_trigger
@@ -375,9 +458,22 @@ asynchronous_select-acts p name s trigger = async_by_trigger-acts p name s trigg
 
 mark_sending-quiets : {E : Kind} (c : Option CallNo) (o : Owner) (e : EntryNo) (with_abort : Bool) → Quiets E (mark_sending c o e with_abort)
 mark_sending-quiets None o e with_abort = unchanged-quiets
-mark_sending-quiets (Some c) o e with_abort = edit_call-quiets c (with_sending o e with_abort) record { number = λ d. refl; owner = λ d. refl; entry = λ d. refl; caller = λ d. refl; begun = λ d. refl; outcome = λ d. refl; firm = λ d. refl }
+mark_sending-quiets (Some c) o e with_abort =
+    edit_call-quiets c (with_sending o e with_abort) record {
+      number = λ d. refl;
+      owner = λ d. refl;
+      entry = λ d. refl;
+      caller = λ d. refl;
+      begun = λ d. refl;
+      outcome = λ d. refl;
+      firm = λ d. refl;
+    }
 
 pub requeue-keeps : {E : Kind} (p : Image) (name : Who) (e : EntryNo) (o : EntryOwner) (with_abort : Bool) → Keeps E name (requeue p name e o with_abort)
 unfolding requeue
 requeue-keeps p name e o with_abort =
-    sees-keeps p name _ (λ q. given-keeps of_part.Own name (owner_of_entry q e o) _ (λ target. any-keeps _ (then-calms _ _ (changes-calms _ (mark_sending-quiets (call_that_returns (frames_of q.world name)) target e with_abort)) (leaves-calms name how.Return))))
+    sees-keeps p name _
+    (λ q. given-keeps of_part.Own name (owner_of_entry q e o) _
+    (λ target. any-keeps _
+    (then-calms _ _ (changes-calms _ (mark_sending-quiets (call_that_returns (frames_of q.world name)) target e with_abort))
+    (leaves-calms name how.Return))))

@@ -37,12 +37,14 @@ none-not-some c e = cc
 
 module _ (p : Image) (name : Who) (f : Frame) (below : List Frame) (m : AbortableMark) (mark : f.mark ≡ Abortable m) where
   -- another abortable mark on top is this one
-  same-mark : (v : World) → frames_of v name ≡ f ∷ below → (g : Frame) (rest : List Frame) (n : AbortableMark) → frames_of v name ≡ g ∷ rest → g.mark ≡ Abortable n → m ≡ n
+  same-mark : (v : World) → frames_of v name ≡ f ∷ below → (g : Frame) (rest : List Frame) (n : AbortableMark) → frames_of v name ≡ g ∷ rest
+      → g.mark ≡ Abortable n → m ≡ n
   same-mark v top g rest n is other =
       let one : f ≡ g = first-same f g below rest (sym top ∙ is) in
       part-mark m n (sym mark ∙ (ap (λ (x : Frame). x.mark) one ∙ other))
 
-  ends-well : (v : World) → Good p v → frames_of v name ≡ f ∷ below → Unset name v (f ∷ below) → ((c : CallNo) → m.call ≡ Some c → Out c v) → EndsWell any_kind none_late p name v
+  ends-well : (v : World) → Good p v → frames_of v name ≡ f ∷ below → Unset name v (f ∷ below) → ((c : CallNo) → m.call ≡ Some c → Out c v)
+      → EndsWell any_kind none_late p name v
   ends-well v good top unset out = record {
     good = good;
     unset = subst (Unset name v) (sym top) unset;
@@ -58,9 +60,12 @@ module _ (p : Image) (name : Who) (f : Frame) (below : List Frame) (m : Abortabl
   pub triggered-onward : (w : World) → Good p w → frames_of w name ≡ f ∷ below → m.triggered ≡ true → Onward p w (end_top p name)
   triggered-onward w good top triggered =
       end_top-onward w (ends-well w good top
-      (λ n is set awaits. not-true (is_none m.call) (subst (λ b. (is_none m.call && not b) ≡ true) triggered (subst (λ x. awaits_part (part_of x) ≡ true) mark awaits)))
+      (λ n is set awaits.
+      not-true (is_none m.call) (subst (λ b. (is_none m.call && not b) ≡ true) triggered (subst (λ x. awaits_part (part_of x) ≡ true) mark awaits)))
       (λ c call. ended-out p w c good (good.ended name c (subst (λ fs. some_nature (ends_by c) (natures fs) ≡ true) (sym top)
-      (ap (λ b. b || some_nature (ends_by c) (natures below)) (ap (λ x. ends_part c (part_of x)) mark ∙ (ap (λ b. b && is_the same_call m.call c) triggered ∙ (ap (λ x. is_the same_call x c) call ∙ eq-eqb c.0 c.0 refl))))))))
+      (ap (λ b. b || some_nature (ends_by c) (natures below))
+      (ap (λ x. ends_part c (part_of x)) mark
+      ∙ (ap (λ b. b && is_the same_call m.call c) triggered ∙ (ap (λ x. is_the same_call x c) call ∙ eq-eqb c.0 c.0 refl))))))))
 
   -- its trigger is a call that was cancelled, and stands in no queue
   pub cancelled-onward : (v : World) (c : CallNo) → Good p v → frames_of v name ≡ f ∷ below → m.call ≡ Some c → Out c v → Onward p v (end_top p name)
@@ -72,5 +77,7 @@ module _ (p : Image) (name : Who) (f : Frame) (below : List Frame) (m : Abortabl
         called c y e h = let wrong : false ≡ true = sym (ap awaits_part e) ∙ h in cc
 
   -- its trigger is a moment that is set no more
-  pub moment-onward : (v : World) → Good p v → frames_of v name ≡ f ∷ below → m.call ≡ None → ((n : TaskNo) → name ≡ who.Task n → is_appointed (is_trigger_of n (length below)) v ≡ true → ⊥) → Onward p v (end_top p name)
-  moment-onward v good top call none = end_top-onward v (ends-well v good top (λ n is set awaits. none n is set) (λ c other. absurd (none-not-some c (sym call ∙ other))))
+  pub moment-onward : (v : World) → Good p v → frames_of v name ≡ f ∷ below → m.call ≡ None
+      → ((n : TaskNo) → name ≡ who.Task n → is_appointed (is_trigger_of n (length below)) v ≡ true → ⊥) → Onward p v (end_top p name)
+  moment-onward v good top call none =
+      end_top-onward v (ends-well v good top (λ n is set awaits. none n is set) (λ c other. absurd (none-not-some c (sym call ∙ other))))

@@ -28,19 +28,22 @@ use Rattle.profile_machine.specs.Values.{queue_at}
 use Rattle.profile_machine.specs.Cost.{cost}
 use Rattle.profile_machine.specs.Handlers.{charge}
 use Rattle.profile_machine.specs.Instant.{instant}
-use Rattle.profile_machine.specs.Run.{environment_task, agent_at_first, blank_world, environment, opens, opening, say, silently, says_run, with_serving, serve_if_free, serve, begin_action, one_tick_less, spend_tick, next_tick, says_idle, idle_tick, tock_of, tock}
+use Rattle.profile_machine.specs.Run.{environment_task, agent_at_first, blank_world, environment, opens, opening, say, silently, says_run, with_serving}
+use Rattle.profile_machine.specs.Run.{serve_if_free, serve, begin_action, one_tick_less, spend_tick, next_tick, says_idle, idle_tick, tock_of, tock}
 use Rattle.machine_laws.specs.Reached.{Comes, opened, ticked, Reached, before, behind}
 use Rattle.world_laws.proofs.Queues.Calming.{same-calm}
 use Rattle.world_laws.proofs.Queues.Kept.Combinators.{Keeps, any-keeps, changes-keeps, says-calms, then-keeps}
 use Rattle.world_laws.proofs.Queues.Kept.Frames.{edit_task-quiets, open_scope-alters, open_sequence-keeps, to_tail-calms}
 use Rattle.world_laws.proofs.Queues.Kept.Handlers.{charge-calm}
 use Rattle.world_laws.proofs.Queues.Kept.Instant.{Lasting, instant-lasting, settled-good, then-lasting}
-use Rattle.world_laws.proofs.Queues.Standing.{Awake, Calm, Good, Nature, Stands, calm-good, ends_by, has_own, is_named, natures, natures_of, quiet_kind, served, served_in, some_nature, waits_end}
+use Rattle.world_laws.proofs.Queues.Standing.{Awake, Calm, Good, Nature, Stands, calm-good, ends_by, has_own, is_named}
+use Rattle.world_laws.proofs.Queues.Standing.{natures, natures_of, quiet_kind, served, served_in, some_nature, waits_end}
 use Rattle.machine_laws.proofs.Kept.Combinators.{world_behind}
 
 -- ---- the blank world
 
-blank-one : (P : Task → Type 0) (p : Image) (script : List (ℤ × Item)) (name : Who) → P (environment_task p) → P (agent_at_first p) → P nobody → P (task_of (blank_world p script) name)
+blank-one : (P : Task → Type 0) (p : Image) (script : List (ℤ × Item)) (name : Who) → P (environment_task p) → P (agent_at_first p) → P nobody
+    → P (task_of (blank_world p script) name)
 blank-one P p script (who.Task n) a b c = step (eqb n.0 0) where
   step : (b : Bool) → P (unwrap_or (cond b (Some (environment_task p)) None) nobody)
   step true = a
@@ -51,7 +54,8 @@ no-natures : (p : Image) (script : List (ℤ × Item)) (name : Who) → natures_
 no-natures p script name = blank-one (λ t. natures t.frames ≡ []) p script name refl refl refl
 
 none-stands : (p : Image) (script : List (ℤ × Item)) (o : Owner) (k : ℕ) (c : CallNo) → Stands (blank_world p script) o k c → ⊥
-none-stands p script (owned_by.Task t) k c h = true≢false (sym h ∙ blank-one (λ u. has same_call (queue_at u.queues k) c ≡ false) p script (who.Task t) refl refl refl)
+none-stands p script (owned_by.Task t) k c h =
+    true≢false (sym h ∙ blank-one (λ u. has same_call (queue_at u.queues k) c ≡ false) p script (who.Task t) refl refl refl)
 none-stands p script (owned_by.Object o) k c h = true≢false (sym h)
 
 none-call : (d : Call) → None ≡ Some d → ⊥
@@ -113,7 +117,8 @@ opens-keeps p =
 
 opening-good : (p : Image) (script : List (ℤ × Item)) → Good p (opening p script).0
 opening-good p script = settled-good p (opens p (blank_world p script) [])
-    (calm-good p (blank_world p script) (world_behind (opens p (blank_world p script) [])) (blank-good p script) (((opens-keeps p).from (blank_world p script) (awake-blank p script environment)).leads []))
+    (calm-good p (blank_world p script) (world_behind (opens p (blank_world p script) [])) (blank-good p script)
+    (((opens-keeps p).from (blank_world p script) (awake-blank p script environment)).leads []))
 
 -- ---- a tock
 
@@ -129,7 +134,8 @@ says_run-lasting p name ran w good = step (same_option same_who ran (Some name))
 serving-good : (p : Image) (r : Release) (rest : List Release) (w : World) → Good p w → Good p (with_serving r rest w)
 serving-good p r rest w good = same-good p w (with_serving r rest w) (same-calm w (with_serving r rest w) refl refl refl refl refl refl refl refl) good
 
-serve_if_free-lasting : (p : Image) (serving : Option Release) (frames : List Frame) (releases : List Release) → Lasting p (serve_if_free serving frames releases)
+serve_if_free-lasting : (p : Image) (serving : Option Release) (frames : List Frame) (releases : List Release)
+    → Lasting p (serve_if_free serving frames releases)
 serve_if_free-lasting p None [] [] w good = good
 serve_if_free-lasting p None [] (r ∷ rest) w good = serving-good p r rest w good
 serve_if_free-lasting p None (f ∷ fs) releases w good = good
@@ -140,7 +146,9 @@ serve-lasting p (who.Task t) w good = good
 serve-lasting p who.Agent w good = serve_if_free-lasting p w.serving w.agent.frames w.releases w good
 
 ticks-good : (p : Image) (name : Who) (f : Task → Option ℕ) (w : World) → Good p w → Good p (edit_task name (λ t. with_ticks (f t) t) w)
-ticks-good p name f w good = same-good p w (edit_task name (λ t. with_ticks (f t) t) w) ((edit_task-quiets name (λ t. with_ticks (f t) t) (λ t. refl) (λ t. refl) (λ t. refl) (λ t. refl) (λ t. refl)).at w) good
+ticks-good p name f w good =
+    same-good p w (edit_task name (λ t. with_ticks (f t) t) w)
+    ((edit_task-quiets name (λ t. with_ticks (f t) t) (λ t. refl) (λ t. refl) (λ t. refl) (λ t. refl) (λ t. refl)).at w) good
 
 next_tick-good : (p : Image) (ran : Option Who) (w : World) → Good p w → Good p (next_tick ran w)
 next_tick-good p ran w good = same-good p w (next_tick ran w) (same-calm w (next_tick ran w) refl refl refl refl refl refl refl refl) good
@@ -154,10 +162,15 @@ idle_tick-lasting p w good = next_tick-good p None _ (by_ran w.ran) where
 tock_of-lasting : (p : Image) (chosen : Option Who) → Lasting p (tock_of p chosen)
 tock_of-lasting p None = idle_tick-lasting p
 tock_of-lasting p (Some name) =
-    then-lasting p (watches (λ w. says_run name w.ran)) (serve name ▶ silently (begin_action p name) ▶ silently (charge p name) ▶ silently (spend_tick name) ▶ silently (next_tick (Some name))) (λ w good. says_run-lasting p name w.ran w good)
-    (then-lasting p (serve name) (silently (begin_action p name) ▶ silently (charge p name) ▶ silently (spend_tick name) ▶ silently (next_tick (Some name))) (serve-lasting p name)
-    (then-lasting p (silently (begin_action p name)) (silently (charge p name) ▶ silently (spend_tick name) ▶ silently (next_tick (Some name))) (λ w good. ticks-good p name (λ t. Some (unwrap_or (task_of w name).ticks_left (cost p w name))) w good)
-    (then-lasting p (silently (charge p name)) (silently (spend_tick name) ▶ silently (next_tick (Some name))) (λ w good. same-good p w (charge p name w) (charge-calm p name w) good)
+    then-lasting p (watches (λ w. says_run name w.ran))
+    (serve name ▶ silently (begin_action p name) ▶ silently (charge p name) ▶ silently (spend_tick name) ▶ silently (next_tick (Some name)))
+    (λ w good. says_run-lasting p name w.ran w good)
+    (then-lasting p (serve name) (silently (begin_action p name) ▶ silently (charge p name) ▶ silently (spend_tick name) ▶ silently (next_tick (Some name)))
+    (serve-lasting p name)
+    (then-lasting p (silently (begin_action p name)) (silently (charge p name) ▶ silently (spend_tick name) ▶ silently (next_tick (Some name)))
+    (λ w good. ticks-good p name (λ t. Some (unwrap_or (task_of w name).ticks_left (cost p w name))) w good)
+    (then-lasting p (silently (charge p name)) (silently (spend_tick name) ▶ silently (next_tick (Some name)))
+    (λ w good. same-good p w (charge p name w) (charge-calm p name w) good)
     (then-lasting p (silently (spend_tick name)) (silently (next_tick (Some name))) (λ w good. ticks-good p name (λ t. one_tick_less t.ticks_left) w good)
     (λ w good. next_tick-good p (Some name) w good)))))
 

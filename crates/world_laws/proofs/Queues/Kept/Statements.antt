@@ -23,10 +23,15 @@ use Rattle.profile_machine.specs.Frames.{goes}
 use Rattle.profile_machine.specs.Operators.{Valued}
 use Rattle.profile_machine.specs.Values.{Seen, seen_by, value, variable, object_cell}
 use Rattle.profile_machine.specs.CallEnds.{store}
-use Rattle.profile_machine.specs.Statements.{null, assign, cells_from, copy_cells, array_copied, assign_array, if_statement, go_to_alternative, case_statement, while_turn, loop_cell, put, first_bound, last_bound, bounds_set, for_bounds, first_turn, advance, later_turn, exit_where, exit_statement, block_statement, raise_again, wait_until, delay_to, delay_until, put_line}
+use Rattle.profile_machine.specs.Statements.{null, assign, cells_from, copy_cells, array_copied, assign_array, if_statement, go_to_alternative, case_statement}
+use Rattle.profile_machine.specs.Statements.{while_turn, loop_cell, put, first_bound, last_bound, bounds_set, for_bounds, first_turn, advance, later_turn}
+use Rattle.profile_machine.specs.Statements.{exit_where, exit_statement, block_statement, raise_again, wait_until, delay_to, delay_until, put_line}
 use Rattle.profile_machine.specs.Scopes.{put_cells}
-use Rattle.world_laws.proofs.Queues.Kept.Combinators.{Alters, Gives, Keeps, Quiets, bind-gives, changes-keeps, looks-from, looks-keeps, nothing-keeps, ok-gives, says-keeps, sees-keeps, then-keeps}
-use Rattle.world_laws.proofs.Queues.Kept.Frames.{appoint-keeps, block-keeps, edit_cells-quiets, exit_loop-keeps, given-keeps, given_world-from, goes-keeps, open_scope-alters, raise_if-keeps, raises-keeps, store-gives, to_tail-keeps, with_room-keeps, write_cell-alters, write_cell-quiets}
+use Rattle.world_laws.proofs.Queues.Kept.Combinators.{Alters, Gives, Keeps, Quiets, bind-gives, changes-keeps, looks-from}
+use Rattle.world_laws.proofs.Queues.Kept.Combinators.{looks-keeps, nothing-keeps, ok-gives, says-keeps, sees-keeps, then-keeps}
+use Rattle.world_laws.proofs.Queues.Kept.Frames.{appoint-keeps, block-keeps, edit_cells-quiets, exit_loop-keeps, given-keeps}
+use Rattle.world_laws.proofs.Queues.Kept.Frames.{given_world-from, goes-keeps, open_scope-alters, raise_if-keeps, raises-keeps}
+use Rattle.world_laws.proofs.Queues.Kept.Frames.{store-gives, to_tail-keeps, with_room-keeps, write_cell-alters, write_cell-quiets}
 use Rattle.world_laws.proofs.Queues.Standing.{Kind, calm-then}
 use Rattle.ceiling_laws.proofs.Fine.Kept.Statements.{bounds_put}
 
@@ -43,7 +48,9 @@ assign-keeps p name s target e =
     (λ _. goes-keeps name (next_of p s)))
 
 pub copy_cells-quiets : {E : Kind} (p : Image) (target source : Variable) → Quiets E (copy_cells p target source)
-copy_cells-quiets p target source = record { at = λ w. (edit_cells-quiets target.within (put_cells target.place (cells_from w source (declaration_of p source.declared).cells))).at w }
+copy_cells-quiets p target source = record {
+  at = λ w. (edit_cells-quiets target.within (put_cells target.place (cells_from w source (declaration_of p source.declared).cells))).at w;
+}
 
 array_copied-gives : {E : Kind} (p : Image) (q : Seen) (target source : ObjectName) → Gives E q.world (array_copied p q target source)
 array_copied-gives p q target source =
@@ -58,7 +65,8 @@ assign_array-keeps p name s target source =
     given_world-from Own name (array_copied p (seen_by p w name) target source) (λ _. goes name (next_of p s)) w good
     (array_copied-gives p (seen_by p w name) target source) (λ _. goes-keeps name (next_of p s)))
 
-pub if_statement-keeps : {E : Kind} (p : Image) (name : Who) (e : ExprNo) (first : StatementNo) (otherwise : Option StatementNo) → Keeps E name (if_statement p name e first otherwise)
+pub if_statement-keeps : {E : Kind} (p : Image) (name : Who) (e : ExprNo) (first : StatementNo) (otherwise : Option StatementNo)
+    → Keeps E name (if_statement p name e first otherwise)
 unfolding if_statement
 if_statement-keeps p name e first otherwise = search (sees-keeps, given-keeps, goes-keeps) depth 6
 
@@ -67,7 +75,8 @@ unfolding go_to_alternative
 go_to_alternative-keeps name None = search (raises-keeps)
 go_to_alternative-keeps name (Some s) = search (goes-keeps)
 
-pub case_statement-keeps : {E : Kind} (p : Image) (name : Who) (e : ExprNo) (alternatives : List CaseAlternative) → Keeps E name (case_statement p name e alternatives)
+pub case_statement-keeps : {E : Kind} (p : Image) (name : Who) (e : ExprNo) (alternatives : List CaseAlternative)
+    → Keeps E name (case_statement p name e alternatives)
 unfolding case_statement
 case_statement-keeps p name e alternatives = search (sees-keeps, given-keeps, go_to_alternative-keeps) depth 6
 
@@ -83,7 +92,8 @@ unfolding bounds_put
 bounds_put-gives q reverse l h x y =
     let first = put x (first_bound reverse l h) q.world in
     ok-gives q.world (put y (last_bound reverse l h) first)
-    (calm-then q.world first (put y (last_bound reverse l h) first) ((write_cell-quiets x.within x.place (first_bound reverse l h)).at q.world) ((write_cell-quiets y.within y.place (last_bound reverse l h)).at first))
+    (calm-then q.world first (put y (last_bound reverse l h) first) ((write_cell-quiets x.within x.place (first_bound reverse l h)).at q.world)
+    ((write_cell-quiets y.within y.place (last_bound reverse l h)).at first))
 
 bounds_set-gives : {E : Kind} (q : Seen) (d : DeclNo) (reverse : Bool) (low high : ExprNo) → Gives E q.world (bounds_set q d reverse low high)
 unfolding bounds_put
@@ -93,23 +103,27 @@ bounds_set-gives q d reverse low high =
     bind-gives (loop_cell q d 0) (λ x. loop_cell q d 1 >>= bounds_put q reverse l h x) q.world (λ x.
     bind-gives (loop_cell q d 1) (bounds_put q reverse l h x) q.world (λ y. bounds_put-gives q reverse l h x y))))
 
-pub for_bounds-keeps : {E : Kind} (p : Image) (name : Who) (d : DeclNo) (reverse : Bool) (low high : ExprNo) (turn : StatementNo) → Keeps E name (for_bounds p name d reverse low high turn)
+pub for_bounds-keeps : {E : Kind} (p : Image) (name : Who) (d : DeclNo) (reverse : Bool) (low high : ExprNo) (turn : StatementNo)
+    → Keeps E name (for_bounds p name d reverse low high turn)
 unfolding for_bounds
 for_bounds-keeps p name d reverse low high turn =
     looks-from _ (λ w good.
     given_world-from Own name (bounds_set (seen_by p w name) d reverse low high) (λ _. goes name (Some turn)) w good
     (bounds_set-gives (seen_by p w name) d reverse low high) (λ _. goes-keeps name (Some turn)))
 
-pub first_turn-keeps : {E : Kind} (p : Image) (name : Who) (s : StatementNo) (d : DeclNo) (reverse : Bool) (body : StatementNo) → Keeps E name (first_turn p name s d reverse body)
+pub first_turn-keeps : {E : Kind} (p : Image) (name : Who) (s : StatementNo) (d : DeclNo) (reverse : Bool) (body : StatementNo)
+    → Keeps E name (first_turn p name s d reverse body)
 unfolding first_turn
 first_turn-keeps p name s d reverse body = search (sees-keeps, given-keeps, goes-keeps) depth 6
 
-pub advance-keeps : {E : Kind} (name : Who) (x : Variable) (reverse : Bool) (v : Value) (body : StatementNo) (past : Option StatementNo) (test : Bool) → Keeps E name (advance name x reverse v body past test)
+pub advance-keeps : {E : Kind} (name : Who) (x : Variable) (reverse : Bool) (v : Value) (body : StatementNo) (past : Option StatementNo) (test : Bool)
+    → Keeps E name (advance name x reverse v body past test)
 unfolding advance
 advance-keeps name x reverse v body past true = search (goes-keeps)
 advance-keeps name x reverse v body past false = search (changes-keeps, put-alters, then-keeps, goes-keeps)
 
-pub later_turn-keeps : {E : Kind} (p : Image) (name : Who) (s : StatementNo) (d : DeclNo) (reverse : Bool) (body : StatementNo) → Keeps E name (later_turn p name s d reverse body)
+pub later_turn-keeps : {E : Kind} (p : Image) (name : Who) (s : StatementNo) (d : DeclNo) (reverse : Bool) (body : StatementNo)
+    → Keeps E name (later_turn p name s d reverse body)
 unfolding later_turn
 later_turn-keeps p name s d reverse body = search (sees-keeps, given-keeps, advance-keeps) depth 6
 
@@ -129,7 +143,8 @@ raise_again-keeps p name scope = search (sees-keeps, given-keeps, raises-keeps) 
 
 wait_until-keeps : {E : Kind} {name : Who} (p : Image) (someone : Who) (until : ℤ) (test : Bool) → Keeps E name (wait_until p someone until test)
 unfolding wait_until
-wait_until-keeps p (who.Task t) until true = then-keeps _ _ (appoint-keeps (due_for.Delay t) until refl) (block-keeps TheBlock (who.Task t) waits_for.Moment refl)
+wait_until-keeps p (who.Task t) until true =
+    then-keeps _ _ (appoint-keeps (due_for.Delay t) until refl) (block-keeps TheBlock (who.Task t) waits_for.Moment refl)
 wait_until-keeps p (who.Task t) until false = search (to_tail-keeps)
 wait_until-keeps p who.Agent until future = nothing-keeps
 

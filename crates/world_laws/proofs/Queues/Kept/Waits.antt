@@ -22,8 +22,10 @@ use Rattle.profile_machine.specs.declared.world.calls.Call.{Call}
 use Rattle.profile_machine.specs.declared.world.calls.Owner.{Owner}
 use Rattle.profile_machine.specs.declared.world.tasks.Task.{Task}
 use Rattle.trace_text.specs.declared.events.Who.{Who}
-use Rattle.world_laws.proofs.Queues.Calming.{StandsAt, edit_task-calls, edit_task-drawn, edit_task-fall, edit_task-objects, found-appointments, named-edited, task-edited}
-use Rattle.world_laws.proofs.Queues.Standing.{Awaited, Good, Open, Stands, Unfirm, Waited, awaits_at, ends_by, has_own, is_ending, is_task, natures, none_late, served, served_in, some_nature, waits_end}
+use Rattle.world_laws.proofs.Queues.Calming.{StandsAt, edit_task-calls, edit_task-drawn, edit_task-fall}
+use Rattle.world_laws.proofs.Queues.Calming.{edit_task-objects, found-appointments, named-edited, task-edited}
+use Rattle.world_laws.proofs.Queues.Standing.{Awaited, Good, Open, Stands, Unfirm, Waited, awaits_at, ends_by, has_own}
+use Rattle.world_laws.proofs.Queues.Standing.{is_ending, is_task, natures, none_late, served, served_in, some_nature, waits_end}
 
 module _ (p : Image) (name : Who) (c : CallNo) (w : World) (good : Good p w) (low : c.0 ≤ w.drawn.calls) (ending : is_ending c (frames_of w name) ≡ true) where
   abbrev pub waiting_world : World
@@ -45,7 +47,9 @@ module _ (p : Image) (name : Who) (c : CallNo) (w : World) (good : Good p w) (lo
   same-waiting x e = cc
 
   waits-since : (x : CallNo) (me : Who) → waiting_of waiting_world me ≡ waits_end x → (waiting_of w me ≡ waits_end x) ⊎ ((me ≡ name) × (x ≡ c))
-  waits-since x me = task-edited name waits w (λ t. refl) (λ m a b. waiting_in b.state ≡ waits_end x → (waiting_in a.state ≡ waits_end x) ⊎ ((m ≡ name) × (x ≡ c))) (λ m e. inl e) (λ e. inr (refl, same-waiting x e)) me
+  waits-since x me =
+      task-edited name waits w (λ t. refl) (λ m a b. waiting_in b.state ≡ waits_end x → (waiting_in a.state ≡ waits_end x) ⊎ ((m ≡ name) × (x ≡ c)))
+      (λ m e. inl e) (λ e. inr (refl, same-waiting x e)) me
 
   was-call : (x : CallNo) (d : Call) → call_of waiting_world x ≡ Some d → call_of w x ≡ Some d
   was-call x d e = ap (λ ds. find (is_call x) ds) (sym (edit_task-calls name waits w)) ∙ e
@@ -70,7 +74,13 @@ module _ (p : Image) (name : Who) (c : CallNo) (w : World) (good : Good p w) (lo
       opens = task-edited name waits w (λ t. refl) (λ m a b. b.completed ≡ a.completed) (λ m. refl) refl (who.Task t) ∙ open_;
       unfirm = unfirm;
     }
-    by_owner (owned_by.Object o) k h open_ unfirm = record { owner = owned_by.Object o; place = k; stands = subst (λ xs. StandsAt xs o k x) (sym (edit_task-objects name waits w)) h; opens = tt; unfirm = unfirm }
+    by_owner (owned_by.Object o) k h open_ unfirm = record {
+      owner = owned_by.Object o;
+      place = k;
+      stands = subst (λ xs. StandsAt xs o k x) (sym (edit_task-objects name waits w)) h;
+      opens = tt;
+      unfirm = unfirm;
+    }
   waits-awaited x (inr e) = inr e
 
   same-served : (a : Who) (x : CallNo) → served x waiting_world a ≡ served x w a
@@ -87,7 +97,8 @@ module _ (p : Image) (name : Who) (c : CallNo) (w : World) (good : Good p w) (lo
   waits-low x a (inl h) = good.waits a x h
   waits-low x a (inr h) = subst (λ n. n.0 ≤ w.drawn.calls) (sym h.1) low
 
-  waits-ends : (x : CallNo) (d : Call) (a : Who) → call_of w x ≡ Some d → (waiting_of w a ≡ waits_end x) ⊎ ((a ≡ name) × (x ≡ c)) → is_ending x (frames_of w a) ≡ true
+  waits-ends : (x : CallNo) (d : Call) (a : Who) → call_of w x ≡ Some d → (waiting_of w a ≡ waits_end x) ⊎ ((a ≡ name) × (x ≡ c))
+      → is_ending x (frames_of w a) ≡ true
   waits-ends x d a e (inl h) = good.ends a x d h e
   waits-ends x d a e (inr h) = subst (λ n. is_ending n (frames_of w a) ≡ true) (sym h.1) (subst (λ b. is_ending c (frames_of w b) ≡ true) (sym h.0) ending)
 
@@ -107,9 +118,15 @@ module _ (p : Image) (name : Who) (c : CallNo) (w : World) (good : Good p w) (lo
     objects = edit_task-fall name waits w (λ t. refl) good.objects;
     named = named-edited name waits w (task_at w name) refl (λ t. refl) good.named;
     present = λ t h. subst (λ d. t.0 < d.tasks) (sym (edit_task-drawn name waits w)) (good.present t (ap is_task (sym (waits-who (who.Task t))) ∙ h));
-    owns = λ a x h. let own = good.owns a x (subst (λ fs. some_nature (has_own x) (natures fs) ≡ true) (waits-frames a) h) in (is-low x.0 own.0, λ d e. own.1 d (was-call x d e));
-    ended = λ a x h. let end = good.ended a x (subst (λ fs. some_nature (ends_by x) (natures fs) ≡ true) (waits-frames a) h) in (is-low x.0 end.0, λ d e. end.1 d (was-call x d e));
-    triggers = λ t depth h. let set = good.triggers t depth (was-set (is_trigger_of t depth) h) in (subst (λ d. t.0 < d.tasks) (sym (edit_task-drawn name waits w)) set.0, still-waited t depth set.1);
+    owns =
+        λ a x h. let own = good.owns a x (subst (λ fs. some_nature (has_own x) (natures fs) ≡ true) (waits-frames a) h) in
+        (is-low x.0 own.0, λ d e. own.1 d (was-call x d e));
+    ended =
+        λ a x h. let end = good.ended a x (subst (λ fs. some_nature (ends_by x) (natures fs) ≡ true) (waits-frames a) h) in
+        (is-low x.0 end.0, λ d e. end.1 d (was-call x d e));
+    triggers =
+        λ t depth h. let set = good.triggers t depth (was-set (is_trigger_of t depth) h) in
+        (subst (λ d. t.0 < d.tasks) (sym (edit_task-drawn name waits w)) set.0, still-waited t depth set.1);
     waits = λ a x h. is-low x.0 (waits-low x a (waits-since x a h));
     ends = λ a x d h e. subst (λ fs. is_ending x fs ≡ true) (sym (waits-frames a)) (waits-ends x d a (was-call x d e) (waits-since x a h));
   }

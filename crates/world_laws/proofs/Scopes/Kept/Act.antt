@@ -23,7 +23,8 @@ use Rattle.profile_machine.specs.declared.world.lines.Part.TheVariants.{Own}
 use Rattle.profile_machine.specs.Steps.{changes, looks, ◌▷◌}
 use Rattle.profile_machine.specs.Frames.{frames_of, top_of, pop, is_protected}
 use Rattle.profile_machine.specs.Calls.{with_call, attempt_with}
-use Rattle.profile_machine.specs.Act.{call_main, call, handle_or_pass, behind_handled, end_handled, end_top, wait_for_trigger, drop_trigger, below, end_abortable_by, end_in_abortable, act_statement, keeping, waiting_mark}
+use Rattle.profile_machine.specs.Act.{call_main, call, handle_or_pass, behind_handled, end_handled, end_top, wait_for_trigger}
+use Rattle.profile_machine.specs.Act.{drop_trigger, below, end_abortable_by, end_in_abortable, act_statement, keeping, waiting_mark}
 use Rattle.machine_laws.proofs.Moves.{StepRelation, MoveRelation}
 use Rattle.world_laws.proofs.Scopes.FineMoves.{FineMoves, Openings, nature, chains}
 use Rattle.world_laws.proofs.Scopes.Kept.Dispatching.{block-keeps}
@@ -38,7 +39,8 @@ use Rattle.world_laws.proofs.Scopes.Kept.Rendezvous.{accept-keeps, selective_acc
 use Rattle.world_laws.proofs.Scopes.Kept.EntryCalls.{entry_call-keeps, asynchronous_select-keeps, requeue-keeps}
 use Rattle.world_laws.proofs.Scopes.Kept.Controlled.{initialize-keeps, assign_controlled-keeps}
 use Rattle.world_laws.proofs.Scopes.Kept.Tasking.{create-keeps, end_own_activation-keeps}
-use Rattle.world_laws.proofs.Scopes.Kept.Handlers.{set_event-keeps, cancel_event-keeps, set_timer-keeps, cancel_timer-keeps, add_member-keeps, remove_member-keeps, replenish-keeps, add_to_budget-keeps, set_budget-keeps, cancel_budget-keeps}
+use Rattle.world_laws.proofs.Scopes.Kept.Handlers.{set_event-keeps, cancel_event-keeps, set_timer-keeps, cancel_timer-keeps, add_member-keeps}
+use Rattle.world_laws.proofs.Scopes.Kept.Handlers.{remove_member-keeps, replenish-keeps, add_to_budget-keeps, set_budget-keeps, cancel_budget-keeps}
 use Rattle.profile_machine.specs.declared.world.World.{World}
 use Rattle.world_laws.proofs.Scopes.Kept.CallEnds.{end_found_abortable-keeps, abortable-nature}
 use Rattle.profile_machine.specs.CallEnds.{edit_abortable}
@@ -46,10 +48,12 @@ use Rattle.profile_machine.specs.Scopes.{id_in}
 use Rattle.profile_machine.specs.Tasking.{activate, abort_statement}
 use Rattle.profile_image.specs.declared.numbers.DeclNo.{DeclNo}
 use Rattle.machine_laws.proofs.FineMoves.{Anybody, GoodWorld, Naming}
-use Rattle.machine_laws.proofs.Kept.Combinators.{Alters, From, Keeps, changes-keeps, changes_then-from, cond-keeps, keeps-from, looks-keeps, nothing-keeps, option-keeps, sees-keeps, then-keeps, unchanged-alters}
+use Rattle.machine_laws.proofs.Kept.Combinators.{Alters, From, Keeps, changes-keeps, changes_then-from, cond-keeps, keeps-from}
+use Rattle.machine_laws.proofs.Kept.Combinators.{looks-keeps, nothing-keeps, option-keeps, sees-keeps, then-keeps, unchanged-alters}
 use Rattle.machine_laws.proofs.Plain.Frames.{raises-keeps, pass_on-keeps, with_room-keeps}
 use Rattle.machine_laws.proofs.Plain.Calls.{with_call-keeps, attempt_with-keeps}
-use Rattle.machine_laws.proofs.Plain.Statements.{null-keeps, assign-keeps, assign_array-keeps, if_statement-keeps, case_statement-keeps, while_turn-keeps, for_bounds-keeps, first_turn-keeps, later_turn-keeps, exit_statement-keeps, raise_again-keeps}
+use Rattle.machine_laws.proofs.Plain.Statements.{null-keeps, assign-keeps, assign_array-keeps, if_statement-keeps, case_statement-keeps, while_turn-keeps}
+use Rattle.machine_laws.proofs.Plain.Statements.{for_bounds-keeps, first_turn-keeps, later_turn-keeps, exit_statement-keeps, raise_again-keeps}
 use Rattle.machine_laws.proofs.Plain.Subprograms.{return_value-keeps, return-keeps}
 use Rattle.machine_laws.proofs.Plain.Declarations.{declare-keeps}
 use Rattle.machine_laws.proofs.Plain.PlainSteps.{anybody}
@@ -88,11 +92,13 @@ module _ {G : GoodWorld} {May Other : Naming} {R : StepRelation} {Q : MoveRelati
   behind_handled-keeps p name s how.Abort = search (pass_on-keeps, plain_steps, anybody)
   behind_handled-keeps p name s how.Terminate = search (pass_on-keeps, plain_steps, anybody)
 
-  pub end_handled-from : (p : Image) (name : Who) (s : StatementNo) (leaving : Leaving) (f : Frame) (w : World) → G w → May name → top_of w name ≡ Some f → is_protected f.mark ≡ false → id_in f.mark ≡ None → From R w (end_handled p name s leaving)
+  pub end_handled-from : (p : Image) (name : Who) (s : StatementNo) (leaving : Leaving) (f : Frame) (w : World) → G w → May name → top_of w name ≡ Some f
+      → is_protected f.mark ≡ false → id_in f.mark ≡ None → From R w (end_handled p name s leaving)
   unfolding end_handled
   end_handled-from p name s leaving f w good may top free none =
       let out = popped moves name f w good may top free none in
-      changes_then-from (chains moves) (pop name) _ w out (keeps-from (chains moves) (behind_handled p name s leaving) (pop name w) (moves.behind w (pop name w) out) (behind_handled-keeps p name s leaving))
+      changes_then-from (chains moves) (pop name) _ w out
+      (keeps-from (chains moves) (behind_handled p name s leaving) (pop name w) (moves.behind w (pop name w) out) (behind_handled-keeps p name s leaving))
 
   pub end_top-keeps : (p : Image) (name : Who) → May name → Keeps G R (end_top p name)
   unfolding end_top
@@ -108,7 +114,11 @@ module _ {G : GoodWorld} {May Other : Naming} {R : StepRelation} {Q : MoveRelati
 
   pub end_abortable_by-keeps : (p : Image) (name : Who) (m : AbortableMark) (leaving : Leaving) → Other name → Keeps G R (end_abortable_by p name m leaving)
   unfolding end_abortable_by
-  end_abortable_by-keeps p name m leaving other = option-keeps (chains moves) m.call (looks (λ w. changes (drop_trigger name (below (frames_of w name)))) ▷ end_top p name) (λ c. with_call c (λ d. attempt_with p Own d (end_top p name) (wait_for_trigger name d leaving))) (search (looks-keeps, changes-keeps, drop_trigger-alters, then-keeps, end_top-keeps, moves.other_may, chains)) (λ c. search (with_call-keeps, attempt_with-keeps, end_top-keeps, wait_for_trigger-keeps, moves.other_may, plain_steps))
+  end_abortable_by-keeps p name m leaving other =
+      option-keeps (chains moves) m.call (looks (λ w. changes (drop_trigger name (below (frames_of w name)))) ▷ end_top p name)
+      (λ c. with_call c (λ d. attempt_with p Own d (end_top p name) (wait_for_trigger name d leaving)))
+      (search (looks-keeps, changes-keeps, drop_trigger-alters, then-keeps, end_top-keeps, moves.other_may, chains))
+      (λ c. search (with_call-keeps, attempt_with-keeps, end_top-keeps, wait_for_trigger-keeps, moves.other_may, plain_steps))
 
   pub end_in_abortable-keeps : (p : Image) (name : Who) (m : AbortableMark) (leaving : Leaving) → Other name → Keeps G R (end_in_abortable p name m leaving)
   unfolding end_in_abortable
@@ -119,13 +129,15 @@ module _ {G : GoodWorld} {Acts : Naming} {R : StepRelation} {Q : MoveRelation} (
   unfolding call_main
   call_main-keeps p name s acts = search (with_room-keeps, goes-keeps, then-keeps, looks-keeps, changes-keeps, open_scope-alters, chains, plain_steps)
 
-  pub call-keeps : (p : Image) (name : Who) (s : StatementNo) (callee : Callee) (actuals : List Actual) (to : Destination) → Acts name → Keeps G R (call p name s callee actuals to)
+  pub call-keeps : (p : Image) (name : Who) (s : StatementNo) (callee : Callee) (actuals : List Actual) (to : Destination) → Acts name
+      → Keeps G R (call p name s callee actuals to)
   unfolding call
   call-keeps p name s (callee.Subprogram f) actuals to acts = search (call_subprogram-keeps)
   call-keeps p name s (callee.Operation d f) actuals to acts = search (call_operation-keeps)
   call-keeps p name s (callee.OwnOperation f) actuals to acts = search (call_own_operation-keeps)
 
-module _ {G : GoodWorld} {Acts : Naming} {R : StepRelation} {Q : MoveRelation} (moves : FineMoves G Anybody Anybody R Q) (openings : Openings G Acts R) (groups : Groups G Acts R) where
+module _ {G : GoodWorld} {Acts : Naming} {R : StepRelation} {Q : MoveRelation} (moves : FineMoves G Anybody Anybody R Q) (openings : Openings G Acts R)
+    (groups : Groups G Acts R) where
   pub act_statement-keeps : (p : Image) (name : Who) (s : StatementNo) (form : StatementForm) → Acts name → Keeps G R (act_statement p name s form)
   unfolding act_statement
   act_statement-keeps p name s (form.Declare object) acts = search (declare-keeps, plain_steps, anybody)

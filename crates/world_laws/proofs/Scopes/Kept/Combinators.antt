@@ -14,6 +14,8 @@ module _ {G : GoodWorld} {May Other : Naming} {R : StepRelation} {Q : MoveRelati
   both_then-from f g h w a b said = then-kept (chains moves) w (g (f w)) said said (h (g (f w)) said) (silent-kept (chains moves) w (g (f w)) said a) (b said)
 
   -- four
-  pub four_then-from : (f g h k : World → World) (rest : Step) (w : World) → R w [] (k (h (g (f w)))) → From R (k (h (g (f w)))) rest → From R w (changes f ▷ changes g ▷ changes h ▷ changes k ▷ rest)
+  pub four_then-from : (f g h k : World → World) (rest : Step) (w : World) → R w [] (k (h (g (f w)))) → From R (k (h (g (f w)))) rest
+      → From R w (changes f ▷ changes g ▷ changes h ▷ changes k ▷ rest)
   unfolding From
-  four_then-from f g h k rest w a b said = then-kept (chains moves) w (k (h (g (f w)))) said said (rest (k (h (g (f w)))) said) (silent-kept (chains moves) w (k (h (g (f w)))) said a) (b said)
+  four_then-from f g h k rest w a b said =
+      then-kept (chains moves) w (k (h (g (f w)))) said said (rest (k (h (g (f w)))) said) (silent-kept (chains moves) w (k (h (g (f w)))) said a) (b said)

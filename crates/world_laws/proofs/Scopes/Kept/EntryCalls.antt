@@ -33,7 +33,10 @@ use Rattle.profile_machine.specs.Tasks.{waiting_of}
 use Rattle.profile_machine.specs.Calls.{says_call}
 use Rattle.profile_machine.specs.Protected.{begin_action_on, is_barrier_open, new_protected_mark}
 use Rattle.profile_machine.specs.Sending.{open_abortable}
-use Rattle.profile_machine.specs.EntryCalls.{numbered, add_call, make_call, end_at_once, call_gone, call_meets, call_queues, call_not_met, call_accepted_by, call_callable, call_task, call_runs, call_without_room, has_room_for_action, call_runs_if_room, call_passes, call_refused, call_closed, call_by_barrier, call_object, call_owner, call_named, entry_call, appoint_trigger, trigger_delay, async_delay, async_by_trigger, asynchronous_select, mark_sending, requeue, is_forbidden}
+use Rattle.profile_machine.specs.EntryCalls.{numbered, add_call, make_call, end_at_once, call_gone, call_meets, call_queues, call_not_met, call_accepted_by}
+use Rattle.profile_machine.specs.EntryCalls.{call_callable, call_task, call_runs, call_without_room, has_room_for_action, call_runs_if_room, call_passes}
+use Rattle.profile_machine.specs.EntryCalls.{call_refused, call_closed, call_by_barrier, call_object, call_owner, call_named, entry_call, appoint_trigger}
+use Rattle.profile_machine.specs.EntryCalls.{trigger_delay, async_delay, async_by_trigger, asynchronous_select, mark_sending, requeue, is_forbidden}
 use Rattle.machine_laws.proofs.Moves.{StepRelation, MoveRelation}
 use Rattle.world_laws.proofs.Scopes.FineMoves.{FineMoves, Openings, Live, chains, says-keeps}
 use Rattle.world_laws.proofs.Scopes.Kept.Dispatching.{block-keeps}
@@ -46,7 +49,8 @@ use Rattle.world_laws.proofs.Scopes.Kept.Rendezvous.{meet-from, waiting-live}
 use Rattle.profile_machine.specs.Rendezvous.{delay_moment, accept_for}
 use Rattle.profile_machine.specs.Values.{seen_by}
 use Rattle.machine_laws.proofs.FineMoves.{Anybody, GoodWorld, Naming}
-use Rattle.machine_laws.proofs.Kept.Combinators.{Alters, From, Keeps, branch-keeps, changes-keeps, changes_then-from, keeps-from, looks-from, looks-keeps, looks_at-from, nothing-keeps, said_then-from, sees-keeps, then-keeps, unchanged-alters}
+use Rattle.machine_laws.proofs.Kept.Combinators.{Alters, From, Keeps, branch-keeps, changes-keeps, changes_then-from, keeps-from, looks-from}
+use Rattle.machine_laws.proofs.Kept.Combinators.{looks-keeps, looks_at-from, nothing-keeps, said_then-from, sees-keeps, then-keeps, unchanged-alters}
 use Rattle.machine_laws.proofs.Plain.Frames.{raises-keeps, given-from, given-keeps, raise_if-from, raise_if-keeps, with_room-from, with_room-keeps}
 use Rattle.machine_laws.proofs.Plain.Calls.{edit_call-alters, forget_call-alters, says_call-keeps, enqueue-keeps}
 
@@ -63,7 +67,8 @@ module _ {G : GoodWorld} {May Other : Naming} {R : StepRelation} {Q : MoveRelati
   numbered_call-keeps p c step kept =
       then-keeps (chains moves) (goes (who.Task c.caller) (next_of p c.statement)) _ (goes-keeps moves (who.Task c.caller) (next_of p c.statement))
       (looks-keeps (chains moves) _ (λ w. then-keeps (chains moves) (changes (add_call c)) _ (changes-keeps (chains moves) _ (add_call-alters c))
-      (then-keeps (chains moves) (says_call TheCall (numbered (suc w.drawn.calls) c)) _ (says_call-keeps (plain_steps moves) TheCall (numbered (suc w.drawn.calls) c)) (kept (suc w.drawn.calls)))))
+      (then-keeps (chains moves) (says_call TheCall (numbered (suc w.drawn.calls) c)) _
+      (says_call-keeps (plain_steps moves) TheCall (numbered (suc w.drawn.calls) c)) (kept (suc w.drawn.calls)))))
 
   pub end_at_once-keeps : (part : Part) (c : Call) (e : Raised) → Keeps G R (end_at_once part c e)
   unfolding end_at_once
@@ -103,10 +108,12 @@ module _ {G : GoodWorld} {May Other : Naming} {R : StepRelation} {Q : MoveRelati
 
   appoint_trigger-from : (name : Who) (depth : ℕ) (m : ℤ) (w : World) → G w → From R w (changes (appoint_trigger name depth m))
   appoint_trigger-from (who.Task t) depth m w good = appoint-from moves (due_for.Trigger t depth) m w good
-  appoint_trigger-from who.Agent depth m w good = keeps-from (chains moves) (changes (λ v. v)) w good (changes-keeps (chains moves) (λ v. v) (unchanged-alters (chains moves)))
+  appoint_trigger-from who.Agent depth m w good =
+      keeps-from (chains moves) (changes (λ v. v)) w good (changes-keeps (chains moves) (λ v. v) (unchanged-alters (chains moves)))
 
   -- the abortable part opens, and the moment is set
-  opens_until : (p : Image) (name : Who) (s : StatementNo) (m : ℤ) (w : World) → G w → Other name → From R w (looks (λ v. changes (open_abortable p name s None) ▷ changes (appoint_trigger name (length (frames_of v name)) m)))
+  opens_until : (p : Image) (name : Who) (s : StatementNo) (m : ℤ) (w : World) → G w → Other name
+      → From R w (looks (λ v. changes (open_abortable p name s None) ▷ changes (appoint_trigger name (length (frames_of v name)) m)))
   unfolding Alters
   opens_until p name s m w good other =
       let opened = open_abortable-alters moves p name s None other w good in
@@ -114,7 +121,8 @@ module _ {G : GoodWorld} {May Other : Naming} {R : StepRelation} {Q : MoveRelati
       (changes_then-from (chains moves) (open_abortable p name s None) _ w opened
       (appoint_trigger-from name (length (frames_of w name)) m _ (moves.behind w (open_abortable p name s None w) opened)))
 
-  trigger_delay-from : (p : Image) (name : Who) (s trigger : StatementNo) (m : ℤ) (test : Bool) (w : World) → G w → Other name → From R w (trigger_delay p name s trigger m test)
+  trigger_delay-from : (p : Image) (name : Who) (s trigger : StatementNo) (m : ℤ) (test : Bool) (w : World) → G w → Other name
+      → From R w (trigger_delay p name s trigger m test)
   unfolding trigger_delay
   trigger_delay-from p name s trigger m false w good other = keeps-from (chains moves) _ w good (search (goes-keeps))
   trigger_delay-from p name s trigger m true w good other =
@@ -128,7 +136,8 @@ module _ {G : GoodWorld} {May Other : Naming} {R : StepRelation} {Q : MoveRelati
 
   pub requeue-keeps : (p : Image) (name : Who) (e : EntryNo) (o : EntryOwner) (with_abort : Bool) → Keeps G R (requeue p name e o with_abort)
   unfolding requeue
-  requeue-keeps p name e o with_abort = search (sees-keeps, given-keeps, changes-keeps, mark_sending-alters, then-keeps, leaves-keeps, chains, plain_steps) depth 10
+  requeue-keeps p name e o with_abort =
+      search (sees-keeps, given-keeps, changes-keeps, mark_sending-alters, then-keeps, leaves-keeps, chains, plain_steps) depth 10
 
 module _ {G : GoodWorld} {Acts : Naming} {R : StepRelation} {Q : MoveRelation} (moves : FineMoves G Anybody Anybody R Q) (openings : Openings G Acts R) where
   -- ---- a call of a task's entry: the callee waits for it
@@ -140,7 +149,9 @@ module _ {G : GoodWorld} {Acts : Naming} {R : StepRelation} {Q : MoveRelation} (
 
   said_call_then-from : (part : Part) (c : Call) (g : Step) (w : World) → G w → From R w g → From R w (says_call part c ▷ g)
   unfolding says_call
-  said_call_then-from part c g w good k = said_then-from (chains moves) part (line.Call c.caller c.number c.owner c.entry c.priority) g w (moves.says part (line.Call c.caller c.number c.owner c.entry c.priority) w good) k
+  said_call_then-from part c g w good k =
+      said_then-from (chains moves) part (line.Call c.caller c.number c.owner c.entry c.priority) g w
+      (moves.says part (line.Call c.caller c.number c.owner c.entry c.priority) w good) k
 
   met-from : (p : Image) (t : TaskNo) (s : StatementNo) (c : Call) (w : World) → G w → Live (who.Task t) w → From R w (make_call p c (call_meets p t s))
   unfolding Alters
@@ -154,11 +165,13 @@ module _ {G : GoodWorld} {Acts : Naming} {R : StepRelation} {Q : MoveRelation} (
       let live_made = openings.still_live (who.Task t) onward made added (openings.still_live (who.Task t) w onward gone live) in
       let d = numbered (suc onward.drawn.calls) c in
       goes_then-from moves (who.Task c.caller) (next_of p c.statement) _ w good (λ g.
-      looks_at-from (chains moves) (λ v. changes (add_call c) ▷ says_call TheCall (numbered (suc v.drawn.calls) c) ▷ call_meets p t s (numbered (suc v.drawn.calls) c)) onward
+      looks_at-from (chains moves)
+      (λ v. changes (add_call c) ▷ says_call TheCall (numbered (suc v.drawn.calls) c) ▷ call_meets p t s (numbered (suc v.drawn.calls) c)) onward
       (changes_then-from (chains moves) (add_call c) _ onward added
       (said_call_then-from TheCall d (call_meets p t s d) made good_made (call_meets-from p t s d made good_made live_made))))
 
-  call_accepted_by-from : (p : Image) (t : TaskNo) (c : Call) (next : Option StatementNo) (w : World) → G w → accept_for p c.entry (waiting_of w (who.Task t)) ≡ next → From R w (call_accepted_by p t c next)
+  call_accepted_by-from : (p : Image) (t : TaskNo) (c : Call) (next : Option StatementNo) (w : World) → G w
+      → accept_for p c.entry (waiting_of w (who.Task t)) ≡ next → From R w (call_accepted_by p t c next)
   unfolding call_accepted_by
   call_accepted_by-from p t c (Some s) w good is = met-from p t s c w good (waiting-live p c.entry (who.Task t) s w is)
   call_accepted_by-from p t c None w good is = keeps-from (chains moves) _ w good (search (looks-keeps, call_not_met-keeps, chains))
@@ -166,7 +179,8 @@ module _ {G : GoodWorld} {Acts : Naming} {R : StepRelation} {Q : MoveRelation} (
   call_callable-keeps : (p : Image) (t : TaskNo) (c : Call) (test : Bool) → Keeps G R (call_callable p t c test)
   unfolding call_callable
   call_callable-keeps p t c false = search (make_call-keeps, call_gone-keeps)
-  call_callable-keeps p t c true = looks-from (chains moves) _ (λ w good. call_accepted_by-from p t c (accept_for p c.entry (waiting_of w (who.Task t))) w good refl)
+  call_callable-keeps p t c true =
+      looks-from (chains moves) _ (λ w good. call_accepted_by-from p t c (accept_for p c.entry (waiting_of w (who.Task t))) w good refl)
 
   pub call_task-keeps : (p : Image) (t : TaskNo) (c : Call) → Keeps G R (call_task p t c)
   unfolding call_task
@@ -178,29 +192,37 @@ module _ {G : GoodWorld} {Acts : Naming} {R : StepRelation} {Q : MoveRelation} (
   unfolding call_runs
   call_runs-keeps p o c acts =
       then-keeps (chains moves) (begin_action_on p (who.Task c.caller) o Write (Some c.number) None) _
-      (begin_action_on-keeps moves p (who.Task c.caller) o Write (Some c.number) None tt (push-alters moves openings (who.Task c.caller) (new_frame (new_protected_mark o Write (Some c.number) None) None) refl))
+      (begin_action_on-keeps moves p (who.Task c.caller) o Write (Some c.number) None tt
+      (push-alters moves openings (who.Task c.caller) (new_frame (new_protected_mark o Write (Some c.number) None) None) refl))
       (serve_call-keeps moves openings p Own (who.Task c.caller) o c nothing nothing acts (nothing-keeps (chains moves)) (nothing-keeps (chains moves)))
 
   call_runs_if_room-keeps : (p : Image) (o : ObjectNo) (c : Call) → Acts (who.Task c.caller) → Keeps G R (call_runs_if_room p o c)
   unfolding call_runs_if_room
   call_runs_if_room-keeps p o c acts =
-      looks-keeps (chains moves) _ (λ w. branch-keeps (chains moves) (has_room_for_action p w c) (call_runs p o c) (call_without_room o c) (call_runs-keeps p o c acts) (call_without_room-keeps moves o c))
+      looks-keeps (chains moves) _
+      (λ w. branch-keeps (chains moves) (has_room_for_action p w c) (call_runs p o c) (call_without_room o c) (call_runs-keeps p o c acts)
+      (call_without_room-keeps moves o c))
 
   call_by_barrier-keeps : (p : Image) (o : ObjectNo) (c : Call) (test : Bool) → Acts (who.Task c.caller) → Keeps G R (call_by_barrier p o c test)
   unfolding call_by_barrier
-  call_by_barrier-keeps p o c true acts = with_room-keeps (plain_steps moves) (who.Task c.caller) 1 0 _ (numbered_call-keeps moves p c (call_runs_if_room p o) (λ n. call_runs_if_room-keeps p o (numbered n c) acts))
+  call_by_barrier-keeps p o c true acts =
+      with_room-keeps (plain_steps moves) (who.Task c.caller) 1 0 _
+      (numbered_call-keeps moves p c (call_runs_if_room p o) (λ n. call_runs_if_room-keeps p o (numbered n c) acts))
   call_by_barrier-keeps p o c false acts = search (looks-keeps, call_closed-keeps, chains)
 
   pub call_object-keeps : (p : Image) (o : ObjectNo) (c : Call) → Acts (who.Task c.caller) → Keeps G R (call_object p o c)
   unfolding call_object
-  call_object-keeps p o c acts = where_let_inside-keeps moves p (who.Task c.caller) o Write _ tt (looks-keeps (chains moves) _ (λ w. call_by_barrier-keeps p o c (is_barrier_open p w (who.Task c.caller) o c.entry) acts))
+  call_object-keeps p o c acts =
+      where_let_inside-keeps moves p (who.Task c.caller) o Write _ tt
+      (looks-keeps (chains moves) _ (λ w. call_by_barrier-keeps p o c (is_barrier_open p w (who.Task c.caller) o c.entry) acts))
 
   pub call_owner-keeps : (p : Image) (c : Call) (owner : Owner) → Acts (who.Task c.caller) → Keeps G R (call_owner p c owner)
   unfolding call_owner
   call_owner-keeps p c (owned_by.Task t) acts = search (call_task-keeps)
   call_owner-keeps p c (owned_by.Object o) acts = search (call_object-keeps)
 
-  pub call_named-keeps : (p : Image) (t : TaskNo) (kind : CallKind) (s : StatementNo) (n : EntryCallNamed) → Acts (who.Task t) → Keeps G R (call_named p t kind s n)
+  pub call_named-keeps : (p : Image) (t : TaskNo) (kind : CallKind) (s : StatementNo) (n : EntryCallNamed) → Acts (who.Task t)
+      → Keeps G R (call_named p t kind s n)
   unfolding call_named
   call_named-keeps p t kind s n acts = search (sees-keeps, given-keeps, call_owner-keeps, chains, plain_steps) depth 8
 
@@ -212,12 +234,15 @@ module _ {G : GoodWorld} {Acts : Naming} {R : StepRelation} {Q : MoveRelation} (
   pub async_delay-keeps : (p : Image) (name : Who) (s trigger : StatementNo) → Acts name → Keeps G R (async_delay p name s trigger)
   unfolding async_delay
   async_delay-keeps p name s trigger acts =
-      looks-from (chains moves) (λ v. raise_if name (is_forbidden v name call_kind.Triggering) exception.Program (given Own name (delay_moment (seen_by p v name) trigger) (λ m. trigger_delay p name s trigger m (int_lt (pos v.time) m))))
+      looks-from (chains moves)
+      (λ v. raise_if name (is_forbidden v name call_kind.Triggering) exception.Program
+      (given Own name (delay_moment (seen_by p v name) trigger) (λ m. trigger_delay p name s trigger m (int_lt (pos v.time) m))))
       (λ w good. raise_if-from (plain_steps moves) name (is_forbidden w name call_kind.Triggering) exception.Program _ w good (λ allowed.
       given-from (plain_steps moves) Own name (delay_moment (seen_by p w name) trigger) _ w good (λ m.
       trigger_delay-from moves p name s trigger m (int_lt (pos w.time) m) w good tt)))
 
-  pub async_by_trigger-keeps : (p : Image) (name : Who) (s trigger : StatementNo) (form : StatementForm) → Acts name → Keeps G R (async_by_trigger p name s trigger form)
+  pub async_by_trigger-keeps : (p : Image) (name : Who) (s trigger : StatementNo) (form : StatementForm) → Acts name
+      → Keeps G R (async_by_trigger p name s trigger form)
   unfolding async_by_trigger
   async_by_trigger-keeps p name s trigger (form.EntryCall entry owner actuals) acts = search (entry_call-keeps)
   async_by_trigger-keeps p name s trigger _ acts = search (async_delay-keeps)

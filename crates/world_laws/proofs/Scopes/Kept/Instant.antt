@@ -16,7 +16,10 @@ use Rattle.profile_machine.specs.declared.world.appointments.Due.TheVariants as 
 use Rattle.profile_machine.specs.declared.world.tasks.Waiting.TheVariants as waits_for
 use Rattle.profile_machine.specs.Steps.{Step, changes, nothing, ◌▷◌, ◌▶◌}
 use Rattle.profile_machine.specs.Appointments.{first_due}
-use Rattle.profile_machine.specs.Instant.{with_port, with_masked, with_kept_interrupt, interrupt_comes, deliver_kept_interrupt, script_item, with_script, take_item, items_due, script_items, take_delay, end_delay, time_out, come_due, take_due, all_due, appointments_due, events_due, moments_due, expire, expire_timer, no_timers_due, timers_due, run_out, no_budget_due, budgets_due, spend_quantum, quantum_spent}
+use Rattle.profile_machine.specs.Instant.{with_port, with_masked, with_kept_interrupt, interrupt_comes, deliver_kept_interrupt}
+use Rattle.profile_machine.specs.Instant.{script_item, with_script, take_item, items_due, script_items, take_delay, end_delay, time_out}
+use Rattle.profile_machine.specs.Instant.{come_due, take_due, all_due, appointments_due, events_due, moments_due, expire, expire_timer}
+use Rattle.profile_machine.specs.Instant.{no_timers_due, timers_due, run_out, no_budget_due, budgets_due, spend_quantum, quantum_spent}
 use Rattle.machine_laws.proofs.Moves.{StepRelation, MoveRelation}
 use Rattle.world_laws.proofs.Scopes.FineMoves.{FineMoves, chains, effect-leads, move_chains, says-keeps}
 use Rattle.world_laws.proofs.Scopes.Kept.Dispatching.{to_tail-keeps, ready-keeps}
@@ -29,7 +32,8 @@ use Rattle.profile_machine.specs.Values.{budget_of}
 use Rattle.profile_machine.specs.Handlers.{clear_timer}
 use Rattle.profile_machine.specs.declared.world.lines.Part.TheVariants.{Own}
 use Rattle.machine_laws.proofs.FineMoves.{Anybody, GoodWorld}
-use Rattle.machine_laws.proofs.Kept.Combinators.{Alters, From, Keeps, Leads, changes-from, changes-keeps, for_each-keeps, for_some-keeps, keeps-from, looks-from, looks-keeps, nothing-keeps, then-from, then-keeps, then-leads, when-keeps}
+use Rattle.machine_laws.proofs.Kept.Combinators.{Alters, From, Keeps, Leads, changes-from, changes-keeps, for_each-keeps, for_some-keeps}
+use Rattle.machine_laws.proofs.Kept.Combinators.{keeps-from, looks-from, looks-keeps, nothing-keeps, then-from, then-keeps, then-leads, when-keeps}
 use Rattle.machine_laws.proofs.Plain.Calls.{with_call-keeps, unqueued-alters}
 
 module _ {G : GoodWorld} {R : StepRelation} {Q : MoveRelation} (moves : FineMoves G Anybody Anybody R Q) where
@@ -60,15 +64,20 @@ module _ {G : GoodWorld} {R : StepRelation} {Q : MoveRelation} (moves : FineMove
   script_item-keeps p (item.Interrupt n) = search (looks-keeps, interrupt_comes-keeps, chains)
   script_item-keeps p (item.Port n value) = search (changes-keeps, with_port-alters, then-keeps, says-keeps, chains)
   script_item-keeps p (item.Mask n) = search (changes-keeps, with_masked-alters, then-keeps, says-keeps, chains)
-  script_item-keeps p (item.Unmask n) = search (changes-keeps, with_masked-alters, then-keeps, says-keeps, looks-keeps, deliver_kept_interrupt-keeps, chains) depth 8
+  script_item-keeps p (item.Unmask n) =
+      search (changes-keeps, with_masked-alters, then-keeps, says-keeps, looks-keeps, deliver_kept_interrupt-keeps, chains) depth 8
 
-  take_item_if-from : (p : Image) (again : Step) (x : ℤ × Item) (xs : List (ℤ × Item)) (w : World) (test : Bool) → G w → w.script ≡ x ∷ xs → int_le x.0 (pos w.time) ≡ test → Keeps G R again → From R w (elim test as (λ _. Step) [ true ↦ changes (with_script xs) ▷ script_item p x.1 ▷ again | false ↦ nothing ])
+  take_item_if-from : (p : Image) (again : Step) (x : ℤ × Item) (xs : List (ℤ × Item)) (w : World) (test : Bool) → G w → w.script ≡ x ∷ xs
+      → int_le x.0 (pos w.time) ≡ test → Keeps G R again
+      → From R w (elim test as (λ _. Step) [ true ↦ changes (with_script xs) ▷ script_item p x.1 ▷ again | false ↦ nothing ])
   take_item_if-from p again x xs w true good is due kept =
-      then-from (chains moves) (changes (with_script xs)) (script_item p x.1 ▷ again) w (changes-from (chains moves) (with_script xs) w (moves.cuts_script x xs w good is due))
+      then-from (chains moves) (changes (with_script xs)) (script_item p x.1 ▷ again) w
+      (changes-from (chains moves) (with_script xs) w (moves.cuts_script x xs w good is due))
       (then-keeps (chains moves) (script_item p x.1) again (script_item-keeps p x.1) kept)
   take_item_if-from p again x xs w false good is due kept = keeps-from (chains moves) nothing w good (nothing-keeps (chains moves))
 
-  take_item-from : (p : Image) (again : Step) (w : World) (script : List (ℤ × Item)) → G w → w.script ≡ script → Keeps G R again → From R w (take_item p w.time again script)
+  take_item-from : (p : Image) (again : Step) (w : World) (script : List (ℤ × Item)) → G w → w.script ≡ script → Keeps G R again
+      → From R w (take_item p w.time again script)
   take_item-from p again w [] good is kept = keeps-from (chains moves) nothing w good (nothing-keeps (chains moves))
   take_item-from p again w (x ∷ xs) good is kept = take_item_if-from p again x xs w (int_le x.0 (pos w.time)) good is refl kept
 
@@ -123,7 +132,8 @@ module _ {G : GoodWorld} {R : StepRelation} {Q : MoveRelation} (moves : FineMove
   pub expire-keeps : (p : Image) (k : ℕ) (setting : Option TimerSetting) → Keeps G R (expire p k setting)
   unfolding expire
   expire-keeps p k None = search (nothing-keeps, chains)
-  expire-keeps p k (Some s) = then-keeps (chains moves) (changes (clear_timer k)) _ (search (changes-keeps, clear_timer-alters, chains)) (release-keeps moves p Own s.handler (Some k))
+  expire-keeps p k (Some s) =
+      then-keeps (chains moves) (changes (clear_timer k)) _ (search (changes-keeps, clear_timer-alters, chains)) (release-keeps moves p Own s.handler (Some k))
 
   pub expire_timer-keeps : (p : Image) (k : ℕ) → Keeps G R (expire_timer p k)
   unfolding expire_timer
@@ -158,4 +168,6 @@ module _ {G : GoodWorld} {R : StepRelation} {Q : MoveRelation} (moves : FineMove
 
   -- all of an instant but the effect of the action that ended
   pub behind_action-leads : (p : Image) → Leads G Q (script_items p ▶ events_due p ▶ moments_due p ▶ timers_due p ▶ budgets_due p ▶ quantum_spent p)
-  behind_action-leads p = search (then-leads, script_items-leads, events_due-leads, moments_due-leads, timers_due-leads, budgets_due-leads, quantum_spent-leads, move_chains) depth 9
+  behind_action-leads p =
+      search
+      (then-leads, script_items-leads, events_due-leads, moments_due-leads, timers_due-leads, budgets_due-leads, quantum_spent-leads, move_chains) depth 9

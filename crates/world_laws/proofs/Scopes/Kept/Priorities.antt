@@ -23,7 +23,10 @@ use Rattle.profile_machine.specs.Frames.{goes, in_protected}
 use Rattle.profile_machine.specs.Values.{value, moment, whole_in, seen_by, optional_task, live_task, must_be_task}
 use Rattle.profile_machine.specs.Calls.{place_of_entry, take_call, put_call}
 use Rattle.profile_machine.specs.Masters.{part_of}
-use Rattle.profile_machine.specs.Priorities.{placed_anew, reprioritize, reprioritize_own, replace_in, says_base, set_base, says_deadline, set_deadline, take_base, take_deadline, set_deferred, placing_of, defer_base, set_or_defer_base, set_base_of, priority_in_range, set_priority, quantum_of, set_quantum, defer_deadline, set_or_defer_deadline, set_deadline_of, delay_with_deadline, delay_and_set_deadline, is_edf_base}
+use Rattle.profile_machine.specs.Priorities.{placed_anew, reprioritize, reprioritize_own, replace_in, says_base, set_base, says_deadline}
+use Rattle.profile_machine.specs.Priorities.{set_deadline, take_base, take_deadline, set_deferred, placing_of, defer_base, set_or_defer_base}
+use Rattle.profile_machine.specs.Priorities.{set_base_of, priority_in_range, set_priority, quantum_of, set_quantum, defer_deadline}
+use Rattle.profile_machine.specs.Priorities.{set_or_defer_deadline, set_deadline_of, delay_with_deadline, delay_and_set_deadline, is_edf_base}
 use Rattle.machine_laws.proofs.Moves.{StepRelation, MoveRelation}
 use Rattle.world_laws.proofs.Scopes.FineMoves.{FineMoves, chains, says-keeps}
 use Rattle.world_laws.proofs.Scopes.Kept.Tasks.{edit_task-alters}
@@ -38,7 +41,8 @@ use Rattle.profile_machine.specs.Tasks.{found_task, is_who}
 use Rattle.machine_laws.proofs.FineMoves.{GoodWorld, Naming}
 use Rattle.machine_laws.proofs.Kept.Masters.{found-other}
 use Rattle.machine_laws.proofs.Kept.Priorities.{ok-is}
-use Rattle.machine_laws.proofs.Kept.Combinators.{Alters, Keeps, branch-keeps, changes-keeps, for_some-keeps, keeps-from, looks-from, looks-keeps, nothing-keeps, sees-keeps, then-keeps, when-keeps}
+use Rattle.machine_laws.proofs.Kept.Combinators.{Alters, Keeps, branch-keeps, changes-keeps, for_some-keeps, keeps-from}
+use Rattle.machine_laws.proofs.Kept.Combinators.{looks-from, looks-keeps, nothing-keeps, sees-keeps, then-keeps, when-keeps}
 use Rattle.machine_laws.proofs.Plain.Frames.{given-keeps, raise_if-keeps, given-from, given_as-from}
 use Rattle.machine_laws.proofs.Plain.Calls.{edit_call-alters, with_call-keeps, edit_queue-alters}
 
@@ -70,7 +74,8 @@ module _ {G : GoodWorld} {May Other : Naming} {R : StepRelation} {Q : MoveRelati
 
   pub set_base-keeps : (p : Image) (part placing : Part) (name : Who) (level : ℕ) → May name → Keeps G R (set_base p part placing name level)
   unfolding set_base
-  set_base-keeps p part placing name level may = search (changes-keeps, edit_task-alters, then-keeps, says_base-keeps, looks-keeps, replace_in-keeps, chains) depth 7
+  set_base-keeps p part placing name level may =
+      search (changes-keeps, edit_task-alters, then-keeps, says_base-keeps, looks-keeps, replace_in-keeps, chains) depth 7
 
   pub says_deadline-keeps : (part : Part) (name : Who) (d : ℤ) → Keeps G R (says_deadline part name d)
   unfolding says_deadline
@@ -79,7 +84,8 @@ module _ {G : GoodWorld} {May Other : Naming} {R : StepRelation} {Q : MoveRelati
 
   pub set_deadline-keeps : (p : Image) (part placing : Part) (name : Who) (d : ℤ) → May name → Keeps G R (set_deadline p part placing name d)
   unfolding set_deadline
-  set_deadline-keeps p part placing name d may = search (changes-keeps, edit_task-alters, then-keeps, says_deadline-keeps, looks-keeps, when-keeps, to_tail-keeps, chains) depth 8
+  set_deadline-keeps p part placing name d may =
+      search (changes-keeps, edit_task-alters, then-keeps, says_deadline-keeps, looks-keeps, when-keeps, to_tail-keeps, chains) depth 8
 
   pub take_base-keeps : (p : Image) (name : Who) (n : Option ℕ) → May name → Keeps G R (take_base p name n)
   unfolding take_base
@@ -101,9 +107,13 @@ module _ {G : GoodWorld} {May Other : Naming} {R : StepRelation} {Q : MoveRelati
 
   pub set_or_defer_base-keeps : (p : Image) (actor name : Who) (level : ℕ) → May name → Keeps G R (set_or_defer_base p actor name level)
   unfolding set_or_defer_base
-  set_or_defer_base-keeps p actor name level may = looks-keeps (chains moves) _ (λ w. branch-keeps (chains moves) (in_protected w name) (defer_base name level) (set_base p (part_of actor name) (placing_of actor name) name level) (search (defer_base-keeps)) (search (set_base-keeps)))
+  set_or_defer_base-keeps p actor name level may =
+      looks-keeps (chains moves) _
+      (λ w. branch-keeps (chains moves) (in_protected w name) (defer_base name level) (set_base p (part_of actor name) (placing_of actor name) name level)
+      (search (defer_base-keeps)) (search (set_base-keeps)))
 
-  pub set_base_of-keeps : (p : Image) (actor : Who) (s : StatementNo) (level : ℕ) (t : Option world.Task) → ((u : world.Task) → t ≡ Some u → May u.who) → Keeps G R (set_base_of p actor s level t)
+  pub set_base_of-keeps : (p : Image) (actor : Who) (s : StatementNo) (level : ℕ) (t : Option world.Task) → ((u : world.Task) → t ≡ Some u → May u.who)
+      → Keeps G R (set_base_of p actor s level t)
   unfolding set_base_of
   set_base_of-keeps p actor s level None may = search (goes-keeps)
   set_base_of-keeps p actor s level (Some t) may =
@@ -111,13 +121,15 @@ module _ {G : GoodWorld} {May Other : Naming} {R : StepRelation} {Q : MoveRelati
       (then-keeps (chains moves) (goes actor (next_of p s)) _ (search (goes-keeps)) (set_or_defer_base-keeps p actor t.who level (may t refl)))
 
   -- a task that is live is in the list
-  live_found-other : (found : Option world.Task) (u : world.Task) → ((v : world.Task) → found ≡ Some v → Other v.who) → elim found as (λ _. Valued world.Task) [ None ↦ Err exception.Tasking | Some v ↦ Ok v ] ≡ Ok u → Other u.who
+  live_found-other : (found : Option world.Task) (u : world.Task) → ((v : world.Task) → found ≡ Some v → Other v.who)
+      → elim found as (λ _. Valued world.Task) [ None ↦ Err exception.Tasking | Some v ↦ Ok v ] ≡ Ok u → Other u.who
   live_found-other None u others is = cc
   live_found-other (Some v) u others is = subst (λ (x : world.Task). Other x.who) (ok-is v u is) (others v refl)
 
   live-other : (w : World) → G w → (t : Option TaskNo) (u : world.Task) → live_task w t ≡ Ok u → Other u.who
   live-other w good None u is = cc
-  live-other w good (Some t) u is = live_found-other (found_task (who.Task t) w.tasks) u (λ v k. found-other Other (is_who (who.Task t)) w.tasks v (moves.listed w good) k) is
+  live-other w good (Some t) u is =
+      live_found-other (found_task (who.Task t) w.tasks) u (λ v k. found-other Other (is_who (who.Task t)) w.tasks v (moves.listed w good) k) is
 
   named-other : (w : World) → G w → (named : Valued (Option TaskNo)) (u : world.Task) → (named >>= live_task w) ≡ Ok u → Other u.who
   named-other w good (Ok t) u is = live-other w good t u is
@@ -130,17 +142,21 @@ module _ {G : GoodWorld} {May Other : Naming} {R : StepRelation} {Q : MoveRelati
       given-from (plain_steps moves) Own name (optional_task q task >>= must_be_task) _ w good (λ t.
       given-from (plain_steps moves) Own name (value q e >>= λ v. priority_in_range (interrupt_priority p) (whole_in v)) _ w good (λ level.
       keeps-from (chains moves) _ w good
-      (set_base_of-keeps p name s level (found_task (who.Task t) w.tasks) (λ u is. moves.other_may u.who (found-other Other (is_who (who.Task t)) w.tasks u (moves.listed w good) is))))))
+      (set_base_of-keeps p name s level (found_task (who.Task t) w.tasks)
+      (λ u is. moves.other_may u.who (found-other Other (is_who (who.Task t)) w.tasks u (moves.listed w good) is))))))
 
   set_level-keeps : (level ticks : ℕ) → Keeps G R (changes (λ w. record w { quanta = edit_at level (λ _. ticks) w.quanta }))
   unfolding Alters
-  set_level-keeps level ticks = changes-keeps (chains moves) (λ w. record w { quanta = edit_at level (λ _. ticks) w.quanta }) (λ w good. moves.sets_quantum level ticks w good)
+  set_level-keeps level ticks =
+      changes-keeps (chains moves) (λ w. record w { quanta = edit_at level (λ _. ticks) w.quanta }) (λ w good. moves.sets_quantum level ticks w good)
 
   pub set_quantum-keeps : (p : Image) (name : Who) (s : StatementNo) (level quantum : ExprNo) → Keeps G R (set_quantum p name s level quantum)
   unfolding set_quantum
   set_quantum-keeps p name s level quantum =
-      sees-keeps (chains moves) p name _ (λ q. given-keeps (plain_steps moves) Own name (value q level) _ (λ v. given-keeps (plain_steps moves) Own name (moment q quantum) _ (λ n.
-      given-keeps (plain_steps moves) Own name (priority_in_range p.policies.last_priority (whole_in v)) _ (λ l. given-keeps (plain_steps moves) Own name (quantum_of p l n) _ (λ ticks.
+      sees-keeps (chains moves) p name _
+      (λ q. given-keeps (plain_steps moves) Own name (value q level) _ (λ v. given-keeps (plain_steps moves) Own name (moment q quantum) _ (λ n.
+      given-keeps (plain_steps moves) Own name (priority_in_range p.policies.last_priority (whole_in v)) _
+      (λ l. given-keeps (plain_steps moves) Own name (quantum_of p l n) _ (λ ticks.
       then-keeps (chains moves) (goes name (next_of p s)) _ (goes-keeps moves name (next_of p s)) (set_level-keeps l ticks))))))
 
   pub defer_deadline-keeps : (name : Who) (d : ℤ) → Keeps G R (defer_deadline name d)
@@ -149,7 +165,10 @@ module _ {G : GoodWorld} {May Other : Naming} {R : StepRelation} {Q : MoveRelati
 
   pub set_or_defer_deadline-keeps : (p : Image) (actor name : Who) (d : ℤ) → May name → Keeps G R (set_or_defer_deadline p actor name d)
   unfolding set_or_defer_deadline
-  set_or_defer_deadline-keeps p actor name d may = looks-keeps (chains moves) _ (λ w. branch-keeps (chains moves) (in_protected w name && has_edf p) (defer_deadline name d) (set_deadline p (part_of actor name) (placing_of actor name) name d) (search (defer_deadline-keeps)) (search (set_deadline-keeps)))
+  set_or_defer_deadline-keeps p actor name d may =
+      looks-keeps (chains moves) _
+      (λ w. branch-keeps (chains moves) (in_protected w name && has_edf p) (defer_deadline name d)
+      (set_deadline p (part_of actor name) (placing_of actor name) name d) (search (defer_deadline-keeps)) (search (set_deadline-keeps)))
 
   pub set_deadline_of-keeps : (p : Image) (name : Who) (s : StatementNo) (e : ExprNo) (task : Option ExprNo) → Keeps G R (set_deadline_of p name s e task)
   unfolding set_deadline_of
@@ -158,12 +177,15 @@ module _ {G : GoodWorld} {May Other : Naming} {R : StepRelation} {Q : MoveRelati
       given_as-from (plain_steps moves) Own name (optional_task q task >>= live_task w) _ w good (λ t is.
       given-from (plain_steps moves) Own name (moment q e) _ w good (λ d.
       keeps-from (chains moves) _ w good
-      (then-keeps (chains moves) (goes name (next_of p s)) _ (search (goes-keeps)) (set_or_defer_deadline-keeps p name t.who d (moves.other_may t.who (named-other w good (optional_task q task) t is)))))))
+      (then-keeps (chains moves) (goes name (next_of p s)) _ (search (goes-keeps))
+      (set_or_defer_deadline-keeps p name t.who d (moves.other_may t.who (named-other w good (optional_task q task) t is)))))))
 
   pub delay_with_deadline-keeps : (p : Image) (name : Who) (s : StatementNo) (until offset : ℤ) → Keeps G R (delay_with_deadline p name s until offset)
   unfolding delay_with_deadline
-  delay_with_deadline-keeps p name s until offset = search (goes-keeps, then-keeps, changes-keeps, edit_task-alters, says_deadline-keeps, delay_to-keeps, chains) depth 7
+  delay_with_deadline-keeps p name s until offset =
+      search (goes-keeps, then-keeps, changes-keeps, edit_task-alters, says_deadline-keeps, delay_to-keeps, chains) depth 7
 
-  pub delay_and_set_deadline-keeps : (p : Image) (name : Who) (s : StatementNo) (until offset : ExprNo) → Keeps G R (delay_and_set_deadline p name s until offset)
+  pub delay_and_set_deadline-keeps : (p : Image) (name : Who) (s : StatementNo) (until offset : ExprNo)
+      → Keeps G R (delay_and_set_deadline p name s until offset)
   unfolding delay_and_set_deadline
   delay_and_set_deadline-keeps p name s until offset = search (sees-keeps, raise_if-keeps, given-keeps, delay_with_deadline-keeps, chains, plain_steps) depth 8

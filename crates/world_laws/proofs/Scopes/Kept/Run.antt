@@ -28,7 +28,8 @@ use Rattle.machine_laws.proofs.Kept.Combinators.{Alters, Leads, then-leads, watc
 module _ {G : GoodWorld} {R : StepRelation} {Q : MoveRelation} (moves : FineMoves G Anybody Anybody R Q) where
   begin_action-alters : (p : Image) (name : Who) → Alters G R (begin_action p name)
   unfolding Alters
-  begin_action-alters p name w good = moves.edits_task name (with_ticks (Some (unwrap_or (task_of w name).ticks_left (cost p w name)))) w good (λ t. refl) (λ t. refl) (λ t. refl) (λ t. refl)
+  begin_action-alters p name w good =
+      moves.edits_task name (with_ticks (Some (unwrap_or (task_of w name).ticks_left (cost p w name)))) w good (λ t. refl) (λ t. refl) (λ t. refl) (λ t. refl)
 
   spend_tick-alters : (name : Who) → Alters G R (spend_tick name)
   unfolding Alters
@@ -38,7 +39,8 @@ module _ {G : GoodWorld} {R : StepRelation} {Q : MoveRelation} (moves : FineMove
   unfolding Leads Alters
   silently-leads f a w good = moves.silently w (f w) (a w good)
 
-  module _ (tells : (event : Event) (w : World) → G w → Q w (event ∷ []) w) (serves : (r : Release) (rest : List Release) (w : World) → G w → Q w [] (with_serving r rest w)) where
+  module _ (tells : (event : Event) (w : World) → G w → Q w (event ∷ []) w)
+      (serves : (r : Release) (rest : List Release) (w : World) → G w → Q w [] (with_serving r rest w)) where
     say-leads : (event : Event) → Leads G Q (say event)
     unfolding Leads
     say-leads event w good = tells event w good
@@ -56,9 +58,14 @@ module _ {G : GoodWorld} {R : StepRelation} {Q : MoveRelation} (moves : FineMove
     says_idle-leads None w good = moves.rests w good
     says_idle-leads (Some name) w good = say-leads line.Idle w good
 
-    serve_if_free-leads : (serving : Option Release) (frames : List Frame) (releases : List Release) (w : World) → G w → let done = serve_if_free serving frames releases w in Q w done.1 done.0
+    serve_if_free-leads : (serving : Option Release) (frames : List Frame) (releases : List Release) (w : World) → G w →
+        let done = serve_if_free serving frames releases w in
+        Q w done.1 done.0
     serve_if_free-leads None [] [] w good = moves.rests w good
-    serve_if_free-leads None [] (r ∷ rest) w good = let first = serves r rest w good in moves.leads_on w (with_serving r rest w) (with_serving r rest w) first (tells (line.Serve r.number) (with_serving r rest w) (moves.moved w (with_serving r rest w) first))
+    serve_if_free-leads None [] (r ∷ rest) w good =
+        let first = serves r rest w good in
+        moves.leads_on w (with_serving r rest w) (with_serving r rest w) first
+        (tells (line.Serve r.number) (with_serving r rest w) (moves.moved w (with_serving r rest w) first))
     serve_if_free-leads None (f ∷ fs) releases w good = moves.rests w good
     serve_if_free-leads (Some r) frames releases w good = moves.rests w good
 
@@ -73,4 +80,5 @@ module _ {G : GoodWorld} {R : StepRelation} {Q : MoveRelation} (moves : FineMove
         then-leads (move_chains moves) _ _ (watches-leads (move_chains moves) _ (λ w. says_run-leads name w.ran))
         (then-leads (move_chains moves) _ _ (serve-leads name)
         (then-leads (move_chains moves) _ _ (silently-leads (begin_action p name) (begin_action-alters p name))
-        (then-leads (move_chains moves) _ _ (silently-leads (charge p name) (charge-alters moves p name)) (silently-leads (spend_tick name) (spend_tick-alters name)))))
+        (then-leads (move_chains moves) _ _ (silently-leads (charge p name) (charge-alters moves p name))
+        (silently-leads (spend_tick name) (spend_tick-alters name)))))

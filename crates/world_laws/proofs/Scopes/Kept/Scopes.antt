@@ -13,6 +13,7 @@ use Rattle.machine_laws.proofs.FineMoves.{GoodWorld, Naming}
 use Rattle.machine_laws.proofs.Kept.Combinators.{Alters}
 
 module _ {G : GoodWorld} {Acts : Naming} {R : StepRelation} (openings : Openings G Acts R) where
-  pub open_scope-alters : (p : Image) (name : Who) (scope : ScopeNo) (b : Beginning) (purpose : Purpose) → Acts name → is_task_scope purpose ≡ false → Alters G R (open_scope p name scope b purpose)
+  pub open_scope-alters : (p : Image) (name : Who) (scope : ScopeNo) (b : Beginning) (purpose : Purpose) → Acts name → is_task_scope purpose ≡ false
+      → Alters G R (open_scope p name scope b purpose)
   unfolding Alters
   open_scope-alters p name scope b purpose acts other w good = openings.opens_scope p name scope b purpose w good acts other

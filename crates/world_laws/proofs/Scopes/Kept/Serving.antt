@@ -6,7 +6,8 @@ use Rattle.profile_image.specs.declared.image.Image.{Image}
 use Rattle.profile_machine.specs.declared.world.marks.ProtectedMark.{ProtectedMark}
 use Rattle.profile_machine.specs.declared.world.calls.Call.{Call}
 use Rattle.profile_machine.specs.declared.world.calls.Outcome.{Outcome}
-use Rattle.profile_machine.specs.Serving.{serves_nothing, serve_ends, end_release, close_action, wait_or_unwind, wait_for_own, resume_own, behind_action, settle_sent, begins_part}
+use Rattle.profile_machine.specs.Serving.{serves_nothing, serve_ends, end_release, close_action, wait_or_unwind}
+use Rattle.profile_machine.specs.Serving.{wait_for_own, resume_own, behind_action, settle_sent, begins_part}
 use Rattle.machine_laws.proofs.Moves.{StepRelation, MoveRelation}
 use Rattle.world_laws.proofs.Scopes.FineMoves.{FineMoves, chains, says-keeps}
 use Rattle.world_laws.proofs.Scopes.Kept.Dispatching.{block-keeps}
@@ -39,7 +40,8 @@ module _ {G : GoodWorld} {R : StepRelation} {Q : MoveRelation} (moves : FineMove
 
   pub wait_or_unwind-keeps : (p : Image) (name : Who) (c : Call) (test : Bool) → Keeps G R (wait_or_unwind p name c test)
   unfolding wait_or_unwind
-  wait_or_unwind-keeps p name c true = search (attempt_with-keeps, changes-keeps, forget_call-alters, then-keeps, leaves-keeps, wait_for_call-keeps, chains, plain_steps)
+  wait_or_unwind-keeps p name c true =
+      search (attempt_with-keeps, changes-keeps, forget_call-alters, then-keeps, leaves-keeps, wait_for_call-keeps, chains, plain_steps)
   wait_or_unwind-keeps p name c false = search (wait_for_call-keeps)
 
   pub wait_for_own-keeps : (p : Image) (name : Who) (c : Call) (test : Bool) → Keeps G R (wait_for_own p name c test)

@@ -23,14 +23,17 @@ use Rattle.world_laws.proofs.Scopes.Kept.Dispatching.{to_tail-keeps, block-keeps
 use Rattle.world_laws.proofs.Scopes.Kept.Scopes.{open_scope-alters}
 use Rattle.world_laws.proofs.Scopes.Kept.Appointments.{appoint-from}
 use Rattle.machine_laws.proofs.FineMoves.{Anybody, GoodWorld, Naming}
-use Rattle.machine_laws.proofs.Kept.Combinators.{From, Keeps, changes-keeps, keeps-from, looks-from, looks-keeps, nothing-keeps, sees-keeps, then-from, then-keeps}
+use Rattle.machine_laws.proofs.Kept.Combinators.{From, Keeps, changes-keeps, keeps-from, looks-from}
+use Rattle.machine_laws.proofs.Kept.Combinators.{looks-keeps, nothing-keeps, sees-keeps, then-from, then-keeps}
 use Rattle.machine_laws.proofs.Plain.Frames.{given-keeps, raise_if-keeps, with_room-keeps}
 
 module _ {G : GoodWorld} {May Other : Naming} {R : StepRelation} {Q : MoveRelation} (moves : FineMoves G May Other R Q) where
-  wait_until-from : (p : Image) (name : Who) (until : ℤ) (test : Bool) (w : World) → G w → int_lt (pos w.time) until ≡ test → From R w (wait_until p name until test)
+  wait_until-from : (p : Image) (name : Who) (until : ℤ) (test : Bool) (w : World) → G w → int_lt (pos w.time) until ≡ test
+      → From R w (wait_until p name until test)
   unfolding wait_until
   wait_until-from p (who.Task t) until true w good is =
-      then-from (chains moves) (changes (appoint (due_for.Delay t) until)) (block TheBlock (who.Task t) waits_for.Moment) w (appoint-from moves (due_for.Delay t) until w good) (search (block-keeps, moves.task_other))
+      then-from (chains moves) (changes (appoint (due_for.Delay t) until)) (block TheBlock (who.Task t) waits_for.Moment) w
+      (appoint-from moves (due_for.Delay t) until w good) (search (block-keeps, moves.task_other))
   wait_until-from p (who.Task t) until false w good is = keeps-from (chains moves) _ w good (search (to_tail-keeps, moves.other_may, moves.task_other))
   wait_until-from p who.Agent until future w good is = keeps-from (chains moves) _ w good (search (nothing-keeps, chains))
 
@@ -49,4 +52,5 @@ module _ {G : GoodWorld} {May Other : Naming} {R : StepRelation} {Q : MoveRelati
 module _ {G : GoodWorld} {Acts : Naming} {R : StepRelation} {Q : MoveRelation} (moves : FineMoves G Anybody Anybody R Q) (openings : Openings G Acts R) where
   pub block_statement-keeps : (p : Image) (name : Who) (s : StatementNo) (scope : ScopeNo) → Acts name → Keeps G R (block_statement p name s scope)
   unfolding block_statement
-  block_statement-keeps p name s scope acts = search (with_room-keeps, goes-keeps, then-keeps, looks-keeps, changes-keeps, open_scope-alters, chains, plain_steps)
+  block_statement-keeps p name s scope acts =
+      search (with_room-keeps, goes-keeps, then-keeps, looks-keeps, changes-keeps, open_scope-alters, chains, plain_steps)

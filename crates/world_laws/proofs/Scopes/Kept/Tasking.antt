@@ -24,7 +24,9 @@ use Rattle.profile_machine.specs.Steps.{Step, changes, looks, for_some, ◌▷�
 use Rattle.profile_machine.specs.Frames.{pass_on, in_protected, is_deferred, edit_top, goes_on, goes}
 use Rattle.profile_machine.specs.Scopes.{home}
 use Rattle.profile_machine.specs.Declarations.{set_thing}
-use Rattle.profile_machine.specs.Tasking.{unit_of_declaration, optional_span, created_task, add_task, says_created, create_task, create, fall_from, says_done, await_group, end_own_activation, complete_if_task, wait_for_dependents, end_environment, is_normal, end_body, says_left, says_abort, unwind_by, unwind_one, block_at_terminate, take_terminates, unwind_all}
+use Rattle.profile_machine.specs.Tasking.{unit_of_declaration, optional_span, created_task, add_task, says_created, create_task, create, fall_from}
+use Rattle.profile_machine.specs.Tasking.{says_done, await_group, end_own_activation, complete_if_task, wait_for_dependents, end_environment, is_normal}
+use Rattle.profile_machine.specs.Tasking.{end_body, says_left, says_abort, unwind_by, unwind_one, block_at_terminate, take_terminates, unwind_all}
 use Rattle.std.proofs.Common.{◌≡◌, refl}
 use Rattle.profile_machine.specs.Values.{seen_by}
 use Rattle.machine_laws.proofs.Moves.{StepRelation, MoveRelation}
@@ -37,7 +39,8 @@ use Rattle.profile_machine.specs.Tasks.{waiting_of}
 use Rattle.profile_machine.specs.Unwinding.{any_struck}
 use Rattle.profile_machine.specs.Masters.{may_terminate, leave_by_terminate}
 use Rattle.machine_laws.proofs.FineMoves.{Anybody, GoodWorld, Naming}
-use Rattle.machine_laws.proofs.Kept.Combinators.{Alters, From, Keeps, branch-keeps, changes-keeps, changes_then-from, for_some-keeps, keeps-from, listed-keeps, looks-from, looks-keeps, nothing-keeps, then-keeps, when-keeps}
+use Rattle.machine_laws.proofs.Kept.Combinators.{Alters, From, Keeps, branch-keeps, changes-keeps, changes_then-from, for_some-keeps}
+use Rattle.machine_laws.proofs.Kept.Combinators.{keeps-from, listed-keeps, looks-from, looks-keeps, nothing-keeps, then-keeps, when-keeps}
 use Rattle.machine_laws.proofs.Plain.Frames.{raise_if-from, given-from, raises-keeps, pass_on-keeps}
 use Rattle.machine_laws.proofs.Plain.Declarations.{set_thing-alters}
 use Rattle.machine_laws.proofs.Plain.PlainSteps.{anybody}
@@ -52,7 +55,8 @@ module _ {G : GoodWorld} {May Other : Naming} {R : StepRelation} {Q : MoveRelati
   name_task p d within = looks (λ w. changes (set_thing p (record { within = within; declared = d }) (value_of.Task (Some (record { 0 = w.drawn.tasks - 1 })))))
 
   -- a step behind the new task
-  added_then-from : (name : Who) (onward : Option StatementNo) (t : world.Task) (g : Step) (w : World) → R w [] (add_task t (edit_top name (goes_on onward) w)) → Keeps G R g → From R w (goes name onward ▷ changes (add_task t) ▷ g)
+  added_then-from : (name : Who) (onward : Option StatementNo) (t : world.Task) (g : Step) (w : World) → R w [] (add_task t (edit_top name (goes_on onward) w))
+      → Keeps G R g → From R w (goes name onward ▷ changes (add_task t) ▷ g)
   unfolding goes From
   added_then-from name onward t g w a kept said =
       let added = add_task t (edit_top name (goes_on onward) w) in
@@ -90,7 +94,8 @@ module _ {G : GoodWorld} {May Other : Naming} {R : StepRelation} {Q : MoveRelati
   end_environment-alters leaving w good = moves.ends_environment leaving w good
 
   pub end_body-keeps : (p : Image) (name : Who) (leaving : Leaving) (normally : Step) → Keeps G R normally → Keeps G R (end_body p name leaving normally)
-  end_body-keeps p name leaving normally kept = branch-keeps (chains moves) (is_normal leaving) normally (pass_on p name leaving) (search) (search (pass_on-keeps, plain_steps, anybody))
+  end_body-keeps p name leaving normally kept =
+      branch-keeps (chains moves) (is_normal leaving) normally (pass_on p name leaving) (search) (search (pass_on-keeps, plain_steps, anybody))
 
   pub says_left-keeps : (name : Who) (m : ScopeMark) (leaving : Leaving) → Keeps G R (says_left name m leaving)
   unfolding says_left
@@ -117,21 +122,28 @@ module _ {G : GoodWorld} {May Other : Naming} {R : StepRelation} {Q : MoveRelati
   block_at_terminate-keeps name (Some waiting) other = search (when-keeps, says_block-keeps, chains)
 
   pub all_terminate-keeps : (p : Image) (actor : Who) → Keeps G R (looks (λ w. for_each (filter (may_terminate w) w.tasks) (leave_by_terminate p actor)))
-  all_terminate-keeps p actor = listed-keeps (chains moves) Other moves.listed may_terminate (λ w. leave_by_terminate p actor) (λ w t other. leave_by_terminate-keeps moves p actor t other)
+  all_terminate-keeps p actor =
+      listed-keeps (chains moves) Other moves.listed may_terminate (λ w. leave_by_terminate p actor)
+      (λ w t other. leave_by_terminate-keeps moves p actor t other)
 
   pub take_terminates-keeps : (p : Image) (actor : Who) → Other actor → Keeps G R (take_terminates p actor)
   unfolding take_terminates
-  take_terminates-keeps p actor other = then-keeps (chains moves) _ (looks (λ w. block_at_terminate actor (waiting_of w actor))) (all_terminate-keeps p actor) (search (looks-keeps, block_at_terminate-keeps, chains))
+  take_terminates-keeps p actor other =
+      then-keeps (chains moves) _ (looks (λ w. block_at_terminate actor (waiting_of w actor))) (all_terminate-keeps p actor)
+      (search (looks-keeps, block_at_terminate-keeps, chains))
 
   pub unwind_all-keeps : (p : Image) (actor : Who) → Keeps G R (unwind_all p actor)
   unfolding unwind_all
-  unwind_all-keeps p actor = listed-keeps (chains moves) Other moves.listed (λ w t. any_struck t.frames) (λ w. unwind_one p actor) (λ w t other. unwind_one-keeps p actor t other)
+  unwind_all-keeps p actor =
+      listed-keeps (chains moves) Other moves.listed (λ w t. any_struck t.frames) (λ w. unwind_one p actor) (λ w t other. unwind_one-keeps p actor t other)
 
 module _ {G : GoodWorld} {Acts : Naming} {R : StepRelation} {Q : MoveRelation} (moves : FineMoves G Anybody Anybody R Q) (openings : Openings G Acts R) where
-  create_task-from : (p : Image) (name : Who) (s : StatementNo) (d : DeclNo) (id : Option ScopeId) (t : world.Task) (w : World) → G w → t.who ≡ who.Task (record { 0 = w.drawn.tasks }) → t.frames ≡ [] → From R w (create_task p name s d id t)
+  create_task-from : (p : Image) (name : Who) (s : StatementNo) (d : DeclNo) (id : Option ScopeId) (t : world.Task) (w : World) → G w
+      → t.who ≡ who.Task (record { 0 = w.drawn.tasks }) → t.frames ≡ [] → From R w (create_task p name s d id t)
   unfolding create_task
   create_task-from p name s d id t w good same_who none =
-      added_then-from moves name (next_of p s) t (for_some id (name_task moves p d) ▷ says_created d t) w (openings.adds_task name (next_of p s) t w good same_who none)
+      added_then-from moves name (next_of p s) t (for_some id (name_task moves p d) ▷ says_created d t) w
+      (openings.adds_task name (next_of p s) t w good same_who none)
       (search (then-keeps, for_some-keeps, looks-keeps, changes-keeps, set_thing-alters, says_created-keeps, chains, plain_steps) depth 10)
 
   pub create-keeps : (p : Image) (name : Who) (s : StatementNo) (d : DeclNo) (part : ℕ) → Keeps G R (create p name s d part)
@@ -141,4 +153,5 @@ module _ {G : GoodWorld} {Acts : Naming} {R : StepRelation} {Q : MoveRelation} (
       raise_if-from (plain_steps moves) name (in_protected w name || is_deferred w name) exception.Program _ w good (λ allowed.
       raise_if-from (plain_steps moves) name (leb 256 (length w.tasks)) exception.Storage _ w good (λ few.
       given-from (plain_steps moves) Own name (optional_span q (task_unit_of p (unit_of_declaration p d)).relative_deadline) _ w good (λ span.
-      create_task-from p name s d (home w (declaration_of p d).scope q.within) (created_task q d (unit_of_declaration p d) part span w.drawn.tasks) w good refl refl))))
+      create_task-from p name s d (home w (declaration_of p d).scope q.within)
+      (created_task q d (unit_of_declaration p d) part span w.drawn.tasks) w good refl refl))))

@@ -10,10 +10,12 @@ use Rattle.machine_laws.proofs.FineMoves.{GoodWorld, Naming}
 use Rattle.machine_laws.proofs.Kept.Combinators.{Alters}
 
 module _ {G : GoodWorld} {May Other : Naming} {R : StepRelation} {Q : MoveRelation} (moves : FineMoves G May Other R Q) where
-  pub edit_task-alters : (name : Who) (f : Task → Task) → ((t : Task) → (f t).who ≡ t.who) → ((t : Task) → (f t).frames ≡ t.frames) → ((t : Task) → (f t).state ≡ t.state) → ((t : Task) → (f t).master ≡ t.master) → Alters G R (edit_task name f)
+  pub edit_task-alters : (name : Who) (f : Task → Task) → ((t : Task) → (f t).who ≡ t.who) → ((t : Task) → (f t).frames ≡ t.frames)
+      → ((t : Task) → (f t).state ≡ t.state) → ((t : Task) → (f t).master ≡ t.master) → Alters G R (edit_task name f)
   unfolding Alters
   edit_task-alters name f same_who same_frames same_state same_master w good = moves.edits_task name f w good same_who same_frames same_state same_master
 
-  pub edit_frames-alters : (name : Who) (f : List Frame → List Frame) → ((fs : List Frame) → natures (f fs) ≡ natures fs) → Alters G R (edit_task name (λ t. with_frames (f t.frames) t))
+  pub edit_frames-alters : (name : Who) (f : List Frame → List Frame) → ((fs : List Frame) → natures (f fs) ≡ natures fs)
+      → Alters G R (edit_task name (λ t. with_frames (f t.frames) t))
   unfolding Alters
   edit_frames-alters name f same w good = moves.edits_frames name f w good same

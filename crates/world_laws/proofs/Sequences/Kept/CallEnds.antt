@@ -20,7 +20,10 @@ use Rattle.profile_machine.specs.Steps.{Step, changes, looks, ◌▷◌}
 use Rattle.world_tables.specs.Lists.{first_of}
 use Rattle.profile_machine.specs.Tasks.{waiting_of}
 use Rattle.profile_machine.specs.Frames.{frames_of, top_of, pop, pass_on, leaving_of, with_mark, is_protected}
-use Rattle.profile_machine.specs.CallEnds.{resume, with_results, edit_depth, edit_frame, edit_abortable, edit_abortable_at, trigger_at, trigger_outcome, forget_trigger, run_triggered, ended_by_itself, behind_abortable, end_abortable, end_abortable_in, end_top_abortable, end_wait, waits_for_end, end_for_abortable, end_for_caller, end_for, end_with, end_call, deliver, gone, waited_mark, is_cancelled, waits_for_call}
+use Rattle.profile_machine.specs.CallEnds.{resume, with_results, edit_depth, edit_frame, edit_abortable, edit_abortable_at, trigger_at}
+use Rattle.profile_machine.specs.CallEnds.{trigger_outcome, forget_trigger, run_triggered, ended_by_itself, behind_abortable, end_abortable}
+use Rattle.profile_machine.specs.CallEnds.{end_abortable_in, end_top_abortable, end_wait, waits_for_end, end_for_abortable, end_for_caller}
+use Rattle.profile_machine.specs.CallEnds.{end_for, end_with, end_call, deliver, gone, waited_mark, is_cancelled, waits_for_call}
 use Rattle.std.specs.Prelude.{true, false, cond, eqb, length}
 use Rattle.std.proofs.Common.{◌≡◌, refl, ap, inr, inl}
 use Rattle.machine_laws.proofs.FineMoves.{GoodWorld, Naming, nature, natures}
@@ -31,17 +34,20 @@ use Rattle.world_laws.proofs.Sequences.Kept.Dispatching.{ready-keeps}
 use Rattle.world_laws.proofs.Sequences.Kept.Frames.{goes-keeps, popped, leaves-keeps, plain_steps}
 use Rattle.world_laws.proofs.Sequences.Kept.Unwinding.{unwind-keeps}
 use Rattle.profile_machine.specs.Dispatching.{ready}
-use Rattle.machine_laws.proofs.Kept.Combinators.{Alters, From, Keeps, branch-keeps, changes-keeps, changes_then-from, keeps-from, looks-from, looks-keeps, looks_at-from, nothing-keeps, then-keeps, unchanged-alters, when-keeps}
+use Rattle.machine_laws.proofs.Kept.Combinators.{Alters, From, Keeps, branch-keeps, changes-keeps, changes_then-from, keeps-from, looks-from}
+use Rattle.machine_laws.proofs.Kept.Combinators.{looks-keeps, looks_at-from, nothing-keeps, then-keeps, unchanged-alters, when-keeps}
 use Rattle.machine_laws.proofs.Plain.Frames.{raises-keeps, pass_on-keeps}
 use Rattle.machine_laws.proofs.Plain.Calls.{edit_call-alters, forget_call-alters, with_call-keeps, unqueued-alters}
 use Rattle.machine_laws.proofs.Plain.Results.{with_results-world, resume-keeps}
 
 -- an edit of a mark somewhere, and of an abortable part
-at_depth-natures : (test : Bool) (f : Frame → Frame) (x : Frame) (xs ys : List Frame) → nature (f x).mark ≡ nature x.mark → natures ys ≡ natures xs → natures (cond test (f x ∷ xs) (x ∷ ys)) ≡ natures (x ∷ xs)
+at_depth-natures : (test : Bool) (f : Frame → Frame) (x : Frame) (xs ys : List Frame) → nature (f x).mark ≡ nature x.mark → natures ys ≡ natures xs
+    → natures (cond test (f x ∷ xs) (x ∷ ys)) ≡ natures (x ∷ xs)
 at_depth-natures true f x xs ys same rest = ap (λ n. n ∷ natures xs) same
 at_depth-natures false f x xs ys same rest = ap (λ ns. nature x.mark ∷ ns) rest
 
-depth-natures : (depth : ℕ) (f : Frame → Frame) (fs : List Frame) → ((x : Frame) → nature (f x).mark ≡ nature x.mark) → natures (edit_depth depth f fs) ≡ natures fs
+depth-natures : (depth : ℕ) (f : Frame → Frame) (fs : List Frame) → ((x : Frame) → nature (f x).mark ≡ nature x.mark)
+    → natures (edit_depth depth f fs) ≡ natures fs
 depth-natures depth f [] same = refl
 depth-natures depth f (x ∷ xs) same = at_depth-natures (eqb (length xs) depth) f x xs (edit_depth depth f xs) (same x) (depth-natures depth f xs same)
 
@@ -56,17 +62,21 @@ abortable-nature f (InFinalize o) = refl
 abortable-nature f (InAssign m) = refl
 
 -- the frame on top stays where it is, or is the one that is edited
-depth_first-stays : (test : Bool) (f : Frame → Frame) (x : Frame) (xs ys : List Frame) → (f x).onward ≡ x.onward → onward_in (cond test (f x ∷ xs) (x ∷ ys)) ≡ x.onward
+depth_first-stays : (test : Bool) (f : Frame → Frame) (x : Frame) (xs ys : List Frame) → (f x).onward ≡ x.onward
+    → onward_in (cond test (f x ∷ xs) (x ∷ ys)) ≡ x.onward
 depth_first-stays true f x xs ys same = same
 depth_first-stays false f x xs ys same = refl
 
-depth-stays : (depth : ℕ) (f : Frame → Frame) (fs : List Frame) → ((x : Frame) → (f x).onward ≡ x.onward) → StaysOn (onward_in (edit_depth depth f fs)) (onward_in fs)
+depth-stays : (depth : ℕ) (f : Frame → Frame) (fs : List Frame) → ((x : Frame) → (f x).onward ≡ x.onward)
+    → StaysOn (onward_in (edit_depth depth f fs)) (onward_in fs)
 depth-stays depth f [] same = inl refl
 depth-stays depth f (x ∷ xs) same = inl (depth_first-stays (eqb (length xs) depth) f x xs (edit_depth depth f xs) (same x))
 
 module _ {p : Image} {G : GoodWorld} {May Other : Naming} (moves : FineMoves p G May Other) where
-  pub edit_frame-alters : (name : Who) (depth : ℕ) (f : Frame → Frame) → ((x : Frame) → nature (f x).mark ≡ nature x.mark) → ((x : Frame) → (f x).onward ≡ x.onward) → Alters G (Behind G) (edit_frame name depth f)
-  edit_frame-alters name depth f same stays = edit_frames-alters moves name (edit_depth depth f) (λ fs. depth-natures depth f fs same) (λ fs. depth-stays depth f fs stays)
+  pub edit_frame-alters : (name : Who) (depth : ℕ) (f : Frame → Frame) → ((x : Frame) → nature (f x).mark ≡ nature x.mark)
+      → ((x : Frame) → (f x).onward ≡ x.onward) → Alters G (Behind G) (edit_frame name depth f)
+  edit_frame-alters name depth f same stays =
+      edit_frames-alters moves name (edit_depth depth f) (λ fs. depth-natures depth f fs same) (λ fs. depth-stays depth f fs stays)
 
   pub edit_abortable_at-alters : (name : Who) (depth : ℕ) (f : AbortableMark → AbortableMark) → Alters G (Behind G) (edit_abortable_at name depth f)
   edit_abortable_at-alters name depth f = edit_frame-alters name depth (λ x. with_mark (edit_abortable f x.mark) x) (λ x. abortable-nature f x.mark) (λ x. refl)
@@ -79,32 +89,44 @@ module _ {p : Image} {G : GoodWorld} {May Other : Naming} (moves : FineMoves p G
   forget_trigger-alters None = search (unchanged-alters, chains)
   forget_trigger-alters (Some c) = search (forget_call-alters, plain_steps)
 
-  pub run_triggered-keeps : (part : Part) (name : Who) (select : StatementNo) (outcome : Outcome) → May name → Keeps G (Behind G) (run_triggered p part name select outcome)
+  pub run_triggered-keeps : (part : Part) (name : Who) (select : StatementNo) (outcome : Outcome) → May name
+      → Keeps G (Behind G) (run_triggered p part name select outcome)
   unfolding run_triggered
   run_triggered-keeps part name select call_ended.Finished may = search (goes-keeps)
   run_triggered-keeps part name select call_ended.Cancelled may = search (nothing-keeps, chains)
   run_triggered-keeps part name select (call_ended.ToRaise e) may = search (raises-keeps, plain_steps)
   run_triggered-keeps part name select (call_ended.WasRaised e) may = search (leaves-keeps)
 
-  pub behind_abortable-keeps : (part : Part) (name : Who) (m : AbortableMark) (outcome : Outcome) → May name → Keeps G (Behind G) (behind_abortable p part name m outcome)
+  pub behind_abortable-keeps : (part : Part) (name : Who) (m : AbortableMark) (outcome : Outcome) → May name
+      → Keeps G (Behind G) (behind_abortable p part name m outcome)
   unfolding behind_abortable
   behind_abortable-keeps part name m outcome may = search (when-keeps, run_triggered-keeps, chains)
 
   -- it ends where it is on top
-  end_abortable-from : (part : Part) (name : Who) (m : AbortableMark) (f : Frame) (below : List Frame) (w : World) → G w → May name → top_of w name ≡ Some f → is_protected f.mark ≡ false → From (Behind G) w (end_abortable p part name m f below)
+  end_abortable-from : (part : Part) (name : Who) (m : AbortableMark) (f : Frame) (below : List Frame) (w : World) → G w → May name → top_of w name ≡ Some f
+      → is_protected f.mark ≡ false → From (Behind G) w (end_abortable p part name m f below)
   unfolding end_abortable
   end_abortable-from part name m f below w good may top free =
       let out = popped moves name f w good may top free in
-      looks_at-from (chains moves) (λ v. changes (pop name) ▷ changes (forget_trigger m.call) ▷ elim (ended_by_itself f below) as (λ _. Step) [ true ↦ behind_abortable p part name m (trigger_outcome v m.call) | false ↦ pass_on p name (leaving_of f) ]) w
+      looks_at-from (chains moves)
+      (λ v. changes (pop name) ▷ changes (forget_trigger m.call)
+      ▷ elim (ended_by_itself f below) as (λ _. Step) [
+        | true ↦ behind_abortable p part name m (trigger_outcome v m.call)
+        | false ↦ pass_on p name (leaving_of f)
+      ]) w
       (changes_then-from (chains moves) (pop name) _ w out (keeps-from (chains moves) _ (pop name w) (moves.behind w (pop name w) out)
-      (then-keeps (chains moves) (changes (forget_trigger m.call)) _ (search (changes-keeps, forget_trigger-alters, chains)) (branch-keeps (chains moves) (ended_by_itself f below) (behind_abortable p part name m (trigger_outcome w m.call)) (pass_on p name (leaving_of f)) (search (behind_abortable-keeps)) (search (pass_on-keeps, plain_steps))))))
+      (then-keeps (chains moves) (changes (forget_trigger m.call)) _ (search (changes-keeps, forget_trigger-alters, chains))
+      (branch-keeps (chains moves) (ended_by_itself f below) (behind_abortable p part name m (trigger_outcome w m.call)) (pass_on p name (leaving_of f))
+      (search (behind_abortable-keeps)) (search (pass_on-keeps, plain_steps))))))
 
-  end_abortable_in-from : (part : Part) (name : Who) (f : Frame) (below : List Frame) (mark : Mark) (w : World) → G w → May name → top_of w name ≡ Some f → f.mark ≡ mark → From (Behind G) w (end_abortable_in p part name f below mark)
+  end_abortable_in-from : (part : Part) (name : Who) (f : Frame) (below : List Frame) (mark : Mark) (w : World) → G w → May name → top_of w name ≡ Some f
+      → f.mark ≡ mark → From (Behind G) w (end_abortable_in p part name f below mark)
   unfolding end_abortable_in
   end_abortable_in-from part name f below (Abortable m) w good may top is = end_abortable-from part name m f below w good may top (ap is_protected is)
   end_abortable_in-from part name f below _ w good may top is = keeps-from (chains moves) _ w good (nothing-keeps (chains moves))
 
-  end_top_abortable-from : (part : Part) (name : Who) (frames : List Frame) (w : World) → G w → May name → frames_of w name ≡ frames → From (Behind G) w (end_top_abortable p part name frames)
+  end_top_abortable-from : (part : Part) (name : Who) (frames : List Frame) (w : World) → G w → May name → frames_of w name ≡ frames
+      → From (Behind G) w (end_top_abortable p part name frames)
   unfolding end_top_abortable
   end_top_abortable-from part name [] w good may is = keeps-from (chains moves) _ w good (nothing-keeps (chains moves))
   end_top_abortable-from part name (f ∷ below) w good may is = end_abortable_in-from part name f below f.mark w good may (ap first_of is) refl
@@ -126,12 +148,17 @@ module _ {p : Image} {G : GoodWorld} {May Other : Naming} (moves : FineMoves p G
       let other = moves.task_other c.caller in
       let l = loose name other in
       woken moves loose name other (ready p part name) _ (ready-keeps l.moves part name (inr refl))
-      (then-turns l.Loose l.Loose G (changes (edit_abortable_at name depth (waited_mark (not (is_cancelled outcome))))) _ (changes-keeps (chains l.moves) _ (edit_abortable_at-alters l.moves name depth (waited_mark (not (is_cancelled outcome)))))
-      (then-turns l.Loose l.Loose G (looks (λ w. end_top_abortable p part name (frames_of w name))) _ (end_found_abortable-keeps l.moves part name (inr refl)) (opened-turns moves loose part name other)))
+      (then-turns l.Loose l.Loose G (changes (edit_abortable_at name depth (waited_mark (not (is_cancelled outcome))))) _
+      (changes-keeps (chains l.moves) _ (edit_abortable_at-alters l.moves name depth (waited_mark (not (is_cancelled outcome)))))
+      (then-turns l.Loose l.Loose G (looks (λ w. end_top_abortable p part name (frames_of w name))) _ (end_found_abortable-keeps l.moves part name (inr refl))
+      (opened-turns moves loose part name other)))
 
   pub end_for_abortable-keeps : (part : Part) (c : Call) (depth : ℕ) (outcome : Outcome) → Keeps G (Behind G) (end_for_abortable p part c depth outcome)
   unfolding end_for_abortable
-  end_for_abortable-keeps part c depth outcome = looks-keeps (chains moves) _ (λ w. branch-keeps (chains moves) (waits_for_end c.number (waiting_of w (who.Task c.caller))) (end_wait p part c depth outcome) (trigger_at part c.caller depth) (search (end_wait-keeps)) (search (trigger_at-keeps)))
+  end_for_abortable-keeps part c depth outcome =
+      looks-keeps (chains moves) _
+      (λ w. branch-keeps (chains moves) (waits_for_end c.number (waiting_of w (who.Task c.caller))) (end_wait p part c depth outcome)
+      (trigger_at part c.caller depth) (search (end_wait-keeps)) (search (trigger_at-keeps)))
 
   pub end_for_caller-keeps : (part : Part) (c : Call) (outcome : Outcome) → Keeps G (Behind G) (end_for_caller p part c outcome)
   unfolding end_for_caller
@@ -141,7 +168,8 @@ module _ {p : Image} {G : GoodWorld} {May Other : Naming} (moves : FineMoves p G
       let l = loose name other in
       looks-keeps (chains moves) _ (λ w. when-keeps (chains moves) (waits_for_call c.number (waiting_of w name)) _
       (woken moves loose name other (ready p part name) _ (ready-keeps l.moves part name (inr refl))
-      (then-turns l.Loose l.Loose G (resume p part c outcome) _ (resume-keeps (plain_steps l.moves) p part c outcome (inr refl)) (opened-turns moves loose part name other))))
+      (then-turns l.Loose l.Loose G (resume p part c outcome) _ (resume-keeps (plain_steps l.moves) p part c outcome (inr refl))
+      (opened-turns moves loose part name other))))
 
   pub end_for-keeps : (part : Part) (c : Call) (outcome : Outcome) (n : Option ℕ) → Keeps G (Behind G) (end_for p part c outcome n)
   unfolding end_for
@@ -157,7 +185,8 @@ module _ {p : Image} {G : GoodWorld} {May Other : Naming} (moves : FineMoves p G
   end_call-keeps part c outcome =
       looks-from (chains moves) _ (λ w good. let r = with_results p c outcome w in
       let first = with_results-world (plain_steps moves) p c outcome w good in
-      changes_then-from (chains moves) (λ _. r.0) (end_with p part c r.1) w first (keeps-from (chains moves) (end_with p part c r.1) r.0 (moves.behind w r.0 first) (end_with-keeps part c r.1)))
+      changes_then-from (chains moves) (λ _. r.0) (end_with p part c r.1) w first
+      (keeps-from (chains moves) (end_with p part c r.1) r.0 (moves.behind w r.0 first) (end_with-keeps part c r.1)))
 
   pub deliver-keeps : (part : Part) (c : CallNo) (outcome : Outcome) → Keeps G (Behind G) (deliver p part c outcome)
   unfolding deliver

@@ -32,10 +32,12 @@ first-stays f [] stays = inl refl
 first-stays f (x ∷ xs) stays = stays x
 
 module _ {p : Image} {G : GoodWorld} {May Other : Naming} (moves : FineMoves p G May Other) where
-  pub edit_top-alters : (name : Who) (f : Frame → Frame) → ((x : Frame) → nature (f x).mark ≡ nature x.mark) → ((x : Frame) → StaysOn (f x).onward x.onward) → Alters G (Behind G) (edit_top name f)
+  pub edit_top-alters : (name : Who) (f : Frame → Frame) → ((x : Frame) → nature (f x).mark ≡ nature x.mark) → ((x : Frame) → StaysOn (f x).onward x.onward)
+      → Alters G (Behind G) (edit_top name f)
   edit_top-alters name f same stays = edit_frames-alters moves name (edit_first f) (λ fs. first-natures f fs same) (λ fs. first-stays f fs stays)
 
-  pub edit_mark-alters : (name : Who) (f : Mark → Mark) → ((mark : Mark) → nature (f mark) ≡ nature mark) → Alters G (Behind G) (edit_top name (λ x. with_mark (f x.mark) x))
+  pub edit_mark-alters : (name : Who) (f : Mark → Mark) → ((mark : Mark) → nature (f mark) ≡ nature mark)
+      → Alters G (Behind G) (edit_top name (λ x. with_mark (f x.mark) x))
   edit_mark-alters name f same = edit_top-alters name (λ x. with_mark (f x.mark) x) (λ x. same x.mark) (λ x. inl refl)
 
   goes_on-alters : (name : Who) (onward : Option StatementNo) → May name → Alters G (Behind G) (edit_top name (goes_on onward))
@@ -52,7 +54,8 @@ module _ {p : Image} {G : GoodWorld} {May Other : Naming} (moves : FineMoves p G
 
   pub leaves-keeps : (name : Who) (leaving : Leaving) → Keeps G (Behind G) (leaves name leaving)
   unfolding leaves
-  leaves-keeps name leaving = changes-keeps (chains moves) (edit_top name (left_so leaving)) (edit_top-alters name (left_so leaving) (λ x. refl) (λ x. inr refl))
+  leaves-keeps name leaving =
+      changes-keeps (chains moves) (edit_top name (left_so leaving)) (edit_top-alters name (left_so leaving) (λ x. refl) (λ x. inr refl))
 
   pub plain_steps : PlainSteps G May (Behind G)
   unfolding says_call
@@ -64,7 +67,9 @@ module _ {p : Image} {G : GoodWorld} {May Other : Naming} (moves : FineMoves p G
     says_object = λ o d ceiling. says-keeps moves Own (said.New (created.Object o) (Some d) ceiling) refl;
     says_call = λ part c. says-keeps moves part (said.Call c.caller c.number c.owner c.entry c.priority) refl;
     says_cancel = λ part t c. says-keeps moves part (said.Cancel t c) refl;
-    edits_task = λ name f w g same_who same_frames same_state same_master same_clock same_abnormal same_unit same_inherited. moves.edits_task name f w g same_who same_frames same_state same_unit;
+    edits_task =
+        λ name f w g same_who same_frames same_state same_master same_clock same_abnormal same_unit same_inherited.
+        moves.edits_task name f w g same_who same_frames same_state same_unit;
     edits_cells = moves.edits_cells;
     edits_call = moves.edits_call;
     forgets_call = moves.forgets_call;
@@ -79,7 +84,8 @@ module _ {p : Image} {G : GoodWorld} {May Other : Naming} (moves : FineMoves p G
   -- ---- from one world
 
   -- a step behind the going on
-  pub goes_then-from : (name : Who) (onward : Option StatementNo) (g : Step) (w : World) → G w → (G (edit_top name (goes_on onward) w) → From (Behind G) (edit_top name (goes_on onward) w) g) → May name → From (Behind G) w (goes name onward ▷ g)
+  pub goes_then-from : (name : Who) (onward : Option StatementNo) (g : Step) (w : World) → G w
+      → (G (edit_top name (goes_on onward) w) → From (Behind G) (edit_top name (goes_on onward) w) g) → May name → From (Behind G) w (goes name onward ▷ g)
   unfolding goes Alters
   goes_then-from name onward g w good k may =
       let gone = goes_on-alters name onward may w good in
@@ -88,6 +94,7 @@ module _ {p : Image} {G : GoodWorld} {May Other : Naming} (moves : FineMoves p G
   -- ---- who acts opens a mark
 
   module _ (openings : Openings p G May Other) where
-    pub push-alters : (name : Who) (f : Frame) → May name → (nature f.mark).region ≡ None → (nature f.mark).release ≡ None → (nature f.mark).abortable ≡ false → Alters G (Behind G) (push name f)
+    pub push-alters : (name : Who) (f : Frame) → May name → (nature f.mark).region ≡ None → (nature f.mark).release ≡ None → (nature f.mark).abortable ≡ false
+        → Alters G (Behind G) (push name f)
     unfolding Alters
     push-alters name f may region release abortable w good = openings.pushes name f w good may region release abortable

@@ -27,7 +27,11 @@ use Rattle.profile_machine.specs.Steps.{Step, changes, says}
 use Rattle.profile_machine.specs.Tasks.{task_of, edit_task}
 use Rattle.profile_machine.specs.Values.{Seen}
 use Rattle.profile_machine.specs.CallEnds.{store}
-use Rattle.profile_machine.specs.Handlers.{add_release, says_release, wake_agent, release, with_room_for_release, interrupt, setting_of, answer, cancel_event_setting, appoint_event, event_set_to, set_event, cancel_event, clear_timer, with_timer_set, timer_set_beyond, timer_set_to, set_timer, cancel_timer, edit_budget, change_member, add_member, remove_member, fill_budget, replenish, add_to_budget, set_budget, cancel_budget, clock_risen, due_by_tick, charge_budget, timers_reached, quantum_spent_by, charge_clock, charge_group, charge_task, charge, handler_attached}
+use Rattle.profile_machine.specs.Handlers.{add_release, says_release, wake_agent, release, with_room_for_release, interrupt, setting_of, answer}
+use Rattle.profile_machine.specs.Handlers.{cancel_event_setting, appoint_event, event_set_to, set_event, cancel_event, clear_timer, with_timer_set}
+use Rattle.profile_machine.specs.Handlers.{timer_set_beyond, timer_set_to, set_timer, cancel_timer, edit_budget, change_member, add_member, remove_member}
+use Rattle.profile_machine.specs.Handlers.{fill_budget, replenish, add_to_budget, set_budget, cancel_budget, clock_risen, due_by_tick, charge_budget}
+use Rattle.profile_machine.specs.Handlers.{timers_reached, quantum_spent_by, charge_clock, charge_group, charge_task, charge, handler_attached}
 use Rattle.std.proofs.Common.{◌≡◌, refl}
 use Rattle.std.specs.Prelude.{Bool}
 use Rattle.machine_laws.proofs.FineMoves.{GoodWorld, Naming}
@@ -38,7 +42,8 @@ use Rattle.world_laws.proofs.Sequences.Kept.Tasks.{edit_task-alters}
 use Rattle.world_laws.proofs.Sequences.Kept.Dispatching.{ready-from}
 use Rattle.world_laws.proofs.Sequences.Kept.Appointments.{appoint-from, drop_appointment-alters}
 use Rattle.machine_laws.proofs.Kept.Handlers.{spent-frames, spent-state, spent-who}
-use Rattle.machine_laws.proofs.Kept.Combinators.{Alters, From, Keeps, changes-keeps, for_some-keeps, from-keeps, keeps-from, looks-from, looks-keeps, nothing-keeps, said-keeps, sees-keeps, then-keeps, unchanged-alters}
+use Rattle.machine_laws.proofs.Kept.Combinators.{Alters, From, Keeps, changes-keeps, for_some-keeps, from-keeps, keeps-from, looks-from}
+use Rattle.machine_laws.proofs.Kept.Combinators.{looks-keeps, nothing-keeps, said-keeps, sees-keeps, then-keeps, unchanged-alters}
 use Rattle.machine_laws.proofs.Plain.Frames.{becomes-from, given-keeps, raise_if-keeps}
 use Rattle.machine_laws.proofs.Plain.Cells.{store-gives}
 
@@ -72,22 +77,27 @@ module _ {p : Image} {G : GoodWorld} {May Other : Naming} (moves : FineMoves p G
 -- ---- settings, and the charge of a tick
 
 module _ {p : Image} {G : GoodWorld} {May Other : Naming} (moves : FineMoves p G May Other) where
-  pub with_room_for_release-keeps : (name : Who) (needed : Bool) (step : Step) → Keeps G (Behind G) step → Keeps G (Behind G) (with_room_for_release name needed step)
+  pub with_room_for_release-keeps : (name : Who) (needed : Bool) (step : Step) → Keeps G (Behind G) step
+      → Keeps G (Behind G) (with_room_for_release name needed step)
   with_room_for_release-keeps name needed step kept = search (looks-keeps, raise_if-keeps, chains, plain_steps)
 
-  pub setting_of-keeps : (name : Who) (q : Seen) (base : ℤ) (set : Setting) (named : Option HandlerName) (step : Option HandlerOf → ℤ → Step) → ((x : Option HandlerOf) (y : ℤ) → Keeps G (Behind G) (step x y)) → Keeps G (Behind G) (setting_of p name q base set named step)
+  pub setting_of-keeps : (name : Who) (q : Seen) (base : ℤ) (set : Setting) (named : Option HandlerName) (step : Option HandlerOf → ℤ → Step)
+      → ((x : Option HandlerOf) (y : ℤ) → Keeps G (Behind G) (step x y)) → Keeps G (Behind G) (setting_of p name q base set named step)
   setting_of-keeps name q base set named step kept = search (given-keeps, with_room_for_release-keeps, raise_if-keeps, plain_steps)
 
   pub answer-keeps : (name : Who) (v : Variable) (b : Bool) → Keeps G (Behind G) (answer p name v b)
   unfolding answer
-  answer-keeps name v b = looks-from (chains moves) _ (λ w good. becomes-from (plain_steps moves) Own name (store p v (Truth b) w) w good (store-gives (plain_steps moves) p v (Truth b) w good))
+  answer-keeps name v b =
+      looks-from (chains moves) _
+      (λ w good. becomes-from (plain_steps moves) Own name (store p v (Truth b) w) w good (store-gives (plain_steps moves) p v (Truth b) w good))
 
   pub cancel_event_setting-alters : (e : ℕ) → Alters G (Behind G) (cancel_event_setting e)
   cancel_event_setting-alters e = search (drop_appointment-alters)
 
   pub cancel_event-keeps : (name : Who) (s : StatementNo) (d : DeclNo) (target : VariableName) → May name → Keeps G (Behind G) (cancel_event p name s d target)
   unfolding cancel_event
-  cancel_event-keeps name s d target may = search (sees-keeps, given-keeps, goes-keeps, then-keeps, changes-keeps, cancel_event_setting-alters, answer-keeps, chains, plain_steps) depth 11
+  cancel_event-keeps name s d target may =
+      search (sees-keeps, given-keeps, goes-keeps, then-keeps, changes-keeps, cancel_event_setting-alters, answer-keeps, chains, plain_steps) depth 11
 
   pub clear_timer-alters : (k : ℕ) → Alters G (Behind G) (clear_timer k)
   unfolding Alters
@@ -99,13 +109,15 @@ module _ {p : Image} {G : GoodWorld} {May Other : Naming} (moves : FineMoves p G
 
   pub cancel_timer-keeps : (name : Who) (s : StatementNo) (d : DeclNo) (target : VariableName) → May name → Keeps G (Behind G) (cancel_timer p name s d target)
   unfolding cancel_timer
-  cancel_timer-keeps name s d target may = search (sees-keeps, given-keeps, goes-keeps, then-keeps, changes-keeps, clear_timer-alters, answer-keeps, chains, plain_steps) depth 11
+  cancel_timer-keeps name s d target may =
+      search (sees-keeps, given-keeps, goes-keeps, then-keeps, changes-keeps, clear_timer-alters, answer-keeps, chains, plain_steps) depth 11
 
   edit_budget-alters : (b : ℕ) (f : Budget → Budget) → Alters G (Behind G) (edit_budget b f)
   unfolding Alters
   edit_budget-alters b f w good = moves.edits_budget b f w good
 
-  pub change_member-keeps : (name : Who) (s : StatementNo) (t : world.Task) (is_right : Bool) (b : Option ℕ) → May name → Keeps G (Behind G) (change_member p name s t is_right b)
+  pub change_member-keeps : (name : Who) (s : StatementNo) (t : world.Task) (is_right : Bool) (b : Option ℕ) → May name
+      → Keeps G (Behind G) (change_member p name s t is_right b)
   unfolding change_member
   change_member-keeps name s t is_right b may = search (raise_if-keeps, goes-keeps, then-keeps, changes-keeps, edit_task-alters, chains, plain_steps)
 
@@ -117,9 +129,22 @@ module _ {p : Image} {G : GoodWorld} {May Other : Naming} (moves : FineMoves p G
   unfolding remove_member
   remove_member-keeps name s d e may = search (sees-keeps, given-keeps, change_member-keeps, chains, plain_steps) depth 8
 
-  pub fill_budget-keeps : (name : Who) (s : StatementNo) (d : DeclNo) (e : ExprNo) (f : ℤ → Budget → Budget) → May name → Keeps G (Behind G) (fill_budget p name s d e f)
+  pub fill_budget-keeps : (name : Who) (s : StatementNo) (d : DeclNo) (e : ExprNo) (f : ℤ → Budget → Budget) → May name
+      → Keeps G (Behind G) (fill_budget p name s d e f)
   unfolding fill_budget
-  fill_budget-keeps name s d e f may = search (sees-keeps, given-keeps, with_room_for_release-keeps, raise_if-keeps, goes-keeps, then-keeps, changes-keeps, edit_budget-alters, chains, plain_steps) depth 10
+  fill_budget-keeps name s d e f may =
+      search (
+        sees-keeps,
+        given-keeps,
+        with_room_for_release-keeps,
+        raise_if-keeps,
+        goes-keeps,
+        then-keeps,
+        changes-keeps,
+        edit_budget-alters,
+        chains,
+        plain_steps,
+      ) depth 10
 
   pub replenish-keeps : (name : Who) (s : StatementNo) (d : DeclNo) (e : ExprNo) → May name → Keeps G (Behind G) (replenish p name s d e)
   unfolding replenish
@@ -131,11 +156,25 @@ module _ {p : Image} {G : GoodWorld} {May Other : Naming} (moves : FineMoves p G
 
   pub set_budget-keeps : (name : Who) (s : StatementNo) (d : DeclNo) (named : Option HandlerName) → May name → Keeps G (Behind G) (set_budget p name s d named)
   unfolding set_budget
-  set_budget-keeps name s d named may = search (sees-keeps, given-keeps, with_room_for_release-keeps, raise_if-keeps, goes-keeps, then-keeps, changes-keeps, edit_budget-alters, chains, plain_steps) depth 10
+  set_budget-keeps name s d named may =
+      search (
+        sees-keeps,
+        given-keeps,
+        with_room_for_release-keeps,
+        raise_if-keeps,
+        goes-keeps,
+        then-keeps,
+        changes-keeps,
+        edit_budget-alters,
+        chains,
+        plain_steps,
+      ) depth 10
 
-  pub cancel_budget-keeps : (name : Who) (s : StatementNo) (d : DeclNo) (target : VariableName) → May name → Keeps G (Behind G) (cancel_budget p name s d target)
+  pub cancel_budget-keeps : (name : Who) (s : StatementNo) (d : DeclNo) (target : VariableName) → May name
+      → Keeps G (Behind G) (cancel_budget p name s d target)
   unfolding cancel_budget
-  cancel_budget-keeps name s d target may = search (sees-keeps, given-keeps, goes-keeps, then-keeps, changes-keeps, edit_budget-alters, answer-keeps, chains, plain_steps) depth 11
+  cancel_budget-keeps name s d target may =
+      search (sees-keeps, given-keeps, goes-keeps, then-keeps, changes-keeps, edit_budget-alters, answer-keeps, chains, plain_steps) depth 11
 
   pub charge_budget-alters : (n : Option ℕ) → Alters G (Behind G) (charge_budget n)
   charge_budget-alters None = search (unchanged-alters, chains)
@@ -155,7 +194,8 @@ module _ {p : Image} {G : GoodWorld} {May Other : Naming} (moves : FineMoves p G
   charge_group-alters t w good =
       let b = (task_of w (who.Task t)).budget in
       let first = charge_budget-alters b w good in
-      moves.goes_on w (charge_budget b w) (charge_group t w) first (moves.sets_budget_due (due_by_tick w b) (charge_budget b w) (moves.behind w (charge_budget b w) first))
+      moves.goes_on w (charge_budget b w) (charge_group t w) first
+      (moves.sets_budget_due (due_by_tick w b) (charge_budget b w) (moves.behind w (charge_budget b w) first))
 
   charge_task-alters : (t : TaskNo) → Alters G (Behind G) (charge_task p t)
   unfolding Alters
@@ -167,7 +207,8 @@ module _ {p : Image} {G : GoodWorld} {May Other : Naming} (moves : FineMoves p G
       moves.goes_on w risen (charge_task p t w) first
       (moves.goes_on risen charged (charge_task p t w) second
       (moves.edits_task (who.Task t) (quantum_spent_by p) charged (moves.behind risen charged second)
-      (λ u. spent-who (is_robin_level p u.base) u) (λ u. spent-frames (is_robin_level p u.base) u) (λ u. spent-state (is_robin_level p u.base) u) (λ u. spent-unit (is_robin_level p u.base) u)))
+      (λ u. spent-who (is_robin_level p u.base) u) (λ u. spent-frames (is_robin_level p u.base) u) (λ u. spent-state (is_robin_level p u.base) u)
+      (λ u. spent-unit (is_robin_level p u.base) u)))
 
   pub charge-alters : (name : Who) → Alters G (Behind G) (charge p name)
   unfolding Alters
@@ -183,7 +224,8 @@ module _ {p : Image} {G : GoodWorld} {May Other : Naming} (moves : FineMoves p G
       then-keeps (chains moves) (says Own (line.Interrupt n)) _ (says-keeps moves Own (line.Interrupt n) refl)
       (looks-keeps (chains moves) _ (λ w. for_some-keeps (chains moves) (handler_attached p n w.objects) _ (λ h. release-keeps moves Own h None)))
 
-  appoint_event-from : (e : ℕ) (h : HandlerOf) (m : ℤ) (test : Bool) (w : World) → G w → int_lt (pos w.time) m ≡ test → From (Behind G) w (appoint_event p e h m test)
+  appoint_event-from : (e : ℕ) (h : HandlerOf) (m : ℤ) (test : Bool) (w : World) → G w → int_lt (pos w.time) m ≡ test
+      → From (Behind G) w (appoint_event p e h m test)
   unfolding appoint_event
   appoint_event-from e h m true w good is = appoint-from moves (due_for.Event e h) m w good
   appoint_event-from e h m false w good is = keeps-from (chains moves) (release p Own h (Some e)) w good (release-keeps moves Own h (Some e))
@@ -193,9 +235,22 @@ module _ {p : Image} {G : GoodWorld} {May Other : Naming} (moves : FineMoves p G
   event_set_to-keeps e None m = search (nothing-keeps, chains)
   event_set_to-keeps e (Some h) m = looks-from (chains moves) _ (λ w good. appoint_event-from e h m (int_lt (pos w.time) m) w good refl)
 
-  pub set_event-keeps : (name : Who) (s : StatementNo) (d : DeclNo) (set : Setting) (named : Option HandlerName) → May name → Keeps G (Behind G) (set_event p name s d set named)
+  pub set_event-keeps : (name : Who) (s : StatementNo) (d : DeclNo) (set : Setting) (named : Option HandlerName) → May name
+      → Keeps G (Behind G) (set_event p name s d set named)
   unfolding set_event
-  set_event-keeps name s d set named may = search (sees-keeps, given-keeps, setting_of-keeps, goes-keeps, then-keeps, changes-keeps, cancel_event_setting-alters, event_set_to-keeps, chains, plain_steps) depth 11
+  set_event-keeps name s d set named may =
+      search (
+        sees-keeps,
+        given-keeps,
+        setting_of-keeps,
+        goes-keeps,
+        then-keeps,
+        changes-keeps,
+        cancel_event_setting-alters,
+        event_set_to-keeps,
+        chains,
+        plain_steps,
+      ) depth 11
 
   pub timer_set_beyond-keeps : (k : ℕ) (h : HandlerOf) (v : ℤ) (test : Bool) → Keeps G (Behind G) (timer_set_beyond p k h v test)
   unfolding timer_set_beyond
@@ -207,6 +262,9 @@ module _ {p : Image} {G : GoodWorld} {May Other : Naming} (moves : FineMoves p G
   timer_set_to-keeps k clock None v = search (nothing-keeps, chains)
   timer_set_to-keeps k clock (Some h) v = search (timer_set_beyond-keeps)
 
-  pub set_timer-keeps : (name : Who) (s : StatementNo) (d : DeclNo) (set : Setting) (named : Option HandlerName) → May name → Keeps G (Behind G) (set_timer p name s d set named)
+  pub set_timer-keeps : (name : Who) (s : StatementNo) (d : DeclNo) (set : Setting) (named : Option HandlerName) → May name
+      → Keeps G (Behind G) (set_timer p name s d set named)
   unfolding set_timer
-  set_timer-keeps name s d set named may = search (sees-keeps, given-keeps, setting_of-keeps, goes-keeps, then-keeps, changes-keeps, clear_timer-alters, timer_set_to-keeps, chains, plain_steps) depth 11
+  set_timer-keeps name s d set named may =
+      search
+      (sees-keeps, given-keeps, setting_of-keeps, goes-keeps, then-keeps, changes-keeps, clear_timer-alters, timer_set_to-keeps, chains, plain_steps) depth 11

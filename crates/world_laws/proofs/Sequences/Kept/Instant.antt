@@ -21,7 +21,10 @@ use Rattle.profile_machine.specs.declared.world.tasks.Waiting.TheVariants as wai
 use Rattle.profile_machine.specs.Steps.{Step, changes, nothing, ◌▷◌, ◌▶◌, looks}
 use Rattle.profile_machine.specs.Tasks.{waiting_of}
 use Rattle.profile_machine.specs.Appointments.{first_due}
-use Rattle.profile_machine.specs.Instant.{with_port, with_masked, with_kept_interrupt, interrupt_comes, deliver_kept_interrupt, script_item, with_script, take_item, items_due, script_items, take_delay, end_delay, time_out, come_due, take_due, all_due, appointments_due, events_due, moments_due, expire, expire_timer, no_timers_due, timers_due, run_out, no_budget_due, budgets_due, spend_quantum, quantum_spent}
+use Rattle.profile_machine.specs.Instant.{with_port, with_masked, with_kept_interrupt, interrupt_comes, deliver_kept_interrupt}
+use Rattle.profile_machine.specs.Instant.{script_item, with_script, take_item, items_due, script_items, take_delay, end_delay, time_out}
+use Rattle.profile_machine.specs.Instant.{come_due, take_due, all_due, appointments_due, events_due, moments_due, expire, expire_timer}
+use Rattle.profile_machine.specs.Instant.{no_timers_due, timers_due, run_out, no_budget_due, budgets_due, spend_quantum, quantum_spent}
 use Rattle.machine_laws.proofs.FineMoves.{GoodWorld, Naming}
 use Rattle.world_laws.proofs.Sequences.FineMoves.{FineMoves, Loosens, chains, effect-leads, move_chains, says-keeps}
 use Rattle.world_laws.proofs.Behind.{Behind, BehindMove, then-turns, narrow-turns}
@@ -33,7 +36,8 @@ use Rattle.world_laws.proofs.Sequences.Kept.CallEnds.{trigger_at-keeps, deliver-
 use Rattle.world_laws.proofs.Sequences.Kept.Handlers.{interrupt-keeps, clear_timer-alters, release-keeps}
 use Rattle.profile_machine.specs.Values.{budget_of}
 use Rattle.profile_machine.specs.Handlers.{clear_timer}
-use Rattle.machine_laws.proofs.Kept.Combinators.{Alters, From, Keeps, Leads, changes-from, changes-keeps, for_each-keeps, for_some-keeps, keeps-from, looks-from, looks-keeps, nothing-keeps, then-from, then-keeps, then-leads, when-keeps}
+use Rattle.machine_laws.proofs.Kept.Combinators.{Alters, From, Keeps, Leads, changes-from, changes-keeps, for_each-keeps, for_some-keeps}
+use Rattle.machine_laws.proofs.Kept.Combinators.{keeps-from, looks-from, looks-keeps, nothing-keeps, then-from, then-keeps, then-leads, when-keeps}
 use Rattle.machine_laws.proofs.Plain.Calls.{with_call-keeps, unqueued-alters}
 
 module _ {p : Image} {G : GoodWorld} {May Other : Naming} (moves : FineMoves p G May Other) where
@@ -70,15 +74,20 @@ module _ {p : Image} {G : GoodWorld} {May Other : Naming} (moves : FineMoves p G
   script_item-keeps (item.Interrupt n) = search (looks-keeps, interrupt_comes-keeps, chains)
   script_item-keeps (item.Port n value) = search (changes-keeps, with_port-alters, then-keeps, says-keeps, chains)
   script_item-keeps (item.Mask n) = search (changes-keeps, with_masked-alters, then-keeps, says-keeps, chains)
-  script_item-keeps (item.Unmask n) = search (changes-keeps, with_masked-alters, then-keeps, says-keeps, looks-keeps, deliver_kept_interrupt-keeps, chains) depth 8
+  script_item-keeps (item.Unmask n) =
+      search (changes-keeps, with_masked-alters, then-keeps, says-keeps, looks-keeps, deliver_kept_interrupt-keeps, chains) depth 8
 
-  take_item_if-from : (again : Step) (x : ℤ × Item) (xs : List (ℤ × Item)) (w : World) (test : Bool) → G w → w.script ≡ x ∷ xs → int_le x.0 (pos w.time) ≡ test → Keeps G (Behind G) again → From (Behind G) w (elim test as (λ _. Step) [ true ↦ changes (with_script xs) ▷ script_item p x.1 ▷ again | false ↦ nothing ])
+  take_item_if-from : (again : Step) (x : ℤ × Item) (xs : List (ℤ × Item)) (w : World) (test : Bool) → G w → w.script ≡ x ∷ xs → int_le x.0 (pos w.time) ≡ test
+      → Keeps G (Behind G) again
+      → From (Behind G) w (elim test as (λ _. Step) [ true ↦ changes (with_script xs) ▷ script_item p x.1 ▷ again | false ↦ nothing ])
   take_item_if-from again x xs w true good is due kept =
-      then-from (chains moves) (changes (with_script xs)) (script_item p x.1 ▷ again) w (changes-from (chains moves) (with_script xs) w (moves.cuts_script x xs w good))
+      then-from (chains moves) (changes (with_script xs)) (script_item p x.1 ▷ again) w
+      (changes-from (chains moves) (with_script xs) w (moves.cuts_script x xs w good))
       (then-keeps (chains moves) (script_item p x.1) again (script_item-keeps x.1) kept)
   take_item_if-from again x xs w false good is due kept = keeps-from (chains moves) nothing w good (nothing-keeps (chains moves))
 
-  take_item-from : (again : Step) (w : World) (script : List (ℤ × Item)) → G w → w.script ≡ script → Keeps G (Behind G) again → From (Behind G) w (take_item p w.time again script)
+  take_item-from : (again : Step) (w : World) (script : List (ℤ × Item)) → G w → w.script ≡ script → Keeps G (Behind G) again
+      → From (Behind G) w (take_item p w.time again script)
   take_item-from again w [] good is kept = keeps-from (chains moves) nothing w good (nothing-keeps (chains moves))
   take_item-from again w (x ∷ xs) good is kept = take_item_if-from again x xs w (int_le x.0 (pos w.time)) good is refl kept
 
@@ -95,8 +104,10 @@ module _ {p : Image} {G : GoodWorld} {May Other : Naming} (moves : FineMoves p G
   unfolding end_delay
   end_delay-keeps name other =
       let l = loose name other in
-      then-turns G l.Loose G (looks (λ w. take_delay p name (waiting_of w name))) _ (narrow-turns G l.Loose l.Loose _ l.loosens (looks-keeps (chains l.moves) _ (λ w. goes_delay-keeps l.moves name (waiting_of w name) (inr refl))))
-      (then-turns l.Loose l.Loose G (ready p Own name) (open_sequence p Own name) (ready-keeps l.moves Own name (inr refl)) (opened-turns moves loose Own name other))
+      then-turns G l.Loose G (looks (λ w. take_delay p name (waiting_of w name))) _
+      (narrow-turns G l.Loose l.Loose _ l.loosens (looks-keeps (chains l.moves) _ (λ w. goes_delay-keeps l.moves name (waiting_of w name) (inr refl))))
+      (then-turns l.Loose l.Loose G (ready p Own name) (open_sequence p Own name) (ready-keeps l.moves Own name (inr refl))
+      (opened-turns moves loose Own name other))
 
   pub time_out-keeps : (c : CallNo) → Keeps G (Behind G) (time_out p c)
   unfolding time_out
@@ -131,7 +142,8 @@ module _ {p : Image} {G : GoodWorld} {May Other : Naming} (moves : FineMoves p G
   pub expire-keeps : (k : ℕ) (setting : Option TimerSetting) → Keeps G (Behind G) (expire p k setting)
   unfolding expire
   expire-keeps k None = search (nothing-keeps, chains)
-  expire-keeps k (Some s) = then-keeps (chains moves) (changes (clear_timer k)) _ (search (changes-keeps, clear_timer-alters, chains)) (release-keeps moves Own s.handler (Some k))
+  expire-keeps k (Some s) =
+      then-keeps (chains moves) (changes (clear_timer k)) _ (search (changes-keeps, clear_timer-alters, chains)) (release-keeps moves Own s.handler (Some k))
 
   pub expire_timer-keeps : (k : ℕ) → Keeps G (Behind G) (expire_timer p k)
   unfolding expire_timer
@@ -166,4 +178,6 @@ module _ {p : Image} {G : GoodWorld} {May Other : Naming} (moves : FineMoves p G
 
   -- all of an instant but the effect of the action that ended
   pub behind_action-leads : Leads G (BehindMove G) (script_items p ▶ events_due p ▶ moments_due p ▶ timers_due p ▶ budgets_due p ▶ quantum_spent p)
-  behind_action-leads = search (then-leads, script_items-leads, events_due-leads, moments_due-leads, timers_due-leads, budgets_due-leads, quantum_spent-leads, move_chains) depth 9
+  behind_action-leads =
+      search
+      (then-leads, script_items-leads, events_due-leads, moments_due-leads, timers_due-leads, budgets_due-leads, quantum_spent-leads, move_chains) depth 9

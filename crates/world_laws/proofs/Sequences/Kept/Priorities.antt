@@ -23,7 +23,10 @@ use Rattle.profile_machine.specs.Frames.{goes, in_protected}
 use Rattle.profile_machine.specs.Values.{value, moment, whole_in, seen_by, optional_task, live_task, must_be_task}
 use Rattle.profile_machine.specs.Calls.{place_of_entry, take_call, put_call}
 use Rattle.profile_machine.specs.Masters.{part_of}
-use Rattle.profile_machine.specs.Priorities.{placed_anew, reprioritize, reprioritize_own, replace_in, says_base, set_base, says_deadline, set_deadline, take_base, take_deadline, set_deferred, placing_of, defer_base, set_or_defer_base, set_base_of, priority_in_range, set_priority, quantum_of, set_quantum, defer_deadline, set_or_defer_deadline, set_deadline_of, delay_with_deadline, delay_and_set_deadline, is_edf_base}
+use Rattle.profile_machine.specs.Priorities.{placed_anew, reprioritize, reprioritize_own, replace_in, says_base, set_base, says_deadline}
+use Rattle.profile_machine.specs.Priorities.{set_deadline, take_base, take_deadline, set_deferred, placing_of, defer_base, set_or_defer_base}
+use Rattle.profile_machine.specs.Priorities.{set_base_of, priority_in_range, set_priority, quantum_of, set_quantum, defer_deadline}
+use Rattle.profile_machine.specs.Priorities.{set_or_defer_deadline, set_deadline_of, delay_with_deadline, delay_and_set_deadline, is_edf_base}
 use Rattle.machine_laws.proofs.FineMoves.{GoodWorld, Naming}
 use Rattle.world_laws.proofs.Sequences.FineMoves.{FineMoves, Openings, chains, says-keeps}
 use Rattle.world_laws.proofs.Behind.{Behind}
@@ -32,7 +35,8 @@ use Rattle.world_laws.proofs.Sequences.Kept.Dispatching.{to_tail-keeps}
 use Rattle.world_laws.proofs.Sequences.Kept.Frames.{goes-keeps, plain_steps}
 use Rattle.world_laws.proofs.Sequences.Kept.Statements.{delay_to-keeps}
 use Rattle.profile_machine.specs.Tasks.{found_task}
-use Rattle.machine_laws.proofs.Kept.Combinators.{Alters, Keeps, branch-keeps, changes-keeps, for_some-keeps, keeps-from, looks-from, looks-keeps, nothing-keeps, sees-keeps, then-keeps, when-keeps}
+use Rattle.machine_laws.proofs.Kept.Combinators.{Alters, Keeps, branch-keeps, changes-keeps, for_some-keeps, keeps-from}
+use Rattle.machine_laws.proofs.Kept.Combinators.{looks-from, looks-keeps, nothing-keeps, sees-keeps, then-keeps, when-keeps}
 use Rattle.machine_laws.proofs.Plain.Frames.{given-keeps, raise_if-keeps, given-from, given_as-from}
 use Rattle.machine_laws.proofs.Plain.Calls.{edit_call-alters, with_call-keeps, edit_queue-alters}
 
@@ -73,7 +77,8 @@ module _ {p : Image} {G : GoodWorld} {May Other : Naming} (moves : FineMoves p G
 
   pub set_deadline-keeps : (part placing : Part) (name : Who) (d : ℤ) → Keeps G (Behind G) (set_deadline p part placing name d)
   unfolding set_deadline
-  set_deadline-keeps part placing name d = search (changes-keeps, edit_task-alters, then-keeps, says_deadline-keeps, looks-keeps, when-keeps, to_tail-keeps, chains) depth 8
+  set_deadline-keeps part placing name d =
+      search (changes-keeps, edit_task-alters, then-keeps, says_deadline-keeps, looks-keeps, when-keeps, to_tail-keeps, chains) depth 8
 
   pub take_base-keeps : (name : Who) (n : Option ℕ) → Keeps G (Behind G) (take_base p name n)
   unfolding take_base
@@ -95,7 +100,10 @@ module _ {p : Image} {G : GoodWorld} {May Other : Naming} (moves : FineMoves p G
 
   pub set_or_defer_base-keeps : (actor name : Who) (level : ℕ) → Keeps G (Behind G) (set_or_defer_base p actor name level)
   unfolding set_or_defer_base
-  set_or_defer_base-keeps actor name level = looks-keeps (chains moves) _ (λ w. branch-keeps (chains moves) (in_protected w name) (defer_base name level) (set_base p (part_of actor name) (placing_of actor name) name level) (search (defer_base-keeps)) (search (set_base-keeps)))
+  set_or_defer_base-keeps actor name level =
+      looks-keeps (chains moves) _
+      (λ w. branch-keeps (chains moves) (in_protected w name) (defer_base name level) (set_base p (part_of actor name) (placing_of actor name) name level)
+      (search (defer_base-keeps)) (search (set_base-keeps)))
 
   pub set_base_of-keeps : (actor : Who) (s : StatementNo) (level : ℕ) (t : Option world.Task) → May actor → Keeps G (Behind G) (set_base_of p actor s level t)
   unfolding set_base_of
@@ -115,13 +123,16 @@ module _ {p : Image} {G : GoodWorld} {May Other : Naming} (moves : FineMoves p G
 
   set_level-keeps : (level ticks : ℕ) → Keeps G (Behind G) (changes (λ w. record w { quanta = edit_at level (λ _. ticks) w.quanta }))
   unfolding Alters
-  set_level-keeps level ticks = changes-keeps (chains moves) (λ w. record w { quanta = edit_at level (λ _. ticks) w.quanta }) (λ w good. moves.sets_quantum level ticks w good)
+  set_level-keeps level ticks =
+      changes-keeps (chains moves) (λ w. record w { quanta = edit_at level (λ _. ticks) w.quanta }) (λ w good. moves.sets_quantum level ticks w good)
 
   pub set_quantum-keeps : (name : Who) (s : StatementNo) (level quantum : ExprNo) → May name → Keeps G (Behind G) (set_quantum p name s level quantum)
   unfolding set_quantum
   set_quantum-keeps name s level quantum may =
-      sees-keeps (chains moves) p name _ (λ q. given-keeps (plain_steps moves) Own name (value q level) _ (λ v. given-keeps (plain_steps moves) Own name (moment q quantum) _ (λ n.
-      given-keeps (plain_steps moves) Own name (priority_in_range p.policies.last_priority (whole_in v)) _ (λ l. given-keeps (plain_steps moves) Own name (quantum_of p l n) _ (λ ticks.
+      sees-keeps (chains moves) p name _
+      (λ q. given-keeps (plain_steps moves) Own name (value q level) _ (λ v. given-keeps (plain_steps moves) Own name (moment q quantum) _ (λ n.
+      given-keeps (plain_steps moves) Own name (priority_in_range p.policies.last_priority (whole_in v)) _
+      (λ l. given-keeps (plain_steps moves) Own name (quantum_of p l n) _ (λ ticks.
       then-keeps (chains moves) (goes name (next_of p s)) _ (goes-keeps moves name (next_of p s) may) (set_level-keeps l ticks))))))
 
   pub defer_deadline-keeps : (name : Who) (d : ℤ) → Keeps G (Behind G) (defer_deadline name d)
@@ -130,9 +141,13 @@ module _ {p : Image} {G : GoodWorld} {May Other : Naming} (moves : FineMoves p G
 
   pub set_or_defer_deadline-keeps : (actor name : Who) (d : ℤ) → Keeps G (Behind G) (set_or_defer_deadline p actor name d)
   unfolding set_or_defer_deadline
-  set_or_defer_deadline-keeps actor name d = looks-keeps (chains moves) _ (λ w. branch-keeps (chains moves) (in_protected w name && has_edf p) (defer_deadline name d) (set_deadline p (part_of actor name) (placing_of actor name) name d) (search (defer_deadline-keeps)) (search (set_deadline-keeps)))
+  set_or_defer_deadline-keeps actor name d =
+      looks-keeps (chains moves) _
+      (λ w. branch-keeps (chains moves) (in_protected w name && has_edf p) (defer_deadline name d)
+      (set_deadline p (part_of actor name) (placing_of actor name) name d) (search (defer_deadline-keeps)) (search (set_deadline-keeps)))
 
-  pub set_deadline_of-keeps : (name : Who) (s : StatementNo) (e : ExprNo) (task : Option ExprNo) → May name → Keeps G (Behind G) (set_deadline_of p name s e task)
+  pub set_deadline_of-keeps : (name : Who) (s : StatementNo) (e : ExprNo) (task : Option ExprNo) → May name
+      → Keeps G (Behind G) (set_deadline_of p name s e task)
   unfolding set_deadline_of
   set_deadline_of-keeps name s e task may =
       looks-from (chains moves) _ (λ w good. let q = seen_by p w name in
@@ -144,8 +159,11 @@ module _ {p : Image} {G : GoodWorld} {May Other : Naming} (moves : FineMoves p G
 module _ {p : Image} {G : GoodWorld} {May Other : Naming} (moves : FineMoves p G May Other) (openings : Openings p G May Other) where
   pub delay_with_deadline-keeps : (name : Who) (s : StatementNo) (until offset : ℤ) → May name → Keeps G (Behind G) (delay_with_deadline p name s until offset)
   unfolding delay_with_deadline
-  delay_with_deadline-keeps name s until offset may = search (goes-keeps, then-keeps, changes-keeps, edit_task-alters, says_deadline-keeps, delay_to-keeps, chains) depth 7
+  delay_with_deadline-keeps name s until offset may =
+      search (goes-keeps, then-keeps, changes-keeps, edit_task-alters, says_deadline-keeps, delay_to-keeps, chains) depth 7
 
-  pub delay_and_set_deadline-keeps : (name : Who) (s : StatementNo) (until offset : ExprNo) → May name → Keeps G (Behind G) (delay_and_set_deadline p name s until offset)
+  pub delay_and_set_deadline-keeps : (name : Who) (s : StatementNo) (until offset : ExprNo) → May name
+      → Keeps G (Behind G) (delay_and_set_deadline p name s until offset)
   unfolding delay_and_set_deadline
-  delay_and_set_deadline-keeps name s until offset may = search (sees-keeps, raise_if-keeps, given-keeps, delay_with_deadline-keeps, chains, plain_steps) depth 8
+  delay_and_set_deadline-keeps name s until offset may =
+      search (sees-keeps, raise_if-keeps, given-keeps, delay_with_deadline-keeps, chains, plain_steps) depth 8

@@ -17,6 +17,7 @@ module _ {p : Image} {G : GoodWorld} {May Other : Naming} (moves : FineMoves p G
   end_scope-alters id w good = moves.ends_scope id w good
 
 module _ {p : Image} {G : GoodWorld} {May Other : Naming} (openings : Openings p G May Other) where
-  pub open_scope-alters : (name : Who) (scope : ScopeNo) (b : Beginning) (purpose : Purpose) → May name → Alters G (Behind G) (open_scope p name scope b purpose)
+  pub open_scope-alters : (name : Who) (scope : ScopeNo) (b : Beginning) (purpose : Purpose) → May name
+      → Alters G (Behind G) (open_scope p name scope b purpose)
   unfolding Alters
   open_scope-alters name scope b purpose may w good = openings.opens_scope name scope b purpose w good may

@@ -28,17 +28,21 @@ use Rattle.world_laws.proofs.Sequences.Kept.Frames.{goes-keeps, plain_steps}
 use Rattle.world_laws.proofs.Sequences.Kept.Dispatching.{to_tail-keeps, block-keeps}
 use Rattle.world_laws.proofs.Sequences.Kept.Scopes.{open_scope-alters}
 use Rattle.world_laws.proofs.Sequences.Kept.Appointments.{appoint-from}
-use Rattle.machine_laws.proofs.Kept.Combinators.{From, Keeps, changes-keeps, keeps-from, looks-from, looks-keeps, nothing-keeps, said-keeps, then-from, then-keeps}
+use Rattle.machine_laws.proofs.Kept.Combinators.{From, Keeps, changes-keeps, keeps-from, looks-from}
+use Rattle.machine_laws.proofs.Kept.Combinators.{looks-keeps, nothing-keeps, said-keeps, then-from, then-keeps}
 use Rattle.machine_laws.proofs.Plain.Frames.{raises-keeps, given-keeps, raise_if-keeps, with_room-keeps}
 
 module _ {p : Image} {G : GoodWorld} {May Other : Naming} (moves : FineMoves p G May Other) where
-  put_text-keeps : (name : Who) (s : StatementNo) (pieces : List Piece) (v : World) (text : Valued (List ℕ)) → form_of p s ≡ form.PutLine pieces → text_of_pieces (seen_by p v name) pieces ≡ text → May name → Keeps G (Behind G) (given Own name text (λ text. goes name (next_of p s) ▷ says Own (line.Put name text)))
+  put_text-keeps : (name : Who) (s : StatementNo) (pieces : List Piece) (v : World) (text : Valued (List ℕ)) → form_of p s ≡ form.PutLine pieces
+      → text_of_pieces (seen_by p v name) pieces ≡ text → May name
+      → Keeps G (Behind G) (given Own name text (λ text. goes name (next_of p s) ▷ says Own (line.Put name text)))
   put_text-keeps name s pieces v (Ok text) is e may =
       then-keeps (chains moves) (goes name (next_of p s)) (says Own (line.Put name text)) (goes-keeps moves name (next_of p s) may)
       (said-keeps (chains moves) Own (line.Put name text) (λ w good. good))
   put_text-keeps name s pieces v (Err raised) is e may = raises-keeps (plain_steps moves) Own name raised
 
-  pub put_line-keeps : (name : Who) (s : StatementNo) (pieces : List Piece) → form_of p s ≡ form.PutLine pieces → May name → Keeps G (Behind G) (put_line p name s pieces)
+  pub put_line-keeps : (name : Who) (s : StatementNo) (pieces : List Piece) → form_of p s ≡ form.PutLine pieces → May name
+      → Keeps G (Behind G) (put_line p name s pieces)
   unfolding put_line
   put_line-keeps name s pieces is may =
       looks-keeps (chains moves) _ (λ v. put_text-keeps name s pieces v (text_of_pieces (seen_by p v name) pieces) is refl may)
@@ -48,10 +52,12 @@ module _ {p : Image} {G : GoodWorld} {May Other : Naming} (moves : FineMoves p G
   unfolding block_statement
   block_statement-keeps name s scope may = search (with_room-keeps, goes-keeps, then-keeps, looks-keeps, changes-keeps, open_scope-alters, chains, plain_steps)
 
-  wait_until-from : (name : Who) (until : ℤ) (test : Bool) (w : World) → G w → int_lt (pos w.time) until ≡ test → From (Behind G) w (wait_until p name until test)
+  wait_until-from : (name : Who) (until : ℤ) (test : Bool) (w : World) → G w → int_lt (pos w.time) until ≡ test
+      → From (Behind G) w (wait_until p name until test)
   unfolding wait_until
   wait_until-from (who.Task t) until true w good is =
-      then-from (chains moves) (changes (appoint (due_for.Delay t) until)) (block TheBlock (who.Task t) waits_for.Moment) w (appoint-from moves (due_for.Delay t) until w good) (block-keeps moves openings TheBlock (who.Task t) waits_for.Moment (moves.task_other t) refl)
+      then-from (chains moves) (changes (appoint (due_for.Delay t) until)) (block TheBlock (who.Task t) waits_for.Moment) w
+      (appoint-from moves (due_for.Delay t) until w good) (block-keeps moves openings TheBlock (who.Task t) waits_for.Moment (moves.task_other t) refl)
   wait_until-from (who.Task t) until false w good is = keeps-from (chains moves) _ w good (to_tail-keeps moves ThePlacing (who.Task t))
   wait_until-from who.Agent until future w good is = keeps-from (chains moves) _ w good (nothing-keeps (chains moves))
 

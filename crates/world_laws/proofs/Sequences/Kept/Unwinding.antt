@@ -12,7 +12,8 @@ use Rattle.profile_machine.specs.declared.world.tasks.Waiting.{Waiting}
 use Rattle.profile_machine.specs.declared.world.tasks.Waiting.TheVariants as waits_for
 use Rattle.profile_machine.specs.declared.world.tasks.State.TheVariants.{Made, Runnable, Blocked}
 use Rattle.profile_machine.specs.declared.world.lines.Part.{Part}
-use Rattle.profile_machine.specs.Unwinding.{struck_frame, edit_last, strike_outermost, leave_by_abort, stop_waiting, wake_and_leave, unwind_blocked, unwind_in, unwind}
+use Rattle.profile_machine.specs.Unwinding.{struck_frame, edit_last, strike_outermost, leave_by_abort}
+use Rattle.profile_machine.specs.Unwinding.{stop_waiting, wake_and_leave, unwind_blocked, unwind_in, unwind}
 use Rattle.machine_laws.proofs.FineMoves.{GoodWorld, Naming, nature, natures}
 use Rattle.world_laws.proofs.Sequences.FineMoves.{FineMoves, Loosens, StaysOn, onward_in, chains}
 use Rattle.world_laws.proofs.Behind.{Behind, Turns, then-turns}
@@ -52,15 +53,20 @@ module _ {p : Image} {G : GoodWorld} {May Other : Naming} (moves : FineMoves p G
   unfolding leave_by_abort
   left_by_abort-turns name other =
       let l = loose name other in
-      then-turns l.Loose l.Loose G (changes (edit_task name (with_ticks None))) (leaves name how.Abort) (changes-keeps (chains l.moves) _ (edit_task-alters l.moves name (with_ticks None) (λ t. refl) (λ t. refl) (λ t. refl) (λ t. refl))) (left-turns moves loose name other how.Abort)
+      then-turns l.Loose l.Loose G (changes (edit_task name (with_ticks None))) (leaves name how.Abort)
+      (changes-keeps (chains l.moves) _ (edit_task-alters l.moves name (with_ticks None) (λ t. refl) (λ t. refl) (λ t. refl) (λ t. refl)))
+      (left-turns moves loose name other how.Abort)
 
   pub wake_and_leave-keeps : (part : Part) (name : Who) → Other name → Keeps G (Behind G) (wake_and_leave p part name)
   unfolding wake_and_leave
-  wake_and_leave-keeps part name other = woken moves loose name other (stop_waiting p part name) (leave_by_abort name) (stop_waiting-keeps (loose name other).moves part name (inr refl)) (left_by_abort-turns name other)
+  wake_and_leave-keeps part name other =
+      woken moves loose name other (stop_waiting p part name) (leave_by_abort name) (stop_waiting-keeps (loose name other).moves part name (inr refl))
+      (left_by_abort-turns name other)
 
   pub unwind_blocked-keeps : (part : Part) (name : Who) (waiting : Waiting) → Other name → Keeps G (Behind G) (unwind_blocked p part name waiting)
   unfolding unwind_blocked
-  unwind_blocked-keeps part name (waits_for.Call c) other = search (attempt-keeps, changes-keeps, forget_call-alters, then-keeps, wake_and_leave-keeps, nothing-keeps, chains, plain_steps)
+  unwind_blocked-keeps part name (waits_for.Call c) other =
+      search (attempt-keeps, changes-keeps, forget_call-alters, then-keeps, wake_and_leave-keeps, nothing-keeps, chains, plain_steps)
   unwind_blocked-keeps part name (waits_for.EndOfCall c) other = search (nothing-keeps, chains)
   unwind_blocked-keeps part name waits_for.Activation other = search (wake_and_leave-keeps)
   unwind_blocked-keeps part name waits_for.Moment other = search (wake_and_leave-keeps)

@@ -33,26 +33,38 @@ module _ {p : Image} {G : GoodWorld} {May Other : Naming} {name : Who} (l : Loos
   pub left_by-turns : (leaving : Leaving) → Turns l.Loose G (leaves name leaving)
   unfolding leaves
   left_by-turns leaving =
-      changes-turns l.Loose G (edit_top name (left_so leaving)) (λ w good. l.tight (edit_top name (left_so leaving) w) (left_so-good leaving w good) (onward-left p name leaving w))
+      changes-turns l.Loose G (edit_top name (left_so leaving))
+      (λ w good. l.tight (edit_top name (left_so leaving) w) (left_so-good leaving w good) (onward-left p name leaving w))
 
   pub raised_by-turns : (part : Part) (e : Raised) → Turns l.Loose G (raises part name e)
   unfolding raises
   raised_by-turns part e =
-      then-turns l.Loose l.Loose G (says part (line.Raise name e)) (leaves name (how.Exception e)) (says-keeps l.moves part (line.Raise name e) refl) (left_by-turns (how.Exception e))
+      then-turns l.Loose l.Loose G (says part (line.Raise name e)) (leaves name (how.Exception e)) (says-keeps l.moves part (line.Raise name e) refl)
+      (left_by-turns (how.Exception e))
 
   -- it opens the sequence to which it has come
-  pushed_first-turns : (s first : StatementNo) → begins_sequence p (Some first) ≡ false → Turns l.Loose G (changes (push name (new_frame (Handled s) (Some first))))
+  pushed_first-turns : (s first : StatementNo) → begins_sequence p (Some first) ≡ false
+      → Turns l.Loose G (changes (push name (new_frame (Handled s) (Some first))))
   pushed_first-turns s first plain =
       let f = new_frame (Handled s) (Some first) in
-      changes-turns l.Loose G (push name f) (λ w good. l.tight (push name f w) (l.moves.pushes name f w good (inr refl) refl refl) (onward-pushed p name f w plain))
+      changes-turns l.Loose G (push name f)
+      (λ w good. l.tight (push name f w) (l.moves.pushes name f w good (inr refl) refl refl) (onward-pushed p name f w plain))
 
-  handled_opened-from : (part : Part) (s : StatementNo) (form : StatementForm) (w : World) → l.Loose w → onward_of w name ≡ Some s → form_of p s ≡ form → From (Behind G) w (open_handled p part name s form)
+  handled_opened-from : (part : Part) (s : StatementNo) (form : StatementForm) (w : World) → l.Loose w → onward_of w name ≡ Some s → form_of p s ≡ form
+      → From (Behind G) w (open_handled p part name s form)
   unfolding open_handled
   handled_opened-from part s (form.Handled handlers first) w good on is =
       turns-from l.Loose G _ w good
-      (looks-turns l.Loose G (λ v. elim (has_room v name 1 0) as (λ _. Step) [ true ↦ goes name (next_of p s) ▷ changes (push name (new_frame (Handled s) (Some first))) | false ↦ raises part name exception.Storage ])
-      (λ v h. turns-from l.Loose G _ v h (branch-turns l.Loose G (has_room v name 1 0) (goes name (next_of p s) ▷ changes (push name (new_frame (Handled s) (Some first)))) (raises part name exception.Storage)
-      (then-turns l.Loose l.Loose G (goes name (next_of p s)) (changes (push name (new_frame (Handled s) (Some first)))) (goes-keeps l.moves name (next_of p s) (inr refl)) (pushed_first-turns s first (l.moves.fits.handled s first handlers is)))
+      (looks-turns l.Loose G
+      (λ v. elim (has_room v name 1 0) as (λ _. Step) [
+        | true ↦ goes name (next_of p s) ▷ changes (push name (new_frame (Handled s) (Some first)))
+        | false ↦ raises part name exception.Storage
+      ])
+      (λ v h. turns-from l.Loose G _ v h
+      (branch-turns l.Loose G (has_room v name 1 0) (goes name (next_of p s) ▷ changes (push name (new_frame (Handled s) (Some first))))
+      (raises part name exception.Storage)
+      (then-turns l.Loose l.Loose G (goes name (next_of p s)) (changes (push name (new_frame (Handled s) (Some first))))
+      (goes-keeps l.moves name (next_of p s) (inr refl)) (pushed_first-turns s first (l.moves.fits.handled s first handlers is)))
       (raised_by-turns part exception.Storage))))
   handled_opened-from part s _ w good on is =
       turns-from G G nothing w (l.tight w good (ap (begins_sequence p) on ∙ ap opens_handled is)) (nothing-turns G G (λ v h. h))
@@ -77,7 +89,8 @@ module _ {p : Image} {G : GoodWorld} {May Other : Naming} (moves : FineMoves p G
   opened-turns part name other = opened_by-turns (loose name other) part
 
   -- what it does in between
-  pub woken : (name : Who) (other : Other name) (f g : Step) → Keeps (loose name other).Loose (Behind (loose name other).Loose) f → Turns (loose name other).Loose G g → Keeps G (Behind G) (f ▷ g)
+  pub woken : (name : Who) (other : Other name) (f g : Step) → Keeps (loose name other).Loose (Behind (loose name other).Loose) f
+      → Turns (loose name other).Loose G g → Keeps G (Behind G) (f ▷ g)
   woken name other f g kept turned =
       let l = loose name other in
       then-turns G l.Loose G f g (narrow-turns G l.Loose l.Loose f (λ w good. l.loosens w good) kept) turned

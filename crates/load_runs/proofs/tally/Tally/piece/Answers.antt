@@ -3,7 +3,8 @@ use Rattle.load_runs.proofs.tally.Tally.piece.Goals as goal
 
 pub returns-in-Ok : goal.returns-in-Ok
 returns-in-Ok c =
-    read-tallied c.line.result c.args.self.now c.line.new.self c.args.piece.now c.event_word.result c.in-Ok.read c.read_line.result c.in-Ok.is c.read_line.ensures.only
+    read-tallied c.line.result c.args.self.now c.line.new.self c.args.piece.now c.event_word.result c.in-Ok.read c.read_line.result c.in-Ok.is
+    c.read_line.ensures.only
     c.in-Ok.ensures.line c.event_word.ensures c.line.ensures.counts c.line.ensures.last
 
 pub returns-in-Err : goal.returns-in-Err

@@ -4,7 +4,8 @@ use Rattle.rosters.proofs.FoundLemmas.{get_at_position, find_none}
 use Rattle.rosters.proofs.roster.Roster.find.Goals as goal
 
 pub returns-in-Some : goal.returns-in-Some
-returns-in-Some g c = c.get.ensures ∙ get_at_position (λ x. has_number c.args.number (g.T.Numbered.number x)) c.args.self.now c.in-Some.place (sym c.in-Some.ensures)
+returns-in-Some g c =
+    c.get.ensures ∙ get_at_position (λ x. has_number c.args.number (g.T.Numbered.number x)) c.args.self.now c.in-Some.place (sym c.in-Some.ensures)
 
 pub returns-in-None : goal.returns-in-None
 returns-in-None g c = sym (find_none (λ x. has_number c.args.number (g.T.Numbered.number x)) c.args.self.now (sym c.in-None.ensures))

@@ -3,10 +3,9 @@ use Rattle.ann_base.specs.declared.exceptions.Raised.TheVariants as exception
 use Rattle.ann_base.specs.declared.identities.TaskNo.{TaskNo}
 use Rattle.ceiling_laws.proofs.Places.CorePoints.{Except, Holds, Places, Point, Readies, Turns, active_in, holds-also, holds-edit, holds-of}
 use Rattle.ceiling_laws.proofs.Places.CorePoints.{holds-plain, holds-put, holds-sound, holds_quiet, keeps_says, not-absent, ready-holds}
-use Rattle.ceiling_laws.proofs.Places.EffectMoves.{Sleeping_in, Wakeful, base_moves, base_set_or_deferred, ceases_good, clash_of, deadline_set_or_deferred}
-use Rattle.ceiling_laws.proofs.Places.EffectMoves.{deferred_set, dying_wakeful, ending_wakeful, good-choosing, good_wakeful, heads_later, keeps_turns}
-use Rattle.ceiling_laws.proofs.Places.EffectMoves.{later-kept, later-rises, later-wakes, later_wakeful, lost_later, nobody-acts, owed_loses, owes_since}
-use Rattle.ceiling_laws.proofs.Places.EffectMoves.{owing_wakeful, paid, rests_choosing, self_apart, since_wakeful, starts_later, tails_later}
+use Rattle.ceiling_laws.proofs.Places.EffectMoves.{Sleeping_in, Wakeful, base_moves, base_set_or_deferred, ceases_good, clash_of, deadline_set_or_deferred, deferred_set, dying_wakeful}
+use Rattle.ceiling_laws.proofs.Places.EffectMoves.{ending_wakeful, good-choosing, good_wakeful, heads_later, keeps_turns, later-kept, later-rises, later-wakes, later_wakeful, lost_later}
+use Rattle.ceiling_laws.proofs.Places.EffectMoves.{nobody-acts, owed_loses, owes_since, owing_wakeful, paid, rests_choosing, self_apart, since_wakeful, starts_later, tails_later}
 use Rattle.ceiling_laws.proofs.Places.SoundWorlds.{IsAbsent, IsThere, Sound, Unactivated, all_there, each-on, is_agent, is_fresh, known, sound-add}
 use Rattle.ceiling_laws.proofs.Places.SoundWorlds.{sound-appoint, sound-edit, sound-forget, sound-plain, sound-task, unactivated-loses, unactivated_without}
 use Rattle.ceiling_laws.proofs.Places.Standing.{Choosing, Dying, Ending, First, Fits, Good, Hidden, IsShownRightly, IsUnmade, Last, Later, Owing, Since, Sized}
@@ -26,8 +25,7 @@ use Rattle.ceiling_laws.proofs.Runs.Kept.Tasks.{same-alters}
 use Rattle.ceiling_laws.proofs.Runs.Kept.Waking.{who-is}
 use Rattle.ceiling_laws.proofs.Runs.LevelMoves.{EachTask, Fitting, is_blocked}
 use Rattle.ceiling_laws.proofs.Runs.SameLemmas.{edit_task-same}
-use Rattle.ceiling_laws.proofs.Runs.Triples.{Alters, Ends, Keeps, Leads, State, With, changes-keeps, changes-leads}
-use Rattle.ceiling_laws.proofs.Runs.Triples.{for_some-keeps, from-leads, looks-keeps, nothing-leads, then-keeps, then-leads}
+use Rattle.ceiling_laws.proofs.Runs.Triples.{Alters, Ends, Keeps, Leads, State, With, changes-keeps, changes-leads, for_some-keeps, from-leads, looks-keeps, nothing-leads, then-keeps, then-leads}
 use Rattle.ceiling_laws.proofs.Places.PartOrder.{by_test}
 use Rattle.ceiling_laws.specs.Cores.{Core, Same, core}
 use Rattle.ceiling_laws.proofs.Runs.Finer.{fine, fine_base, fine_same}
@@ -43,8 +41,7 @@ use Rattle.profile_image.specs.Program.{next_of, protected_unit_of}
 use Rattle.profile_machine.specs.Rendezvous.{begin_accept, finish_without_room, meet_without_room}
 use Rattle.profile_machine.specs.Steps.{changes, for_some, is_part_before, looks, says, ◌▷◌}
 use Rattle.profile_machine.specs.Tasking.{add_task, create_task, says_created, says_done}
-use Rattle.profile_machine.specs.Tasks.{edit_task, is_made, is_made_state, is_runnable_state, is_who}
-use Rattle.profile_machine.specs.Tasks.{nobody, task_of, waiting_in, waiting_of, with_frames, with_state}
+use Rattle.profile_machine.specs.Tasks.{edit_task, is_made, is_made_state, is_runnable_state, is_who, nobody, task_of, waiting_in, waiting_of, with_frames, with_state}
 use Rattle.profile_image.specs.Words.{same_who, without}
 use Rattle.profile_image.specs.declared.image.Image.{Image}
 use Rattle.profile_image.specs.declared.numbers.DeclNo.{DeclNo}
@@ -114,12 +111,9 @@ holds-forget P Q name forgets =
       λ n. by_test (same_who n name)
           (λ same. subst (λ m. Q w.drawn.tasks m (core (task_of (forget_task name w) m)) (last_put m said)) (sym (who-is n name same))
           (by_test (is_agent name)
-          (λ agent. subst (λ c. Q w.drawn.tasks name c (last_put name said)) (sym (forget-agent name w agent))
-          (forgets.agent w.drawn.tasks (core (task_of w name)) (last_put name said) agent (h.1 name)))
-          (λ task. subst (λ c. Q w.drawn.tasks name c (last_put name said)) (sym (forget-task name w task))
-          (forgets.task w.drawn.tasks (core (task_of w name)) (last_put name said) task (h.1 name)))))
-          (λ apart. subst (λ c. Q w.drawn.tasks n c (last_put n said)) (sym (forget-other name w n apart))
-          (forgets.others w.drawn.tasks n (core (task_of w n)) (last_put n said) apart (h.1 n))),
+          (λ agent. subst (λ c. Q w.drawn.tasks name c (last_put name said)) (sym (forget-agent name w agent)) (forgets.agent w.drawn.tasks (core (task_of w name)) (last_put name said) agent (h.1 name)))
+          (λ task. subst (λ c. Q w.drawn.tasks name c (last_put name said)) (sym (forget-task name w task)) (forgets.task w.drawn.tasks (core (task_of w name)) (last_put name said) task (h.1 name)))))
+          (λ apart. subst (λ c. Q w.drawn.tasks n c (last_put n said)) (sym (forget-other name w n apart)) (forgets.others w.drawn.tasks n (core (task_of w n)) (last_put n said) apart (h.1 n))),
     ))
 
 -- ---- a task is added
@@ -133,8 +127,7 @@ unfoldable pub or_found : Option Task → Option Task → Option Task
 or_found None other = other
 or_found (Some x) other = Some x
 
-pub behind_if : (b : Bool) (x : Task) (found behind other : Option Task) → behind ≡ or_found found other
-    → cond b (Some x) behind ≡ or_found (cond b (Some x) found) other
+pub behind_if : (b : Bool) (x : Task) (found behind other : Option Task) → behind ≡ or_found found other → cond b (Some x) behind ≡ or_found (cond b (Some x) found) other
 unfolding or_found
 behind_if true x found behind other e = refl
 behind_if false x found behind other e = e
@@ -151,11 +144,8 @@ added_by t n (Some x) behind b is e = inl (ap (λ (r : Option Task). core (unwra
 added_by t n None behind true is e = inr (record { named = is; was = refl; is = ap (λ (r : Option Task). core (unwrap_or r nobody)) e })
 added_by t n None behind false is e = inl (ap (λ (r : Option Task). core (unwrap_or r nobody)) e)
 
-add-found : (t : Task) (w : World) (n : Who)
-    → (core (task_of (add_task t w) n) ≡ core (task_of w n)) ⊎ AddedAs t n (core (task_of w n)) (core (task_of (add_task t w) n))
-add-found t w (who.Task k) =
-    added_by t (who.Task k) (find (is_who (who.Task k)) w.tasks) (find (is_who (who.Task k)) (w.tasks ++ t ∷ [])) (is_who (who.Task k) t) refl
-    (find-behind (is_who (who.Task k)) t w.tasks)
+add-found : (t : Task) (w : World) (n : Who) → (core (task_of (add_task t w) n) ≡ core (task_of w n)) ⊎ AddedAs t n (core (task_of w n)) (core (task_of (add_task t w) n))
+add-found t w (who.Task k) = added_by t (who.Task k) (find (is_who (who.Task k)) w.tasks) (find (is_who (who.Task k)) (w.tasks ++ t ∷ [])) (is_who (who.Task k) t) refl (find-behind (is_who (who.Task k)) t w.tasks)
 add-found t w who.Agent = inl refl
 
 less_number : (d k : ℕ) → leb (suc d) k ≡ true → leb d k ≡ true
@@ -182,17 +172,13 @@ nowhere c = None
 done-holds : (P Q : Point) (part : Part) (t : TaskNo) → Places P Q (who.Task t) part nowhere → Leads (Holds P) (Holds Q) (says_done part (who.Task t))
 unfolding says_done Ends nowhere
 done-holds P Q part t places = record {
-  runs =
-      λ w said h. holds-put P Q (who.Task t) part nowhere (line.Done t) w said (ap (λ b. cond b (Some None) None) (same_self (who.Task t)))
-      (λ n apart. done_puts n t apart) places h;
+  runs = λ w said h. holds-put P Q (who.Task t) part nowhere (line.Done t) w said (ap (λ b. cond b (Some None) None) (same_self (who.Task t))) (λ n apart. done_puts n t apart) places h;
 }
 
 block-holds : (P Q : Point) (name : Who) (waits : Waits) → Places P Q name TheBlock nowhere → Leads (Holds P) (Holds Q) (says TheBlock (line.Block name waits))
 unfolding Ends nowhere
 block-holds P Q name waits places = record {
-  runs =
-      λ w said h. holds-put P Q name TheBlock nowhere (line.Block name waits) w said (ap (λ b. cond b (Some None) None) (same_self name))
-      (λ n apart. ap (λ b. cond b (Some None) None) apart) places h;
+  runs = λ w said h. holds-put P Q name TheBlock nowhere (line.Block name waits) w said (ap (λ b. cond b (Some None) None) (same_self name)) (λ n apart. ap (λ b. cond b (Some None) None) apart) places h;
 }
 
 module _ (p : Image) (s : Levels) (a : Who) where
@@ -218,18 +204,15 @@ module _ (p : Image) (s : Levels) (a : Who) where
 
   unkept_turns : (name : Who) → Turns (Blocking name) (Blocking name) name without_kept_level
   unfolding Blocking
-  unkept_turns name =
-      keeps_turns p s a (Blocking name) name without_kept_level (λ d t l is h. ((λ apart. self_apart p s a name apart), (λ self acts. h.1 self acts)))
+  unkept_turns name = keeps_turns p s a (Blocking name) name without_kept_level (λ d t l is h. ((λ apart. self_apart p s a name apart), (λ self acts. h.1 self acts)))
 
   block_places : (name : Who) → Places (Blocking name) Whole name TheBlock nowhere
   unfolding Blocking nowhere
   block_places name = record {
     others = λ d n c l apart h. h.0 apart;
     own = λ d c l h.
-        let out = block-put l in (
-          subst (Good p s a d name c) (sym out) (blocked-good p s a d name c (Some (TheBlock, None)) refl),
-          λ acts. let k = h.1 (same_self name) acts in (k.0, inr (k.1, out)),
-        );
+        let out = block-put l in
+        (subst (Good p s a d name c) (sym out) (blocked-good p s a d name c (Some (TheBlock, None)) refl), λ acts. let k = h.1 (same_self name) acts in (k.0, inr (k.1, out)));
   }
 
   blocks_later : (name : Who) (waiting : Waiting) → Keeps (Held Whole) (block TheBlock name waiting)
@@ -237,12 +220,12 @@ module _ (p : Image) (s : Levels) (a : Who) where
   blocks_later name waiting =
       then-leads (changes (edit_task name (with_state (Blocked waiting)))) _
       (changes-leads (edit_task name (with_state (Blocked waiting)))
-      (λ w said h. holds-edit Whole (Blocking name) name (with_state (Blocked waiting)) w said (λ t. refl)
-      (sound-edit name (with_state (Blocked waiting)) w (λ t. refl) (λ t k. k) (holds-sound Whole w said h)) (block_turns name waiting) h))
+      (λ w said h. holds-edit Whole (Blocking name) name (with_state (Blocked waiting)) w said (λ t. refl) (sound-edit name (with_state (Blocked waiting)) w (λ t. refl) (λ t k. k) (holds-sound Whole w said h))
+      (block_turns name waiting) h))
       (then-leads (changes (edit_task name without_kept_level)) _
       (changes-leads (edit_task name without_kept_level)
-      (λ w said h. holds-edit (Blocking name) (Blocking name) name without_kept_level w said (λ t. refl)
-      (sound-edit name without_kept_level w (λ t. refl) (λ t k. k) (holds-sound (Blocking name) w said h)) (unkept_turns name) h))
+      (λ w said h. holds-edit (Blocking name) (Blocking name) name without_kept_level w said (λ t. refl) (sound-edit name without_kept_level w (λ t. refl) (λ t k. k) (holds-sound (Blocking name) w said h))
+      (unkept_turns name) h))
       (block-holds (Blocking name) Whole name (word_of waiting) (block_places name)))
 
   -- ---- another becomes ready
@@ -253,17 +236,14 @@ module _ (p : Image) (s : Levels) (a : Who) where
     runs : (runs_in c ≡ true) ⊎ IsAbsent name c
     size : d ≡ drawn
 
-  pub begun_runs : (name : Who) (t : Task) (level : Option ℕ) → (is_agent name ≡ false → same_who name t.who ≡ true)
-      → (runs_in (core t) ≡ true) ⊎ IsAbsent name (core t)
+  pub begun_runs : (name : Who) (t : Task) (level : Option ℕ) → (is_agent name ≡ false → same_who name t.who ≡ true) → (runs_in (core t) ≡ true) ⊎ IsAbsent name (core t)
       → (runs_in (core (record t { kept_level = level })) ≡ true) ⊎ IsAbsent name (core (record t { kept_level = level }))
   begun_runs name t level named (inl runs) = inl runs
   begun_runs name t level named (inr absent) = not-absent name t (λ u. u) named refl absent
 
   begun_readies : (P Q : Point) (drawn : ℕ) (name : Who) → same_who name a ≡ false → is_fresh drawn name ≡ false
-      → ((d : ℕ) (n : Who) (c : Core) (l : Last) → same_who n name ≡ false → P d n c l → Q d n c l)
-      → ((d : ℕ) (c : Core) (l : Last) → P d name c l → MayBePlaced (limit p s a name) l × (d ≡ drawn))
-      → ((d : ℕ) (c : Core) (l : Last) → (runs_in c ≡ true) ⊎ IsAbsent name c → d ≡ drawn → Good p s a d name c l → Q d name c l)
-      → Readies p P Q name (OfOther name)
+      → ((d : ℕ) (n : Who) (c : Core) (l : Last) → same_who n name ≡ false → P d n c l → Q d n c l) → ((d : ℕ) (c : Core) (l : Last) → P d name c l → MayBePlaced (limit p s a name) l × (d ≡ drawn))
+      → ((d : ℕ) (c : Core) (l : Last) → (runs_in c ≡ true) ⊎ IsAbsent name c → d ≡ drawn → Good p s a d name c l → Q d name c l) → Readies p P Q name (OfOther name)
   begun_readies P Q drawn name apart is_drawn others held stands = record {
     between = Begun drawn name;
     others = others;
@@ -272,8 +252,7 @@ module _ (p : Image) (s : Levels) (a : Who) where
     keeps = λ d t l level named h. record { late = h.late; runs = begun_runs name t level named h.runs; size = h.size };
     places = λ d c l h.
         stands d c (with_put l (OfOther name) (Some (Some (active_in p c)))) h.runs h.size
-        (placed-good p s a d name c l (OfOther name) (fits_other p s a name) (ap (λ m. is_fresh m name) h.size ∙ is_drawn) h.late
-        (subst (λ q. MayBePlaced q l) (limit-other p s a name apart) h.late) h.runs);
+        (placed-good p s a d name c l (OfOther name) (fits_other p s a name) (ap (λ m. is_fresh m name) h.size ∙ is_drawn) h.late (subst (λ q. MayBePlaced q l) (limit-other p s a name apart) h.late) h.runs);
   }
 
   begun_awake : {P : Type 0} (name : Who) (c : Core) → (runs_in c ≡ true) ⊎ IsAbsent name c → sleeps_in c ≡ true → P
@@ -304,28 +283,24 @@ module _ (p : Image) (s : Levels) (a : Who) where
   unsized : (P : Point) (drawn : ℕ) (w : World) (said : List Said) → Holds (Sized p s a drawn P) w said → Holds P w said
   unsized P drawn w said h = holds-also (Sized p s a drawn P) P (λ d n c l k. k.0) w said h
 
-  choosing_begun : (drawn : ℕ) (name : Who) → same_who name a ≡ false → is_fresh drawn name ≡ false
-      → Readies p (Sized p s a drawn (Choosing p s a)) (Sized p s a drawn (Choosing p s a)) name (OfOther name)
+  choosing_begun : (drawn : ℕ) (name : Who) → same_who name a ≡ false → is_fresh drawn name ≡ false → Readies p (Sized p s a drawn (Choosing p s a)) (Sized p s a drawn (Choosing p s a)) name (OfOther name)
   choosing_begun drawn name apart is_drawn =
-      begun_readies (Sized p s a drawn (Choosing p s a)) (Sized p s a drawn (Choosing p s a)) drawn name apart is_drawn (λ d n c l e h. h)
-      (λ d c l h. (h.0.late, h.1)) (λ d c l runs size good. (good-choosing p s a d name c l good, size))
+      begun_readies (Sized p s a drawn (Choosing p s a)) (Sized p s a drawn (Choosing p s a)) drawn name apart is_drawn (λ d n c l e h. h) (λ d c l h. (h.0.late, h.1))
+      (λ d c l runs size good. (good-choosing p s a d name c l good, size))
 
-  inside_begun : (drawn : ℕ) (name : Who) → same_who name a ≡ false → is_fresh drawn name ≡ false
-      → Readies p (Sized p s a drawn Whole) (Sized p s a drawn Whole) name (OfOther name)
+  inside_begun : (drawn : ℕ) (name : Who) → same_who name a ≡ false → is_fresh drawn name ≡ false → Readies p (Sized p s a drawn Whole) (Sized p s a drawn Whole) name (OfOther name)
   inside_begun drawn name apart is_drawn =
       begun_readies (Sized p s a drawn Whole) (Sized p s a drawn Whole) drawn name apart is_drawn (λ d n c l e h. h) (λ d c l h. (h.0.0.late, h.1))
       (λ d c l runs size good. ((good, λ same. clash_of (same_who name a) same apart), size))
 
-  edits-holds : (P Q : Point) (name : Who) (f : Task → Task) → ((t : Task) → (f t).who ≡ t.who)
-      → ((t : Task) → Unactivated t.inherited → Unactivated (f t).inherited) → Turns P Q name f → Leads (Holds P) (Holds Q) (changes (edit_task name f))
-  edits-holds P Q name f named frees turns =
-      changes-leads (edit_task name f) (λ w said h. holds-edit P Q name f w said named (sound-edit name f w named frees (holds-sound P w said h)) turns h)
+  edits-holds : (P Q : Point) (name : Who) (f : Task → Task) → ((t : Task) → (f t).who ≡ t.who) → ((t : Task) → Unactivated t.inherited → Unactivated (f t).inherited) → Turns P Q name f
+      → Leads (Holds P) (Holds Q) (changes (edit_task name f))
+  edits-holds P Q name f named frees turns = changes-leads (edit_task name f) (λ w said h. holds-edit P Q name f w said named (sound-edit name f w named frees (holds-sound P w said h)) turns h)
 
   runs_on_choosing : (drawn : ℕ) → Keeps (Held (Sized p s a drawn (Choosing p s a))) (changes (edit_task a (with_state Runnable)))
   runs_on_choosing drawn =
       edits-holds (Sized p s a drawn (Choosing p s a)) (Sized p s a drawn (Choosing p s a)) a (with_state Runnable) (λ t. refl) (λ t k. k)
-      (keeps_turns p s a (Sized p s a drawn (Choosing p s a)) a (with_state Runnable)
-      (λ d t l is h. (record { late = h.0.late; low = h.0.low; shown = inl (inl refl); fresh = h.0.fresh }, h.1)))
+      (keeps_turns p s a (Sized p s a drawn (Choosing p s a)) a (with_state Runnable) (λ d t l is h. (record { late = h.0.late; low = h.0.low; shown = inl (inl refl); fresh = h.0.fresh }, h.1)))
 
   runs_on_inside : (drawn : ℕ) → Keeps (Held (Sized p s a drawn Whole)) (changes (edit_task a (with_state Runnable)))
   runs_on_inside drawn =
@@ -334,8 +309,7 @@ module _ (p : Image) (s : Levels) (a : Who) where
       (λ d t l is h. ((record { late = h.0.0.late; low = h.0.0.low; shown = inl refl; fresh = h.0.0.fresh }, λ same. ((h.0.1 same).0, inl refl)), h.1)))
 
   -- who acts says that it blocks
-  shown_but : (n : Who) (c : Core) (l : Last) → same_who n a ≡ false
-      → IsShownRightly p s a n c l ⊎ ((same_who n a ≡ true) × (waits_at_terminate (waiting_in c.state) ≡ true)) → IsShownRightly p s a n c l
+  shown_but : (n : Who) (c : Core) (l : Last) → same_who n a ≡ false → IsShownRightly p s a n c l ⊎ ((same_who n a ≡ true) × (waits_at_terminate (waiting_in c.state) ≡ true)) → IsShownRightly p s a n c l
   shown_but n c l apart (inl h) = h
   shown_but n c l apart (inr h) = clash_of (same_who n a) h.0 apart
 
@@ -373,8 +347,7 @@ module _ (p : Image) (s : Levels) (a : Who) where
   either_state c l (inl runs) = inl runs
   either_state c l (inr sleeps) = inr sleeps.0
 
-  out_state : (c : Core) (l : Last) → (runs_in c ≡ true) ⊎ (sleeps_in c ≡ true)
-      → (runs_in c ≡ true) ⊎ ((sleeps_in c ≡ true) × (with_put l TheBlock (Some None) ≡ Some (TheBlock, None)))
+  out_state : (c : Core) (l : Last) → (runs_in c ≡ true) ⊎ (sleeps_in c ≡ true) → (runs_in c ≡ true) ⊎ ((sleeps_in c ≡ true) × (with_put l TheBlock (Some None) ≡ Some (TheBlock, None)))
   out_state c l (inl runs) = inl runs
   out_state c l (inr sleeps) = inr (sleeps, block-put l)
 
@@ -398,8 +371,7 @@ module _ (p : Image) (s : Levels) (a : Who) where
   says_blocked_inside : (waiting : Waiting) → Keeps (Held Whole) (says_block TheBlock a waiting)
   unfolding says_block
   says_blocked_inside waiting =
-      then-leads (changes (edit_task a without_kept_level)) _ (edits-holds Whole Spoken a without_kept_level (λ t. refl) (λ t k. k) spoken_turns)
-      (block-holds Spoken Whole a (word_of waiting) spoken_places)
+      then-leads (changes (edit_task a without_kept_level)) _ (edits-holds Whole Spoken a without_kept_level (λ t. refl) (λ t k. k) spoken_turns) (block-holds Spoken Whole a (word_of waiting) spoken_places)
 
   -- or it does not wait there
   shown_unless : (n : Who) (c : Core) (l : Last) → (same_who n a ≡ true → waits_at_terminate (waiting_in c.state) ≡ false)
@@ -428,8 +400,8 @@ module _ (p : Image) (s : Levels) (a : Who) where
     looked = λ v w said h. unsized (Choosing p s a) v.drawn.tasks w said h;
     looking = λ v. holds_quiet (Sized p s a v.drawn.tasks (Choosing p s a));
     begins =
-        λ v name apart listed. ready-holds p (Sized p s a v.drawn.tasks (Choosing p s a)) (Sized p s a v.drawn.tasks (Choosing p s a)) name (OfOther name)
-        (choosing_begun v.drawn.tasks name (apart-sym a name apart) listed);
+        λ v name apart listed.
+        ready-holds p (Sized p s a v.drawn.tasks (Choosing p s a)) (Sized p s a v.drawn.tasks (Choosing p s a)) name (OfOther name) (choosing_begun v.drawn.tasks name (apart-sym a name apart) listed);
     runs_on = λ v. runs_on_choosing v.drawn.tasks;
     says_blocked = says_blocked_choosing;
     settles = settles_choosing;
@@ -443,9 +415,7 @@ module _ (p : Image) (s : Levels) (a : Who) where
     looks_at = λ v said h. sized Whole v said h;
     looked = λ v w said h. unsized Whole v.drawn.tasks w said h;
     looking = λ v. holds_quiet (Sized p s a v.drawn.tasks Whole);
-    begins =
-        λ v name apart listed. ready-holds p (Sized p s a v.drawn.tasks Whole) (Sized p s a v.drawn.tasks Whole) name (OfOther name)
-        (inside_begun v.drawn.tasks name (apart-sym a name apart) listed);
+    begins = λ v name apart listed. ready-holds p (Sized p s a v.drawn.tasks Whole) (Sized p s a v.drawn.tasks Whole) name (OfOther name) (inside_begun v.drawn.tasks name (apart-sym a name apart) listed);
     runs_on = λ v. runs_on_inside v.drawn.tasks;
     says_blocked = says_blocked_inside;
     settles = λ w said waits h. h;
@@ -459,18 +429,15 @@ module _ (p : Image) (s : Levels) (a : Who) where
     missed = λ d l task h. nobody-runs (h.1 (same_self a)).1;
   }
 
-  selects : (waiting : Waiting) → waits_at_terminate (Some waiting) ≡ true
-      → Leads (Held (First p s a)) (Held (Choosing p s a)) (changes (edit_task a (with_state (Blocked waiting))))
+  selects : (waiting : Waiting) → waits_at_terminate (Some waiting) ≡ true → Leads (Held (First p s a)) (Held (Choosing p s a)) (changes (edit_task a (with_state (Blocked waiting))))
   selects waiting waits = edits-holds (First p s a) (Choosing p s a) a (with_state (Blocked waiting)) (λ t. refl) (λ t k. k) (select_turns waiting waits)
 
   -- a moment is appointed for it
-  appoints-holds : (P : Point) → ((d : ℕ) (c : Core) (l : Last) → P d a c l → is_fresh d a ≡ false) → (t : TaskNo) (moment : ℤ) → who.Task t ≡ a
-      → Alters (Holds P) (appoint (due_for.Delay t) moment)
+  appoints-holds : (P : Point) → ((d : ℕ) (c : Core) (l : Last) → P d a c l → is_fresh d a ≡ false) → (t : TaskNo) (moment : ℤ) → who.Task t ≡ a → Alters (Holds P) (appoint (due_for.Delay t) moment)
   appoints-holds P acts t moment is = record {
     turns = λ w said h.
         holds-plain P w (appoint (due_for.Delay t) moment w) said refl refl refl
-        (sound-appoint t moment w (ap (is_fresh w.drawn.tasks) is ∙ acts w.drawn.tasks (core (task_of w a)) (last_put a said) (holds-of P w said a h))
-        (holds-sound P w said h)) h;
+        (sound-appoint t moment w (ap (is_fresh w.drawn.tasks) is ∙ acts w.drawn.tasks (core (task_of w a)) (last_put a said) (holds-of P w said a h)) (holds-sound P w said h)) h;
   }
 
   -- ---- tasks that were made end
@@ -482,14 +449,11 @@ module _ (p : Image) (s : Levels) (a : Who) where
   since_then : (v w : World) (said : List Said) → Holds (Since p s a v) w said → Holds Whole w said
   since_then v w said h = holds-also (Since p s a v) Whole (λ d n c l k. k.0) w said h
 
-  unmade_state : {P : Type 0} (v : World) (t : Task) → IsThere v t → is_made t ≡ true
-      → (runs_in (core (task_of v t.who)) ≡ true) ⊎ (sleeps_in (core (task_of v t.who)) ≡ true) → P
+  unmade_state : {P : Type 0} (v : World) (t : Task) → IsThere v t → is_made t ≡ true → (runs_in (core (task_of v t.who)) ≡ true) ⊎ (sleeps_in (core (task_of v t.who)) ≡ true) → P
   unmade_state v t there made (inl runs) = made-apart t.state made (ap (λ u. is_runnable_state u.state) (sym there.found) ∙ runs)
-  unmade_state v t there made (inr sleeps) =
-      clash_of (is_blocked t.state) (ap (λ u. is_blocked u.state) (sym there.found) ∙ sleeps) (made-unblocked t.state made)
+  unmade_state v t there made (inr sleeps) = clash_of (is_blocked t.state) (ap (λ u. is_blocked u.state) (sym there.found) ∙ sleeps) (made-unblocked t.state made)
 
-  unmade_as : (v : World) (t : Task) → IsThere v t → is_made t ≡ true
-      → (same_who t.who a ≡ true → (runs_in (core (task_of v t.who)) ≡ true) ⊎ (sleeps_in (core (task_of v t.who)) ≡ true)) → IsUnmade p s a v t.who
+  unmade_as : (v : World) (t : Task) → IsThere v t → is_made t ≡ true → (same_who t.who a ≡ true → (runs_in (core (task_of v t.who)) ≡ true) ⊎ (sleeps_in (core (task_of v t.who)) ≡ true)) → IsUnmade p s a v t.who
   unmade_as v t there made acts = record {
     other = by_test (same_who t.who a) (λ same. unmade_state v t there made (acts same)) (λ apart. apart);
     unblocked = ap (λ u. is_blocked u.state) there.found ∙ made-unblocked t.state made;
@@ -500,22 +464,18 @@ module _ (p : Image) (s : Levels) (a : Who) where
   made_each : (v : World) (said : List Said) → Holds Whole v said → EachTask (λ t. is_made t ≡ true → IsUnmade p s a v t.who) v.tasks
   made_each v said h =
       each-on (IsThere v) (λ t. is_made t ≡ true → IsUnmade p s a v t.who) v.tasks
-      (λ t there made.
-      unmade_as v t there made (λ same. let k = (holds-of Whole v said t.who h).1 same in either_state (core (task_of v t.who)) (last_put t.who said) k.1))
-      (all_there v (holds-sound Whole v said h))
+      (λ t there made. unmade_as v t there made (λ same. let k = (holds-of Whole v said t.who h).1 same in either_state (core (task_of v t.who)) (last_put t.who said) k.1)) (all_there v (holds-sound Whole v said h))
 
   asleep_each : (P : Point) (w : World) (said : List Said) → Holds P w said → EachTask (λ t. is_blocked t.state ≡ true → Sleeping_in w t.who) w.tasks
   asleep_each P w said h =
-      each-on (IsThere w) (λ t. is_blocked t.state ≡ true → Sleeping_in w t.who) w.tasks (λ t there sleeps. ap (λ u. is_blocked u.state) there.found ∙ sleeps)
-      (all_there w (holds-sound P w said h))
+      each-on (IsThere w) (λ t. is_blocked t.state ≡ true → Sleeping_in w t.who) w.tasks (λ t there sleeps. ap (λ u. is_blocked u.state) there.found ∙ sleeps) (all_there w (holds-sound P w said h))
 
   activation-alters : (v : World) (name : Who) (level : ℕ) → IsUnmade p s a v name → Alters (Held (Since p s a v)) (inherit name inherited_by.Activation level)
   activation-alters v (who.Task n) level made = record {
     turns = λ w said h.
         let f : Task → Task = λ t. record t { inherited = record { cause = inherited_by.Activation; level = level } ∷ t.inherited } in
         holds-edit (Since p s a v) (Since p s a v) (who.Task n) f w said (λ t. refl) (sound-task n f w (λ t. refl) (holds-sound (Since p s a v) w said h))
-        (keeps_turns p s a (Since p s a v) (who.Task n) f
-        (λ d t l is k. (since_wakeful p s a v).rises d (who.Task n) t l (record { cause = inherited_by.Activation; level = level }) is k)) h;
+        (keeps_turns p s a (Since p s a v) (who.Task n) f (λ d t l is k. (since_wakeful p s a v).rises d (who.Task n) t l (record { cause = inherited_by.Activation; level = level }) is k)) h;
   }
   activation-alters v who.Agent level made = clash_of (is_agent who.Agent) refl made.task
 
@@ -550,18 +510,12 @@ module _ (p : Image) (s : Levels) (a : Who) where
   abbrev less : Task → Task
   less t = record t { inherited = without (λ i. same_cause inherited_by.Activation i.cause) t.inherited }
 
-  ended_loses : (v : World) (name : Who) (w : World) (said : List Said) → Holds (Ending p s a v name) w said
-      → Holds (Ending p s a v name) (lose name inherited_by.Activation w) said
+  ended_loses : (v : World) (name : Who) (w : World) (said : List Said) → Holds (Ending p s a v name) w said → Holds (Ending p s a v name) (lose name inherited_by.Activation w) said
   ended_loses v name w said h =
       holds-edit (Ending p s a v name) (Ending p s a v name) name less w said (λ t. refl)
-      (sound-edit name less w (λ t. refl) (λ t k. unactivated_without (λ i. same_cause inherited_by.Activation i.cause) t.inherited k)
-      (holds-sound (Ending p s a v name) w said h))
+      (sound-edit name less w (λ t. refl) (λ t k. unactivated_without (λ i. same_cause inherited_by.Activation i.cause) t.inherited k) (holds-sound (Ending p s a v name) w said h))
       (keeps_turns p s a (Ending p s a v name) name less (λ d t l is k. (
-        (
-          later-kept p s a d name t (core (less t)) l is refl (at_most-out (place p s a name l) (active_in p (core (less t))) (k.1 (same_self name))) k.0.0,
-          k.0.1,
-          k.0.2,
-        ),
+        (later-kept p s a d name t (core (less t)) l is refl (at_most-out (place p s a name l) (active_in p (core (less t))) (k.1 (same_self name))) k.0.0, k.0.1, k.0.2),
         k.1,
         k.2,
       ))) h
@@ -573,12 +527,7 @@ module _ (p : Image) (s : Levels) (a : Who) where
         task = λ d c l task h.
             let hidden = h.1 (same_self name) in (
               (
-                record {
-                  late = h.0.0.0.late;
-                  low = at_most-out (place p s a name l) (active_in p (core nobody)) hidden;
-                  shown = inr (inl hidden);
-                  fresh = λ e. hidden;
-                },
+                record { late = h.0.0.0.late; low = at_most-out (place p s a name l) (active_in p (core nobody)) hidden; shown = inr (inl hidden); fresh = λ e. hidden },
                 λ same. clash_of (same_who name a) same h.2.other,
               ),
               h.0.1,
@@ -616,14 +565,12 @@ module _ (p : Image) (s : Levels) (a : Who) where
   ends_as (who.Task t) is = done-holds (First p s a) (Dying p s a) Own t (last_places t is)
   ends_as who.Agent is = nothing-leads (λ w said h. holds-also (First p s a) (Dying p s a) (λ d n c l k. first-dying d n c l is k) w said h)
 
-  gone-loses : (t : Task) (n : Who) (l : Last) → is_agent n ≡ false
-      → Hidden p s a n l ⊎ ((is_agent n ≡ true) × IsAtMost (place p s a n l) (active_in p (core t)))
+  gone-loses : (t : Task) (n : Who) (l : Last) → is_agent n ≡ false → Hidden p s a n l ⊎ ((is_agent n ≡ true) × IsAtMost (place p s a n l) (active_in p (core t)))
       → Hidden p s a n l ⊎ ((is_agent n ≡ true) × IsAtMost (place p s a n l) (active_in p (core (less t))))
   gone-loses t n l task (inl hidden) = inl hidden
   gone-loses t n l task (inr agent) = clash_of (is_agent n) agent.0 task
 
-  dying_loses : (name : Who) → name ≡ a → (w : World) (said : List Said) → Holds (Dying p s a) w said
-      → Holds (Dying p s a) (lose name inherited_by.Activation w) said
+  dying_loses : (name : Who) → name ≡ a → (w : World) (said : List Said) → Holds (Dying p s a) w said → Holds (Dying p s a) (lose name inherited_by.Activation w) said
   dying_loses (who.Task n) is w said h =
       holds-edit (Dying p s a) (Dying p s a) (who.Task n) less w said (λ t. refl) (sound-task n less w (λ t. refl) (holds-sound (Dying p s a) w said h))
       (keeps_turns p s a (Dying p s a) (who.Task n) less (λ d t l named k. (
@@ -634,21 +581,18 @@ module _ (p : Image) (s : Levels) (a : Who) where
       (holds_quiet (Dying p s a)).silently w (lose who.Agent inherited_by.Activation w) said
       (record {
         tasks = refl;
-        agent =
-            ap (λ inherited. core (record w.agent { inherited = inherited })) (unactivated-loses w.agent.inherited (holds-sound (Dying p s a) w said h).agent);
+        agent = ap (λ inherited. core (record w.agent { inherited = inherited })) (unactivated-loses w.agent.inherited (holds-sound (Dying p s a) w said h).agent);
         objects = refl;
         drawn_tasks = refl;
         drawn_objects = refl;
         delays = λ t e. e;
       }) h
 
-  gone-low : (n : Who) (c : Core) (l : Last) → Hidden p s a n l ⊎ ((is_agent n ≡ true) × IsAtMost (place p s a n l) (active_in p c))
-      → IsAtMost (place p s a n l) (active_in p c)
+  gone-low : (n : Who) (c : Core) (l : Last) → Hidden p s a n l ⊎ ((is_agent n ≡ true) × IsAtMost (place p s a n l) (active_in p c)) → IsAtMost (place p s a n l) (active_in p c)
   gone-low n c l (inl hidden) = at_most-out (place p s a n l) (active_in p c) hidden
   gone-low n c l (inr agent) = agent.1
 
-  gone-hidden : (n : Who) (c : Core) (l : Last) → is_agent n ≡ false → Hidden p s a n l ⊎ ((is_agent n ≡ true) × IsAtMost (place p s a n l) (active_in p c))
-      → Hidden p s a n l
+  gone-hidden : (n : Who) (c : Core) (l : Last) → is_agent n ≡ false → Hidden p s a n l ⊎ ((is_agent n ≡ true) × IsAtMost (place p s a n l) (active_in p c)) → Hidden p s a n l
   gone-hidden n c l task (inl hidden) = hidden
   gone-hidden n c l task (inr agent) = clash_of (is_agent n) agent.0 task
 
@@ -668,11 +612,7 @@ module _ (p : Image) (s : Levels) (a : Who) where
   -- ---- a task is created
 
   new-same : (t : Task) (u w : World) → Same u w → IsNew p t u → IsNew p t w
-  new-same t u w same new = record {
-    numbered = new.numbered ∙ ap (λ n. who.Task (record { 0 = n })) (sym same.drawn_tasks);
-    made = new.made;
-    undeferred = new.undeferred;
-  }
+  new-same t u w same new = record { numbered = new.numbered ∙ ap (λ n. who.Task (record { 0 = n })) (sym same.drawn_tasks); made = new.made; undeferred = new.undeferred }
 
   goes_new : (onward : Option StatementNo) (t : Task) → Keeps (With (Held (First p s a)) (IsNew p t)) (goes a onward)
   unfolding goes
@@ -682,24 +622,20 @@ module _ (p : Image) (s : Levels) (a : Who) where
       ((holds_quiet (First p s a)).silently w (edit_top a (goes_on onward) w) said same h.0, new-same t w (edit_top a (goes_on onward) w) same h.1))
 
   added-was : (d : ℕ) (n : Who) (c : Core) (l : Last) → First p s a d n c l → Later p s a (suc d) n c l
-  added-was d n c l h = (
-    record { late = h.0.late; low = h.0.low; shown = h.0.shown; fresh = λ e. h.0.fresh (fresh-less d n e) },
-    λ same. (drawn-more d n (h.1 same).0, inl (h.1 same).1),
-  )
+  added-was d n c l h = (record { late = h.0.late; low = h.0.low; shown = h.0.shown; fresh = λ e. h.0.fresh (fresh-less d n e) }, λ same. (drawn-more d n (h.1 same).0, inl (h.1 same).1))
 
-  added-is : (d : ℕ) (n : Who) (t : Task) (before : Core) (l : Last) → t.who ≡ who.Task (record { 0 = d }) → same_who n t.who ≡ true → before ≡ core nobody
-      → First p s a d n before l → Later p s a (suc d) n (core t) l
+  added-is : (d : ℕ) (n : Who) (t : Task) (before : Core) (l : Last) → t.who ≡ who.Task (record { 0 = d }) → same_who n t.who ≡ true → before ≡ core nobody → First p s a d n before l
+      → Later p s a (suc d) n (core t) l
   added-is d n t before l numbered named was h =
       let hidden = h.0.fresh (ap (is_fresh d) (who-is n t.who named ∙ numbered) ∙ fresh-next d) in (
         record { late = h.0.late; low = at_most-out (place p s a n l) (active_in p (core t)) hidden; shown = inr (inl hidden); fresh = λ e. hidden },
         λ same. nobody-runs (subst (λ c. runs_in c ≡ true) was (h.1 same).1),
       )
 
-  added_as : (d : ℕ) (n : Who) (t : Task) (before behind : Core) (l : Last) → t.who ≡ who.Task (record { 0 = d })
-      → (behind ≡ before) ⊎ AddedAs t n before behind → First p s a d n before l → Later p s a (suc d) n behind l
+  added_as : (d : ℕ) (n : Who) (t : Task) (before behind : Core) (l : Last) → t.who ≡ who.Task (record { 0 = d }) → (behind ≡ before) ⊎ AddedAs t n before behind → First p s a d n before l
+      → Later p s a (suc d) n behind l
   added_as d n t before behind l numbered (inl same) h = subst (λ c. Later p s a (suc d) n c l) (sym same) (added-was d n before l h)
-  added_as d n t before behind l numbered (inr one) h =
-      subst (λ c. Later p s a (suc d) n c l) (sym one.is) (added-is d n t before l numbered one.named one.was h)
+  added_as d n t before behind l numbered (inr one) h = subst (λ c. Later p s a (suc d) n c l) (sym one.is) (added-is d n t before l numbered one.named one.was h)
 
   adds : (t : Task) → Leads (With (Held (First p s a)) (IsNew p t)) (Held Whole) (changes (add_task t))
   unfolding Holds
@@ -710,24 +646,18 @@ module _ (p : Image) (s : Levels) (a : Who) where
       ))
 
   thing_set : (id : Option ScopeId) (d : DeclNo)
-      → Keeps (Held Whole)
-      (for_some id
-      (λ within. looks (λ w. changes (set_thing p (record { within = within; declared = d }) (value_of.Task (Some (record { 0 = w.drawn.tasks - 1 })))))))
+      → Keeps (Held Whole) (for_some id (λ within. looks (λ w. changes (set_thing p (record { within = within; declared = d }) (value_of.Task (Some (record { 0 = w.drawn.tasks - 1 })))))))
   thing_set id d =
       for_some-keeps id _
       (λ within. looks-keeps _
-      (λ w. changes-keeps _
-      (same-alters (holds_quiet Whole) _
-      (λ u. fine_same u _ (set_thing-same p (record { within = within; declared = d }) (value_of.Task (Some (record { 0 = w.drawn.tasks - 1 }))) u)))))
+      (λ w. changes-keeps _ (same-alters (holds_quiet Whole) _ (λ u. fine_same u _ (set_thing-same p (record { within = within; declared = d }) (value_of.Task (Some (record { 0 = w.drawn.tasks - 1 }))) u)))))
 
-  creates_later : (st : StatementNo) (d : DeclNo) (id : Option ScopeId) (t : Task)
-      → Leads (With (Held (First p s a)) (IsNew p t)) (Held Whole) (create_task p a st d id t)
+  creates_later : (st : StatementNo) (d : DeclNo) (id : Option ScopeId) (t : Task) → Leads (With (Held (First p s a)) (IsNew p t)) (Held Whole) (create_task p a st d id t)
   unfolding create_task says_created
   creates_later st d id t =
       then-leads (goes a (next_of p st)) _ (goes_new (next_of p st) t)
       (then-leads (changes (add_task t)) _ (adds t)
-      (then-leads (for_some id _) _ (thing_set id d)
-      (looks-keeps _ (λ w. keeps_says Whole Own (line.New (created.Task (record { 0 = w.drawn.tasks - 1 })) (Some d) t.base) (λ n. refl)))))
+      (then-leads (for_some id _) _ (thing_set id d) (looks-keeps _ (λ w. keeps_says Whole Own (line.New (created.Task (record { 0 = w.drawn.tasks - 1 })) (Some d) t.base) (λ n. refl)))))
 
   -- ---- a call that is sent on ends before the acceptor becomes ready
 
@@ -750,8 +680,7 @@ module _ (p : Image) (s : Levels) (a : Who) where
     );
   }
 
-  asleep-drawn : (n : Who) (w : World) → sleeps_in (core (task_of w n)) ≡ true → IsAbsent n (core (task_of w n)) ⊎ (is_fresh w.drawn.tasks n ≡ false)
-      → is_fresh w.drawn.tasks n ≡ false
+  asleep-drawn : (n : Who) (w : World) → sleeps_in (core (task_of w n)) ≡ true → IsAbsent n (core (task_of w n)) ⊎ (is_fresh w.drawn.tasks n ≡ false) → is_fresh w.drawn.tasks n ≡ false
   asleep-drawn n w sleeps (inl absent) = nobody-sleeps (subst (λ c. sleeps_in c ≡ true) absent.1 sleeps)
   asleep-drawn n w sleeps (inr drawn) = drawn
 
@@ -781,19 +710,13 @@ module _ (p : Image) (s : Levels) (a : Who) where
     between = Met (who.Task t);
     others = λ d n c l apart h. h.0;
     own = λ d u l h. let k = h.1 (same_self (who.Task t)) in record { late = h.0.0.late; may = k.0; drawn = k.1; runs = inl refl; acts = λ same. refl };
-    missed =
-        λ d l task h. let k = h.1 (same_self (who.Task t)) in
-        record { late = h.0.0.late; may = k.0; drawn = k.1; runs = inr (task, refl); acts = λ same. nobody-acts p s a l (h.0.1 same).1 };
+    missed = λ d l task h. let k = h.1 (same_self (who.Task t)) in record { late = h.0.0.late; may = k.0; drawn = k.1; runs = inr (task, refl); acts = λ same. nobody-acts p s a l (h.0.1 same).1 };
     keeps = λ d u l level named h. record { late = h.late; may = h.may; drawn = h.drawn; runs = begun_runs (who.Task t) u level named h.runs; acts = h.acts };
-    places = λ d c l h. (
-      placed-good p s a d (who.Task t) c l TheFinish (fits_finish p s a (who.Task t)) h.drawn h.late h.may h.runs,
-      λ same. (h.drawn, inl (h.acts same)),
-    );
+    places = λ d c l h. (placed-good p s a d (who.Task t) c l TheFinish (fits_finish p s a (who.Task t)) h.drawn h.late h.may h.runs, λ same. (h.drawn, inl (h.acts same)));
   }
 
   meets_later : (t : TaskNo) (st : StatementNo) (c : Call)
-      → Leads (With (Held Whole) (λ w. Sleeping_in w (who.Task t))) (Held Whole)
-      (meet_without_room p TheFinish (who.Task t) st c (deliver p TheFinish c.number (call_ended.ToRaise exception.Storage)))
+      → Leads (With (Held Whole) (λ w. Sleeping_in w (who.Task t))) (Held Whole) (meet_without_room p TheFinish (who.Task t) st c (deliver p TheFinish c.number (call_ended.ToRaise exception.Storage)))
   unfolding OfFinish
   meets_later t st c =
       from-leads _ (λ w said h. meeting_starts t w said h.0 h.1)
@@ -801,8 +724,7 @@ module _ (p : Image) (s : Levels) (a : Who) where
       (then-leads (finish_without_room TheFinish (who.Task t) c) _ (finish_without_room-keeps (holds_quiet (Meeting t)) TheFinish (who.Task t) c)
       (then-leads (deliver p TheFinish c.number (call_ended.ToRaise exception.Storage)) _
       (deliver-keeps (fine_base (base_moves (Meeting t) (meeting_wakeful t))) TheFinish c.number (call_ended.ToRaise exception.Storage) (λ name. refl))
-      (then-leads (ready p TheFinish (who.Task t)) _ (ready-holds p (Meeting t) Whole (who.Task t) TheFinish (met t))
-      (raises-keeps (fine (holds_quiet Whole)) TheFinish (who.Task t) exception.Storage)))))
+      (then-leads (ready p TheFinish (who.Task t)) _ (ready-holds p (Meeting t) Whole (who.Task t) TheFinish (met t)) (raises-keeps (fine (holds_quiet Whole)) TheFinish (who.Task t) exception.Storage)))))
 
   -- ---- protected objects
 
@@ -810,12 +732,8 @@ module _ (p : Image) (s : Levels) (a : Who) where
   unfolding says_object
   made_object l u =
       then-keeps (changes (with_object p l u)) _
-      (changes-leads (with_object p l u)
-      (λ w said h. holds-plain Whole w (with_object p l u w) said refl refl refl
-      (sound-plain w (with_object p l u w) refl refl refl refl (holds-sound Whole w said h)) h))
-      (looks-keeps _
-      (λ w.
-      keeps_says Whole Own (line.New (created.Object (record { 0 = w.drawn.objects })) (Some l.declared) (protected_unit_of p u).ceiling) (λ n. refl)))
+      (changes-leads (with_object p l u) (λ w said h. holds-plain Whole w (with_object p l u w) said refl refl refl (sound-plain w (with_object p l u w) refl refl refl refl (holds-sound Whole w said h)) h))
+      (looks-keeps _ (λ w. keeps_says Whole Own (line.New (created.Object (record { 0 = w.drawn.objects })) (Some l.declared) (protected_unit_of p u).ceiling) (λ n. refl)))
 
   -- ---- all of an effect
 
@@ -828,8 +746,8 @@ module _ (p : Image) (s : Levels) (a : Who) where
     blocks = blocks_later;
   }
 
-  pub effect_moves : ActingMoves p a (Fits p s a) (Fits p s a) Sleeping_in anywhere IsListed (IsUnmade p s a) (Held (First p s a)) (Held Whole) (Held Whole)
-      (Held (Choosing p s a)) (Held (Good p s a)) (Held (Dying p s a)) (λ before. Held (Owing p s a before)) (λ v. Held (Since p s a v))
+  pub effect_moves : ActingMoves p a (Fits p s a) (Fits p s a) Sleeping_in anywhere IsListed (IsUnmade p s a) (Held (First p s a)) (Held Whole) (Held Whole) (Held (Choosing p s a)) (Held (Good p s a))
+      (Held (Dying p s a)) (λ before. Held (Owing p s a before)) (λ v. Held (Since p s a v))
       (λ v. Held (Sized p s a v.drawn.tasks (Choosing p s a))) (λ v. Held (Sized p s a v.drawn.tasks Whole)) (λ v name. Held (Ending p s a v name))
   effect_moves = record {
     fresh = holds_quiet (First p s a);
@@ -875,7 +793,5 @@ module _ (p : Image) (s : Levels) (a : Who) where
     makes = made_object;
     may = λ w o mode e. tt;
     may_on = λ u w o same m. tt;
-    enters =
-        λ o mode.
-        from-leads (says Own (line.Enter a o mode)) (λ w said h. starts_later p s a w said h.0) (keeps_says Whole Own (line.Enter a o mode) (λ n. refl));
+    enters = λ o mode. from-leads (says Own (line.Enter a o mode)) (λ w said h. starts_later p s a w said h.0) (keeps_says Whole Own (line.Enter a o mode) (λ n. refl));
   }

@@ -4,16 +4,14 @@ use Rattle.ann_base.specs.declared.identities.TaskNo.{TaskNo}
 use Rattle.world_laws.proofs.Places.CorePoints.{Except, Holds, IsAt, Knowing, Places, Point, Readies, Turns, holds-also, holds-edit, holds-knowing, holds-of}
 use Rattle.world_laws.proofs.Places.CorePoints.{holds-plain, holds-sound, holds_quiet, keeps_says, not-absent, ready-holds, spot_for, to_tail-holds}
 use Rattle.world_laws.proofs.Places.EditPoints.{holds-forget, AddedAs, add-found, nowhere, done-holds, block-holds}
-use Rattle.world_laws.proofs.Places.EffectMoves.{Wakeful, actor_places, base_moves, base_set_or_deferred, ceases_resting, dates}
-use Rattle.world_laws.proofs.Places.EffectMoves.{deadline_set_or_deferred, deferred_set, gained_later, dying_wakeful, ended_resting, ending_wakeful}
-use Rattle.world_laws.proofs.Places.EffectMoves.{gone_wakeful, good-choosing, good_wakeful, keeps_turns, later-kept, later-rises, later-wakes}
-use Rattle.world_laws.proofs.Places.EffectMoves.{later_wakeful, lost_later, nobody-acts, owed_loses, owes_since, owing_wakeful, made-asleep, paid}
-use Rattle.world_laws.proofs.Places.EffectMoves.{rests_choosing, self_apart, since_wakeful, starts_later, tails_later, undated_loose}
+use Rattle.world_laws.proofs.Places.EffectMoves.{Wakeful, actor_places, base_moves, base_set_or_deferred, ceases_resting, dates, deadline_set_or_deferred}
+use Rattle.world_laws.proofs.Places.EffectMoves.{deferred_set, gained_later, dying_wakeful, ended_resting, ending_wakeful, gone_wakeful, good-choosing, good_wakeful}
+use Rattle.world_laws.proofs.Places.EffectMoves.{keeps_turns, later-kept, later-rises, later-wakes, later_wakeful, lost_later, nobody-acts, owed_loses, owes_since}
+use Rattle.world_laws.proofs.Places.EffectMoves.{owing_wakeful, made-asleep, paid, rests_choosing, self_apart, since_wakeful, starts_later, tails_later, undated_loose}
 use Rattle.world_laws.proofs.Places.SoundWorlds.{IsAbsent, Sound, all-apart, all_there, known, sound-add, sound-appoint, sound-edit, sound-plain, sound-task}
-use Rattle.world_laws.proofs.Places.Standing.{Choosing, ChoosingSince, Dying, Ending, First, Fits, FreeFor, Gone, Good, IsShownRightly, IsUnmade}
-use Rattle.world_laws.proofs.Places.Standing.{Last, Later, Loose, Owing, Resting, Since, Undated, at-out, awake, begun_awake, block-put}
-use Rattle.world_laws.proofs.Places.Standing.{blocked-good, fits_finish, fits_other, fits_own, free-may, is_among, limit, limit-other, nobody-runs}
-use Rattle.world_laws.proofs.Places.Standing.{nobody-sleeps, none-free, place, placed-good, put-free, put-late, put-out, runs_in, sleeps_in}
+use Rattle.world_laws.proofs.Places.Standing.{Choosing, ChoosingSince, Dying, Ending, First, Fits, FreeFor, Gone, Good, IsShownRightly, IsUnmade, Last, Later, Loose, Owing}
+use Rattle.world_laws.proofs.Places.Standing.{Resting, Since, Undated, at-out, awake, begun_awake, block-put, blocked-good, fits_finish, fits_other, fits_own, free-may, is_among}
+use Rattle.world_laws.proofs.Places.Standing.{limit, limit-other, nobody-runs, nobody-sleeps, none-free, place, placed-good, put-free, put-late, put-out, runs_in, sleeps_in}
 use Rattle.world_laws.proofs.Places.Puts.{MayBePlaced, last_put, spot_in, with_put}
 use Rattle.world_laws.proofs.Places.ActingMoves.{ActingMoves, IsNew, LaterMoves, SelectMoves}
 use Rattle.ceiling_laws.proofs.Runs.FreeMoves.{anywhere}
@@ -23,8 +21,7 @@ use Rattle.ceiling_laws.proofs.Fine.Kept.Frames.{raises-keeps}
 use Rattle.world_laws.proofs.Places.Kept.Rendezvous.{begin_accept-keeps, finish_without_room-keeps}
 use Rattle.ceiling_laws.proofs.Fine.Kept.Tasks.{same-alters}
 use Rattle.ceiling_laws.proofs.Fine.SameLemmas.{edit_task-same}
-use Rattle.ceiling_laws.proofs.Runs.Triples.{Alters, Keeps, Leads, State, With, changes-keeps, changes-leads}
-use Rattle.ceiling_laws.proofs.Runs.Triples.{for_some-keeps, from-leads, looks-keeps, nothing-leads, then-keeps, then-leads}
+use Rattle.ceiling_laws.proofs.Runs.Triples.{Alters, Keeps, Leads, State, With, changes-keeps, changes-leads, for_some-keeps, from-leads, looks-keeps, nothing-leads, then-keeps, then-leads}
 use Rattle.ceiling_laws.proofs.Fine.Cores.{Core, Same, core}
 use Rattle.profile_machine.specs.Appointments.{appoint}
 use Rattle.profile_machine.specs.CallEnds.{deliver}
@@ -83,8 +80,8 @@ running-awake Runnable runs = refl
 running-awake (Blocked waiting) runs = absurd cc
 
 -- who is among these has only been made
-among_made : (p : Image) (s : List Placed) (a : Who) (v : World) (n : Who) (rest : List Task) → EachTask (λ t. IsUnmade p s a v t.who) rest
-    → is_among n rest ≡ true → is_made_state (task_of v n).state ≡ true
+among_made : (p : Image) (s : List Placed) (a : Who) (v : World) (n : Who) (rest : List Task) → EachTask (λ t. IsUnmade p s a v t.who) rest → is_among n rest ≡ true
+    → is_made_state (task_of v n).state ≡ true
 among_made p s a v n [] each among = absurd cc
 among_made p s a v n (t ∷ rest) each among =
     by_test (same_who n t.who)
@@ -134,12 +131,11 @@ module _ (p : Image) (s : List Placed) (a : Who) where
   blocks_from P waiting turns =
       then-leads (changes (edit_task a (with_state (Blocked waiting)))) _
       (changes-leads (edit_task a (with_state (Blocked waiting)))
-      (λ w said h. holds-edit P Blocking a (with_state (Blocked waiting)) w said (λ t. refl)
-      (sound-edit a (with_state (Blocked waiting)) w (λ t. refl) (λ t k. k) (holds-sound P w said h)) turns h))
+      (λ w said h.
+      holds-edit P Blocking a (with_state (Blocked waiting)) w said (λ t. refl) (sound-edit a (with_state (Blocked waiting)) w (λ t. refl) (λ t k. k) (holds-sound P w said h)) turns h))
       (then-leads (changes (edit_task a without_kept_level)) _
       (changes-leads (edit_task a without_kept_level)
-      (λ w said h. holds-edit Blocking Blocking a without_kept_level w said (λ t. refl)
-      (sound-edit a without_kept_level w (λ t. refl) (λ t k. k) (holds-sound Blocking w said h)) unkept_turns h))
+      (λ w said h. holds-edit Blocking Blocking a without_kept_level w said (λ t. refl) (sound-edit a without_kept_level w (λ t. refl) (λ t k. k) (holds-sound Blocking w said h)) unkept_turns h))
       (block-holds Blocking Rested a (word_of waiting) block_places))
 
   blocks_later : (waiting : Waiting) → waits_at_terminate (Some waiting) ≡ false → Leads (Held Whole) (Held Rested) (block TheBlock a waiting)
@@ -168,17 +164,14 @@ module _ (p : Image) (s : List Placed) (a : Who) where
     runs : (runs_in c ≡ true) ⊎ IsAbsent name c
     size : d ≡ drawn
 
-  pub begun_runs : (name : Who) (t : Task) (level : Option ℕ) → (is_agent name ≡ false → same_who name t.who ≡ true)
-      → (runs_in (core t) ≡ true) ⊎ IsAbsent name (core t)
+  pub begun_runs : (name : Who) (t : Task) (level : Option ℕ) → (is_agent name ≡ false → same_who name t.who ≡ true) → (runs_in (core t) ≡ true) ⊎ IsAbsent name (core t)
       → (runs_in (core (record t { kept_level = level })) ≡ true) ⊎ IsAbsent name (core (record t { kept_level = level }))
   begun_runs name t level named (inl runs) = inl runs
   begun_runs name t level named (inr absent) = not-absent name t (λ u. u) named refl absent
 
   begun_readies : (P Q : Point) (drawn : ℕ) (name : Who) → same_who name a ≡ false → is_fresh drawn name ≡ false
-      → ((d : ℕ) (n : Who) (c : Core) (l : Last) → same_who n name ≡ false → P d n c l → Q d n c l)
-      → ((d : ℕ) (c : Core) (l : Last) → P d name c l → FreeFor (limit p s a name) l × (d ≡ drawn))
-      → ((d : ℕ) (c : Core) (l : Last) → (runs_in c ≡ true) ⊎ IsAbsent name c → d ≡ drawn → Good p s a d name c l → Q d name c l)
-      → Readies p P Q name (OfOther name)
+      → ((d : ℕ) (n : Who) (c : Core) (l : Last) → same_who n name ≡ false → P d n c l → Q d n c l) → ((d : ℕ) (c : Core) (l : Last) → P d name c l → FreeFor (limit p s a name) l × (d ≡ drawn))
+      → ((d : ℕ) (c : Core) (l : Last) → (runs_in c ≡ true) ⊎ IsAbsent name c → d ≡ drawn → Good p s a d name c l → Q d name c l) → Readies p P Q name (OfOther name)
   begun_readies P Q drawn name apart is_drawn others held stands = record {
     between = Begun drawn name;
     others = others;
@@ -187,12 +180,11 @@ module _ (p : Image) (s : List Placed) (a : Who) where
     keeps = λ d t l level named h. record { late = h.late; runs = begun_runs name t level named h.runs; size = h.size };
     places = λ d c l h.
         stands d c (with_put l (OfOther name) (Some (Some (spot_for p c)))) h.runs h.size
-        (placed-good p s a d name c l (OfOther name) (fits_other p s a name) (ap (λ m. is_fresh m name) h.size ∙ is_drawn)
-        (free-may (limit p s a name) l h.late) (subst (λ q. FreeFor q l) (limit-other p s a name apart) h.late) h.runs (λ other. h.late));
+        (placed-good p s a d name c l (OfOther name) (fits_other p s a name) (ap (λ m. is_fresh m name) h.size ∙ is_drawn) (free-may (limit p s a name) l h.late)
+        (subst (λ q. FreeFor q l) (limit-other p s a name apart) h.late) h.runs (λ other. h.late));
   }
 
-  later_begun : (v : World) (t : Task) (rest : List Task) → IsUnmade p s a v t.who → is_among t.who rest ≡ false
-      → Readies p (Since p s a v (t ∷ rest)) (Since p s a v rest) t.who (OfOther t.who)
+  later_begun : (v : World) (t : Task) (rest : List Task) → IsUnmade p s a v t.who → is_among t.who rest ≡ false → Readies p (Since p s a v (t ∷ rest)) (Since p s a v rest) t.who (OfOther t.who)
   later_begun v t rest made differs =
       begun_readies (Since p s a v (t ∷ rest)) (Since p s a v rest) v.drawn.tasks t.who made.other made.drawn
       (λ d n c l apart h. (h.0, h.1, h.2, λ among. h.3 (or_right (same_who n t.who) (is_among n rest) among))) (λ d c l h. ((h.0.0.calm made.other).0, h.1))
@@ -205,8 +197,7 @@ module _ (p : Image) (s : List Placed) (a : Who) where
 
   activates_since : (v : World) (t : Task) (rest : List Task) → IsUnmade p s a v t.who → is_among t.who rest ≡ false
       → Leads (Held (Since p s a v (t ∷ rest))) (Held (Since p s a v rest)) (ready p (OfOther t.who) t.who)
-  activates_since v t rest made differs =
-      ready-holds p (Since p s a v (t ∷ rest)) (Since p s a v rest) t.who (OfOther t.who) (later_begun v t rest made differs)
+  activates_since v t rest made differs = ready-holds p (Since p s a v (t ∷ rest)) (Since p s a v rest) t.who (OfOther t.who) (later_begun v t rest made differs)
 
   -- ---- at a select
 
@@ -219,31 +210,21 @@ module _ (p : Image) (s : List Placed) (a : Who) where
 
   looks_choosing : (v : World) (said : List Said) → Holds (Choosing p s a) v said → Holds (ChoosingSince p s a v) v said
   unfolding Holds
-  looks_choosing v said h = (
-    h.0,
-    λ n. (h.1 n, refl, λ same waits. (h.1 n).waits same (ap (λ m. waits_at_terminate (waiting_of v m)) (who-is n a same) ∙ waits)),
-  )
+  looks_choosing v said h = (h.0, λ n. (h.1 n, refl, λ same waits. (h.1 n).waits same (ap (λ m. waits_at_terminate (waiting_of v m)) (who-is n a same) ∙ waits)))
 
   looked_choosing : (v w : World) (said : List Said) → Holds (ChoosingSince p s a v) w said → Holds (Choosing p s a) w said
   looked_choosing v w said h = holds-also (ChoosingSince p s a v) (Choosing p s a) (λ d n c l k. k.0) w said h
 
-  choosing_begun : (v : World) (name : Who) → same_who name a ≡ false → is_fresh v.drawn.tasks name ≡ false
-      → Readies p (ChoosingSince p s a v) (ChoosingSince p s a v) name (OfOther name)
+  choosing_begun : (v : World) (name : Who) → same_who name a ≡ false → is_fresh v.drawn.tasks name ≡ false → Readies p (ChoosingSince p s a v) (ChoosingSince p s a v) name (OfOther name)
   choosing_begun v name apart is_drawn =
       begun_readies (ChoosingSince p s a v) (ChoosingSince p s a v) v.drawn.tasks name apart is_drawn (λ d n c l e h. h) (λ d c l h. ((h.0.calm apart).0, h.1))
-      (λ d c l runs size good. (
-        good-choosing p s a d name c l (λ same. clash_of (same_who name a) same apart) good,
-        size,
-        λ same. clash_of (same_who name a) same apart,
-      ))
+      (λ d c l runs size good. (good-choosing p s a d name c l (λ same. clash_of (same_who name a) same apart) good, size, λ same. clash_of (same_who name a) same apart))
 
-  edits-holds : (P Q : Point) (name : Who) (f : Task → Task) → ((t : Task) → (f t).who ≡ t.who)
-      → ((t : Task) → Unactivated t.inherited → Unactivated (f t).inherited) → Turns P Q name f → Leads (Holds P) (Holds Q) (changes (edit_task name f))
-  edits-holds P Q name f named frees turns =
-      changes-leads (edit_task name f) (λ w said h. holds-edit P Q name f w said named (sound-edit name f w named frees (holds-sound P w said h)) turns h)
+  edits-holds : (P Q : Point) (name : Who) (f : Task → Task) → ((t : Task) → (f t).who ≡ t.who) → ((t : Task) → Unactivated t.inherited → Unactivated (f t).inherited) → Turns P Q name f
+      → Leads (Holds P) (Holds Q) (changes (edit_task name f))
+  edits-holds P Q name f named frees turns = changes-leads (edit_task name f) (λ w said h. holds-edit P Q name f w said named (sound-edit name f w named frees (holds-sound P w said h)) turns h)
 
-  runs_on_choosing : (v : World) → waits_at_terminate (waiting_of v a) ≡ true
-      → Keeps (Held (ChoosingSince p s a v)) (changes (edit_task a (with_state Runnable)))
+  runs_on_choosing : (v : World) → waits_at_terminate (waiting_of v a) ≡ true → Keeps (Held (ChoosingSince p s a v)) (changes (edit_task a (with_state Runnable)))
   runs_on_choosing v waits =
       edits-holds (ChoosingSince p s a v) (ChoosingSince p s a v) a (with_state Runnable) (λ t. refl) (λ t k. k)
       (keeps_turns p s a (ChoosingSince p s a v) a (with_state Runnable) (λ d t l is h. (
@@ -261,8 +242,8 @@ module _ (p : Image) (s : List Placed) (a : Who) where
       )))
 
   -- who acts says that it blocks
-  shown_but : (n : Who) (c : Core) (l : Last) → same_who n a ≡ false
-      → IsShownRightly p s a n c l ⊎ ((same_who n a ≡ true) × (waits_at_terminate (waiting_in c.state) ≡ true)) → IsShownRightly p s a n c l
+  shown_but : (n : Who) (c : Core) (l : Last) → same_who n a ≡ false → IsShownRightly p s a n c l ⊎ ((same_who n a ≡ true) × (waits_at_terminate (waiting_in c.state) ≡ true))
+      → IsShownRightly p s a n c l
   shown_but n c l apart (inl h) = h
   shown_but n c l apart (inr h) = clash_of (same_who n a) h.0 apart
 
@@ -291,8 +272,7 @@ module _ (p : Image) (s : List Placed) (a : Who) where
     own = λ d c l h. subst (Good p s a d a c) (sym (block-put l)) (blocked-good p s a d a c (Some (TheBlock, None)) (same_self a) (h.1 (same_self a)) refl);
   }
 
-  says_blocked_choosing : (waiting : Waiting)
-      → Leads (With (Held (Choosing p s a)) (λ w. waits_at_terminate (waiting_of w a) ≡ true)) (Held (Good p s a)) (says_block TheBlock a waiting)
+  says_blocked_choosing : (waiting : Waiting) → Leads (With (Held (Choosing p s a)) (λ w. waits_at_terminate (waiting_of w a) ≡ true)) (Held (Good p s a)) (says_block TheBlock a waiting)
   unfolding says_block AtTerminate
   says_blocked_choosing waiting =
       from-leads _ (λ w said h. holds-knowing (Choosing p s a) a (λ d c. waits_at_terminate (waiting_in c.state) ≡ true) w said h.1 h.0)
@@ -323,8 +303,7 @@ module _ (p : Image) (s : List Placed) (a : Who) where
       → EachTask (λ t. same_who a t.who ≡ true → waits_at_terminate (waiting_in t.state) ≡ true → waits_at_terminate (waiting_of v a) ≡ true) v.tasks
   waits_each v said h =
       each-on (IsThere v) (λ t. same_who a t.who ≡ true → waits_at_terminate (waiting_in t.state) ≡ true → waits_at_terminate (waiting_of v a) ≡ true) v.tasks
-      (λ t there same waits.
-      ap (λ m. waits_at_terminate (waiting_of v m)) (who-is a t.who same) ∙ ap (λ u. waits_at_terminate (waiting_in u.state)) there.found ∙ waits)
+      (λ t there same waits. ap (λ m. waits_at_terminate (waiting_of v m)) (who-is a t.who same) ∙ ap (λ u. waits_at_terminate (waiting_in u.state)) there.found ∙ waits)
       (all_there v (holds-sound (Choosing p s a) v said h))
 
   choosing_moves : SelectMoves p a IsListed (Held (Choosing p s a)) (Held (Good p s a)) (λ v. Held (ChoosingSince p s a v))
@@ -335,9 +314,7 @@ module _ (p : Image) (s : List Placed) (a : Who) where
     looks_at = looks_choosing;
     looked = looked_choosing;
     looking = λ v. holds_quiet (ChoosingSince p s a v);
-    begins =
-        λ v name apart listed.
-        ready-holds p (ChoosingSince p s a v) (ChoosingSince p s a v) name (OfOther name) (choosing_begun v name (apart-sym a name apart) listed);
+    begins = λ v name apart listed. ready-holds p (ChoosingSince p s a v) (ChoosingSince p s a v) name (OfOther name) (choosing_begun v name (apart-sym a name apart) listed);
     waits = waits_each;
     runs_on = runs_on_choosing;
     says_blocked = says_blocked_choosing;
@@ -360,24 +337,20 @@ module _ (p : Image) (s : List Placed) (a : Who) where
     missed = λ d l task h. nobody-runs (h.1 (same_self a)).1;
   }
 
-  selects : (waiting : Waiting) → waits_at_terminate (Some waiting) ≡ true
-      → Leads (Held (First p s a)) (Held (Choosing p s a)) (changes (edit_task a (with_state (Blocked waiting))))
+  selects : (waiting : Waiting) → waits_at_terminate (Some waiting) ≡ true → Leads (Held (First p s a)) (Held (Choosing p s a)) (changes (edit_task a (with_state (Blocked waiting))))
   selects waiting waits = edits-holds (First p s a) (Choosing p s a) a (with_state (Blocked waiting)) (λ t. refl) (λ t k. k) (select_turns waiting waits)
 
   -- a moment is appointed for it
-  appoints-holds : (P : Point) → ((d : ℕ) (c : Core) (l : Last) → P d a c l → is_fresh d a ≡ false) → (t : TaskNo) (moment : ℤ) → who.Task t ≡ a
-      → Alters (Holds P) (appoint (due_for.Delay t) moment)
+  appoints-holds : (P : Point) → ((d : ℕ) (c : Core) (l : Last) → P d a c l → is_fresh d a ≡ false) → (t : TaskNo) (moment : ℤ) → who.Task t ≡ a → Alters (Holds P) (appoint (due_for.Delay t) moment)
   appoints-holds P acts t moment is = record {
     turns = λ w said h.
         holds-plain P w (appoint (due_for.Delay t) moment w) said refl refl refl
-        (sound-appoint t moment w (ap (is_fresh w.drawn.tasks) is ∙ acts w.drawn.tasks (core (task_of w a)) (last_put a said) (holds-of P w said a h))
-        (holds-sound P w said h)) h;
+        (sound-appoint t moment w (ap (is_fresh w.drawn.tasks) is ∙ acts w.drawn.tasks (core (task_of w a)) (last_put a said) (holds-of P w said a h)) (holds-sound P w said h)) h;
   }
 
   -- ---- tasks that were made end
 
-  since_now : (v : World) (rest : List Task) (said : List Said) → EachTask (λ t. IsUnmade p s a v t.who) rest → Holds Whole v said
-      → Holds (Since p s a v rest) v said
+  since_now : (v : World) (rest : List Task) (said : List Said) → EachTask (λ t. IsUnmade p s a v t.who) rest → Holds Whole v said → Holds (Since p s a v rest) v said
   unfolding Holds
   since_now v rest said unmade h = (h.0, λ n. (h.1 n, refl, (λ sleeps. sleeps), (λ among. among_made p s a v n rest unmade among)))
 
@@ -385,15 +358,12 @@ module _ (p : Image) (s : List Placed) (a : Who) where
   since_then v w rest said h = holds-also (Since p s a v rest) Whole (λ d n c l k. k.0) w said h
 
   since_less : (v w : World) (t : Task) (rest : List Task) (said : List Said) → Holds (Since p s a v (t ∷ rest)) w said → Holds (Since p s a v rest) w said
-  since_less v w t rest said h =
-      holds-also (Since p s a v (t ∷ rest)) (Since p s a v rest)
-      (λ d n c l k. (k.0, k.1, k.2, λ among. k.3 (or_right (same_who n t.who) (is_among n rest) among))) w said h
+  since_less v w t rest said h = holds-also (Since p s a v (t ∷ rest)) (Since p s a v rest) (λ d n c l k. (k.0, k.1, k.2, λ among. k.3 (or_right (same_who n t.who) (is_among n rest) among))) w said h
 
   unmade_state : {P : Type 0} (v : World) (t : Task) → IsThere v t → is_made t ≡ true → runs_in (core (task_of v t.who)) ≡ true → P
   unmade_state v t there made runs = made-apart t.state made (ap (λ u. is_runnable_state u.state) (sym there.found) ∙ runs)
 
-  unmade_as : (v : World) (t : Task) → IsThere v t → is_made t ≡ true → (same_who t.who a ≡ true → runs_in (core (task_of v t.who)) ≡ true)
-      → IsUnmade p s a v t.who
+  unmade_as : (v : World) (t : Task) → IsThere v t → is_made t ≡ true → (same_who t.who a ≡ true → runs_in (core (task_of v t.who)) ≡ true) → IsUnmade p s a v t.who
   unmade_as v t there made acts = record {
     other = by_test (same_who t.who a) (λ same. unmade_state v t there made (acts same)) (λ apart. apart);
     unblocked = ap (λ u. is_blocked u.state) there.found ∙ made-unblocked t.state made;
@@ -409,18 +379,16 @@ module _ (p : Image) (s : List Placed) (a : Who) where
 
   asleep_each : (P : Point) (w : World) (said : List Said) → Holds P w said → EachTask (λ t. is_blocked t.state ≡ true → Sleeping_in w t.who) w.tasks
   asleep_each P w said h =
-      each-on (IsThere w) (λ t. is_blocked t.state ≡ true → Sleeping_in w t.who) w.tasks (λ t there sleeps. ap (λ u. is_blocked u.state) there.found ∙ sleeps)
-      (all_there w (holds-sound P w said h))
+      each-on (IsThere w) (λ t. is_blocked t.state ≡ true → Sleeping_in w t.who) w.tasks (λ t there sleeps. ap (λ u. is_blocked u.state) there.found ∙ sleeps) (all_there w (holds-sound P w said h))
 
   -- who has only been made stands nowhere, so what it is placed by may change
-  made-at : (n : Who) (u : Task) (e : Core) (l : Last) → (is_agent n ≡ false → same_who n u.who ≡ true) → is_made_state u.state ≡ true
-      → IsShownRightly p s a n (core u) l → IsAt p (place p s a n l) e
+  made-at : (n : Who) (u : Task) (e : Core) (l : Last) → (is_agent n ≡ false → same_who n u.who ≡ true) → is_made_state u.state ≡ true → IsShownRightly p s a n (core u) l → IsAt p (place p s a n l) e
   made-at n u e l named made (inl runs) = made-apart u.state made runs
   made-at n u e l named made (inr (inl hidden)) = at-out p (place p s a n l) e hidden
   made-at n u e l named made (inr (inr absent)) = not-absent n u (λ x. x) named refl absent
 
-  made-alters : (v : World) (rest : List Task) (name : Who) (f : Task → Task) → IsUnmade p s a v name → is_among name rest ≡ true
-      → ((t : Task) → (f t).who ≡ t.who) → ((t : Task) → (f t).state ≡ t.state) → Alters (Held (Since p s a v rest)) (edit_task name f)
+  made-alters : (v : World) (rest : List Task) (name : Who) (f : Task → Task) → IsUnmade p s a v name → is_among name rest ≡ true → ((t : Task) → (f t).who ≡ t.who)
+      → ((t : Task) → (f t).state ≡ t.state) → Alters (Held (Since p s a v rest)) (edit_task name f)
   made-alters v rest (who.Task n) f made among named same = record {
     turns = λ w said h.
         holds-edit (Since p s a v rest) (Since p s a v rest) (who.Task n) f w said named (sound-task n f w named (holds-sound (Since p s a v rest) w said h))
@@ -436,19 +404,15 @@ module _ (p : Image) (s : List Placed) (a : Who) where
   first-among : (t : Task) (rest : List Task) → is_among t.who (t ∷ rest) ≡ true
   first-among t rest = ap (λ b. b || is_among t.who rest) (same_self t.who)
 
-  activation-alters : (v : World) (t : Task) (rest : List Task) (level : ℕ) → IsUnmade p s a v t.who
-      → Alters (Held (Since p s a v (t ∷ rest))) (inherit t.who inherited_by.Activation level)
+  activation-alters : (v : World) (t : Task) (rest : List Task) (level : ℕ) → IsUnmade p s a v t.who → Alters (Held (Since p s a v (t ∷ rest))) (inherit t.who inherited_by.Activation level)
   activation-alters v t rest level made =
-      made-alters v (t ∷ rest) t.who (λ u. record u { inherited = record { cause = inherited_by.Activation; level = level } ∷ u.inherited }) made
-      (first-among t rest) (λ u. refl) (λ u. refl)
+      made-alters v (t ∷ rest) t.who (λ u. record u { inherited = record { cause = inherited_by.Activation; level = level } ∷ u.inherited }) made (first-among t rest) (λ u. refl) (λ u. refl)
 
   dated-alters : (v : World) (t : Task) (rest : List Task) (activator : Who) (now_at : ℕ) → IsUnmade p s a v t.who
       → Alters (Held (Since p s a v (t ∷ rest))) (edit_task t.who (activated_task activator now_at))
-  dated-alters v t rest activator now_at made =
-      made-alters v (t ∷ rest) t.who (activated_task activator now_at) made (first-among t rest) (λ u. refl) (λ u. refl)
+  dated-alters v t rest activator now_at made = made-alters v (t ∷ rest) t.who (activated_task activator now_at) made (first-among t rest) (λ u. refl) (λ u. refl)
 
-  made_places : (v : World) (rest : List Task) (name : Who) → IsUnmade p s a v name → is_among name rest ≡ true
-      → Places (Since p s a v rest) (Ending p s a v rest name) name (OfOther name) nowhere
+  made_places : (v : World) (rest : List Task) (name : Who) → IsUnmade p s a v name → is_among name rest ≡ true → Places (Since p s a v rest) (Ending p s a v rest name) name (OfOther name) nowhere
   unfolding nowhere
   made_places v rest name made among = record {
     others = λ d n c l apart h. (h, (λ same. clash_of (same_who n name) same apart), made);
@@ -462,10 +426,7 @@ module _ (p : Image) (s : List Placed) (a : Who) where
                 shown = inr (inl out);
                 fresh = λ e. out;
                 ready = λ runs. made-apart c.state (h.3 among) runs;
-                calm = λ apart. (
-                  put-free (limit p s a name) (OfOther name) l None (fits_other p s a name) (h.0.0.calm apart).0,
-                  λ sleeps. made-asleep c.state (h.3 among) sleeps,
-                );
+                calm = λ apart. (put-free (limit p s a name) (OfOther name) l None (fits_other p s a name) (h.0.0.calm apart).0, λ sleeps. made-asleep c.state (h.3 among) sleeps);
               },
               λ same. clash_of (same_who name a) same made.other,
             ),
@@ -480,8 +441,7 @@ module _ (p : Image) (s : List Placed) (a : Who) where
 
   ends_made : (v : World) (rest : List Task) (name : Who) → IsUnmade p s a v name → is_among name rest ≡ true
       → Leads (Held (Since p s a v rest)) (Held (Ending p s a v rest name)) (says_done (OfOther name) name)
-  ends_made v rest (who.Task t) made among =
-      done-holds (Since p s a v rest) (Ending p s a v rest (who.Task t)) (OfOther (who.Task t)) t (made_places v rest (who.Task t) made among)
+  ends_made v rest (who.Task t) made among = done-holds (Since p s a v rest) (Ending p s a v rest (who.Task t)) (OfOther (who.Task t)) t (made_places v rest (who.Task t) made among)
   ends_made v rest who.Agent made among = clash_of (is_agent who.Agent) refl made.task
 
   abbrev less : Task → Task
@@ -491,8 +451,7 @@ module _ (p : Image) (s : List Placed) (a : Who) where
       → Holds (Ending p s a v rest name) (lose name inherited_by.Activation w) said
   ended_loses v rest name w said h =
       holds-edit (Ending p s a v rest name) (Ending p s a v rest name) name less w said (λ t. refl)
-      (sound-edit name less w (λ t. refl) (λ t k. unactivated_without (λ i. same_cause inherited_by.Activation i.cause) t.inherited k)
-      (holds-sound (Ending p s a v rest name) w said h))
+      (sound-edit name less w (λ t. refl) (λ t k. unactivated_without (λ i. same_cause inherited_by.Activation i.cause) t.inherited k) (holds-sound (Ending p s a v rest name) w said h))
       (keeps_turns p s a (Ending p s a v rest name) name less (λ d t l is k. (
         (later-kept p s a d name t (core (less t)) l is refl (at-out p (place p s a name l) (core (less t)) (k.1 (same_self name))) k.0.0, k.0.1, k.0.2, k.0.3),
         k.1,
@@ -559,21 +518,18 @@ module _ (p : Image) (s : List Placed) (a : Who) where
   ends_as (who.Task t) is = done-holds (First p s a) (Dying p s a) Own t (last_places t is)
   ends_as who.Agent is = nothing-leads (λ w said h. holds-also (First p s a) (Dying p s a) (λ d n c l k. first-dying d n c l is k) w said h)
 
-  dying_loses : (name : Who) → name ≡ a → (w : World) (said : List Said) → Holds (Dying p s a) w said
-      → Holds (Dying p s a) (lose name inherited_by.Activation w) said
+  dying_loses : (name : Who) → name ≡ a → (w : World) (said : List Said) → Holds (Dying p s a) w said → Holds (Dying p s a) (lose name inherited_by.Activation w) said
   dying_loses (who.Task n) is w said h =
       holds-edit (Dying p s a) (Dying p s a) (who.Task n) less w said (λ t. refl) (sound-task n less w (λ t. refl) (holds-sound (Dying p s a) w said h))
       (keeps_turns p s a (Dying p s a) (who.Task n) less (λ d t l named k. (
         (λ apart. clash_of (same_who (who.Task n) a) (ap (same_who (who.Task n)) (sym is) ∙ same_self (who.Task n)) apart),
-        (λ same. let o = k.1 same in
-            record { late = o.late; runs = o.runs; fresh = o.fresh; task = o.task; agent = λ agent. absurd (let clash : false ≡ true = agent in cc) }),
+        (λ same. let o = k.1 same in record { late = o.late; runs = o.runs; fresh = o.fresh; task = o.task; agent = λ agent. absurd (let clash : false ≡ true = agent in cc) }),
       ))) h
   dying_loses who.Agent is w said h =
       (holds_quiet (Dying p s a)).silently w (lose who.Agent inherited_by.Activation w) said
       (record {
         tasks = refl;
-        agent =
-            ap (λ inherited. core (record w.agent { inherited = inherited })) (unactivated-loses w.agent.inherited (holds-sound (Dying p s a) w said h).agent);
+        agent = ap (λ inherited. core (record w.agent { inherited = inherited })) (unactivated-loses w.agent.inherited (holds-sound (Dying p s a) w said h).agent);
         objects = refl;
         drawn_tasks = refl;
         drawn_objects = refl;
@@ -615,11 +571,7 @@ module _ (p : Image) (s : List Placed) (a : Who) where
   -- ---- a task is created
 
   new-same : (t : Task) (u w : World) → Same u w → IsNew p t u → IsNew p t w
-  new-same t u w same new = record {
-    numbered = new.numbered ∙ ap (λ n. who.Task (record { 0 = n })) (sym same.drawn_tasks);
-    made = new.made;
-    undeferred = new.undeferred;
-  }
+  new-same t u w same new = record { numbered = new.numbered ∙ ap (λ n. who.Task (record { 0 = n })) (sym same.drawn_tasks); made = new.made; undeferred = new.undeferred }
 
   goes_new : (onward : Option StatementNo) (t : Task) → Keeps (With (Held (First p s a)) (IsNew p t)) (goes a onward)
   unfolding goes
@@ -634,8 +586,8 @@ module _ (p : Image) (s : List Placed) (a : Who) where
     λ same. (drawn-more d n (h.1 same).0, (h.1 same).1),
   )
 
-  added-is : (d : ℕ) (n : Who) (t : Task) (before : Core) (l : Last) → t.who ≡ who.Task (record { 0 = d }) → is_made t ≡ true → same_who n t.who ≡ true
-      → before ≡ core nobody → First p s a d n before l → Later p s a (suc d) n (core t) l
+  added-is : (d : ℕ) (n : Who) (t : Task) (before : Core) (l : Last) → t.who ≡ who.Task (record { 0 = d }) → is_made t ≡ true → same_who n t.who ≡ true → before ≡ core nobody
+      → First p s a d n before l → Later p s a (suc d) n (core t) l
   added-is d n t before l numbered made named was h =
       let hidden = h.0.fresh (ap (is_fresh d) (who-is n t.who named ∙ numbered) ∙ fresh-next d) in (
         record {
@@ -649,40 +601,32 @@ module _ (p : Image) (s : List Placed) (a : Who) where
         λ same. nobody-runs (subst (λ c. runs_in c ≡ true) was (h.1 same).1),
       )
 
-  added_as : (d : ℕ) (n : Who) (t : Task) (before behind : Core) (l : Last) → t.who ≡ who.Task (record { 0 = d }) → is_made t ≡ true
-      → (behind ≡ before) ⊎ AddedAs t n before behind → First p s a d n before l → Later p s a (suc d) n behind l
+  added_as : (d : ℕ) (n : Who) (t : Task) (before behind : Core) (l : Last) → t.who ≡ who.Task (record { 0 = d }) → is_made t ≡ true → (behind ≡ before) ⊎ AddedAs t n before behind
+      → First p s a d n before l → Later p s a (suc d) n behind l
   added_as d n t before behind l numbered made (inl same) h = subst (λ c. Later p s a (suc d) n c l) (sym same) (added-was d n before l h)
-  added_as d n t before behind l numbered made (inr one) h =
-      subst (λ c. Later p s a (suc d) n c l) (sym one.is) (added-is d n t before l numbered made one.named one.was h)
+  added_as d n t before behind l numbered made (inr one) h = subst (λ c. Later p s a (suc d) n c l) (sym one.is) (added-is d n t before l numbered made one.named one.was h)
 
   adds : (t : Task) → Leads (With (Held (First p s a)) (IsNew p t)) (Held Whole) (changes (add_task t))
   unfolding Holds
   adds t =
       changes-leads (add_task t) (λ w said h. (
         sound-add t w h.1.numbered h.0.0,
-        λ n. added_as w.drawn.tasks n t (core (task_of w n)) (core (task_of (add_task t w) n)) (last_put n said) h.1.numbered h.1.made (add-found t w n)
-            (h.0.1 n),
+        λ n. added_as w.drawn.tasks n t (core (task_of w n)) (core (task_of (add_task t w) n)) (last_put n said) h.1.numbered h.1.made (add-found t w n) (h.0.1 n),
       ))
 
   thing_set : (id : Option ScopeId) (d : DeclNo)
-      → Keeps (Held Whole)
-      (for_some id
-      (λ within. looks (λ w. changes (set_thing p (record { within = within; declared = d }) (value_of.Task (Some (record { 0 = w.drawn.tasks - 1 })))))))
+      → Keeps (Held Whole) (for_some id (λ within. looks (λ w. changes (set_thing p (record { within = within; declared = d }) (value_of.Task (Some (record { 0 = w.drawn.tasks - 1 })))))))
   thing_set id d =
       for_some-keeps id _
-      (λ within. looks-keeps _
-      (λ w. changes-keeps _
-      (same-alters (holds_quiet Whole) _
-      (set_thing-same p (record { within = within; declared = d }) (value_of.Task (Some (record { 0 = w.drawn.tasks - 1 })))))))
+      (λ within.
+      looks-keeps _ (λ w. changes-keeps _ (same-alters (holds_quiet Whole) _ (set_thing-same p (record { within = within; declared = d }) (value_of.Task (Some (record { 0 = w.drawn.tasks - 1 })))))))
 
-  creates_later : (st : StatementNo) (d : DeclNo) (id : Option ScopeId) (t : Task)
-      → Leads (With (Held (First p s a)) (IsNew p t)) (Held Whole) (create_task p a st d id t)
+  creates_later : (st : StatementNo) (d : DeclNo) (id : Option ScopeId) (t : Task) → Leads (With (Held (First p s a)) (IsNew p t)) (Held Whole) (create_task p a st d id t)
   unfolding create_task says_created
   creates_later st d id t =
       then-leads (goes a (next_of p st)) _ (goes_new (next_of p st) t)
       (then-leads (changes (add_task t)) _ (adds t)
-      (then-leads (for_some id _) _ (thing_set id d)
-      (looks-keeps _ (λ w. keeps_says Whole Own (line.New (created.Task (record { 0 = w.drawn.tasks - 1 })) (Some d) t.base) (λ n. refl)))))
+      (then-leads (for_some id _) _ (thing_set id d) (looks-keeps _ (λ w. keeps_says Whole Own (line.New (created.Task (record { 0 = w.drawn.tasks - 1 })) (Some d) t.base) (λ n. refl)))))
 
   -- ---- a call that is sent on ends before the acceptor becomes ready
 
@@ -705,8 +649,7 @@ module _ (p : Image) (s : List Placed) (a : Who) where
     );
   }
 
-  asleep-drawn : (n : Who) (w : World) → sleeps_in (core (task_of w n)) ≡ true → IsAbsent n (core (task_of w n)) ⊎ (is_fresh w.drawn.tasks n ≡ false)
-      → is_fresh w.drawn.tasks n ≡ false
+  asleep-drawn : (n : Who) (w : World) → sleeps_in (core (task_of w n)) ≡ true → IsAbsent n (core (task_of w n)) ⊎ (is_fresh w.drawn.tasks n ≡ false) → is_fresh w.drawn.tasks n ≡ false
   asleep-drawn n w sleeps (inl absent) = nobody-sleeps (subst (λ c. sleeps_in c ≡ true) absent.1 sleeps)
   asleep-drawn n w sleeps (inr drawn) = drawn
 
@@ -739,36 +682,16 @@ module _ (p : Image) (s : List Placed) (a : Who) where
   met t = record {
     between = Met (who.Task t);
     others = λ d n c l apart h. h.0;
-    own =
-        λ d u l h. let k = h.1 (same_self (who.Task t)) in
-        record { late = h.0.0.late; may = k.0; free = λ apart. (h.0.0.calm apart).0; drawn = k.1; runs = inl refl; acts = λ same. refl };
+    own = λ d u l h. let k = h.1 (same_self (who.Task t)) in record { late = h.0.0.late; may = k.0; free = λ apart. (h.0.0.calm apart).0; drawn = k.1; runs = inl refl; acts = λ same. refl };
     missed =
         λ d l task h. let k = h.1 (same_self (who.Task t)) in
-        record {
-          late = h.0.0.late;
-          may = k.0;
-          free = λ apart. (h.0.0.calm apart).0;
-          drawn = k.1;
-          runs = inr (task, refl);
-          acts = λ same. nobody-acts p s a l (h.0.1 same).1;
-        };
-    keeps = λ d u l level named h. record {
-      late = h.late;
-      may = h.may;
-      free = h.free;
-      drawn = h.drawn;
-      runs = begun_runs (who.Task t) u level named h.runs;
-      acts = h.acts;
-    };
-    places = λ d c l h. (
-      placed-good p s a d (who.Task t) c l TheFinish (fits_finish p s a (who.Task t)) h.drawn h.late h.may h.runs h.free,
-      λ same. (h.drawn, h.acts same),
-    );
+        record { late = h.0.0.late; may = k.0; free = λ apart. (h.0.0.calm apart).0; drawn = k.1; runs = inr (task, refl); acts = λ same. nobody-acts p s a l (h.0.1 same).1 };
+    keeps = λ d u l level named h. record { late = h.late; may = h.may; free = h.free; drawn = h.drawn; runs = begun_runs (who.Task t) u level named h.runs; acts = h.acts };
+    places = λ d c l h. (placed-good p s a d (who.Task t) c l TheFinish (fits_finish p s a (who.Task t)) h.drawn h.late h.may h.runs h.free, λ same. (h.drawn, h.acts same));
   }
 
   meets_later : (t : TaskNo) (st : StatementNo) (c : Call)
-      → Leads (With (Held Whole) (λ w. Sleeping_in w (who.Task t))) (Held Whole)
-      (meet_without_room p TheFinish (who.Task t) st c (deliver p TheFinish c.number (call_ended.ToRaise exception.Storage)))
+      → Leads (With (Held Whole) (λ w. Sleeping_in w (who.Task t))) (Held Whole) (meet_without_room p TheFinish (who.Task t) st c (deliver p TheFinish c.number (call_ended.ToRaise exception.Storage)))
   unfolding OfFinish
   meets_later t st c =
       from-leads _ (λ w said h. meeting_starts t w said h.0 h.1)
@@ -776,8 +699,7 @@ module _ (p : Image) (s : List Placed) (a : Who) where
       (then-leads (finish_without_room TheFinish (who.Task t) c) _ (finish_without_room-keeps (holds_quiet (Meeting t)) TheFinish (who.Task t) c)
       (then-leads (deliver p TheFinish c.number (call_ended.ToRaise exception.Storage)) _
       (deliver-keeps (base_moves (Meeting t) (meeting_wakeful t)) TheFinish c.number (call_ended.ToRaise exception.Storage) (λ name. refl))
-      (then-leads (ready p TheFinish (who.Task t)) _ (ready-holds p (Meeting t) Whole (who.Task t) TheFinish (met t))
-      (raises-keeps (holds_quiet Whole) TheFinish (who.Task t) exception.Storage)))))
+      (then-leads (ready p TheFinish (who.Task t)) _ (ready-holds p (Meeting t) Whole (who.Task t) TheFinish (met t)) (raises-keeps (holds_quiet Whole) TheFinish (who.Task t) exception.Storage)))))
 
   -- ---- protected objects
 
@@ -786,11 +708,8 @@ module _ (p : Image) (s : List Placed) (a : Who) where
   made_object l u =
       then-keeps (changes (with_object p l u)) _
       (changes-leads (with_object p l u)
-      (λ w said h. holds-plain Whole w (with_object p l u w) said refl refl refl
-      (sound-plain w (with_object p l u w) refl refl refl refl (holds-sound Whole w said h)) h))
-      (looks-keeps _
-      (λ w.
-      keeps_says Whole Own (line.New (created.Object (record { 0 = w.drawn.objects })) (Some l.declared) (protected_unit_of p u).ceiling) (λ n. refl)))
+      (λ w said h. holds-plain Whole w (with_object p l u w) said refl refl refl (sound-plain w (with_object p l u w) refl refl refl refl (holds-sound Whole w said h)) h))
+      (looks-keeps _ (λ w. keeps_says Whole Own (line.New (created.Object (record { 0 = w.drawn.objects })) (Some l.declared) (protected_unit_of p u).ceiling) (λ n. refl)))
 
   -- ---- all of an effect
 
@@ -802,9 +721,8 @@ module _ (p : Image) (s : List Placed) (a : Who) where
     inherits_running = gained_later p s a;
   }
 
-  pub effect_moves : ActingMoves p a (Fits p s a) Sleeping_in anywhere IsListed (IsUnmade p s a) (Held (First p s a)) (Held Whole) (Held (Undated p s a a))
-      (Held (Choosing p s a)) (Held Rested) (Held (Good p s a)) (Held (Dying p s a)) (Held (Gone p s a)) (λ before. Held (Owing p s a before))
-      (λ v. Held (ChoosingSince p s a v))
+  pub effect_moves : ActingMoves p a (Fits p s a) Sleeping_in anywhere IsListed (IsUnmade p s a) (Held (First p s a)) (Held Whole) (Held (Undated p s a a)) (Held (Choosing p s a)) (Held Rested)
+      (Held (Good p s a)) (Held (Dying p s a)) (Held (Gone p s a)) (λ before. Held (Owing p s a before)) (λ v. Held (ChoosingSince p s a v))
       (λ v rest. Held (Since p s a v rest)) (λ v rest name. Held (Ending p s a v rest name))
   effect_moves = record {
     fresh = holds_quiet (First p s a);
@@ -859,7 +777,5 @@ module _ (p : Image) (s : List Placed) (a : Who) where
     makes = made_object;
     may = λ w o mode e. tt;
     may_on = λ u w o same m. tt;
-    enters =
-        λ o mode.
-        from-leads (says Own (line.Enter a o mode)) (λ w said h. starts_later p s a w said h.0) (keeps_says Whole Own (line.Enter a o mode) (λ n. refl));
+    enters = λ o mode. from-leads (says Own (line.Enter a o mode)) (λ w said h. starts_later p s a w said h.0) (keeps_says Whole Own (line.Enter a o mode) (λ n. refl));
   }

@@ -14,7 +14,9 @@ mod ItemLemmas
 pub mod ReachedLemmas
 pub mod NumberLemmas
 pub mod RunLemmas
+mod QuietLemmas
 mod IdleLemmas
+mod BusyLemmas
 mod RepresentationLemmas
 mod OrderLemmas
 pub mod PlaceLemmas

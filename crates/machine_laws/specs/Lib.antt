@@ -1,3 +1,4 @@
+pub mod BusyLaws
 pub mod DispatchLaws
 pub mod DueLaws
 pub mod IdleLaws

@@ -1,4 +1,5 @@
 //! Runs: they stay within their bound, and end.
+ghost use Rattle.machine_laws.specs.BusyLaws.{BusyStretches};
 ghost use Rattle.machine_laws.specs.IdleLaws.{IdleStretches};
 ghost use Rattle.machine_laws.specs.RunLaws.{WorldsStayWithin, LinesStayWithin};
 ghost use Rattle.machine_laws.specs.RunLaws.{TicksNeverFall, RunsEnd};
@@ -28,4 +29,11 @@ pub fn runs_end()
 #[tactic(auto, using(crate::proofs::IdleLemmas::idle_stretches))]
 pub fn idle_stretches_say_nothing()
     ensures { IdleStretches }
+{}
+
+/// While an action of several ticks goes on and nothing is due, nothing is said, and only its ticks
+/// pass.
+#[tactic(auto, using(crate::proofs::BusyLemmas::busy_stretches))]
+pub fn busy_stretches_say_nothing()
+    ensures { BusyStretches }
 {}

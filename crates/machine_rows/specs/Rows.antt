@@ -100,7 +100,6 @@ pub mod RowRoom_adjust
 pub mod RowRoom_bodies
 pub mod RowRoom_handled
 pub mod RowRoom_operations
-pub mod RowRoom_tasks
 pub mod RowScopes_exits
 pub mod RowSelect_ended
 pub mod RowSelect_left

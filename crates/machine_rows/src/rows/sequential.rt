@@ -18,7 +18,6 @@ ghost use Rattle.machine_rows.specs.Rows.RowRoom_adjust.{row_room_adjust_lines, 
 ghost use Rattle.machine_rows.specs.Rows.RowRoom_bodies.{row_room_bodies_lines, row_room_bodies_trace, row_room_bodies_worlds, row_room_bodies_handlers};
 ghost use Rattle.machine_rows.specs.Rows.RowRoom_handled.{row_room_handled_lines, row_room_handled_trace};
 ghost use Rattle.machine_rows.specs.Rows.RowRoom_operations.{row_room_operations_lines, row_room_operations_trace, row_room_operations_worlds, row_room_operations_handlers};
-ghost use Rattle.machine_rows.specs.Rows.RowRoom_tasks.{row_room_tasks_lines, row_room_tasks_trace};
 ghost use Rattle.machine_rows.specs.Rows.RowScopes_exits.{row_scopes_exits_lines, row_scopes_exits_trace, row_scopes_exits_worlds, row_scopes_exits_handlers};
 ghost use Rattle.machine_rows.specs.Rows.RowValues_bounds.{row_values_bounds_lines, row_values_bounds_trace, row_values_bounds_worlds, row_values_bounds_handlers};
 ghost use Rattle.machine_rows.specs.Rows.RowValues_case.{row_values_case_lines, row_values_case_trace, row_values_case_worlds, row_values_case_handlers};
@@ -171,12 +170,6 @@ pub fn row_room_operations()
     ensures runs { row_room_operations_lines ≡ row_room_operations_trace }
     ensures keeps { IsTrue row_room_operations_worlds }
     ensures releases { IsTrue row_room_operations_handlers }
-{}
-
-/// Row room.tasks, up to tick 522.
-#[tactic(auto, using(crate::specs::Rows::RowRoom_tasks::row_room_tasks_runs))]
-pub fn row_room_tasks()
-    ensures { row_room_tasks_lines ≡ row_room_tasks_trace }
 {}
 
 /// Row scopes.exits, up to tick 94.

@@ -12,10 +12,11 @@ import table_tests    # noqa: E402
 
 
 def content(path, missing=None):
-    if not os.path.isfile(path):
+    try:
+        with open(path, "rb") as f:
+            return f.read()
+    except OSError:
         return missing
-    with open(path, "rb") as f:
-        return f.read()
 
 
 def default_ticks():
@@ -106,7 +107,7 @@ def perform(words, files, write, by_steps=True):
     asked = asked_of(words)
     if asked is None:
         return refused(Con("WordsRefused"))
-    source = load_text(asked.a[0]) if asked.n == "LoadAsked" else files(bytes(asked.a[0]).decode("latin-1"))
+    source = load_text(asked.a[0]) if asked.n == "LoadAsked" else files(os.fsdecode(bytes(asked.a[0])))
     if source is None:
         return refused(Con("ReadFault"))
     if asked.n == "TraceAsked":
@@ -120,7 +121,7 @@ def perform(words, files, write, by_steps=True):
         raise ValueError("the law of sequences with handlers does not speak of this image")
     items, ticks = (), None
     if asked.n == "ScriptAsked":
-        script = files(bytes(asked.a[1]).decode("latin-1"))
+        script = files(os.fsdecode(bytes(asked.a[1])))
         if script is None:
             return refused(Con("ReadFault"))
         items, fault = items_of(script)

@@ -22,6 +22,7 @@ sys.dont_write_bytecode = True
 import interpreter    # noqa: E402
 
 WRITE_FAULT = interpreter.refused(interpreter.Con("WriteFault"))
+WORDS_REFUSED = interpreter.refused(interpreter.Con("WordsRefused"))
 LONG = b"annexd: this takes long by the definitions; ./annexd --prove builds the proved program, once, which may take an hour\n"
 
 
@@ -30,6 +31,11 @@ class Unwritten(Exception):
 
 
 def write_to(output, text):
+    if output is None:
+        # it was closed when this script began
+        if text:
+            raise Unwritten
+        return
     try:
         output.buffer.write(text)
         output.flush()
@@ -39,7 +45,18 @@ def write_to(output, text):
         raise Unwritten
 
 
+def are_utf8(words):
+    """Are the words UTF-8? A byte of one that is not stands in it as a lone surrogate."""
+    try:
+        "".join(words).encode()
+    except UnicodeEncodeError:
+        return False
+    return True
+
+
 def performed():
+    if not are_utf8(sys.argv[1:]):
+        return WORDS_REFUSED
     try:
         return interpreter.perform(sys.argv[1:], interpreter.content, lambda text: write_to(sys.stdout, text))
     except Unwritten:

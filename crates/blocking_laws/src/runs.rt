@@ -23,14 +23,14 @@ pub fn right_moves_bound_blocking()
     protocol_bounds_blocking();
 }
 
-/// In every run only who has run up to then is placed before others, and only it enters an object:
-/// nobody else is preferred to those of its level (D.2.3).
+/// In every run only who has run up to then is placed before others, and only it enters an object
+/// or finds one held: nobody else is preferred to those of its level (D.2.3).
 pub fn only_who_runs_goes_before()
     ensures { RunsTellOwnLines }
 {}
 
-/// In every run whoever enters an object stands first in the ready queues at that line: nobody is
-/// placed before it in the effect of its action before the action has begun (D.2.1, 9.5.1).
+/// In every run whoever enters an object, or finds one held, stands first in the ready queues at
+/// that line: nobody is placed before it in the effect of its action before that (D.2.1, 9.5.1).
 pub fn who_enters_is_first()
     ensures { RunsEnterFirst }
 {}

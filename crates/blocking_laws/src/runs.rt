@@ -1,5 +1,8 @@
 //! Blocking in every run: laws of the profile machine's definitions alone, which hold of every
 //! program, script and bound. Each is the contract of a function that does nothing.
+ghost use Rattle.blocking_laws.specs.DatedLines.{RunsDateRightly};
+ghost use Rattle.blocking_laws.specs.LowLines.{RunsEnterLow};
+ghost use Rattle.blocking_laws.specs.NumberLines.{RunsNumberObjects};
 ghost use Rattle.blocking_laws.specs.OwnLines.{RunsEnterFirst, RunsTellOwnLines};
 ghost use Rattle.blocking_laws.specs.RunLaws.{RightMovesBoundBlocking};
 
@@ -33,4 +36,21 @@ pub fn only_who_runs_goes_before()
 /// that line: nobody is placed before it in the effect of its action before that (D.2.1, 9.5.1).
 pub fn who_enters_is_first()
     ensures { RunsEnterFirst }
+{}
+
+/// In every run the base priority of a task that enters an object is not above the object's
+/// ceiling, whatever the task has inherited (D.3).
+pub fn tasks_enter_at_their_base()
+    ensures { RunsEnterLow }
+{}
+
+/// In every run of a source whose interrupts have no deadlines only tasks are placed with one
+/// (D.2.6).
+pub fn only_tasks_have_deadlines()
+    ensures { RunsDateRightly }
+{}
+
+/// In every run each protected object that is made has a number that no object had.
+pub fn numbers_of_objects_are_new()
+    ensures { RunsNumberObjects }
 {}

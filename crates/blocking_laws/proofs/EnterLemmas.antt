@@ -1,6 +1,6 @@
--- Actions begin first: where who acts stands first in the queue that lines show, so it does at the line of an action that it begins.
-use Rattle.ceiling_laws.proofs.Runs.EnterLemmas.{AllQuiet, IsLate, NoEnter, is_enter, quiet-late, quiet-no_enter}
-use Rattle.ann_base.specs.declared.identities.ObjectNo.{ObjectNo}
+-- Who acts comes to its object first: where it stands first in the queue that lines show, so it does at the line of an action that it
+-- begins, and at the one by which it finds an object held.
+use Rattle.ceiling_laws.proofs.Runs.EnterLemmas.{AllQuiet}
 use Rattle.ceiling_laws.proofs.Runs.LevelMoves.{is_apart, said_so}
 use Rattle.profile_machine.specs.Lines.{event_of}
 use Rattle.profile_machine.specs.Steps.{in_order, is_part_before, put_in_order}
@@ -16,28 +16,53 @@ use Rattle.trace_text.specs.Queue.{queue_after}
 use Rattle.trace_text.specs.declared.events.Entry.{Entry}
 use Rattle.blocking_laws.specs.OwnLines.{is_first_entry}
 use Rattle.trace_text.specs.declared.events.Event.{Event}
-use Rattle.trace_text.specs.declared.events.Event.TheVariants as written
-use Rattle.trace_text.specs.declared.events.Mode.{Mode}
-use Rattle.trace_text.specs.declared.events.Who.{Who}
 
 -- ---- lines of an effect
+
+-- somebody enters an object, or finds one held
+abbrev pub is_coming : Line → Bool
+is_coming (line.Enter name object mode) = true
+is_coming (line.Held name object mode) = true
+is_coming _ = false
+
+abbrev pub NoneComes : List Said → Type 0
+NoneComes [] = Unit {0}
+NoneComes (x ∷ xs) = (is_coming x.line ≡ false) × NoneComes xs
+
+-- a line behind it: it says nothing of levels, or stands in a late part
+abbrev pub IsLate : Said → Type 0
+IsLate x = (is_coming x.line ≡ false) × ((is_apart x.line ≡ false) ⊎ (is_part_before x.part Own ≡ false))
 
 abbrev AllLate : List Said → Type 0
 AllLate [] = Unit {0}
 AllLate (x ∷ xs) = IsLate x × AllLate xs
 
--- the line of an action that begins rightly
+-- the line by which somebody comes to an object rightly
 pub record Begins (sight : List Entry) (x : Said) : Type 0 where
-  pub name : Who
-  pub object : ObjectNo
-  pub mode : Mode
-  pub said : x ≡ said_so Own (line.Enter name object mode)
-  pub first : is_first_entry sight (written.Enter name object mode) ≡ true
+  pub came : Line
+  pub said : x ≡ said_so Own came
+  pub first : (p : Image) → is_first_entry sight (event_of p came) ≡ true
 
 -- one such line behind lines that say nothing of levels
 abbrev pub Entered : List Entry → List Said → Type 0
 Entered sight [] = ⊥
 Entered sight (x ∷ xs) = ((is_apart x.line ≡ false) × Entered sight xs) ⊎ (Begins sight x × AllLate xs)
+
+pub quiet-is_coming : (x : Line) → is_apart x ≡ false → is_coming x ≡ false
+quiet-is_coming (line.Enter name object mode) e = e
+quiet-is_coming (line.Held name object mode) e = e
+quiet-is_coming _ e = refl
+
+pub all_quiet-none_comes : (xs : List Said) → AllQuiet xs → NoneComes xs
+all_quiet-none_comes [] q = tt
+all_quiet-none_comes (x ∷ xs) q = (quiet-is_coming x.line q.0, all_quiet-none_comes xs q.1)
+
+pub none_comes-append : (xs : List Said) (x : Said) → NoneComes xs → is_coming x.line ≡ false → NoneComes (xs ++ x ∷ [])
+none_comes-append [] x q e = (e, tt)
+none_comes-append (y ∷ ys) x q e = (q.0, none_comes-append ys x q.1 e)
+
+pub quiet-late : (x : Said) → is_apart x.line ≡ false → IsLate x
+quiet-late x e = (quiet-is_coming x.line e, inl e)
 
 all_late-append : (xs : List Said) (x : Said) → AllLate xs → IsLate x → AllLate (xs ++ x ∷ [])
 all_late-append [] x q e = (e, tt)
@@ -65,6 +90,18 @@ late-put x (y ∷ ys) h = late-test x y ys (put_in_order x ys) (is_part_before y
 late-in_order : (xs : List Said) → AllLate xs → AllLate (in_order xs)
 late-in_order [] h = h
 late-in_order (x ∷ xs) h = late-put x (in_order xs) (h.0, late-in_order xs h.1)
+
+none_comes-test : (x y : Said) (ys placed : List Said) (b : Bool) → NoneComes (x ∷ y ∷ ys) → NoneComes placed → NoneComes (cond b (y ∷ placed) (x ∷ y ∷ ys))
+none_comes-test x y ys placed true h k = (h.1.0, k)
+none_comes-test x y ys placed false h k = h
+
+none_comes-put : (x : Said) (ys : List Said) → NoneComes (x ∷ ys) → NoneComes (put_in_order x ys)
+none_comes-put x [] h = h
+none_comes-put x (y ∷ ys) h = none_comes-test x y ys (put_in_order x ys) (is_part_before y.part x.part) h (none_comes-put x ys (h.0, h.1.1))
+
+pub none_comes-in_order : (xs : List Said) → NoneComes xs → NoneComes (in_order xs)
+none_comes-in_order [] h = h
+none_comes-in_order (x ∷ xs) h = none_comes-put x (in_order xs) (h.0, none_comes-in_order xs h.1)
 
 quiet-test : (sight : List Entry) (x y : Said) (ys : List Said) (b : Bool) → is_apart x.line ≡ false → Entered sight (y ∷ ys)
     → (Entered sight ys → Entered sight (put_in_order x ys)) → Entered sight (cond b (y ∷ put_in_order x ys) (x ∷ y ∷ ys))
@@ -101,17 +138,18 @@ entered-in_order sight (x ∷ xs) (inr h) = begins-put sight x (in_order xs) h.0
 abbrev pub Lawful : List Entry → List Event → Type 0
 Lawful = Follow queue_after is_first_entry
 
-no_enter-lawful : (p : Image) (sight : List Entry) (x : Line) → is_enter x ≡ false → is_first_entry sight (event_of p x) ≡ true
-no_enter-lawful p sight (line.Enter name object mode) e = cc
-no_enter-lawful p sight _ e = refl
+coming-lawful : (p : Image) (sight : List Entry) (x : Line) → is_coming x ≡ false → is_first_entry sight (event_of p x) ≡ true
+coming-lawful p sight (line.Enter name object mode) e = cc
+coming-lawful p sight (line.Held name object mode) e = cc
+coming-lawful p sight _ e = refl
 
-pub no_enters-lawful : (p : Image) (sight : List Entry) (xs : List Said) → NoEnter xs → Lawful sight (events_of p xs)
-no_enters-lawful p sight [] h = tt
-no_enters-lawful p sight (x ∷ xs) h = (no_enter-lawful p sight x.line h.0, no_enters-lawful p (queue_after sight (event_of p x.line)) xs h.1)
+pub none_comes-lawful : (p : Image) (sight : List Entry) (xs : List Said) → NoneComes xs → Lawful sight (events_of p xs)
+none_comes-lawful p sight [] h = tt
+none_comes-lawful p sight (x ∷ xs) h = (coming-lawful p sight x.line h.0, none_comes-lawful p (queue_after sight (event_of p x.line)) xs h.1)
 
-late-no_enter : (xs : List Said) → AllLate xs → NoEnter xs
-late-no_enter [] h = tt
-late-no_enter (x ∷ xs) h = (h.0.0, late-no_enter xs h.1)
+late-none_comes : (xs : List Said) → AllLate xs → NoneComes xs
+late-none_comes [] h = tt
+late-none_comes (x ∷ xs) h = (h.0.0, late-none_comes xs h.1)
 
 quiet-sight : (p : Image) (sight : List Entry) (x : Line) → is_apart x ≡ false → queue_after sight (event_of p x) ≡ sight
 quiet-sight p sight (line.New what declared level) e = cc
@@ -120,15 +158,16 @@ quiet-sight p sight (line.Block who waits) e = cc
 quiet-sight p sight (line.Base task level) e = cc
 quiet-sight p sight (line.Done task) e = cc
 quiet-sight p sight (line.Enter who object mode) e = cc
+quiet-sight p sight (line.Held who object mode) e = cc
 quiet-sight p sight _ e = refl
 
 pub entered-lawful : (p : Image) (sight : List Entry) (xs : List Said) → Entered sight xs → Lawful sight (events_of p xs)
 entered-lawful p sight [] h = absurd h
 entered-lawful p sight (x ∷ xs) (inl h) = (
-  no_enter-lawful p sight x.line (quiet-no_enter x.line h.0),
+  coming-lawful p sight x.line (quiet-is_coming x.line h.0),
   subst (λ s. Lawful s (events_of p xs)) (sym (quiet-sight p sight x.line h.0)) (entered-lawful p sight xs h.1),
 )
 entered-lawful p sight (x ∷ xs) (inr h) = (
-  ap (λ (z : Said). is_first_entry sight (event_of p z.line)) h.0.said ∙ h.0.first,
-  no_enters-lawful p (queue_after sight (event_of p x.line)) xs (late-no_enter xs h.1),
+  ap (λ (z : Said). is_first_entry sight (event_of p z.line)) h.0.said ∙ h.0.first p,
+  none_comes-lawful p (queue_after sight (event_of p x.line)) xs (late-none_comes xs h.1),
 )

@@ -1,4 +1,4 @@
--- In every run whoever enters an object stands first in the ready queues.
+-- In every run whoever enters an object, or finds one held, stands first in the ready queues.
 use Rattle.ceiling_laws.proofs.Runs.Triples.{Leads}
 use Rattle.machine_laws.specs.LineKinds.{is_of_tock}
 use Rattle.machine_laws.proofs.LineLemmas.{tocks_say_ticks}
@@ -62,23 +62,22 @@ use Rattle.profile_machine.specs.Steps.{places_after, places_after_all}
 use Rattle.profile_machine.specs.Steps as steps
 use Rattle.std.proofs.Common.{inl, inr}
 use Rattle.trace_text.proofs.LawsFollowed.{lines_hold}
-use Rattle.trace_text.specs.Queue.{head_of, queue_after, who_of}
+use Rattle.trace_text.specs.Queue.{head_of, queue_after, somebody_eq, who_of}
 use Rattle.trace_text.specs.declared.events.Entry.{Entry}
-use Rattle.trace_text.specs.declared.events.Mode.{Mode}
-use Rattle.ann_base.specs.declared.identities.ObjectNo.{ObjectNo}
 use Rattle.ceiling_laws.proofs.Runs.FreeMoves.{FreeBase, FreeMoves, ready_by_line}
-use Rattle.ceiling_laws.proofs.Runs.Triples.{With}
+use Rattle.ceiling_laws.proofs.Runs.Triples.{to-leads}
+use Rattle.profile_machine.specs.Lines.{event_of}
 use Rattle.blocking_laws.specs.OwnLines.{RunsEnterFirst, is_first_entry}
-use Rattle.ceiling_laws.proofs.Runs.EnterLemmas.{AllQuiet, IsLate, NoEnter, all_quiet-append, all_quiet-no_enter}
-use Rattle.ceiling_laws.proofs.Runs.EnterLemmas.{is_enter, no_enter-append, no_enter-in_order, quiet-late, quiet-no_enter}
-use Rattle.blocking_laws.proofs.EnterLemmas.{Entered, entered-append, entered-begins, entered-in_order, entered-lawful, no_enters-lawful}
+use Rattle.ceiling_laws.proofs.Runs.EnterLemmas.{AllQuiet, all_quiet-append}
+use Rattle.blocking_laws.proofs.EnterLemmas.{Entered, IsLate, NoneComes, all_quiet-none_comes, entered-append, entered-begins, entered-in_order}
+use Rattle.blocking_laws.proofs.EnterLemmas.{entered-lawful, is_coming, none_comes-append, none_comes-in_order, none_comes-lawful, quiet-is_coming, quiet-late}
 use Rattle.blocking_laws.proofs.ToldLines.{ToldRuns, run-follows}
 
 AtFirst : State
 AtFirst w said = AllQuiet said
 
-None_enter : State
-None_enter w said = NoEnter said
+None_come : State
+None_come w said = NoneComes said
 
 OneEnters : List Entry → State
 OneEnters queue w said = Entered queue said
@@ -95,23 +94,23 @@ first_alters : (f : World → World) → Alters AtFirst f
 unfolding AtFirst
 first_alters f = record { turns = λ w said h. h }
 
-none_quiet : Silences None_enter
-unfolding None_enter
+none_quiet : Silences None_come
+unfolding None_come
 none_quiet = record {
   silently = λ a b said same h. h;
-  says = λ part line w said other h. no_enter-append said (said_so part line) h (quiet-no_enter line other);
+  says = λ part line w said other h. none_comes-append said (said_so part line) h (quiet-is_coming line other);
   ends_scope = λ id w said h. h;
 }
 
-none_alters : (f : World → World) → Alters None_enter f
-unfolding None_enter
+none_alters : (f : World → World) → Alters None_come f
+unfolding None_come
 none_alters f = record { turns = λ w said h. h }
 
-none_says : (part : Part) (line : Line) → is_enter line ≡ false → Keeps None_enter (says part line)
-unfolding None_enter Ends
-none_says part line other = record { runs = λ w said h. no_enter-append said (said_so part line) h other }
+none_says : (part : Part) (line : Line) → is_coming line ≡ false → Keeps None_come (says part line)
+unfolding None_come Ends
+none_says part line other = record { runs = λ w said h. none_comes-append said (said_so part line) h other }
 
-none_base : (p : Image) → FreeBase p free.EveryPart None_enter
+none_base : (p : Image) → FreeBase p free.EveryPart None_come
 none_base p = record {
   quiet = none_quiet;
   edits = λ name f same_who same_base same_deferred. none_alters (edit_task name f);
@@ -146,20 +145,19 @@ one_base p queue = record {
   forgets = λ name. one_alters queue _;
 }
 
-first_none : (w : World) (said : List Said) → AtFirst w said → None_enter w said
-unfolding AtFirst None_enter
-first_none w said h = all_quiet-no_enter said h
+first_none : (w : World) (said : List Said) → AtFirst w said → None_come w said
+unfolding AtFirst None_come
+first_none w said h = all_quiet-none_comes said h
 
-enters_one : (name : Who) (queue : List Entry) (o : ObjectNo) (mode : Mode) → who_of (head_of queue) ≡ Some name
-    → Leads (With AtFirst (λ w. free.anywhere w o)) (OneEnters queue) (says Own (line.Enter name o mode))
+-- who acts comes to an object
+comes_one : (queue : List Entry) (came : Line) → ((p : Image) → is_first_entry queue (event_of p came) ≡ true) → Leads AtFirst (OneEnters queue) (says Own came)
 unfolding AtFirst OneEnters Ends
-enters_one name queue o mode first = record {
-  runs =
-      λ w said h. entered-begins queue said (said_so Own (line.Enter name o mode)) h.0
-      (record { name = name; object = o; mode = mode; said = refl; first = is_somebody (who_of (head_of queue)) (Some name) first });
-}
+comes_one queue came first = record { runs = λ w said h. entered-begins queue said (said_so Own came) h (record { came = came; said = refl; first = first }) }
 
-none_created : (p : Image) (name : Who) (s : StatementNo) (d : DeclNo) (id : Option ScopeId) (t : Task) → Keeps None_enter (create_task p name s d id t)
+stands_first : (name : Who) (queue : List Entry) → who_of (head_of queue) ≡ Some name → somebody_eq (who_of (head_of queue)) (Some name) ≡ true
+stands_first name queue first = is_somebody (who_of (head_of queue)) (Some name) first
+
+none_created : (p : Image) (name : Who) (s : StatementNo) (d : DeclNo) (id : Option ScopeId) (t : Task) → Keeps None_come (create_task p name s d id t)
 unfolding create_task says_created
 none_created p name s d id t =
     then-keeps _ _ (goes-keeps (fine none_quiet) name (next_of p s)) (then-keeps _ _ (changes-keeps _ (none_alters (add_task t)))
@@ -170,14 +168,14 @@ none_created p name s d id t =
     changes-keeps _ (none_alters (set_thing p (record { within = within; declared = d }) (value_of.Task (Some (record { 0 = w.drawn.tasks - 1 }))))))))
     (looks-keeps _ (λ w. none_says Own (line.New (created.Task (record { 0 = w.drawn.tasks - 1 })) (Some d) t.base) refl))))
 
-none_made : (p : Image) (l : Located) (u : ProtectedUnitNo) → Keeps None_enter (changes (with_object p l u) ▷ says_object p l u)
+none_made : (p : Image) (l : Located) (u : ProtectedUnitNo) → Keeps None_come (changes (with_object p l u) ▷ says_object p l u)
 unfolding says_object
 none_made p l u =
     then-keeps _ _ (changes-keeps _ (none_alters (with_object p l u)))
     (looks-keeps _ (λ w. none_says Own (line.New (created.Object (record { 0 = w.drawn.objects })) (Some l.declared) (protected_unit_of p u).ceiling) refl))
 
 none_takes : (p : Image) (level : ℕ)
-    → Keeps None_enter (changes (edit_task who.Agent (λ u. record u { deferred_base = None })) ▷ set_base p ThePlacing ThePlacing who.Agent level)
+    → Keeps None_come (changes (edit_task who.Agent (λ u. record u { deferred_base = None })) ▷ set_base p ThePlacing ThePlacing who.Agent level)
 unfolding set_base says_base
 none_takes p level =
     then-keeps _ _ (changes-keeps _ (none_alters (edit_task who.Agent (λ u. record u { deferred_base = None }))))
@@ -185,12 +183,12 @@ none_takes p level =
     (then-keeps _ _ nothing-keeps (looks-keeps _ (λ w. free.replace_in-free (none_base p) ThePlacing who.Agent (task_of w who.Agent).state tt))))
 
 none_bases : (part : Part) (t : TaskNo) (level : ℕ)
-    → Keeps None_enter (changes (edit_task (who.Task t) (λ u. record u { base = level })) ▷ says part (line.Base t level))
+    → Keeps None_come (changes (edit_task (who.Task t) (λ u. record u { base = level })) ▷ says part (line.Base t level))
 none_bases part t level =
     then-keeps _ _ (changes-keeps _ (none_alters (edit_task (who.Task t) (λ u. record u { base = level })))) (none_says part (line.Base t level) refl)
 
 first_free : (p : Image) (name : Who) (queue : List Entry) → who_of (head_of queue) ≡ Some name
-    → FreeMoves p name free.anywhere AtFirst None_enter (OneEnters queue)
+    → FreeMoves p name free.anywhere AtFirst None_come (OneEnters queue)
 first_free p name queue first = record {
   fresh = first_quiet;
   appoints_first = λ t moment. first_alters _;
@@ -199,7 +197,12 @@ first_free p name queue first = record {
   starts = first_none;
   may = λ w o mode e. tt;
   may_on = λ a b o same m. tt;
-  enters = λ o mode. enters_one name queue o mode first;
+  enters =
+      λ o mode.
+      from-leads (says Own (line.Enter name o mode)) (λ w said h. h.0) (comes_one queue (line.Enter name o mode) (λ q. stands_first name queue first));
+  finds_held =
+      λ o mode.
+      to-leads (says Own (line.Held name o mode)) (comes_one queue (line.Held name o mode) (λ q. stands_first name queue first)) (λ w said h. inr h);
   bases_first = λ t level. from-leads _ first_none (none_bases (part_of name (who.Task t)) t level);
   bases = λ t level. none_bases ThePlacing t level;
   defers = λ t deferred. none_alters _;
@@ -213,9 +216,9 @@ first_free p name queue first = record {
 abbrev Lawful : List Entry → List Event → Type 0
 Lawful = Follow queue_after is_first_entry
 
-either-lawful : (p : Image) (queue : List Entry) (d : steps.Done) → Ends (Either None_enter (OneEnters queue)) d → Lawful queue (steps.settled p d).1
-unfolding Ends None_enter OneEnters
-either-lawful p queue (steps.done w xs) (inl h) = no_enters-lawful p queue (in_order xs) (no_enter-in_order xs h)
+either-lawful : (p : Image) (queue : List Entry) (d : steps.Done) → Ends (Either None_come (OneEnters queue)) d → Lawful queue (steps.settled p d).1
+unfolding Ends None_come OneEnters
+either-lawful p queue (steps.done w xs) (inl h) = none_comes-lawful p queue (in_order xs) (none_comes-in_order xs h)
 either-lawful p queue (steps.done w xs) (inr h) = entered-lawful p queue (in_order xs) (entered-in_order queue xs h)
 
 effect-lawful : (p : Image) (w : World) (name : Who) (queue : List Entry) → who_of (head_of queue) ≡ Some name → Lawful queue (settles p (effect p name) w).1
@@ -237,14 +240,14 @@ AnyQueue : List Entry → World → Type 0
 AnyQueue queue w = Unit {0}
 
 beside : (p : Image) → Others queue_after is_first_entry AnyQueue p
-unfolding AnyQueue None_enter
+unfolding AnyQueue None_come
 beside p queue = (
-  None_enter,
+  None_come,
   free.any_world,
   free.any_task,
   free.free_others (none_base p),
   (λ w h. tt),
-  (λ v xs h. record { follow = no_enters-lawful p queue (in_order xs) (no_enter-in_order xs h); shows = tt }),
+  (λ v xs h. record { follow = none_comes-lawful p queue (in_order xs) (none_comes-in_order xs h); shows = tt }),
 )
 
 instant-lawful : (p : Image) (w : World) (queue : List Entry) → ((name : Who) → w.ran ≡ Some name → who_of (head_of queue) ≡ Some name)
@@ -256,7 +259,7 @@ instant-lawful p w queue first =
     Follow-append queue_after is_first_entry queue done_first.1 later.1 (finish-lawful p w queue w.ran first)
     (behind_onward queue_after is_first_entry AnyQueue (beside p) (seen_behind queue_after is_first_entry queue done_first.1) done_first.0 tt).follow
 
-none_opens : (p : Image) → Keeps None_enter (opens p)
+none_opens : (p : Image) → Keeps None_come (opens p)
 unfolding opens
 none_opens p =
     then-keeps _ _ (changes-keeps _ (open_scope-alters (fine none_quiet) p environment p.environment (plainly None) opened_for.Task))
@@ -264,13 +267,14 @@ none_opens p =
     (then-keeps _ _ (free.to_tail-free (none_base p) Own environment tt) (open_sequence-keeps (fine none_quiet) p Own environment)))
 
 opening-lawful : (p : Image) (script : List (ℤ × Item)) → Lawful [] (opening p script).1
-unfolding AnyQueue None_enter
+unfolding AnyQueue None_come
 opening-lawful p script =
-    (settles_onward queue_after is_first_entry AnyQueue p [] None_enter None_enter (opens p) (blank_world p script)
-    (λ v xs h. record { follow = no_enters-lawful p [] (in_order xs) (no_enter-in_order xs h); shows = tt }) (none_opens p) tt).follow
+    (settles_onward queue_after is_first_entry AnyQueue p [] None_come None_come (opens p) (blank_world p script)
+    (λ v xs h. record { follow = none_comes-lawful p [] (in_order xs) (none_comes-in_order xs h); shows = tt }) (none_opens p) tt).follow
 
 tock-event : (queue : List Entry) (event : Event) → is_of_tock event ≡ true → is_first_entry queue event ≡ true
 tock-event queue (written.Enter name object mode) e = cc
+tock-event queue (written.Held name object mode) e = cc
 tock-event queue _ e = refl
 
 -- ---- before an instant

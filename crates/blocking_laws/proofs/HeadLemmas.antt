@@ -4,7 +4,7 @@ use Rattle.ceiling_laws.proofs.Runs.FreeMoves.{EveryPart, any_task, any_world, a
 use Rattle.blocking_laws.proofs.NamedMoves.{NamedBase, NamedMoves, free_others, freely, late_base, replace_in-free, to_tail-free}
 use Rattle.ceiling_laws.proofs.Fine.Kept.Frames.{goes-keeps, open_sequence-keeps}
 use Rattle.ceiling_laws.proofs.Fine.Kept.Scopes.{open_scope-alters}
-use Rattle.ceiling_laws.proofs.Runs.ActingMoves.{Either}
+use Rattle.ceiling_laws.proofs.Runs.ActingMoves.{Either, later-leads}
 use Rattle.ceiling_laws.proofs.Runs.AgentLemmas.{see_nothing}
 use Rattle.ceiling_laws.proofs.Runs.Finer.{fine}
 use Rattle.ceiling_laws.proofs.Runs.Kept.Act.{effect-leads}
@@ -91,6 +91,7 @@ all_own-in_order r p (x ∷ xs) h = all_own-put r p x (in_order xs) (h.0, all_ow
 apart-own : (r : Option Who) (p : Image) (x : Line) → is_apart x ≡ false → is_own_line r p x ≡ true
 apart-own r p (line.Ready name level end deadline) e = absurd cc
 apart-own r p (line.Enter name o mode) e = absurd cc
+apart-own r p (line.Held name o mode) e = absurd cc
 apart-own r p _ e = refl
 
 -- ---- steps
@@ -195,6 +196,9 @@ module _ (actor : Who) (p : Image) where
     enters =
         λ o mode.
         from-leads (says Own (line.Enter actor o mode)) (λ w said h. h.0) (own_says (Some actor) p Own (line.Enter actor o mode) (somebody_self actor));
+    finds_held =
+        λ o mode.
+        later-leads (says Own (line.Held actor o mode)) (λ w said h. h) (own_says (Some actor) p Own (line.Held actor o mode) (somebody_self actor));
     bases_first = λ t level. own_bases (Some actor) p (part_of actor (who.Task t)) t level;
     bases = λ t level. own_bases (Some actor) p ThePlacing t level;
     defers = λ t deferred. own_alters (Some actor) p _;

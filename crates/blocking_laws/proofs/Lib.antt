@@ -2,11 +2,16 @@ pub mod BlockedLemmas
 pub mod BoundLemmas
 pub mod CalmLemmas
 pub mod ChoiceLemmas
+pub mod DatedLemmas
+pub mod EnterLaws
 pub mod EnterLemmas
+pub mod EnterRuns
 pub mod FirstLemmas
 pub mod HeadLemmas
 pub mod HoldLemmas
+pub mod LowLemmas
 pub mod NamedMoves
+pub mod ObjectNumbers
 pub mod ProtocolLemmas
 pub mod QueueLemmas
 pub mod SettledLemmas

@@ -3,7 +3,7 @@ use Rattle.ceiling_laws.proofs.Runs.FreeMoves.{EveryPart, LatePart, any_part, an
 use Rattle.ann_base.specs.declared.exceptions.Raised.TheVariants as exception
 use Rattle.ann_base.specs.declared.identities.ObjectNo.{ObjectNo}
 use Rattle.ann_base.specs.declared.identities.TaskNo.{TaskNo}
-use Rattle.ceiling_laws.proofs.Runs.ActingMoves.{ActingMoves, Admitting, IsNew, LaterMoves, SelectMoves}
+use Rattle.ceiling_laws.proofs.Runs.ActingMoves.{ActingMoves, Admitting, Either, IsNew, LaterMoves, SelectMoves, either-leads}
 use Rattle.ceiling_laws.proofs.Fine.Kept.CallEnds.{deliver-keeps}
 use Rattle.ceiling_laws.proofs.Fine.Kept.Frames.{raises-keeps}
 use Rattle.ceiling_laws.proofs.Runs.Kept.Instant.{OtherMoves}
@@ -26,7 +26,7 @@ use Rattle.profile_machine.specs.Masters.{forget_task, part_of}
 use Rattle.profile_machine.specs.Priorities.{defer_base, defer_deadline, is_runnable_at_edf, placing_of, replace_in, says_base, set_base}
 use Rattle.profile_machine.specs.Priorities.{set_deadline, set_deferred, set_or_defer_base, set_or_defer_deadline, take_base, take_deadline}
 use Rattle.profile_image.specs.Program.{edf_low, has_edf, is_robin_level}
-use Rattle.profile_machine.specs.Protected.{entering}
+use Rattle.profile_machine.specs.Protected.{entering, find_held}
 use Rattle.profile_machine.specs.Rendezvous.{meet_without_room}
 use Rattle.profile_machine.specs.Steps.{changes, nothing, says, ◌▷◌}
 use Rattle.profile_machine.specs.Tasking.{create_task, fall_from, says_done}
@@ -91,6 +91,8 @@ pub record NamedMoves (p : Image) (actor : Who) (May : Admitting) (F I J : State
   pub may : (w : World) (o : ObjectNo) (mode : Mode) → entering p w actor o mode ≡ entering_is.Inside → May w o
   pub may_on : (a b : World) (o : ObjectNo) → Same a b → May a o → May b o
   pub enters : (o : ObjectNo) (mode : Mode) → Leads (With F (λ w. May w o)) J (says Own (line.Enter actor o mode))
+  -- who finds an object held goes on as who acts later does, or as behind the line of an action that begins
+  pub finds_held : (o : ObjectNo) (mode : Mode) → Leads F (Either I J) (says Own (line.Held actor o mode))
   -- base priorities that are set and deferred; what the agent may have deferred is set too
   pub bases_first : (t : TaskNo) (level : ℕ)
       → Leads F I (changes (edit_task (who.Task t) (λ u. record u { base = level })) ▷ says (part_of actor (who.Task t)) (line.Base t level))
@@ -287,6 +289,12 @@ module _ {p : Image} {actor : Who} {May : Admitting} {F I J : State} (free : Nam
       (deliver-keeps (fine_base (base_free free.later any_part (λ part name f. tt))) TheFinish c.number (call_ended.ToRaise exception.Storage) (λ name. tt))
       (then-keeps _ _ (ready-free free.later TheFinish (who.Task t) tt) (raises-keeps (fine free.later.quiet) TheFinish (who.Task t) exception.Storage))))
 
+  find_held-free : (o : ObjectNo) (mode : Mode) → Leads F (Either I J) (find_held p actor o mode)
+  unfolding find_held
+  find_held-free o mode =
+      then-leads (says Own (line.Held actor o mode)) _ (free.finds_held o mode)
+      (either-leads _ (to_tail-free free.later ThePlacing actor tt) (to_tail-free free.entered ThePlacing actor refl))
+
   pub freely : ActingMoves p actor any_part late_part any_world May anybody anybody F I J I I I (λ v. I) (λ v. I) (λ v. I) (λ v. J) (λ v name. I)
   freely =
       let base = base_free free.later any_part (λ part name f. tt) in
@@ -336,6 +344,7 @@ module _ {p : Image} {actor : Who} {May : Admitting} {F I J : State} (free : Nam
         may = free.may;
         may_on = free.may_on;
         enters = free.enters;
+        finds_held = λ o mode. find_held-free o mode;
       }
 
 -- ---- what comes about beside an effect

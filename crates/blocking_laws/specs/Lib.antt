@@ -1,7 +1,10 @@
 pub mod BlockingLaws
+pub mod DatedLines
 pub mod Examples
 pub mod Holds
+pub mod LowLines
 pub mod MovingLaws
+pub mod NumberLines
 pub mod OwnLines
 pub mod RunLaws
 pub mod Stretches

@@ -1,5 +1,8 @@
 //! Blocking in every run: laws of the profile machine's definitions alone, which hold of every
 //! program, script and bound. Each is the contract of a function that does nothing.
+ghost use Rattle.blocking_laws.specs.DatedLines.{RunsDateRightly};
+ghost use Rattle.blocking_laws.specs.LowLines.{RunsEnterLow};
+ghost use Rattle.blocking_laws.specs.NumberLines.{RunsNumberObjects};
 ghost use Rattle.blocking_laws.specs.OwnLines.{RunsEnterFirst, RunsTellOwnLines};
 ghost use Rattle.blocking_laws.specs.RunLaws.{RightMovesBoundBlocking};
 
@@ -23,14 +26,31 @@ pub fn right_moves_bound_blocking()
     protocol_bounds_blocking();
 }
 
-/// In every run only who has run up to then is placed before others, and only it enters an object:
-/// nobody else is preferred to those of its level (D.2.3).
+/// In every run only who has run up to then is placed before others, and only it enters an object
+/// or finds one held: nobody else is preferred to those of its level (D.2.3).
 pub fn only_who_runs_goes_before()
     ensures { RunsTellOwnLines }
 {}
 
-/// In every run whoever enters an object stands first in the ready queues at that line: nobody is
-/// placed before it in the effect of its action before the action has begun (D.2.1, 9.5.1).
+/// In every run whoever enters an object, or finds one held, stands first in the ready queues at
+/// that line: nobody is placed before it in the effect of its action before that (D.2.1, 9.5.1).
 pub fn who_enters_is_first()
     ensures { RunsEnterFirst }
+{}
+
+/// In every run the base priority of a task that enters an object is not above the object's
+/// ceiling, whatever the task has inherited (D.3).
+pub fn tasks_enter_at_their_base()
+    ensures { RunsEnterLow }
+{}
+
+/// In every run of a source whose interrupts have no deadlines only tasks are placed with one
+/// (D.2.6).
+pub fn only_tasks_have_deadlines()
+    ensures { RunsDateRightly }
+{}
+
+/// In every run each protected object that is made has a number that no object had.
+pub fn numbers_of_objects_are_new()
+    ensures { RunsNumberObjects }
 {}

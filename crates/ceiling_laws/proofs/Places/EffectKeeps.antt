@@ -4,7 +4,7 @@ use Rattle.ann_base.specs.declared.identities.TaskNo.{TaskNo}
 use Rattle.ceiling_laws.proofs.Places.CorePoints.{Except, Holds, Places, Point, Readies, Turns, active_in, holds-also, holds-edit, holds-of}
 use Rattle.ceiling_laws.proofs.Places.CorePoints.{holds-plain, holds-put, holds-sound, holds_quiet, keeps_says, not-absent, ready-holds}
 use Rattle.ceiling_laws.proofs.Places.EffectMoves.{Sleeping_in, Wakeful, base_moves, base_set_or_deferred, ceases_good, clash_of, deadline_set_or_deferred, deferred_set, dying_wakeful}
-use Rattle.ceiling_laws.proofs.Places.EffectMoves.{ending_wakeful, good-choosing, good_wakeful, heads_later, keeps_turns, later-kept, later-rises, later-wakes, later_wakeful, lost_later}
+use Rattle.ceiling_laws.proofs.Places.EffectMoves.{ending_wakeful, good-choosing, good_wakeful, heads_later, held_later, keeps_turns, later-kept, later-rises, later-wakes, later_wakeful, lost_later}
 use Rattle.ceiling_laws.proofs.Places.EffectMoves.{nobody-acts, owed_loses, owes_since, owing_wakeful, paid, rests_choosing, self_apart, since_wakeful, starts_later, tails_later}
 use Rattle.ceiling_laws.proofs.Places.SoundWorlds.{IsAbsent, IsThere, Sound, Unactivated, all_there, each-on, is_agent, is_fresh, known, sound-add}
 use Rattle.ceiling_laws.proofs.Places.SoundWorlds.{sound-appoint, sound-edit, sound-forget, sound-plain, sound-task, unactivated-loses, unactivated_without}
@@ -794,4 +794,5 @@ module _ (p : Image) (s : Levels) (a : Who) where
     may = λ w o mode e. tt;
     may_on = λ u w o same m. tt;
     enters = λ o mode. from-leads (says Own (line.Enter a o mode)) (λ w said h. starts_later p s a w said h.0) (keeps_says Whole Own (line.Enter a o mode) (λ n. refl));
+    finds_held = held_later p s a;
   }

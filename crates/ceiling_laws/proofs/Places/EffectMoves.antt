@@ -26,7 +26,7 @@ use Rattle.profile_machine.specs.Priorities.{defer_base, defer_deadline, is_runn
 use Rattle.profile_machine.specs.Priorities.{set_base, set_deadline, set_deferred, set_or_defer_base, set_or_defer_deadline, take_base, take_deadline}
 use Rattle.profile_image.specs.Program.{has_edf}
 use Rattle.profile_machine.specs.Scopes.{end_scope}
-use Rattle.profile_machine.specs.Steps.{Step, changes, when}
+use Rattle.profile_machine.specs.Steps.{Step, changes, says, when}
 use Rattle.profile_machine.specs.Tasking.{fall_from}
 use Rattle.profile_machine.specs.Tasks.{edit_task, is_runnable_state, nobody, task_of}
 use Rattle.profile_image.specs.Words.{same_who, without}
@@ -34,7 +34,7 @@ use Rattle.profile_image.specs.declared.image.Image.{Image}
 use Rattle.profile_machine.specs.declared.world.World.{World}
 use Rattle.profile_machine.specs.declared.world.lines.Line.TheVariants as line
 use Rattle.profile_machine.specs.declared.world.lines.Part.{Part}
-use Rattle.profile_machine.specs.declared.world.lines.Part.TheVariants.{TheBlock, ThePlacing}
+use Rattle.profile_machine.specs.declared.world.lines.Part.TheVariants.{Own, TheBlock, ThePlacing}
 use Rattle.profile_machine.specs.declared.world.lines.Said.{Said}
 use Rattle.profile_machine.specs.declared.world.tasks.Cause.{Cause}
 use Rattle.profile_machine.specs.declared.world.tasks.Cause.TheVariants as inherited_by
@@ -49,6 +49,10 @@ use Rattle.trace_text.specs.Laws.{Levels}
 use Rattle.trace_text.specs.declared.events.Who.{Who}
 use Rattle.trace_text.specs.declared.events.Who.TheVariants as who
 use Rattle.line_laws.proofs.Leaving.TaskLemmas.{same_self}
+use Rattle.ceiling_laws.proofs.Runs.ActingMoves.{Either, later-leads}
+use Rattle.profile_machine.specs.Protected.{find_held}
+use Rattle.ann_base.specs.declared.identities.ObjectNo.{ObjectNo}
+use Rattle.trace_text.specs.declared.events.Mode.{Mode}
 
 abbrev pub Sleeping_in : Sleeping
 Sleeping_in w name = is_blocked (task_of w name).state ≡ true
@@ -311,6 +315,11 @@ module _ (p : Image) (s : Levels) (a : Who) where
 
   pub tails_later : Keeps (Holds (Later p s a)) (to_tail p ThePlacing a)
   tails_later = from-leads (to_tail p ThePlacing a) (loosened a) (to_tail-holds p (Loose p s a a) (Later p s a) a ThePlacing actor_places)
+
+  pub held_later : (o : ObjectNo) (mode : Mode) → Leads (Holds (First p s a)) (Either (Holds (Later p s a)) (Holds (Later p s a))) (find_held p a o mode)
+  unfolding find_held
+  held_later o mode =
+      later-leads _ starts_later (then-keeps (says Own (line.Held a o mode)) _ (keeps_says (Later p s a) Own (line.Held a o mode) (λ n. refl)) tails_later)
 
   -- ---- a level is set or lost
 

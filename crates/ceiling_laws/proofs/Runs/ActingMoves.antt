@@ -3,7 +3,7 @@ use Rattle.ann_base.specs.declared.exceptions.Raised.TheVariants as exception
 use Rattle.ann_base.specs.declared.identities.ObjectNo.{ObjectNo}
 use Rattle.ann_base.specs.declared.identities.TaskNo.{TaskNo}
 use Rattle.ceiling_laws.proofs.Runs.LevelMoves.{BaseMoves, EachTask, FitsAll, Fitting, Silences, Sleeping, is_blocked}
-use Rattle.ceiling_laws.proofs.Runs.Triples.{Alters, Keeps, Leads, State, With}
+use Rattle.ceiling_laws.proofs.Runs.Triples.{Alters, Ends, Keeps, Leads, State, With, from-leads, to-leads}
 use Rattle.ceiling_laws.specs.Cores.{Same}
 use Rattle.profile_machine.specs.Appointments.{appoint}
 use Rattle.profile_machine.specs.CallEnds.{deliver}
@@ -12,9 +12,9 @@ use Rattle.profile_machine.specs.Dispatching.{block, ready, says_block, to_head,
 use Rattle.profile_machine.specs.Inheritance.{inherit, lose, lose_running}
 use Rattle.profile_machine.specs.Masters.{forget_task, waits_at_terminate}
 use Rattle.profile_machine.specs.Priorities.{set_deferred, set_or_defer_base, set_or_defer_deadline}
-use Rattle.profile_machine.specs.Protected.{entering}
+use Rattle.profile_machine.specs.Protected.{entering, find_held}
 use Rattle.profile_machine.specs.Rendezvous.{meet_without_room}
-use Rattle.profile_machine.specs.Steps.{changes, says, ◌▷◌}
+use Rattle.profile_machine.specs.Steps.{Step, changes, says, ◌▷◌}
 use Rattle.profile_machine.specs.Tasking.{create_task, fall_from, says_done}
 use Rattle.profile_machine.specs.Tasks.{edit_task, is_made, waiting_of, with_state}
 use Rattle.profile_image.specs.Words.{same_who}
@@ -38,7 +38,7 @@ use Rattle.profile_machine.specs.declared.world.tasks.State.TheVariants.{Blocked
 use Rattle.profile_machine.specs.declared.world.tasks.Task.{Task}
 use Rattle.profile_machine.specs.declared.world.tasks.Waiting.{Waiting}
 use Rattle.profile_machine.specs.declared.world.tasks.Waiting.TheVariants as waits_for
-use Rattle.std.proofs.Common.{◌≡◌, ◌⊎◌}
+use Rattle.std.proofs.Common.{inl, inr, ◌≡◌, ◌⊎◌}
 use Rattle.std.specs.Prelude.{List, None, Option, false, true, ℕ, ℤ}
 use Rattle.trace_text.specs.declared.events.Mode.{Mode}
 use Rattle.trace_text.specs.declared.events.Who.{Who}
@@ -81,6 +81,17 @@ pub record SelectMoves (p : Image) (actor : Who) (Listed : World → Naming) (W 
 -- one of both
 abbrev pub Either : State → State → State
 Either X Y w said = X w said ⊎ Y w said
+
+either_ends : {X Y Z : State} (step : Step) (w : World) (said : List Said) → Leads X Z step → Keeps Y step → Either X Y w said → Ends (Either Z Y) (step w said)
+either_ends {X} {Y} {Z} step w said a b (inl h) = (to-leads {X = X} {Y = Z} {Z = Either Z Y} step a (λ v s k. inl k)).runs w said h
+either_ends {X} {Y} {Z} step w said a b (inr h) = (to-leads {X = Y} {Y = Y} {Z = Either Z Y} step b (λ v s k. inr k)).runs w said h
+
+pub either-leads : {X Y Z : State} (step : Step) → Leads X Z step → Keeps Y step → Leads (Either X Y) (Either Z Y) step
+either-leads step a b = record { runs = λ w said h. either_ends step w said a b h }
+
+-- what is kept later, from what holds at first
+pub later-leads : {F I J : State} (step : Step) → ((w : World) (said : List Said) → F w said → I w said) → Keeps I step → Leads F (Either I J) step
+later-leads step starts kept = to-leads step (from-leads step starts kept) (λ w said h. inl h)
 
 -- At first (F), later (I), and behind the line of an action that begins (J); at a select (W), and where no more is to be said of
 -- who acts (Y). Where who acts owes a line since its active priority may have fallen (O); since a world, of whose tasks some have
@@ -142,3 +153,4 @@ pub record ActingMoves (p : Image) (actor : Who) (Fits Narrow : Fitting) (Sleeps
   pub may : (w : World) (o : ObjectNo) (mode : Mode) → entering p w actor o mode ≡ entering_is.Inside → May w o
   pub may_on : (a b : World) (o : ObjectNo) → Same a b → May a o → May b o
   pub enters : (o : ObjectNo) (mode : Mode) → Leads (With F (λ w. May w o)) J (says Own (line.Enter actor o mode))
+  pub finds_held : (o : ObjectNo) (mode : Mode) → Leads F (Either I J) (find_held p actor o mode)

@@ -46,6 +46,7 @@ use Rattle.trace_text.specs.declared.events.Created.TheVariants as created
 use Rattle.trace_text.specs.declared.events.Event.{Event}
 use Rattle.trace_text.specs.declared.events.Who.{Who}
 use Rattle.trace_text.specs.declared.events.Who.TheVariants as who
+use Rattle.ceiling_laws.proofs.Runs.ActingMoves.{later-leads}
 
 -- the agent has that priority, and none is deferred
 abbrev pub AgentKeeps : Image → World → Type 0
@@ -140,6 +141,7 @@ module _ (p : Image) where
     may = λ w o mode e. tt;
     may_on = λ a b o same m. tt;
     enters = λ o mode. from-leads (says Own (line.Enter actor o mode)) (λ w said h. h.0) (any_line Own (line.Enter actor o mode));
+    finds_held = λ o mode. later-leads (says Own (line.Held actor o mode)) (λ w said h. h) (any_line Own (line.Held actor o mode));
     bases_first =
         λ t level.
         then-keeps _ _ (changes-keeps _ (task_alters t (λ u. record u { base = level }))) (any_line (part_of actor (who.Task t)) (line.Base t level));

@@ -1,6 +1,6 @@
 -- The lines of a run tell the base priorities of the tasks that are there.
 use Rattle.ann_base.specs.declared.identities.TaskNo.{TaskNo}
-use Rattle.ceiling_laws.proofs.Runs.ActingMoves.{Either, IsNew}
+use Rattle.ceiling_laws.proofs.Runs.ActingMoves.{Either, IsNew, later-leads}
 use Rattle.ceiling_laws.proofs.Runs.CoreLemmas.{found-same, seen-found, seen_in}
 use Rattle.ceiling_laws.proofs.Runs.FoldOrder.{Ordered, Sooner, fold, fold-append, fold-in_order, ordered-append, sooner-append}
 use Rattle.ceiling_laws.proofs.Runs.FoundLemmas.{EditedFound, added-found, edit-found, forgotten-found}
@@ -441,6 +441,7 @@ module _ (p : Image) (shown : List (ℕ × ℕ)) where
     may_on = λ a b o same m. tt;
     enters =
         λ o mode. from-leads (says Own (line.Enter actor o mode)) (λ w said h. no_bases-tells shown w said h.0) (bases_says Own (line.Enter actor o mode) refl);
+    finds_held = λ o mode. later-leads (says Own (line.Held actor o mode)) (no_bases-tells shown) (bases_says Own (line.Held actor o mode) refl);
     bases_first = λ t level. bases_set_first actor t level;
     bases = λ t level. bases_set t level;
     defers =

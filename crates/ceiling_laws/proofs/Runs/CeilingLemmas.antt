@@ -59,6 +59,7 @@ use Rattle.trace_text.specs.declared.events.Event.{Event}
 use Rattle.trace_text.specs.declared.events.Event.TheVariants as written
 use Rattle.trace_text.specs.declared.events.Who.{Who}
 use Rattle.trace_text.specs.declared.events.Who.TheVariants as who
+use Rattle.ceiling_laws.proofs.Runs.ActingMoves.{later-leads}
 
 abbrev is_object_line : Line → Bool
 is_object_line (line.New (created.Object o) declared level) = true
@@ -243,6 +244,7 @@ module _ (p : Image) (shown : List (ℕ × ℕ)) where
     may = λ w o mode e. tt;
     may_on = λ a b o same m. tt;
     enters = λ o mode. from-leads (says Own (line.Enter actor o mode)) (λ w said h. h.0) (ceilings_says Own (line.Enter actor o mode) refl);
+    finds_held = λ o mode. later-leads (says Own (line.Held actor o mode)) (λ w said h. h) (ceilings_says Own (line.Held actor o mode) refl);
     bases_first = λ t level. ceilings_bases (part_of actor (who.Task t)) t level;
     bases = λ t level. ceilings_bases ThePlacing t level;
     defers = λ t deferred. ceilings_edits (who.Task t) (λ u. record u { deferred_base = deferred });

@@ -1,7 +1,7 @@
 -- Of an effect: at first nothing is said of levels; later no action begins, or one has begun rightly.
 use Rattle.ann_base.specs.declared.identities.ObjectNo.{ObjectNo}
 use Rattle.ann_base.specs.declared.identities.TaskNo.{TaskNo}
-use Rattle.ceiling_laws.proofs.Runs.ActingMoves.{Admitting, Either}
+use Rattle.ceiling_laws.proofs.Runs.ActingMoves.{Admitting, Either, later-leads}
 use Rattle.ceiling_laws.proofs.Runs.CoreLemmas.{ceiling-found, ceiling_at, core-same, shown-at, shown-fewer, shown-same}
 use Rattle.ceiling_laws.proofs.Runs.EnterLemmas.{AllQuiet, Entered, IsLate, Lawful, NoEnter, all_quiet-append, all_quiet-no_enter}
 use Rattle.ceiling_laws.proofs.Runs.EnterLemmas.{entered-append, entered-begins, entered-in_order, entered-lawful, is_enter}
@@ -270,6 +270,7 @@ enter_free p v name sight place = record {
   may = λ w o mode e. inside-may p name w o mode (object_of w o) refl e;
   may_on = may-on p name;
   enters = λ o mode. enters_first p v name sight o mode place;
+  finds_held = λ o mode. later-leads (says Own (line.Held name o mode)) (first_none v name sight) (none_says Own (line.Held name o mode) refl);
   bases_first = λ t level. from-leads _ (first_none v name sight) (none_bases (part_of name (who.Task t)) t level);
   bases = λ t level. none_bases ThePlacing t level;
   defers = λ t deferred. none_alters (edit_task (who.Task t) (λ u. record u { deferred_base = deferred }));

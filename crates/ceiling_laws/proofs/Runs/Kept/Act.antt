@@ -1,6 +1,6 @@
 -- The effect of an action: it leads from what holds at first to what holds behind it.
 use Rattle.ann_base.specs.declared.exceptions.Raised.{Raised}
-use Rattle.ceiling_laws.proofs.Runs.ActingMoves.{ActingMoves, Admitting, Either}
+use Rattle.ceiling_laws.proofs.Runs.ActingMoves.{ActingMoves, Admitting, Either, either-leads}
 use Rattle.ceiling_laws.proofs.Fine.Kept.CallEnds.{end_top_abortable-keeps}
 use Rattle.ceiling_laws.proofs.Fine.Kept.Calls.{attempt_with-keeps, with_call-keeps}
 use Rattle.ceiling_laws.proofs.Fine.Kept.Controlled.{assign_controlled-keeps, end_in_assign-keeps}
@@ -26,7 +26,7 @@ use Rattle.ceiling_laws.proofs.Runs.Kept.Tasking.{abort_statement-keeps, activat
 use Rattle.ceiling_laws.proofs.Runs.Kept.Tasking.{end_scope_mark-leads, take_terminates-leads, unwind_all-keeps}
 use Rattle.ceiling_laws.proofs.Runs.Kept.Tasks.{edit_task-alters}
 use Rattle.ceiling_laws.proofs.Runs.LevelMoves.{Fitting, Silences, Sleeping}
-use Rattle.ceiling_laws.proofs.Runs.Triples.{Alters, Ends, Keeps, Leads, State, changes-keeps, cond-keeps, from-leads, looks-keeps, looks-leads}
+use Rattle.ceiling_laws.proofs.Runs.Triples.{Alters, Keeps, Leads, State, changes-keeps, cond-keeps, from-leads, looks-keeps, looks-leads}
 use Rattle.ceiling_laws.proofs.Runs.Triples.{nothing-keeps, option-keeps, sees-keeps, then-keeps, then-leads, to-leads, unchanged-alters}
 use Rattle.ceiling_laws.proofs.Runs.Finer.{fine}
 use Rattle.profile_machine.specs.Act.{act, act_frame, act_statement, act_top, act_without, behind_handled, below, call}
@@ -102,13 +102,6 @@ module _ {X : State} (quiet : Silences X) where
   pub call_main-keeps : (p : Image) (name : Who) (s : StatementNo) → Keeps X (call_main p name s)
   unfolding call_main
   call_main-keeps p name s = search (fine, with_room-keeps, goes-keeps, then-keeps, looks-keeps, changes-keeps, open_scope-alters)
-
-either_ends : {X Y Z : State} (step : Step) (w : World) (said : List Said) → Leads X Z step → Keeps Y step → Either X Y w said → Ends (Either Z Y) (step w said)
-either_ends {X} {Y} {Z} step w said a b (inl h) = (to-leads {X = X} {Y = Z} {Z = Either Z Y} step a (λ v s k. inl k)).runs w said h
-either_ends {X} {Y} {Z} step w said a b (inr h) = (to-leads {X = Y} {Y = Y} {Z = Either Z Y} step b (λ v s k. inr k)).runs w said h
-
-either-leads : {X Y Z : State} (step : Step) → Leads X Z step → Keeps Y step → Leads (Either X Y) (Either Z Y) step
-either-leads step a b = record { runs = λ w said h. either_ends step w said a b h }
 
 module _ {p : Image} {actor : Who} {Fits Narrow : Fitting} {Sleeps : Sleeping} {May : Admitting} {Listed Unmade : World → Naming} {F I J W Y D : State}
     {O N V U : World → State} {E : World → Who → State}

@@ -3,7 +3,7 @@ use Rattle.ann_base.specs.declared.exceptions.Raised.TheVariants as exception
 use Rattle.ann_base.specs.declared.identities.ObjectNo.{ObjectNo}
 use Rattle.ceiling_laws.proofs.Runs.ActingMoves.{ActingMoves, Admitting, Either}
 use Rattle.ceiling_laws.proofs.Fine.Kept.Frames.{becomes-keeps, given-keeps, goes-keeps, raise_if-keeps}
-use Rattle.ceiling_laws.proofs.Runs.Kept.Protected.{Admitted, admitted_starts, begin_action_on-leads, find_held-keeps, goes_without, has_entered}
+use Rattle.ceiling_laws.proofs.Runs.Kept.Protected.{Admitted, admitted_starts, begin_action_on-leads, goes_without, has_entered}
 use Rattle.ceiling_laws.proofs.Fine.Kept.Scopes.{appoint-alters, drop_appointment-alters, open_scope-alters}
 use Rattle.ceiling_laws.proofs.Runs.Kept.Serving.{end_release-keeps}
 use Rattle.ceiling_laws.proofs.Fine.Kept.Statements.{store-gives}
@@ -225,8 +225,8 @@ module _ {p : Image} {actor : Who} {Fits Narrow : Fitting} {Sleeps : Sleeping} {
       (has_entered acting (begin_handler p r) (begin_handler-leads r is))
       (goes_without acting (end_release r.number) (from-leads (end_release r.number) (admitted_starts acting r.handler.object) (release_ends r.number))))
 
-  held_as : (o : ObjectNo) (name : Who) → name ≡ actor → Keeps I (find_held p name o Write)
-  held_as o name is = subst (λ n. Keeps I (find_held p n o Write)) (sym is) (find_held-keeps acting o Write)
+  held_as : (o : ObjectNo) (name : Who) → name ≡ actor → Leads F (Either I J) (find_held p name o Write)
+  held_as o name is = subst (λ n. Leads F (Either I J) (find_held p n o Write)) (sym is) (acting.finds_held o Write)
 
   enter_handler-at : (v : World) (r : Release) (is : Entering) → who.Agent ≡ actor → entering p v who.Agent r.handler.object Write ≡ is
       → Leads (At F v) (Either I J) (enter_handler p r is)
@@ -236,8 +236,7 @@ module _ {p : Image} {actor : Who} {Fits Narrow : Fitting} {Sleeps : Sleeping} {
   enter_handler-at v r entering_is.AboveCeiling by e =
       goes_without acting (end_release r.number) (from-leads (end_release r.number) (λ w said h. acting.starts w said h.0) (release_ends r.number))
   enter_handler-at v r entering_is.Held by e =
-      goes_without acting (find_held p who.Agent r.handler.object Write)
-      (from-leads (find_held p who.Agent r.handler.object Write) (λ w said h. acting.starts w said h.0) (held_as r.handler.object who.Agent by))
+      from_at (find_held p who.Agent r.handler.object Write) (held_as r.handler.object who.Agent by)
   enter_handler-at v r entering_is.Inside by e =
       let inside : entering p v actor r.handler.object Write ≡ entering_is.Inside =
       subst (λ n. entering p v n r.handler.object Write ≡ entering_is.Inside) by e in

@@ -118,10 +118,6 @@ module _ {p : Image} {actor : Who} {Fits Narrow : Fitting} {Sleeps : Sleeping} {
   pub admitted_starts : (o : ObjectNo) (w : World) (said : List Said) → Admitted o w said → I w said
   admitted_starts o w said h = acting.starts w said h.0
 
-  pub find_held-keeps : (o : ObjectNo) (mode : Mode) → Keeps I (find_held p actor o mode)
-  unfolding find_held
-  find_held-keeps o mode = then-keeps _ _ (says-keeps acting.later.base.quiet Own (line.Held actor o mode) refl) acting.tails
-
   -- nobody has entered yet
   pub not_yet : (w : World) (said : List Said) → F w said → Either I J w said
   not_yet w said h = inl (acting.starts w said h)
@@ -140,7 +136,7 @@ module _ {p : Image} {actor : Who} {Fits Narrow : Fitting} {Sleeps : Sleeping} {
   enter_or-at v o mode step entering_is.SameObject e kept = raises_at_first v exception.Program
   enter_or-at v o mode step entering_is.AboveCeiling e kept = raises_at_first v exception.Program
   enter_or-at v o mode step entering_is.Held e kept =
-      goes_without (find_held p actor o mode) (from-leads (find_held p actor o mode) (λ w said h. acting.starts w said h.0) (find_held-keeps o mode))
+      from_at (find_held p actor o mode) (acting.finds_held o mode)
   enter_or-at v o mode step entering_is.Inside e kept = from-leads step (λ w said h. (h.0, subst (λ u. May u o) (sym h.1) (acting.may v o mode e))) kept
 
   -- the step is done where who acts is let in

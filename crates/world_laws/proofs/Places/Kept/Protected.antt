@@ -120,7 +120,7 @@ module _ {p : Image} {actor : Who} {Fits : Fitting} {Sleeps : Sleeping} {May : A
 
   pub find_held-keeps : (o : ObjectNo) (mode : Mode) → Keeps I (find_held p actor o mode)
   unfolding find_held
-  find_held-keeps o mode = then-keeps _ _ (says-keeps acting.later.base.quiet Own (line.Held actor o mode) refl) acting.tails
+  find_held-keeps o mode = then-keeps _ _ (acting.says_held o mode) acting.tails
 
   -- nobody has entered yet
   pub not_yet : (w : World) (said : List Said) → F w said → Y w said

@@ -541,13 +541,31 @@ def check_value(value):
         raise NoPlace(f"{value!r} is no value")
 
 
+class Replacing:
+    """A source cut at some places, so that values are put there many times."""
+
+    def __init__(self, source, places):
+        edits = sorted(((e, n) for n, place in enumerate(places) for e in place.edits), key=lambda pair: (pair[0].first, pair[0].end))
+        self.cuts, at = [], 0  # the bytes before an edit, the edit, and the number of its place
+        for edit, place in edits:
+            if edit.first < at:
+                raise NoPlace("two of the settings are of one place")
+            self.cuts.append((source[at : edit.first], edit, place))
+            at = edit.end
+        self.rest = source[at:]
+        self.known = {}  # the bytes that stand for a value at an edit
+
+    def with_values(self, values):
+        """The source with the values, one for each place."""
+        parts = []
+        for cut, (before, edit, place) in enumerate(self.cuts):
+            key = cut, values[place]
+            if key not in self.known:
+                self.known[key] = (edit.before + fitted(edit.old, values[place]) + edit.after).encode("latin-1")
+            parts += [before, self.known[key]]
+        return b"".join(parts) + self.rest
+
+
 def replaced(source, settings):
     """The source with each place of settings, pairs of a place and the text of its value, replaced."""
-    edits = sorted(((e, text) for place, text in settings for e in place.edits), key=lambda pair: (pair[0].first, pair[0].end))
-    parts, at = [], 0
-    for edit, text in edits:
-        if edit.first < at:
-            raise NoPlace("two of the settings are of one place")
-        parts += [source[at : edit.first], (edit.before + fitted(edit.old, text) + edit.after).encode("latin-1")]
-        at = edit.end
-    return b"".join(parts) + source[at:]
+    return Replacing(source, [place for place, _ in settings]).with_values([text for _, text in settings])

@@ -1,14 +1,15 @@
 """Runs of variants, on all processors: by the built program, or by the definitions where none is built.
 
-A `Runner` does what `run`, `report` and `laws` of the program do. `all_of` hands jobs to worker processes and gives their
+A runner does what `run`, `report` and `laws` of the program do. `Workers` hands jobs to worker processes and gives their
 results as they come.
 """
 import argparse
-import multiprocessing
+import itertools
 import os
+import pickle
+import select
 import shutil
 import signal
-import subprocess
 import sys
 import tempfile
 
@@ -17,7 +18,7 @@ from .traces import counted, lines_of, report_text
 TOP = os.path.dirname(os.path.dirname(os.path.dirname(os.path.abspath(__file__))))
 BUILT = os.path.join(TOP, "crates", "annexd", "out", "annexd")
 DEFAULT_TICKS = 1_000_000
-SCRIPT_NAME, SOURCE_NAME, TRACE_NAME = b"script", b"source", b"trace"
+SCRIPT_NAME, SOURCE_NAME, TRACE_NAME, ANSWER, NOTES = b"script", b"source", b"trace", b"answer", b"notes"
 
 
 class Failed(Exception):
@@ -55,14 +56,30 @@ class ByProgram:
         pass
 
     def begin(self, folder):
-        """Called once in each worker."""
+        """Called once in each worker: its files are opened once, and each process appends to what was cut to nothing."""
         os.chdir(folder)
         self.script = None
         self.environment = dict(os.environb)
+        self.files = {name: os.open(name, os.O_RDWR | os.O_CREAT | os.O_APPEND, 0o600)
+                      for name in (SOURCE_NAME, SCRIPT_NAME, TRACE_NAME, ANSWER, NOTES)}
+
+    def write(self, name, content):
+        os.ftruncate(self.files[name], 0)
+        while content:
+            content = content[os.write(self.files[name], content) :]
+
+    def read(self, name):
+        file, parts = self.files[name], []
+        size = os.fstat(file).st_size
+        while size > 0:
+            parts.append(os.pread(file, size, sum(map(len, parts))))
+            size = size - len(parts[-1]) if parts[-1] else 0
+        return b"".join(parts)
 
     def ask(self, *words, out):
-        write = os.O_WRONLY | os.O_CREAT | os.O_TRUNC
-        actions = [(os.POSIX_SPAWN_OPEN, 1, out, write, 0o600), (os.POSIX_SPAWN_OPEN, 2, b"notes", write, 0o600)]
+        for name in (out, NOTES):
+            os.ftruncate(self.files[name], 0)
+        actions = [(os.POSIX_SPAWN_DUP2, self.files[out], 1), (os.POSIX_SPAWN_DUP2, self.files[NOTES], 2)]
         try:
             process = os.posix_spawn(self.program, [self.program, *words], self.environment, file_actions=actions)
         except OSError as why:
@@ -74,17 +91,17 @@ class ByProgram:
 
     def run(self, source, script, ticks):
         """The status of a run, its note and its trace, which stays where report and laws find it."""
-        write_file(SOURCE_NAME, source)
+        self.write(SOURCE_NAME, source)
         words = [b"run", SOURCE_NAME]
         if script is not None:
             if script is not self.script:
-                write_file(SCRIPT_NAME, script)
+                self.write(SCRIPT_NAME, script)
                 self.script = script
             words.append(SCRIPT_NAME)
         status = self.ask(*words, b"--ticks", b"%d" % ticks, out=TRACE_NAME)
         if status > 3:
-            return status, read_file(b"notes").decode("latin-1").strip(), b""
-        return status, "", read_file(TRACE_NAME)
+            return status, self.read(NOTES).decode("latin-1").strip(), b""
+        return status, "", self.read(TRACE_NAME)
 
     def report(self, trace=None):
         return self.of_trace(b"report", trace)
@@ -95,15 +112,15 @@ class ByProgram:
     def response_times(self, table):
         """What `rta` prints of a table."""
         write_file(b"table", table)
-        self.ask(b"rta", b"table", out=b"answer")
-        return (read_file(b"answer") or read_file(b"notes")).decode("latin-1")
+        self.ask(b"rta", b"table", out=ANSWER)
+        return (self.read(ANSWER) or self.read(NOTES)).decode("latin-1")
 
     def of_trace(self, word, trace):
         """What the program says of the trace of the last run, or of this one."""
         if trace is not None:
-            write_file(TRACE_NAME, trace)
-        status = self.ask(word, TRACE_NAME, out=b"answer")
-        return status, (read_file(b"answer") or read_file(b"notes")).decode("latin-1")
+            self.write(TRACE_NAME, trace)
+        status = self.ask(word, TRACE_NAME, out=ANSWER)
+        return status, (self.read(ANSWER) or self.read(NOTES)).decode("latin-1")
 
 
 class ByDefinitions:
@@ -168,26 +185,71 @@ def write_file(path, content):
         f.write(content)
 
 
-def read_file(path):
-    with open(path, "rb", 0) as f:
-        return f.read()
-
-
 # ---- many at a time
 
-EVALUATE = RUNNER = FOLDER = None
 MOST_IN_CHUNK = 16  # jobs that a worker is handed at a time
 
 
-def begin_worker():
-    signal.signal(signal.SIGINT, signal.SIG_IGN)
-    folder = tempfile.mkdtemp(dir=FOLDER)
-    RUNNER.begin(folder)
+class Worker:
+    """A process that is handed lists of numbered jobs and gives their results, one list after another."""
+
+    def __init__(self, others, folder, runner, evaluate):
+        (asked, ask), (told, tell) = os.pipe(), os.pipe()
+        self.process = os.fork()
+        if self.process == 0:
+            for pipe in (ask, told, *(pipe for other in others for pipe in (other.to.fileno(), other.answers.fileno()))):
+                os.close(pipe)
+            serve(open(asked, "rb"), open(tell, "wb"), folder, runner, evaluate)
+        os.close(asked)
+        os.close(tell)
+        self.to, self.answers = open(ask, "wb"), open(told, "rb")
+
+    def hand(self, jobs):
+        """Hands jobs over, which another list may follow when their results are there."""
+        try:
+            pickle.dump(jobs, self.to)
+            self.to.flush()
+        except BrokenPipeError:
+            raise Failed("a worker has ended")
+
+    def results(self):
+        try:
+            return pickle.load(self.answers)
+        except (EOFError, pickle.UnpicklingError):
+            raise Failed("a worker has ended")
+
+    def end(self):
+        os.kill(self.process, signal.SIGTERM)
+        os.waitpid(self.process, 0)
+        for pipe in (self.to, self.answers):
+            try:
+                pipe.close()
+            except OSError:  # (what was interrupted is not handed over)
+                pass
 
 
-def work(job):
+def serve(asked, told, folder, runner, evaluate):
+    """What a worker does until nobody asks."""
+    status = 1
     try:
-        return EVALUATE(RUNNER, job), None
+        signal.signal(signal.SIGINT, signal.SIG_IGN)
+        os.mkdir(folder)
+        runner.begin(folder)
+        while True:
+            pickle.dump([(number, *work(runner, evaluate, job)) for number, job in pickle.load(asked)], told)
+            told.flush()
+    except (EOFError, BrokenPipeError):
+        status = 0
+    except BaseException:
+        sys.excepthook(*sys.exc_info())
+    finally:
+        os._exit(status)
+
+
+def work(runner, evaluate, job):
+    """The result of a job, or why there is none."""
+    try:
+        return evaluate(runner, job), None
     except Failed as why:
         return None, str(why)
 
@@ -197,22 +259,35 @@ class Workers:
 
     def __init__(self, runner, evaluate, source, count, expected=1, told=True):
         """So many workers, for about so many jobs; the source is one like those that will run."""
-        global EVALUATE, RUNNER, FOLDER
         runner.prepare(source)
         if told and isinstance(runner, ByDefinitions):
             print("annexd: computed from the definitions; .ci/run proves and builds the program", file=sys.stderr)
         memory = "/dev/shm" if os.access("/dev/shm", os.W_OK) else None
-        EVALUATE, RUNNER, FOLDER = evaluate, runner, tempfile.mkdtemp(prefix="annexd-bench-", dir=memory)
-        self.folder, self.count, self.expected = FOLDER, count, expected
-        self.pool = multiprocessing.get_context("fork").Pool(count, begin_worker)
+        self.folder, self.expected, self.workers = tempfile.mkdtemp(prefix="annexd-bench-", dir=memory), expected, []
+        for number in range(count):
+            self.workers.append(Worker(self.workers, os.path.join(self.folder, str(number)), runner, evaluate))
+
+    def chunks(self, jobs):
+        """Lists of numbered jobs, which become short towards the end, so that all workers end at about the same time."""
+        left, numbered = self.expected, enumerate(jobs)
+        while chunk := list(itertools.islice(numbered, max(1, min(MOST_IN_CHUNK, left // (len(self.workers) * 4))))):
+            left -= len(chunk)
+            yield chunk
 
     def results(self, jobs):
         """The results of jobs, each as (place, result) when it is there; Failed where the program gives no answer."""
-        chunk = max(1, min(MOST_IN_CHUNK, self.expected // (self.count * 8)))
-        for n, (result, fault) in self.pool.imap_unordered(work_numbered, enumerate(jobs), chunk):
-            if fault is not None:
-                raise Failed(fault)
-            yield n, result
+        chunks, busy = self.chunks(jobs), {}
+        for worker in self.workers:
+            hand_next(worker, chunks, busy)
+        while busy:
+            for pipe in select.select(list(busy), [], [])[0]:
+                worker = busy.pop(pipe)
+                found = worker.results()
+                hand_next(worker, chunks, busy)
+                for number, result, fault in found:
+                    if fault is not None:
+                        raise Failed(fault)
+                    yield number, result
 
     def in_order(self, jobs):
         """The results of a few jobs, in their order."""
@@ -220,13 +295,17 @@ class Workers:
         return [found[n] for n in sorted(found)]
 
     def end(self):
-        self.pool.terminate()
-        self.pool.join()
+        for worker in self.workers:
+            worker.end()
         shutil.rmtree(self.folder, ignore_errors=True)
 
 
-def work_numbered(numbered):
-    return numbered[0], work(numbered[1])
+def hand_next(worker, chunks, busy):
+    """Hands a worker the next jobs, if there are more; then it is busy."""
+    chunk = next(chunks, None)
+    if chunk:
+        worker.hand(chunk)
+        busy[worker.answers.fileno()] = worker
 
 
 # ---- what the tools share
@@ -315,6 +394,8 @@ def ended(tool, main):
 
 def picture(trace, path, first, last):
     """Draws these ticks of a trace by tools/timeline."""
+    import subprocess  # here, since a run of variants begins sooner without it
+
     words = [sys.executable, os.path.join(TOP, "tools", "timeline"), "-", "--from", str(first), "--to", str(last)]
     with open(path, "wb") as out:
         subprocess.run(words, input=trace, stdout=out, check=True)

@@ -3,36 +3,50 @@ import re
 from dataclasses import dataclass, field
 
 FIGURES = ("jobs", "worst", "sum", "run", "preempted", "lower", "longest")
-ACCOUNT = re.compile(
-    r"t(\d+) (\S+) jobs (\d+) worst (\d+) sum (\d+) run (\d+) preempted (\d+) lower (\d+) longest (\d+)$", re.M
-)
+WAITS = re.compile(rb" block (?:activation|entry|accept|select|dependents|call)\n")
 RAISED = re.compile(rb"^\d+ (?:t\d+|agent) raise (\S+)$", re.M)
 LINE = re.compile(rb"\d+ (?:t\d+|p\d+|agent|idle|release|interrupt|port|mask|unmask|masked|end)(?: |\r?\n|$)")
 
 
-@dataclass
 class Account:
     """The line of a report for one task."""
 
-    task: int
-    name: str
-    figures: dict  # what the report tells, by its words
-    misses: int = None  # None where no deadline of the task is known
-    open_for: int = 0  # the age of a job that has not ended
+    def __init__(self, task, name, figures, misses=None):
+        self.task, self.name, self.given, self.misses = task, name, figures, misses  # no misses where no deadline is known
+
+    @property
+    def figures(self):
+        """What the report tells, by its words; read when it is asked for."""
+        if not isinstance(self.given, dict):
+            self.given = dict(zip(FIGURES, map(int, self.given)))
+        return self.given
+
+    @property
+    def worst(self):
+        return self.figures["worst"] if isinstance(self.given, dict) else int(self.given[FIGURES.index("worst")])
 
 
-@dataclass
 class Report:
-    accounts: list
-    agent: int
-    idle: int
-    ticks: int
+    """A report. Workers hand it over as its text, which its reader takes apart as far as it needs."""
+
+    def __init__(self, accounts, agent, idle, ticks, text=None):
+        self.accounts, self.agent, self.idle, self.ticks, self.text = accounts, agent, idle, ticks, text
+
+    def __reduce__(self):
+        return with_misses, (self.text or report_text(self), [a.misses for a in self.accounts])
 
 
 def report_of(text):
-    accounts = [Account(int(m[1]), m[2], dict(zip(FIGURES, map(int, m.groups()[2:])))) for m in ACCOUNT.finditer(text)]
-    agent, idle, ticks = (int(line.split()[-1]) for line in text.rstrip("\n").split("\n")[-3:])
-    return Report(accounts, agent, idle, ticks)
+    *rows, agent, idle, ticks = [line.split() for line in text.rstrip("\n").split("\n")]
+    accounts = [Account(int(row[0][1:]), row[1], row[3::2]) for row in rows]
+    return Report(accounts, int(agent[-1]), int(idle[-1]), int(ticks[-1]), text)
+
+
+def with_misses(text, misses):
+    report = report_of(text)
+    for account, count in zip(report.accounts, misses):
+        account.misses = count
+    return report
 
 
 def raised_in(trace):
@@ -125,10 +139,10 @@ def misses_of(trace, account, deadline, last, waiters, period=None):
     """How many releases of a task ended after their deadline, or are open beyond it; None where no deadline is known. A
     deadline that is given is a number of ticks from the release; else those count that the trace tells. `waiters` are those
     of `waiters_in`, and `period` is that of the task, where it is known."""
-    if deadline is None and b" tail " not in trace and b" head " not in trace:
-        return None  # (no ready line tells a deadline)
-    if deadline is not None and account.figures["worst"] <= deadline and jobs_are_releases(trace, account.task, waiters):
-        return int(open_for(trace, account.task, last) > deadline)
+    if deadline is None and not re.search(rb" t%d ready \d+ (?:tail|head) \d" % account.task, trace):
+        return None  # (none of its ready lines tells a deadline)
+    if deadline is not None and account.worst <= deadline and jobs_are_releases(trace, account.task, waiters):
+        return int(is_open_for(trace, account.task, last, deadline))
     jobs = releases_of(trace, account.task, period)
     known = [(job, job.begun + deadline if deadline is not None else job.deadline) for job in jobs]
     if all(until is None for _, until in known):
@@ -138,14 +152,7 @@ def misses_of(trace, account, deadline, last, waiters, period=None):
 
 def waiters_in(trace):
     """The subjects that block for something else than a delay."""
-    found = set()
-    for why in (b"activation", b"entry", b"accept", b"select", b"dependents", b"call"):
-        mark = b" block " + why + b"\n"
-        at = trace.find(mark)
-        while at >= 0:
-            found.add(trace[trace.rfind(b" ", 0, at) + 1 : at])
-            at = trace.find(mark, at + 1)
-    return found
+    return {trace[trace.rfind(b" ", 0, found.start()) + 1 : found.start()] for found in WAITS.finditer(trace)}
 
 
 def jobs_are_releases(trace, task, waiters):
@@ -153,19 +160,27 @@ def jobs_are_releases(trace, task, waiters):
     return b"t%d" % task not in waiters or b" t%d block delay\n" % task not in trace
 
 
+def is_open_for(trace, task, last, ticks):
+    """Is the job of the report that has not ended older than so many ticks?"""
+    at = last_place(trace, b" t%d block " % task)
+    return (not at or last - line_before(trace, at) > ticks) and open_for(trace, task, last) > ticks
+
+
 def open_for(trace, task, last):
     """The age of the job of the report that has not ended, or 0."""
     mark = b" t%d " % task
-    ends = [place for word in (b"block ", b"done\n") for place in last_place(trace, mark + word)]
-    job = job_from(trace, mark, max(ends, default=0))
+    at = last_place(trace, mark + b"block ")
+    at = max([at, *(place for place, _ in places(trace, mark + b"done\n", at))])
+    job = job_from(trace, mark, at)
     return 0 if job is None else last - job[1]
 
 
 def last_place(trace, mark):
+    """The place of the last line that goes on so behind its tick, or 0."""
     at = trace.rfind(mark)
     while at >= 0 and line_before(trace, at) < 0:
         at = trace.rfind(mark, 0, at)
-    return [at] if at >= 0 else []
+    return max(at, 0)
 
 
 # ---- lines, for what is read one by one

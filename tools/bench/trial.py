@@ -1,13 +1,15 @@
 """What the tests of the tools share: they run a tool as a user does, and compare what it says with what was worked out."""
 import os
+import re
 import shutil
 import signal
 import subprocess
 import sys
 import tempfile
-import time
 
 from .runs import TOP
+
+PROGRESS = re.compile(r"\r[1-9]\d* of \d+ ")
 
 # a stand-in for the program: it answers what a program of one task would print, and takes its time if SLOW is set
 STAND_IN = """#!/bin/sh
@@ -74,17 +76,30 @@ class Trial:
         self.expect(name, one[:2] == other[:2], f"{one}\n{other}")
 
     def interrupted(self, name, words, least, notes):
-        """The tool is interrupted while a slow stand-in runs; it tells what it has, and ends with 130."""
-        environment = dict(os.environ, SLOW="0.05")
+        """The tool is interrupted when its progress line tells of runs; it tells what it has, and ends with 130."""
+        terminal, notes_to = os.openpty()
         process = subprocess.Popen(
-            [self.tool, *words, "--program", self.stand_in, "--jobs", "2"], cwd=self.folder, env=environment,
-            stdout=subprocess.PIPE, stderr=subprocess.PIPE, text=True,
+            [self.tool, *words, "--program", self.stand_in, "--jobs", "2"], cwd=self.folder, env=dict(os.environ, SLOW="0.05"),
+            stdout=subprocess.PIPE, stderr=notes_to, text=True,
         )
-        time.sleep(3)
+        os.close(notes_to)
+        noted = self.noted(terminal, until=PROGRESS)
         process.send_signal(signal.SIGINT)
         process.send_signal(signal.SIGINT)
-        said, noted = process.communicate(timeout=60)
+        said, _ = process.communicate()
+        noted += self.noted(terminal)
+        os.close(terminal)
         self.expect(name, process.returncode == 130 and least in said and notes in noted, f"{said}{noted}status {process.returncode}")
+
+    def noted(self, terminal, until=None):
+        """What is written to a terminal, up to this, or to its end."""
+        noted = ""
+        while until is None or not until.search(noted):
+            try:
+                noted += os.read(terminal, 1000).decode()
+            except OSError:  # (nobody has it open)
+                break
+        return noted
 
     def end(self):
         shutil.rmtree(self.folder, ignore_errors=True)

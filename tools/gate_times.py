@@ -1,10 +1,10 @@
 #!/usr/bin/env python3
 """What the gate costs, crate by crate, from nothing.
 
-    tools/gate_times.py watch FILE [GATE]
+    tools/gate_times.py watch FILE [GATE ..]
                                        while a gate runs: appends to FILE what each process of the prover used, with those that
                                        it began. GATE is the number of an `rt ci`, or the folder in which one runs: then only
-                                       what that began counts, and the watch of a number ends with it
+                                       what these began counts, and the watch of numbers alone ends with them
     tools/gate_times.py table FILE     processor minutes of proof, tests and edits of each crate, the most memory that one
                                        process took, and the longest chain of crates that stand on one another
     tools/gate_times.py --write FILE.. writes docs/gate_times.tsv, the record of a gate from nothing: a line for each crate of
@@ -16,8 +16,9 @@
                                        of the proof: FOLDER is the crate's, after `rt check` from nothing. It goes by the moments
                                        at which the prover wrote its files, so it is told most by a check alone on the machine
 
-FILE is what `watch` wrote; what `rt ci` prints tells no times. The record has processor seconds and megabytes. `watch` looks once
-a second, so a process is counted up to its last whole second at most. It works on Linux, and reads /proc."""
+FILE is what `watch` wrote; what `rt ci` prints tells no times. For a gate that did not come to its end, name what it printed
+beside: then a proof counts if it says that the crate is proved. The record has processor seconds and megabytes. `watch` looks
+once a second, so a process is counted up to its last whole second at most. It works on Linux, and reads /proc."""
 import collections
 import os
 import pathlib
@@ -96,14 +97,14 @@ def with_children(processes):
     return used
 
 
-def watch(path, gate=None):
+def watch(path, *gates):
     seen, meant = {}, {}
     with open(path, "a") as out:
         while True:
             now = with_children(prover_processes())
             for name in now:
                 if name not in meant:
-                    meant[name] = gate is None or is_begun_by(name[0], gate)
+                    meant[name] = not gates or any(is_begun_by(name[0], gate) for gate in gates)
             for name in [name for name in seen if name not in now]:
                 crate, kind, seconds, most = seen.pop(name)
                 out.write(f"{crate}\t{kind}\t{seconds:.1f}\t{most}\n")
@@ -112,7 +113,7 @@ def watch(path, gate=None):
                 if meant[name]:
                     _, _, before, most = seen.get(name, (crate, kind, 0, 0))
                     seen[name] = crate, kind, max(seconds, before), max(size, most)
-            if gate and gate.isdigit() and not os.path.exists(f"/proc/{gate}") and not seen:
+            if gates and not seen and all(gate.isdigit() and not os.path.exists(f"/proc/{gate}") for gate in gates):
                 return
             time.sleep(1)
 
@@ -147,13 +148,22 @@ def closure(below, name):
 
 
 def told(paths):
-    """crate -> kind -> seconds, with the most bytes under `memory`, of what `watch` wrote into these files."""
-    found = collections.defaultdict(lambda: collections.defaultdict(float))
+    """crate -> kind -> seconds, with the most bytes under `memory`, of what `watch` wrote into these files. A file with other lines
+    is what a gate printed; if there is one, proofs count of those crates alone that it says are proved."""
+    found, proved = collections.defaultdict(lambda: collections.defaultdict(float)), None
     for path in paths:
-        for line in open(path):
-            crate, kind, seconds, size = line.rstrip("\n").split("\t")
+        lines = pathlib.Path(path).read_text(errors="replace").splitlines()
+        rows = [line.split("\t") for line in lines]
+        if any(len(row) != 4 for row in rows):
+            proved = (proved or set()) | set(re.findall(r"^rt: (\w+) proved$", "\n".join(lines), re.MULTILINE))
+            continue
+        for crate, kind, seconds, size in rows:
             found[crate][kind] += float(seconds)
             found[crate]["memory"] = max(found[crate]["memory"], int(size))
+    for crate in [] if proved is None else [crate for crate in found if crate not in proved]:
+        found[crate].pop("proof", None)
+        if not any(found[crate][kind] for kind in KINDS):
+            del found[crate]
     return found
 
 
@@ -252,7 +262,7 @@ def functions(folder, rows=20):
 
 if __name__ == "__main__":
     words = sys.argv[1:]
-    if words[:1] == ["watch"] and len(words) in (2, 3):
+    if words[:1] == ["watch"] and len(words) > 1:
         watch(*words[1:])
     elif words[:1] == ["table"] and len(words) == 2:
         table(words[1])

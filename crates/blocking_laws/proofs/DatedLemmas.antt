@@ -144,6 +144,7 @@ module _ (p : Image) (low : edf_is_below_interrupts p ≡ true) where
     readies = λ part name end fits. rightly_ready part name end;
     blocks = λ name waits. rightly_says TheBlock (line.Block name waits) refl;
     ends = λ part t fits. rightly_says part (line.Done t) refl;
+    exits = λ name o. rightly_says Own (line.Exit name o) refl;
     appoints = λ t moment. rightly_alters (appoint (due_for.Delay t) moment) ((agent_base p).appoints t moment);
     forgets = λ name. rightly_alters (forget_task name) ((agent_base p).forgets name);
   }

@@ -91,6 +91,7 @@ none_base p = record {
   readies = λ part name end fits. ready_by_line p part name end (λ level deadline. none_says part (line.Ready name level end deadline) refl);
   blocks = λ name waits. none_says TheBlock (line.Block name waits) refl;
   ends = λ part t fits. none_says part (line.Done t) refl;
+  exits = λ name o. none_says Own (line.Exit name o) refl;
   appoints = λ t moment. none_alters _;
   forgets = λ name. none_alters _;
 }
@@ -158,6 +159,7 @@ module _ {S : Type 0} (see : S → Event → S) (lawful : S → Event → Bool) 
     readies = λ part name end late. ready_by_line p part name end (λ level deadline. one_says s part (line.Ready name level end deadline) (refl, inr late));
     blocks = λ name waits. one_says s TheBlock (line.Block name waits) (refl, inr refl);
     ends = λ part t late. one_says s part (line.Done t) (refl, inr late);
+    exits = λ name o. one_says s Own (line.Exit name o) (refl, inr refl);
     appoints = λ t moment. one_alters s _;
     forgets = λ name. one_alters s _;
   }

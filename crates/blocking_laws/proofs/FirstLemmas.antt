@@ -117,6 +117,7 @@ none_base p = record {
   readies = λ part name end fits. ready_by_line p part name end (λ level deadline. none_says part (line.Ready name level end deadline) refl);
   blocks = λ name waits. none_says TheBlock (line.Block name waits) refl;
   ends = λ part t fits. none_says part (line.Done t) refl;
+  exits = λ name o. none_says Own (line.Exit name o) refl;
   appoints = λ t moment. none_alters _;
   forgets = λ name. none_alters _;
 }
@@ -141,6 +142,7 @@ one_base p queue = record {
   readies = λ part name end late. ready_by_line p part name end (λ level deadline. one_says queue part (line.Ready name level end deadline) (refl, inr late));
   blocks = λ name waits. one_says queue TheBlock (line.Block name waits) (refl, inr refl);
   ends = λ part t late. one_says queue part (line.Done t) (refl, inr late);
+  exits = λ name o. one_says queue Own (line.Exit name o) (refl, inr refl);
   appoints = λ t moment. one_alters queue _;
   forgets = λ name. one_alters queue _;
 }

@@ -130,6 +130,7 @@ module _ (r : Option Who) (p : Image) where
     tails = λ part name fits. own_tail part name;
     blocks = λ name waits. own_says TheBlock (line.Block name waits) refl;
     ends = λ part t fits. own_says part (line.Done t) refl;
+    exits = λ name o. own_says Own (line.Exit name o) refl;
     appoints = λ t moment. own_alters _;
     forgets = λ name. own_alters _;
   }

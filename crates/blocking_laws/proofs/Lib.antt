@@ -7,6 +7,7 @@ pub mod EnterLaws
 pub mod EnterLemmas
 pub mod EnterRuns
 pub mod FirstLemmas
+pub mod FreshLemmas
 pub mod HeadLemmas
 pub mod HoldLemmas
 pub mod LowLemmas

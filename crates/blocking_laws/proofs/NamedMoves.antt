@@ -72,6 +72,7 @@ pub record NamedBase (p : Image) (Fits : Part → Type 0) (X : State) : Type 0 w
   pub tails : (part : Part) (name : Who) → Fits part → Keeps X (says_ready p part name Tail)
   pub blocks : (name : Who) (waits : Waits) → Keeps X (says TheBlock (line.Block name waits))
   pub ends : (part : Part) (t : TaskNo) → Fits part → Keeps X (says part (line.Done t))
+  pub exits : (name : Who) (o : ObjectNo) → Keeps X (says Own (line.Exit name o))
   pub appoints : (t : TaskNo) (moment : ℤ) → Alters X (appoint (due_for.Delay t) moment)
   pub forgets : (name : Who) → Alters X (forget_task name)
 
@@ -344,6 +345,8 @@ module _ {p : Image} {actor : Who} {May : Admitting} {F I J : State} (free : Nam
         may = free.may;
         may_on = free.may_on;
         enters = free.enters;
+        exits = free.later.exits;
+        exits_entered = free.entered.exits;
         finds_held = λ o mode. find_held-free o mode;
       }
 
@@ -367,6 +370,7 @@ module _ {p : Image} {X : State} (free : NamedBase p EveryPart X) where
     tails = λ part name late. free.tails part name tt;
     blocks = free.blocks;
     ends = λ part t late. free.ends part t tt;
+    exits = free.exits;
     appoints = free.appoints;
     forgets = free.forgets;
   }

@@ -181,6 +181,7 @@ module _ (p : Image) (s : Shown) where
     readies = λ part name end fits. ready_by_line p part name end (λ level deadline. drawn_says part (line.Ready name level end deadline) refl);
     blocks = λ name waits. drawn_says TheBlock (line.Block name waits) refl;
     ends = λ part t fits. drawn_says part (line.Done t) refl;
+    exits = λ name o. drawn_says Own (line.Exit name o) refl;
     appoints = λ t moment. drawn_plain (appoint (due_for.Delay t) moment) (λ w. refl);
     forgets = λ name. drawn_plain (forget_task name) (λ w. refl);
   }

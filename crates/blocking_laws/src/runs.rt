@@ -1,6 +1,7 @@
 //! Blocking in every run: laws of the profile machine's definitions alone, which hold of every
 //! program, script and bound. Each is the contract of a function that does nothing.
 ghost use Rattle.blocking_laws.specs.DatedLines.{RunsDateRightly};
+ghost use Rattle.blocking_laws.specs.FreshLines.{RunsEnterFresh};
 ghost use Rattle.blocking_laws.specs.LowLines.{RunsEnterLow};
 ghost use Rattle.blocking_laws.specs.NumberLines.{RunsNumberObjects};
 ghost use Rattle.blocking_laws.specs.OwnLines.{RunsEnterFirst, RunsTellOwnLines};
@@ -53,4 +54,10 @@ pub fn only_tasks_have_deadlines()
 /// In every run each protected object that is made has a number that no object had.
 pub fn numbers_of_objects_are_new()
     ensures { RunsNumberObjects }
+{}
+
+/// In every run whoever enters an object has in that tick neither been placed nor taken out before,
+/// nor entered or left one: an action begins first (D.2.1, 9.5.1).
+pub fn who_enters_has_not_moved()
+    ensures { RunsEnterFresh }
 {}

@@ -794,5 +794,7 @@ module _ (p : Image) (s : Levels) (a : Who) where
     may = λ w o mode e. tt;
     may_on = λ u w o same m. tt;
     enters = λ o mode. from-leads (says Own (line.Enter a o mode)) (λ w said h. starts_later p s a w said h.0) (keeps_says Whole Own (line.Enter a o mode) (λ n. refl));
+    exits = λ name o. keeps_says Whole Own (line.Exit name o) (λ n. refl);
+    exits_entered = λ name o. keeps_says Whole Own (line.Exit name o) (λ n. refl);
     finds_held = held_later p s a;
   }

@@ -153,4 +153,6 @@ pub record ActingMoves (p : Image) (actor : Who) (Fits Narrow : Fitting) (Sleeps
   pub may : (w : World) (o : ObjectNo) (mode : Mode) → entering p w actor o mode ≡ entering_is.Inside → May w o
   pub may_on : (a b : World) (o : ObjectNo) → Same a b → May a o → May b o
   pub enters : (o : ObjectNo) (mode : Mode) → Leads (With F (λ w. May w o)) J (says Own (line.Enter actor o mode))
+  pub exits : (name : Who) (o : ObjectNo) → Keeps I (says Own (line.Exit name o))
+  pub exits_entered : (name : Who) (o : ObjectNo) → Keeps J (says Own (line.Exit name o))
   pub finds_held : (o : ObjectNo) (mode : Mode) → Leads F (Either I J) (find_held p actor o mode)

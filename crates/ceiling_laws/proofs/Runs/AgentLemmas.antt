@@ -127,6 +127,7 @@ module _ (p : Image) where
     readies = λ part name end fits. ready_by_line p part name end (λ level deadline. any_line part (line.Ready name level end deadline));
     blocks = λ name waits. any_line TheBlock (line.Block name waits);
     ends = λ part t fits. any_line part (line.Done t);
+    exits = λ name o. any_line Own (line.Exit name o);
     appoints = λ t moment. plainly_alters (appoint (due_for.Delay t) moment) (λ w. refl);
     forgets = λ name. plainly_alters (forget_task name) (λ w. refl);
   }

@@ -282,6 +282,7 @@ module _ (p : Image) (shown : List (ℕ × ℕ)) where
     readies = λ part name end fits. ready_by_line p part name end (λ level deadline. bases_says part (line.Ready name level end deadline) refl);
     blocks = λ name waits. bases_says TheBlock (line.Block name waits) refl;
     ends = λ part t fits. bases_says part (line.Done t) refl;
+    exits = λ name o. bases_says Own (line.Exit name o) refl;
     appoints = λ t moment. bases_alters (appoint (due_for.Delay t) moment) (λ s w h. bases-plain s w (appoint (due_for.Delay t) moment w) refl refl h);
     forgets = λ name. bases_alters (forget_task name) (λ s w h. forgets-bases s name w h);
   }

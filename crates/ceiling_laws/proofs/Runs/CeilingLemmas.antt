@@ -204,6 +204,7 @@ module _ (p : Image) (shown : List (ℕ × ℕ)) where
     readies = λ part name end fits. ready_by_line p part name end (λ level deadline. ceilings_says part (line.Ready name level end deadline) refl);
     blocks = λ name waits. ceilings_says TheBlock (line.Block name waits) refl;
     ends = λ part t fits. ceilings_says part (line.Done t) refl;
+    exits = λ name o. ceilings_says Own (line.Exit name o) refl;
     appoints = λ t moment. ceilings_plain (appoint (due_for.Delay t) moment) (λ w. refl) (λ w. refl);
     forgets = λ name. ceilings_plain (forget_task name) (λ w. refl) (λ w. refl);
   }

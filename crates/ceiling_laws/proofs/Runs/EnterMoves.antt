@@ -171,6 +171,7 @@ none_base p = record {
   readies = λ part name end fits. ready_by_line p part name end (λ level deadline. none_says part (line.Ready name level end deadline) refl);
   blocks = λ name waits. none_says TheBlock (line.Block name waits) refl;
   ends = λ part t fits. none_says part (line.Done t) refl;
+  exits = λ name o. none_says Own (line.Exit name o) refl;
   appoints = λ t moment. none_alters (appoint (due_for.Delay t) moment);
   forgets = λ name. none_alters (forget_task name);
 }
@@ -195,6 +196,7 @@ one_base p sight = record {
   readies = λ part name end late. ready_by_line p part name end (λ level deadline. one_says sight part (line.Ready name level end deadline) (refl, inr late));
   blocks = λ name waits. one_says sight TheBlock (line.Block name waits) (refl, inr refl);
   ends = λ part t late. one_says sight part (line.Done t) (refl, inr late);
+  exits = λ name o. one_says sight Own (line.Exit name o) (refl, inr refl);
   appoints = λ t moment. one_alters sight (appoint (due_for.Delay t) moment);
   forgets = λ name. one_alters sight (forget_task name);
 }

@@ -73,6 +73,7 @@ pub record FreeBase (p : Image) (Fits : Part → Type 0) (X : State) : Type 0 wh
   pub readies : (part : Part) (name : Who) (end : QueueEnd) → Fits part → Keeps X (says_ready p part name end)
   pub blocks : (name : Who) (waits : Waits) → Keeps X (says TheBlock (line.Block name waits))
   pub ends : (part : Part) (t : TaskNo) → Fits part → Keeps X (says part (line.Done t))
+  pub exits : (name : Who) (o : ObjectNo) → Keeps X (says Own (line.Exit name o))
   pub appoints : (t : TaskNo) (moment : ℤ) → Alters X (appoint (due_for.Delay t) moment)
   pub forgets : (name : Who) → Alters X (forget_task name)
 
@@ -369,6 +370,8 @@ module _ {p : Image} {actor : Who} {May : Admitting} {F I J : State} (free : Fre
         may = free.may;
         may_on = free.may_on;
         enters = free.enters;
+        exits = free.later.exits;
+        exits_entered = free.entered.exits;
         finds_held = λ o mode. find_held-free o mode;
       }
 
@@ -392,6 +395,7 @@ module _ {p : Image} {X : State} (free : FreeBase p EveryPart X) where
     readies = λ part name end late. free.readies part name end tt;
     blocks = free.blocks;
     ends = λ part t late. free.ends part t tt;
+    exits = free.exits;
     appoints = free.appoints;
     forgets = free.forgets;
   }

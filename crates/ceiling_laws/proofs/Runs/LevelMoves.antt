@@ -30,6 +30,7 @@ is_apart (line.Block who waits) = true
 is_apart (line.Base task level) = true
 is_apart (line.Done task) = true
 is_apart (line.Enter who object mode) = true
+is_apart (line.Exit who object) = true
 is_apart (line.Held who object mode) = true
 is_apart _ = false
 

@@ -172,5 +172,6 @@ pub record ActingMoves (p : Image) (actor : Who) (Fits : Fitting) (Sleeps : Slee
   pub makes : (l : Located) (u : ProtectedUnitNo) → Keeps I (changes (with_object p l u) ▷ says_object p l u)
   pub may : (w : World) (o : ObjectNo) (mode : Mode) → entering p w actor o mode ≡ entering_is.Inside → May w o
   pub may_on : (a b : World) (o : ObjectNo) → Same a b → May a o → May b o
+  pub exits : (name : Who) (o : ObjectNo) → Keeps I (says Own (line.Exit name o))
   pub enters : (o : ObjectNo) (mode : Mode) → Leads (With F (λ w. May w o)) I (says Own (line.Enter actor o mode))
   pub says_held : (o : ObjectNo) (mode : Mode) → Keeps I (says Own (line.Held actor o mode))

@@ -777,6 +777,7 @@ module _ (p : Image) (s : List Placed) (a : Who) where
     makes = made_object;
     may = λ w o mode e. tt;
     may_on = λ u w o same m. tt;
+    exits = λ name o. keeps_says Whole Own (line.Exit name o) (λ n. refl);
     enters = λ o mode. from-leads (says Own (line.Enter a o mode)) (λ w said h. starts_later p s a w said h.0) (keeps_says Whole Own (line.Enter a o mode) (λ n. refl));
     says_held = λ o mode. keeps_says Whole Own (line.Held a o mode) (λ n. refl);
   }

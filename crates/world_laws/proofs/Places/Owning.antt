@@ -69,7 +69,7 @@ module _ (call : Option CallNo) (name : Who) where
   calling_edits : (someone : Who) (f : World → Task → Task) → Keeps Calling (changes (λ w. edit_task someone (f w) w))
   calling_edits someone f = changes-leads (λ w. edit_task someone (f w) w) (λ w said h. own-on w (edit_task someone (f w) w) (edit-calls someone (f w) w) h)
 
-  calling_says : (part : Part) (line : Line) → Keeps Calling (says part line)
+  pub calling_says : (part : Part) (line : Line) → Keeps Calling (says part line)
   unfolding Ends
   calling_says part line = record { runs = λ w said h. h }
 

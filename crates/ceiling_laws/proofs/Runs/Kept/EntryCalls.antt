@@ -201,7 +201,7 @@ module _ {p : Image} {actor : Who} {Fits Narrow : Fitting} {Sleeps : Sleeping} {
       then-leads (says Own (line.Enter name o Write)) _ (enters_as o name is)
       (then-keeps _ _ (says-keeps quiet Own (line.Start name c.number) refl)
       (then-keeps _ _ (says-keeps quiet Own (line.Finish name c.number (meeting.Raised exception.Storage)) refl)
-      (then-keeps _ _ (says-keeps quiet Own (line.Exit name o) refl) (end_at_once-keeps quiet Own c exception.Storage))))
+      (then-keeps _ _ (acting.exits_entered name o) (end_at_once-keeps quiet Own c exception.Storage))))
 
   call_runs_if_room-leads : (o : ObjectNo) (c : Call) → who.Task c.caller ≡ actor → Leads (Admitted acting o) J (call_runs_if_room p o c)
   unfolding call_runs_if_room
@@ -214,13 +214,13 @@ module _ {p : Image} {actor : Who} {Fits Narrow : Fitting} {Sleeps : Sleeping} {
   call_passes-leads o c is =
       then-leads (says Own (line.Enter (who.Task c.caller) o Write)) _ (enters_as o (who.Task c.caller) is)
       (then-keeps _ _ (enqueue-keeps (fine acting.entered.base.quiet) p c.number)
-      (then-keeps _ _ (says-keeps acting.entered.base.quiet Own (line.Exit (who.Task c.caller) o) refl) (not_accepted-keeps acting.entered Own c c.kind)))
+      (then-keeps _ _ (acting.exits_entered (who.Task c.caller) o) (not_accepted-keeps acting.entered Own c c.kind)))
 
   call_refused-leads : (o : ObjectNo) (c : Call) → who.Task c.caller ≡ actor → Leads (Admitted acting o) J (call_refused o c)
   unfolding call_refused
   call_refused-leads o c is =
       then-leads (says Own (line.Enter (who.Task c.caller) o Write)) _ (enters_as o (who.Task c.caller) is)
-      (then-keeps _ _ (says-keeps acting.entered.base.quiet Own (line.Exit (who.Task c.caller) o) refl)
+      (then-keeps _ _ (acting.exits_entered (who.Task c.caller) o)
       (end_at_once-keeps acting.entered.base.quiet Own c exception.Program))
 
   room_admitted : (o : ObjectNo) (name : Who) (marks cells : ℕ) (step : Step) → Leads (Admitted acting o) (Either I J) step

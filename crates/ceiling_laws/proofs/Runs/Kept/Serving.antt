@@ -114,7 +114,7 @@ module _ {p : Image} {actor : Who} {Fits Narrow : Fitting} {Sleeps : Sleeping} {
   pub release_object-keeps : (m : ProtectedMark) → Keeps I (release_object p actor m)
   unfolding release_object
   release_object-keeps m =
-      then-keeps _ _ (says-keeps acting.later.base.quiet Own (line.Exit actor m.object) refl)
+      then-keeps _ _ (acting.exits actor m.object)
       (then-keeps _ _ (changes-keeps _ (pop-alters (fine acting.later.base.quiet) actor))
       (then-keeps _ _ (changes-keeps _ (close_action-alters acting.later.base.quiet actor m.object))
       (then-keeps _ _ (acting.loses (inherited_by.Ceiling m.object)) (then-keeps _ _ acting.sets_deferred (behind_action-keeps m m.release m.own_call)))))

@@ -220,7 +220,7 @@ module _ {p : Image} {actor : Who} {Fits : Fitting} {Sleeps : Sleeping} {May : A
       then-leads (says Own (line.Enter name o Write)) _ (enters_as o name is)
       (then-keeps _ _ (says-keeps quiet Own (line.Start name c.number) refl)
       (then-keeps _ _ (says-keeps quiet Own (line.Finish name c.number (meeting.Raised exception.Storage)) refl)
-      (then-keeps _ _ (says-keeps quiet Own (line.Exit name o) refl) (end_at_once-keeps quiet Own c exception.Storage))))
+      (then-keeps _ _ (acting.exits name o) (end_at_once-keeps quiet Own c exception.Storage))))
 
   call_runs_if_room-leads : (o : ObjectNo) (c : Call) → who.Task c.caller ≡ actor → Leads (Admitted acting o) I (call_runs_if_room p o c)
   unfolding call_runs_if_room
@@ -233,13 +233,13 @@ module _ {p : Image} {actor : Who} {Fits : Fitting} {Sleeps : Sleeping} {May : A
   call_passes-leads o c is =
       then-leads (says Own (line.Enter (who.Task c.caller) o Write)) _ (enters_as o (who.Task c.caller) is)
       (then-leads _ _ (enqueue-keeps acting.later.base.quiet p c.number)
-      (then-leads _ _ (says-keeps acting.later.base.quiet Own (line.Exit (who.Task c.caller) o) refl) (not_accepted-leads acting Own c c.kind is)))
+      (then-leads _ _ (acting.exits (who.Task c.caller) o) (not_accepted-leads acting Own c c.kind is)))
 
   call_refused-leads : (o : ObjectNo) (c : Call) → who.Task c.caller ≡ actor → Leads (Admitted acting o) I (call_refused o c)
   unfolding call_refused
   call_refused-leads o c is =
       then-leads (says Own (line.Enter (who.Task c.caller) o Write)) _ (enters_as o (who.Task c.caller) is)
-      (then-keeps _ _ (says-keeps acting.later.base.quiet Own (line.Exit (who.Task c.caller) o) refl)
+      (then-keeps _ _ (acting.exits (who.Task c.caller) o)
       (end_at_once-keeps acting.later.base.quiet Own c exception.Program))
 
   room_admitted : (o : ObjectNo) (name : Who) (marks cells : ℕ) (step : Step) → Leads (Admitted acting o) Y step

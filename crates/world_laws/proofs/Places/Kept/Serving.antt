@@ -14,7 +14,7 @@ use Rattle.world_laws.proofs.Places.Kept.Protected.{edit_top_protected-alters, s
 use Rattle.world_laws.proofs.Places.Kept.Sending.{begin_abortable-keeps, open_abortable-alters, send_on-keeps, sent_not_begun-keeps, wait_for_call-leads}
 use Rattle.ceiling_laws.proofs.Fine.Kept.Tasks.{edit_object-alters, plain-alters, says-keeps}
 use Rattle.ceiling_laws.proofs.Fine.LevelMoves.{BaseMoves, Silences}
-use Rattle.world_laws.proofs.Places.Owning.{OwnCall, calling_deferred, calling_loses, own_moves, owning}
+use Rattle.world_laws.proofs.Places.Owning.{OwnCall, calling_deferred, calling_loses, calling_says, own_moves, owning}
 use Rattle.ceiling_laws.proofs.Runs.Triples.{Alters, At, Keeps, Leads, State, With, changes-keeps, for_some-leads, from-leads, from_at}
 use Rattle.ceiling_laws.proofs.Runs.Triples.{looks-leads, looks-with, nothing-keeps, nothing-leads, then-keeps, then-leads, to-leads, when-leads}
 use Rattle.profile_machine.specs.Act.{call}
@@ -31,7 +31,7 @@ use Rattle.profile_machine.specs.Serving.{end_in_protected, end_in_protected_by,
 use Rattle.profile_machine.specs.Serving.{go_on_by_mode, is_own_call, is_served_now, keep_values, keeps_sending, may_open_abortable, no_longer_serves}
 use Rattle.profile_machine.specs.Serving.{not_left, outcome_by, part_of_start, release_object, resume_own, serve_calls, serve_chosen, serve_ends}
 use Rattle.profile_machine.specs.Serving.{serve_next, serves_nothing, settle_sent, wait_for_own, wait_or_unwind, with_body_left, with_values}
-use Rattle.profile_machine.specs.Steps.{Step, changes, for_some, nothing, ◌▷◌}
+use Rattle.profile_machine.specs.Steps.{Step, changes, for_some, nothing, says, ◌▷◌}
 use Rattle.profile_machine.specs.Unwinding.{may_unwind}
 use Rattle.profile_machine.specs.Values.{object_of}
 use Rattle.profile_image.specs.Words.{without}
@@ -151,7 +151,9 @@ module _ {p : Image} {actor : Who} {Fits : Fitting} {Sleeps : Sleeping} {May : A
   unfolding release_object
   release_object-leads m own =
       let quiet = (entered_moves m).quiet in
-      then-leads _ _ (says-keeps quiet Own (line.Exit actor m.object) refl)
+      then-leads _ _
+      (owning m.own_call actor (says Own (line.Exit actor m.object)) (acting.exits actor m.object)
+      (calling_says m.own_call actor Own (line.Exit actor m.object)))
       (then-leads _ _ (changes-keeps _ (pop-alters quiet actor))
       (then-leads _ _ (changes-keeps _ (close_action-alters quiet actor m.object))
       (then-leads _ _

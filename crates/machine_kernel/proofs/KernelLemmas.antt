@@ -93,7 +93,7 @@ ended-at : (s t : Shown) (stop : Option Ended) → s.stop ≡ stop → (s.owed �
     → (future_of s ≡ []) × (t.stop ≡ Some (stop_of s))
 ended-at s t None e h = cc
 ended-at s t (Some why) e h =
-    (stopped-future s why h.0 e, ap {A = Shown} (λ x. x.stop) h.1.1 ∙ (e ∙ ap Some (sym (stopped-stop s why e))))
+    (stopped-future s why h.0 e, ap {A = Shown} (λ x. x.stop) h.2 ∙ (e ∙ ap Some (sym (stopped-stop s why e))))
 
 pub next-ended : (j k : Kernel) (r : Result Next NoMemory) → IfOk r (IfEnded (IsOver (shown j) (shown k)))
     → IfOk r (IfEnded ((future j ≡ []) × ((shown k).stop ≡ Some (stop_to_come j))))

@@ -9,11 +9,10 @@ use Rattle.profile_image.specs.declared.script_items.Item.{Item}
 use Rattle.profile_machine.specs.declared.world.World.{World}
 use Rattle.profile_machine.specs.Instant.{instant}
 use Rattle.profile_machine.specs.Run.{tock, stop, opening, run_from, at_tick, lines_of_run, stop_of_run}
-use Rattle.machine_laws.specs.IdleLaws.{IdleStretches}
-use Rattle.machine_kernel.specs.Jump.{jumped}
+use Rattle.machine_kernel.specs.Busy.{passed}
 use Rattle.machine_kernel.specs.Future.{Shown, advanced, advanced_by, future_of, first_line, lines_from, lines_unless, after_instant}
 use Rattle.machine_kernel.specs.Future.{goes_by, unless_stopped, end_lines, stop_of, stop_from, stop_unless, opened, left_of, flag}
-use Rattle.machine_kernel.proofs.JumpLemmas.{jumped-run, jumped-later}
+use Rattle.machine_kernel.proofs.BusyLemmas.{QuietStretches, passed-run, passed-later}
 
 at_tick-append : (now : ℕ) (xs ys : List Event) → at_tick now (xs ++ ys) ≡ at_tick now xs ++ at_tick now ys
 at_tick-append now [] ys = refl
@@ -36,13 +35,13 @@ unfolding lines_by
 from-instant fuel p bound w None e = rw (e, run_from) refl
 from-instant fuel p bound w (Some reason) e = rw (e, run_from) refl
 
--- what a kernel shows goes on in time: an instant stands, a tock passes one tick below the bound, and idle stretches say
--- nothing
+-- what a kernel shows goes on in time: an instant stands, a tock passes one tick below the bound, and idle and busy
+-- stretches say nothing
 pub record Moves (s : Shown) : Type 0 where
   pub stands : (instant s.program s.world).0.time ≡ s.world.time
   pub passes : (tock s.program s.world).0.time ≡ suc s.world.time
   pub before : s.at_instant ≡ false → s.stop ≡ None → s.world.time < s.bound
-  pub idles : IdleStretches
+  pub quiet : QuietStretches
 
 -- behind an instant
 instant-future : (s : Shown) (found : Option Ended) → stop s.program s.bound (instant s.program s.world).0 ≡ found
@@ -68,23 +67,25 @@ ticks-left : (bound now next : ℕ) → next ≡ suc now → now < bound → suc
 ticks-left bound now next e a = omega arith
 
 -- behind a tock and a jump
-tock-run : (s : Shown) → IdleStretches → (tock s.program s.world).0.time ≡ suc s.world.time → s.world.time < s.bound →
-    run_from (suc (s.bound - (jumped s.bound (tock s.program s.world).0).time)) s.program s.bound (jumped s.bound (tock s.program s.world).0)
+tock-run : (s : Shown) → QuietStretches → (tock s.program s.world).0.time ≡ suc s.world.time → s.world.time < s.bound →
+    run_from (suc (s.bound - (passed s.program s.bound (tock s.program s.world).0).time)) s.program s.bound
+    (passed s.program s.bound (tock s.program s.world).0)
     ≡ run_from (s.bound - s.world.time) s.program s.bound (tock s.program s.world).0
-tock-run s idles passes before =
-    jumped-run idles s.program s.bound (tock s.program s.world).0
+tock-run s quiet passes before =
+    passed-run quiet s.program s.bound (tock s.program s.world).0
     ∙ ap (λ n. run_from n s.program s.bound (tock s.program s.world).0) (ticks-left s.bound s.world.time (tock s.program s.world).0.time passes before)
 
-tock-future : (s : Shown) → IdleStretches → (tock s.program s.world).0.time ≡ suc s.world.time → s.world.time < s.bound →
+tock-future : (s : Shown) → QuietStretches → (tock s.program s.world).0.time ≡ suc s.world.time → s.world.time < s.bound →
     at_tick s.world.time (tock s.program s.world).1
-    ++ (run_from (suc (s.bound - (jumped s.bound (tock s.program s.world).0).time)) s.program s.bound (jumped s.bound (tock s.program s.world).0)).lines
+    ++ (run_from (suc (s.bound - (passed s.program s.bound (tock s.program s.world).0).time)) s.program s.bound
+    (passed s.program s.bound (tock s.program s.world).0)).lines
     ≡ lines_from false s.program s.bound s.world
-tock-future s idles passes before = ap (λ r. at_tick s.world.time (tock s.program s.world).1 ++ r.lines) (tock-run s idles passes before)
+tock-future s quiet passes before = ap (λ r. at_tick s.world.time (tock s.program s.world).1 ++ r.lines) (tock-run s quiet passes before)
 
 goes-future : (at_instant : Bool) (s : Shown) → s.at_instant ≡ at_instant → s.stop ≡ None → Moves s
     → future_of (goes_by at_instant s) ≡ lines_from at_instant s.program s.bound s.world
 goes-future true s at e m = instant-future s (stop s.program s.bound (instant s.program s.world).0) refl m.stands
-goes-future false s at e m = rw e (tock-future s m.idles m.passes (m.before at e))
+goes-future false s at e m = rw e (tock-future s m.quiet m.passes (m.before at e))
 
 unstopped-future : (found : Option Ended) (s : Shown) → s.stop ≡ found → s.owed ≡ [] → Moves s → future_of (unless_stopped found s) ≡ lines_unless found s
 unstopped-future None s e owed m = goes-future s.at_instant s refl e m
@@ -125,7 +126,7 @@ goes-stop : (at_instant : Bool) (s : Shown) → s.at_instant ≡ at_instant → 
     → stop_of (goes_by at_instant s) ≡ stop_from at_instant s.program s.bound s.world
 goes-stop true s at e m = instant-stop s (stop s.program s.bound (instant s.program s.world).0) refl m.stands
 goes-stop false s at e m =
-    rw e (ap (λ r. r.stop) (tock-run s m.idles m.passes (m.before at e)))
+    rw e (ap (λ r. r.stop) (tock-run s m.quiet m.passes (m.before at e)))
 
 unstopped-stop : (found : Option Ended) (s : Shown) → s.stop ≡ found → Moves s → stop_of (unless_stopped found s) ≡ stop_unless found s
 unstopped-stop None s e m = goes-stop s.at_instant s refl e m
@@ -175,8 +176,8 @@ goes-left true s at e m same =
     omega arith
 goes-left false s at e m same =
     tick-nearer (length (future_of (goes_by false s))) (length (future_of s)) s.bound s.world.time (tock s.program s.world).0.time
-    (jumped s.bound (tock s.program s.world).0).time (flag s.at_instant)
-    same m.passes (m.before at e) (jumped-later s.bound (tock s.program s.world).0) (ap flag at)
+    (passed s.program s.bound (tock s.program s.world).0).time (flag s.at_instant)
+    same m.passes (m.before at e) (passed-later s.program s.bound (tock s.program s.world).0) (ap flag at)
 
 unstopped-left : (found : Option Ended) (s : Shown) → s.stop ≡ found → found ≡ None → Moves s
     → length (future_of (unless_stopped found s)) ≡ length (future_of s) → left_of (unless_stopped found s) < left_of s

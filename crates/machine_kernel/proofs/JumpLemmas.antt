@@ -42,19 +42,19 @@ first_item-none : (m : ℕ) (xs : List (ℤ × Item)) (tick : ℕ) → 0 < m →
 first_item-none m [] tick a h = tt
 first_item-none m (x ∷ rest) tick a h = sooner-none m x.0 tick a h
 
-first_ahead : ℕ → World → ℕ
+unfoldable pub first_ahead : ℕ → World → ℕ
 first_ahead bound w = first_item w.script (first_appointed w.appointments bound)
 
-first_ahead-appointments : (m bound : ℕ) (w : World) → 0 < m → m ≤ first_ahead bound w → NoneBefore m w.appointments
+pub first_ahead-appointments : (m bound : ℕ) (w : World) → 0 < m → m ≤ first_ahead bound w → NoneBefore m w.appointments
 unfolding first_ahead
 first_ahead-appointments m bound w a h =
     first_appointed-none m w.appointments bound a (omega (arith, h, first_item-most w.script (first_appointed w.appointments bound)))
 
-first_ahead-script : (m bound : ℕ) (w : World) → 0 < m → m ≤ first_ahead bound w → FirstNotBefore m w.script
+pub first_ahead-script : (m bound : ℕ) (w : World) → 0 < m → m ≤ first_ahead bound w → FirstNotBefore m w.script
 unfolding first_ahead
 first_ahead-script m bound w a h = first_item-none m w.script (first_appointed w.appointments bound) a h
 
-first_ahead-most : (bound : ℕ) (w : World) → first_ahead bound w ≤ bound
+pub first_ahead-most : (bound : ℕ) (w : World) → first_ahead bound w ≤ bound
 unfolding first_ahead
 first_ahead-most bound w = omega (arith, first_item-most w.script (first_appointed w.appointments bound), first_appointed-most w.appointments bound)
 
@@ -78,11 +78,11 @@ jumped-later bound w = later-by (is_idle w) (first_item w.script (first_appointe
 
 -- ---- an idle world
 
-none-there : {X : Type 0} (xs : List X) → is_empty xs ≡ true → xs ≡ []
+pub none-there : {X : Type 0} (xs : List X) → is_empty xs ≡ true → xs ≡ []
 none-there [] e = refl
 none-there (x ∷ xs) e = cc
 
-none-given : {X : Type 0} (x : Option X) → is_none x ≡ true → x ≡ None
+pub none-given : {X : Type 0} (x : Option X) → is_none x ≡ true → x ≡ None
 none-given None e = refl
 none-given (Some x) e = cc
 

@@ -11,7 +11,6 @@ use Rattle.trace_text.specs.Text.{text_of}
 use Rattle.ann_base.specs.declared.faults.NoMemory.{NoMemory}
 use Rattle.machine_ticks.specs.declared.stops.Stopped.{Stopped}
 use Rattle.machine_ticks.specs.Stops.{why_ended}
-use Rattle.machine_laws.specs.IdleLaws.{IdleStretches}
 use Rattle.machine_laws.specs.TimeLaws.{RunsBeginAtZero, InstantsTakeNoTime, TocksTakeOneTick}
 use Rattle.machine_kernel.specs.declared.kernel.Kernel.{Kernel}
 use Rattle.machine_kernel.specs.declared.kernel.Next.{Next}
@@ -21,6 +20,7 @@ use Rattle.machine_kernel.specs.Kernel.{shown, future, stop_to_come, left_to_do}
 use Rattle.machine_kernel.specs.Future.{Shown, future_of, stop_of, left_of, advanced, written_of, first_line, opened}
 use Rattle.profile_machine.specs.Run.{lines_of_run, stop_of_run}
 use Rattle.machine_kernel.specs.Next.{IfGoing, IfEnded, IsOver}
+use Rattle.machine_kernel.proofs.BusyLemmas.{QuietStretches}
 use Rattle.machine_kernel.proofs.FutureLemmas.{Moves, advanced-future, advanced-stop, advanced-left, stopped-future, stopped-stop, opened-future, opened-stop}
 
 -- one line's text, and the rest's
@@ -53,47 +53,47 @@ in-time p true stop now bound h at e = cc
 in-time p false None now bound h at e = ltb-true now bound (is-true (nat_lt now bound) h)
 in-time p false (Some reached) now bound h at e = cc
 
-pub kernel-moves : (k : Kernel) → InstantsTakeNoTime → TocksTakeOneTick → IdleStretches → Moves (shown k)
-kernel-moves k stands passes idles = record {
+pub kernel-moves : (k : Kernel) → InstantsTakeNoTime → TocksTakeOneTick → QuietStretches → Moves (shown k)
+kernel-moves k stands passes quiet = record {
   stands = stands k.program k.effect.world;
   passes = passes k.program k.effect.world;
   before = in-time k.program k.at_instant k.stop k.effect.world.time k.bound k.in_time;
-  idles = idles;
+  quiet = quiet;
 }
 
 -- ---- the clauses of a step
 
-pub next-future : (old now : List ℕ) (j k : Kernel) → InstantsTakeNoTime → TocksTakeOneTick → IdleStretches → (r : Result Next NoMemory)
+pub next-future : (old now : List ℕ) (j k : Kernel) → InstantsTakeNoTime → TocksTakeOneTick → QuietStretches → (r : Result Next NoMemory)
     → OnOk r (shown k ≡ advanced (shown j)) → OnOk r (now ≡ old ++ written_of (shown j).owed) → OnOk r (now ++ text_of (future k) ≡ old ++ text_of (future j))
 unfolding future
-next-future old now j k stands passes idles (Ok x) step told = told-future old now (shown j) (shown k) (kernel-moves j stands passes idles) step told
-next-future old now j k stands passes idles (Err e) step told = tt
+next-future old now j k stands passes quiet (Ok x) step told = told-future old now (shown j) (shown k) (kernel-moves j stands passes quiet) step told
+next-future old now j k stands passes quiet (Err e) step told = tt
 
-pub next-lines : (j k : Kernel) → InstantsTakeNoTime → TocksTakeOneTick → IdleStretches → (r : Result Next NoMemory) → OnOk r (shown k ≡ advanced (shown j))
+pub next-lines : (j k : Kernel) → InstantsTakeNoTime → TocksTakeOneTick → QuietStretches → (r : Result Next NoMemory) → OnOk r (shown k ≡ advanced (shown j))
     → OnOk r (first_line (shown j).owed ++ future k ≡ future j)
 unfolding future
-next-lines j k stands passes idles (Ok x) step =
-    ap (λ s. first_line (shown j).owed ++ future_of s) step ∙ advanced-future (shown j) (kernel-moves j stands passes idles)
-next-lines j k stands passes idles (Err e) step = tt
+next-lines j k stands passes quiet (Ok x) step =
+    ap (λ s. first_line (shown j).owed ++ future_of s) step ∙ advanced-future (shown j) (kernel-moves j stands passes quiet)
+next-lines j k stands passes quiet (Err e) step = tt
 
-pub next-stop : (j k : Kernel) → InstantsTakeNoTime → TocksTakeOneTick → IdleStretches → (r : Result Next NoMemory) → OnOk r (shown k ≡ advanced (shown j))
+pub next-stop : (j k : Kernel) → InstantsTakeNoTime → TocksTakeOneTick → QuietStretches → (r : Result Next NoMemory) → OnOk r (shown k ≡ advanced (shown j))
     → OnOk r (stop_to_come k ≡ stop_to_come j)
 unfolding stop_to_come
-next-stop j k stands passes idles (Ok x) step = told-stop (shown j) (shown k) (kernel-moves j stands passes idles) step
-next-stop j k stands passes idles (Err e) step = tt
+next-stop j k stands passes quiet (Ok x) step = told-stop (shown j) (shown k) (kernel-moves j stands passes quiet) step
+next-stop j k stands passes quiet (Err e) step = tt
 
-pub next-going : (j k : Kernel) → InstantsTakeNoTime → TocksTakeOneTick → IdleStretches → (r : Result Next NoMemory) → OnOk r (shown k ≡ advanced (shown j))
+pub next-going : (j k : Kernel) → InstantsTakeNoTime → TocksTakeOneTick → QuietStretches → (r : Result Next NoMemory) → OnOk r (shown k ≡ advanced (shown j))
     → IfOk r (IfGoing ((shown j).owed ≡ [] → (shown j).stop ≡ None)) → IfOk r (IfGoing (left_to_do k < left_to_do j))
 unfolding left_to_do
-next-going j k stands passes idles (Ok did.Going) step none = told-left (shown j) (shown k) (kernel-moves j stands passes idles) step none
-next-going j k stands passes idles (Ok did.Ended) step none = tt
-next-going j k stands passes idles (Err e) step none = tt
+next-going j k stands passes quiet (Ok did.Going) step none = told-left (shown j) (shown k) (kernel-moves j stands passes quiet) step none
+next-going j k stands passes quiet (Ok did.Ended) step none = tt
+next-going j k stands passes quiet (Err e) step none = tt
 
 ended-at : (s t : Shown) (stop : Option Ended) → s.stop ≡ stop → (s.owed ≡ []) × IsSome stop × (t ≡ s)
     → (future_of s ≡ []) × (t.stop ≡ Some (stop_of s))
 ended-at s t None e h = cc
 ended-at s t (Some why) e h =
-    (stopped-future s why h.0 e, ap {A = Shown} (λ x. x.stop) h.1.1 ∙ (e ∙ ap Some (sym (stopped-stop s why e))))
+    (stopped-future s why h.0 e, ap {A = Shown} (λ x. x.stop) h.2 ∙ (e ∙ ap Some (sym (stopped-stop s why e))))
 
 pub next-ended : (j k : Kernel) (r : Result Next NoMemory) → IfOk r (IfEnded (IsOver (shown j) (shown k)))
     → IfOk r (IfEnded ((future j ≡ []) × ((shown k).stop ≡ Some (stop_to_come j))))

@@ -1,4 +1,5 @@
 mod JumpLemmas
+mod BusyLemmas
 mod FutureLemmas
 mod KernelLemmas
 mod FirstLemmas

@@ -10,7 +10,7 @@ use Rattle.profile_image.specs.declared.script_items.Item.{Item}
 use Rattle.profile_machine.specs.declared.world.World.{World}
 use Rattle.profile_machine.specs.Instant.{instant}
 use Rattle.profile_machine.specs.Run.{tock, stop, run_from, at_tick, opening}
-use Rattle.machine_kernel.specs.Jump.{jumped}
+use Rattle.machine_kernel.specs.Busy.{passed}
 
 -- a world of the machine, whether an instant or a tock comes next, the stop that is reached, and the owed lines
 pub record Shown : Type 0 where
@@ -35,9 +35,9 @@ after_instant s i = record s {
   owed = at_tick s.world.time (i.1 ++ end_lines (stop s.program s.bound i.0));
 }
 
--- the idle ticks behind it say nothing, and are jumped over
+-- the idle or busy ticks behind it say nothing, and are jumped over
 abbrev pub after_tock : Shown → World × List Event → Shown
-after_tock s t = record s { world = jumped s.bound t.0; at_instant = true; owed = at_tick s.world.time t.1 }
+after_tock s t = record s { world = passed s.program s.bound t.0; at_instant = true; owed = at_tick s.world.time t.1 }
 
 abbrev pub goes_by : Bool → Shown → Shown
 goes_by true s = after_instant s (instant s.program s.world)

@@ -38,7 +38,7 @@ fn first_item(script: &List<(Moment, Item)>, tick: u64) -> u64
     }
 }
 
-fn first_tick(bound: u64, world: &World) -> u64
+pub(crate) fn first_tick(bound: u64, world: &World) -> u64
     ensures { result ≡ first_tick bound world.now }
 {
     let first = first_appointed(&world.appointments, bound);

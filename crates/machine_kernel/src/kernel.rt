@@ -1,22 +1,25 @@
 //! The kernel: it opens a run, and goes on by at most one line a call.
 ghost use Rattle.std.specs.Prelude.{◌≡◌, ◌≤◌, ◌<◌, ◌+◌, [], Some};
-ghost use Rattle.std.specs.Prelude.{None, true, false, IsTrue, length};
+ghost use Rattle.std.specs.Prelude.{None, true, false, IsTrue, length, OnOk, ◌++◌};
 ghost use Rattle.line_writing.specs.declared.buffer.TheConstants.{BUFFER_BYTES};
 ghost use Rattle.trace_text.specs.declared.lines.TheConstants.{LINE_BYTES};
 ghost use Rattle.machine_kernel.specs.Reached.{is_in_time};
 ghost use Rattle.machine_ticks.specs.declared.stops.Stopped.TheVariants as stopped;
+ghost use Rattle.machine_ticks.specs.Ticks.{tick_events};
+ghost use Rattle.profile_machine.specs.Run.{tock};
+ghost use Rattle.machine_kernel.specs.Busy.{passed};
 
-use crate::idle::skip_idle_ticks;
+use crate::busy::skip_quiet_ticks;
 use ann_base::{Moment, NoMemory};
 use line_writing::{LineBuffer, write_line};
 use machine_frames::Effect;
-use machine_laws::runs::idle_stretches_say_nothing;
+use machine_laws::runs::{busy_stretches_say_nothing, idle_stretches_say_nothing};
 use machine_laws::time::{instants_take_no_time, runs_begin_at_0, tocks_take_one_tick};
 use machine_program::Program;
 use machine_run::instant;
 use machine_ticks::{Stopped, TickLine, ended_by, event_of, opening, stop, tick_event, tock};
 use profile_image::{Image, Item};
-use profile_machine::world::Line;
+use profile_machine::world::{Line, World};
 use std::alloc::Global;
 use trace_text::{Ended, Event};
 use world_tables::List;
@@ -72,7 +75,7 @@ impl Drop for Kernel {
 }
 
 impl Kernel {
-    ghost use Rattle.std.specs.Prelude.{◌++◌, OnOk, IfOk, IfSome, OnErr};
+    ghost use Rattle.std.specs.Prelude.{IfOk, IfSome, OnErr};
     ghost use Rattle.trace_text.specs.Text.{ArePrintable, IsPrintable, text_of};
     ghost use Rattle.machine_kernel.specs.Kernel.{shown, future, stop_to_come};
     ghost use Rattle.machine_kernel.specs.Kernel.{left_to_do, OwesNothing, Takes};
@@ -82,7 +85,6 @@ impl Kernel {
     ghost use Rattle.machine_kernel.specs.Future.{after_instant, after_tock};
     ghost use Rattle.machine_kernel.specs.Future.{unless_stopped, written_of, first_line};
     ghost use Rattle.profile_machine.specs.Instant.{instant};
-    ghost use Rattle.profile_machine.specs.Run.{tock};
 
     /// The opening world of the run of a program with a script, up to a bound. Its first lines are
     /// owed.
@@ -135,6 +137,7 @@ impl Kernel {
         instants_take_no_time();
         tocks_take_one_tick();
         idle_stretches_say_nothing();
+        busy_stretches_say_nothing();
         self.step(out)
     }
 
@@ -310,7 +313,7 @@ impl Kernel {
         }
     }
 
-    /// A tock: one tick passes, and with it the idle ticks behind it, which say nothing.
+    /// A tock: one tick passes, and with it the idle or busy ticks behind it, which say nothing.
     fn tock(&mut self) -> Result<(), NoMemory>
         requires said { self.old.said ≡ [] }
         requires ticks { self.old.ticks ≡ [] }
@@ -323,9 +326,13 @@ impl Kernel {
     {
         tocks_take_one_tick();
         let now = self.effect.world.time;
-        match tock(&self.program, &mut self.effect.world, &mut self.ticks) {
+        match pass_ticks(
+            &self.program,
+            self.bound,
+            &mut self.effect.world,
+            &mut self.ticks,
+        ) {
             Ok(()) => {
-                skip_idle_ticks(self.bound, &mut self.effect.world);
                 self.told_at = now;
                 self.at_instant = true;
                 Ok(())
@@ -336,6 +343,23 @@ impl Kernel {
             }
         }
     }
+}
+
+// One tick passes, and those behind it that say nothing.
+fn pass_ticks(
+    p: &Program,
+    bound: u64,
+    world: &mut World,
+    ticks: &mut List<TickLine>,
+) -> Result<(), NoMemory>
+    ensures passed { OnOk result (world.new ≡ passed p.now bound (tock p.now world.old).0) }
+    ensures lines { OnOk result
+        (tick_events ticks.new ≡ tick_events ticks.old ++ (tock p.now world.old).1) }
+    ensures within { OnOk result
+        ((tock p.now world.old).0.time ≤ bound → world.new.time ≤ bound) }
+{
+    tock(p, world, ticks)?;
+    skip_quiet_ticks(p, bound, world)
 }
 
 // Memory ran out within an effect: nothing more of it is told, and the run goes on no more.

@@ -4,6 +4,7 @@ use Rattle.std.proofs.Common.{None, length, ◌==◌, find, filter, unwrap_or, r
 use Rattle.std.proofs.lemmas.Grind.{common_steps}
 use Rattle.ann_base.specs.Lists.{is_empty}
 use Rattle.ann_base.specs.declared.identities.TaskNo.{TaskNo}
+use Rattle.trace_text.specs.declared.events.Who.{Who}
 use Rattle.trace_text.specs.declared.events.Who.TheVariants as who
 use Rattle.profile_image.specs.declared.image.Image.{Image}
 use Rattle.profile_image.specs.Words.{set_where}
@@ -169,3 +170,10 @@ pub done_alone : (p : Image) (n : TaskNo) (w : World) (k : ℕ) → ticks_alone 
 done_alone p n w k e =
     let h = under (is_empty w.timers_set) (ticks_without_group (cost p w (who.Task n)) (task_at w (who.Task n))) k e in
     found_alone p n w (task_at w (who.Task n)) k refl (empty_is w.timers_set h.0) h.1
+
+-- the same of what a call has done
+pub ticked-as : {X E : Type 0} (p : Image) (n : TaskNo) (w u : World) (k : ℕ) (name : Who) (r : Result X E) → name ≡ who.Task n
+    → Some k ≡ ticks_alone p name w → OnOk r (u ≡ ticked_alone p n k w) → OnOk r (u ≡ ticked p name w)
+ticked-as p n w u k name (Ok x) e a h =
+    h ∙ (done_alone p n w k (sym (a ∙ ap (λ m. ticks_alone p m w) e)) ∙ ap (λ m. ticked p m w) (sym e))
+ticked-as p n w u k name (Err fault) e a h = tt

@@ -4,8 +4,6 @@ All ceilings are first set to the highest priority, so that every call is lawful
 an object is then the least ceiling that it needs; with these ceilings the source is run again, since who calls from inside
 another object has that object's ceiling, until the ceilings are those that the run needs.
 """
-from dataclasses import dataclass
-
 from .places import Survey, replaced
 from .traces import World, lines_of, raised_in
 
@@ -13,14 +11,12 @@ HIGHEST, HIGHEST_IF_WIDE = 30, 97
 ROUNDS = 20
 
 
-@dataclass
 class Ceiling:
-    path: tuple
-    old: int = None  # the ceiling in the run of the source as it stands, None where it was not made
-    least: int = None  # None where nobody called it
-    line: str = ""  # the first call that needs so much
-    caller: str = ""
-    kept: str = ""  # why its ceiling is left as it is
+    def __init__(self, path, old):
+        self.path, self.old = path, old  # the ceiling in the run of the source as it stands, None where it was not made
+        self.least = None  # None where nobody called it
+        self.line = self.caller = ""  # the first call that needs so much
+        self.kept = ""  # why its ceiling is left as it is
 
     @property
     def name(self):

@@ -4,8 +4,8 @@ objects and subprograms, budgets, the policies of pragmas and the numbers of res
 They are found among the tokens of a source that the front end accepts, by how its regions nest; of a source that it
 refuses some places may be missing. Nothing in a comment or in a text is ever found or replaced.
 """
+import collections
 import re
-from dataclasses import dataclass, field
 
 from .tokens import NoTokens, place_of, tokens_of
 
@@ -22,39 +22,29 @@ class NoPlace(Exception):
     """A name that is not there, or means several places, or a value that cannot stand there."""
 
 
-@dataclass(frozen=True)
-class Edit:
-    """The bytes from first to end are replaced by the new value, with these texts round it."""
-
-    first: int
-    end: int
-    before: str = ""
-    after: str = ""
-    old: str = ""
+# The bytes from first to end are replaced by the new value, with the texts before and after round it.
+Edit = collections.namedtuple("Edit", "first end before after old", defaults=("", "", ""))
 
 
-@dataclass(frozen=True)
-class Place:
-    kind: str  # constant, variable, aspect, budget, pragma or restriction
-    path: tuple  # the words of its name, in lower case: regions, its own name, perhaps an aspect
-    edits: tuple
-    old: str  # the text that stands there, "" where there is none
+class Place(collections.namedtuple("Place", "kind path edits old")):
+    """A constant, variable, aspect, budget, pragma or restriction. Its path has the words of its name, in lower case: regions,
+    its own name, perhaps an aspect. `old` is the text that stands there, "" where there is none."""
+
+    __slots__ = ()
 
     @property
     def name(self):
         return ".".join(self.path)
 
 
-@dataclass
 class Declared:
     """A task, a protected object or an object of the source."""
 
-    kind: str  # task, task type, protected, protected type, subprogram or object
-    path: tuple
-    aspects: dict = field(default_factory=dict)  # the name of an aspect, and the text and bytes of its value
-    mark: str = ""  # of an object, the last word of its type
-    insert: int = 0  # where its first aspect may stand
-    has_aspects: bool = False
+    def __init__(self, kind, path, mark=""):
+        self.kind, self.path = kind, path  # a task, task type, protected, protected type, subprogram or object
+        self.mark = mark  # of an object, the last word of its type
+        self.aspects = {}  # the name of an aspect, and the text and bytes of its value
+        self.insert, self.has_aspects = 0, False  # where its first aspect may stand
 
 
 class Region:

@@ -4,7 +4,6 @@ The rules are those of the front end (crates/ada_lex/specs); check/tools/tokens 
 repository. The definitions are not asked here, since it takes longer to read them than to run a hundred variants.
 """
 import re
-from dataclasses import dataclass
 
 PIECE = re.compile(
     rb"(?P<gap>[ \t\f\r\n]+|--[^\n]*)"
@@ -26,12 +25,14 @@ class NoTokens(Exception):
         super().__init__(f"{line}:{column}: no token of Ada begins here")
 
 
-@dataclass(frozen=True)
 class Token:
-    kind: str  # word, number, text or delimiter
-    first: int
-    end: int
-    text: str  # of a word in lower case, of all others as it stands
+    """A token; it is equal to its text. (Plain classes and tuples serve here, since tools begin sooner than with `dataclasses`.)"""
+
+    __slots__ = ("kind", "first", "end", "text")
+
+    def __init__(self, kind, first, end, text):
+        self.kind, self.first, self.end = kind, first, end  # a word, number, text or delimiter
+        self.text = text  # of a word in lower case, of all others as it stands
 
     def __eq__(self, other):
         return self.text == other if isinstance(other, str) else self is other

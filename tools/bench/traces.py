@@ -1,6 +1,6 @@
 """What a trace tells: its report as numbers, the jobs of a task, its exceptions, and why the run ended."""
+import collections
 import re
-from dataclasses import dataclass, field
 
 FIGURES = ("jobs", "worst", "sum", "run", "preempted", "lower", "longest")
 WAITS = re.compile(rb" block (?:activation|entry|accept|select|dependents|call)\n")
@@ -84,11 +84,9 @@ def places(trace, mark, at=0):
         at = trace.find(mark, at + 1)
 
 
-@dataclass
-class Job:
-    begun: int  # the tick at which it became ready
-    ended: int = None  # the tick at which it waited for its next release, or was done
-    deadline: int = None  # the deadline that its first `ready` line tells
+# A job: the tick at which it became ready, the tick at which it waited for its next release or was done, or None, and the
+# deadline that its first `ready` line tells, or None.
+Job = collections.namedtuple("Job", "begun ended deadline")
 
 
 def releases_of(trace, task, period=None):
@@ -185,13 +183,8 @@ def last_place(trace, mark):
 
 # ---- lines, for what is read one by one
 
-@dataclass
-class Line:
-    tick: int
-    subject: str  # tN, pN, agent, or "" where the line has none
-    word: str
-    rest: list
-    text: str
+# A line: its tick, its subject (tN, pN, agent, or "" where it has none), its word, the words behind it, and its text.
+Line = collections.namedtuple("Line", "tick subject word rest text")
 
 
 def lines_of(trace):
@@ -208,18 +201,14 @@ def lines_of(trace):
     return found
 
 
-@dataclass
 class World:
     """Who is ready, at which level, and who runs, behind some lines of a trace."""
 
-    names: dict = field(default_factory=dict)
-    bases: dict = field(default_factory=dict)
-    ceilings: dict = field(default_factory=dict)
-    levels: dict = field(default_factory=dict)  # of who is ready
-    deadlines: dict = field(default_factory=dict)
-    places: dict = field(default_factory=dict)  # where it stands in its level: a lower number stands before
-    count: int = 0
-    runner: str = ""
+    def __init__(self):
+        self.names, self.bases, self.ceilings = {}, {}, {}
+        self.levels, self.deadlines = {}, {}  # of who is ready
+        self.places, self.count = {}, 0  # where it stands in its level: a lower number stands before
+        self.runner = ""
 
     def follow(self, line):
         who = line.subject

@@ -5,7 +5,7 @@ from dataclasses import dataclass
 from pictures.reading import by_number, chosen
 from pictures.svg import (
     BAND, BLOCKED, FAULT, GRID, INK, LEAVING, LETTER, MADE, OBJECTS, RUNNING, SIGNS, SOFT, STATE_SAYS,
-    arrow, box, legend, line, page_of, sign, text_at,
+    arrow, box, legend, line, over_others, page_of, sign, text_at,
 )
 
 LABELS_WIDTH = 150  # the column of the lanes' names, in pixels
@@ -159,7 +159,7 @@ class Drawing:
         self.names = chosen(picture, by_number(picture), wanted)
         objects = [it for it in by_number(picture) if it.startswith("p")]
         self.colours = {it: OBJECTS[number % len(OBJECTS)] for number, it in enumerate(objects)}
-        self.out = []
+        self.out, self.details = [], []
         self.used = set()
         self.width = max(640, 50 + round(max(row.x(row.end) for row in self.rows)))
 
@@ -206,6 +206,8 @@ class Drawing:
         for piece in row.pieces:
             if piece.is_cut:
                 self.draw_break((row.x(piece.first) + row.x(piece.end)) / 2, y + AXIS + CUT_LINE, at)
+        self.out += over_others(self.details)
+        self.details = []
         for lane in lanes:
             self.draw_marks(lane, row, tops[lane.name], labels[lane.name])
         return at
@@ -297,7 +299,7 @@ class Drawing:
             self.out.append(box(x, top + 4, width, BAR - 8, "white", says, 'fill-opacity="0"'))
             self.out.append(line(x, top + BAR / 2, end, top + BAR / 2, colour, 2, dashes))
             if width > LETTER * len(bar.detail) + 8 and bar.detail:
-                self.out.append(text_at(x + 4, top + BAR / 2 - 3, bar.detail, SOFT, 9.5))
+                self.details.append(text_at(x + 4, top + BAR / 2 - 3, bar.detail, SOFT, 9.5))
 
     def level_in(self, bar, x, width, top, colour, tells_level):
         if tells_level and width >= 6.2 * len(bar.level) + 3:
@@ -330,12 +332,14 @@ class Drawing:
             self.used.add("action")
 
     def draw_marks(self, lane, row, top, labels):
+        texts = []
         for x, number, mark in labels.placed:
             y, colour = top - 4 - LABEL_LINE * number, SIGNS[mark.kind][1]
-            self.out.append(text_at(x + 3, y, mark.label, colour, 10))
+            texts.append(text_at(x + 3, y, mark.label, colour, 10))
             if number:
                 at = row.x(mark.tick)
                 self.out.append(line(at, y + 1, at, top, colour, 0.5, 'stroke-opacity="0.6"'))
+        self.out += over_others(texts)
         for mark in lane.marks:
             if row.holds(mark.tick):
                 self.out.append(sign(mark.kind, row.x(mark.tick), top, top + BAR, f"{mark.tick}: {mark.says or mark.label}"))

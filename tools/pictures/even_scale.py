@@ -9,7 +9,7 @@ from dataclasses import dataclass
 from pictures.reading import by_priority, chosen
 from pictures.svg import (
     BLOCKED, FAULT, GRID, INK, LEAVING, LETTER, MADE, OBJECTS, RAISED, RUNNING, SIGNS, SOFT, STATE_SAYS,
-    arrow, box, legend, line, page_of, sign, text_at,
+    arrow, box, legend, line, over_others, page_of, sign, text_at,
 )
 
 WIDTH = 1310  # of the picture, in pixels
@@ -25,7 +25,7 @@ ROW_GAP = 22
 BREAK = 30  # the height of a broken line between rows
 MOST_ROWS = 12
 MOST_ROOM = 12  # pixels for a tick
-MOST_TIPS = 1500  # so many bars have a text of their own that a browser shows under the mouse
+MOST_TIPS = 1500  # so many bars, counted in each row, have a text of their own that a browser shows under the mouse
 LONG_LABEL = 24
 NARROW_LABEL = 13
 
@@ -104,8 +104,8 @@ class Drawing:
         self.names = chosen(picture, by_priority(picture), wanted)
         objects = [it for it in picture.lanes if it.startswith("p")]
         self.colours = {it: OBJECTS[number % len(OBJECTS)] for number, it in enumerate(sorted(objects, key=lambda it: int(it[1:])))}
-        bars = sum(len(picture.lanes[name].bars) for name in self.names)
-        self.has_tips = bars <= MOST_TIPS
+        bars = [bar for name in self.names for bar in picture.lanes[name].bars]
+        self.has_tips = sum(row.meets(bar.first, bar.end) for row in self.rows for bar in bars) <= MOST_TIPS
         self.out = []
         self.used = set()
 
@@ -256,10 +256,11 @@ class Drawing:
                 tip = f"{mark.tick}: {mark.says or mark.label}" if self.has_tips or mark.kind in ("miss", "fault") else ""
                 self.out.append(sign(mark.kind, x, top, top + BAR, tip))
                 self.used.add(mark.kind)
-        taken = [(row.x(mark.tick) - 4, row.x(mark.tick) + 4) for mark in marks if mark.kind == "release"]
+        taken, texts = [(row.x(mark.tick) - 4, row.x(mark.tick) + 4) for mark in marks if mark.kind == "release"], []
         for mark in sorted(marks, key=lambda it: it.kind not in ("miss", "fault")):
             if mark.label and mark.kind not in ("deadline", "setting"):
                 x, width = row.x(mark.tick) + 5, LETTER * len(mark.label) + 3
                 if x + width < self.width and not any(x < b and x + width > a for a, b in taken):
                     taken.append((x, x + width))
-                    self.out.append(text_at(x, top - 1, mark.label, SIGNS[mark.kind][1], 9))
+                    texts.append(text_at(x, top - 1, mark.label, SIGNS[mark.kind][1], 9))
+        self.out += over_others(texts)

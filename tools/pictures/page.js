@@ -73,10 +73,14 @@ function goToLineOfSource(line) {
 
 // ---- what is shown at a tick
 
-function intoView(box, row) {
+// scrolls to a row, and so that the other one is seen too where both fit
+function intoView(box, row, other) {
   if (!row) return;
-  const top = row.offsetTop, bottom = top + row.offsetHeight;
-  if (top < box.scrollTop || bottom > box.scrollTop + box.clientHeight) box.scrollTop = top - box.clientHeight / 3;
+  const last = (it) => it.offsetTop + it.offsetHeight;
+  let top = row.offsetTop, bottom = last(row);
+  if (other && Math.max(bottom, last(other)) - Math.min(top, other.offsetTop) <= box.clientHeight)
+    [top, bottom] = [Math.min(top, other.offsetTop), Math.max(bottom, last(other))];
+  if (top < box.scrollTop || bottom > box.scrollTop + box.clientHeight) box.scrollTop = top - (box.clientHeight - (bottom - top)) / 3;
 }
 
 function paragraphs(id, texts) {
@@ -114,9 +118,10 @@ function showState() {
   return ended ? 0 : line;
 }
 
-function showSource(line) {
+// the line that runs, those that acted, and the one from which the chosen line of the trace comes; `picked` says that it was chosen
+function showSource(line, picked) {
   const rows = by("source").children;
-  for (const row of by("source").querySelectorAll(".here, .said")) {
+  for (const row of by("source").querySelectorAll(".here, .said, .stands")) {
     row.className = "";
     row.lastChild.textContent = "";
   }
@@ -131,8 +136,14 @@ function showSource(line) {
     rows[line - 1].className = said.has(line) ? "said here" : "here";
     rows[line - 1].lastChild.textContent = `<- ${fact("run", tick)} runs${said.has(line) ? ", acted" : ""}`;
   }
-  const of = run.lines[chosen], main = ticks[chosen] === tick && of ? of : line || [...said.keys()][0];
-  if (main) intoView(by("source"), rows[main - 1]);
+  const of = ticks[chosen] === tick ? run.lines[chosen] : 0;
+  if (of && !rows[of - 1].className) {
+    rows[of - 1].className = "stands";
+    const who = run.trace[chosen].split(" ")[1];
+    rows[of - 1].lastChild.textContent = titles.has(who) ? `<- ${who} ${run.how[chosen] === "g" ? "goes on" : "stands"}` : "<- from here";
+  }
+  const [first, second] = picked ? [of, line] : [line, of];
+  intoView(by("source"), rows[(first || second) - 1], rows[second - 1]);
 }
 
 function showTrace() {
@@ -144,7 +155,7 @@ function showTrace() {
   ticks.forEach((it, at) => { if (it === tick) rows[at].classList.add("said"); });
   rows[chosen].setAttribute("aria-selected", "true");
   by("trace").setAttribute("aria-activedescendant", `line-${chosen}`);
-  intoView(by("trace"), rows[chosen]);
+  intoView(by("trace"), rows[chosen], ticks[chosen] === tick ? rows[ticks.lastIndexOf(tick)] : null);
 }
 
 // shows a tick; the chosen line is this one, or the last one up to the tick
@@ -153,7 +164,7 @@ function show(at, line) {
   chosen = line ?? Math.max(0, ticks.includes(tick) ? ticks.indexOf(tick) : lastUpTo(ticks, tick, (it) => it));
   by("tick").value = by("slider").value = tick;
   showTrace();
-  showSource(showState());
+  showSource(showState(), line !== undefined);
   if (tick < from || tick > to) look(tick - (to - from) / 2, to - from);
   draw();
   history.replaceState(null, "", `#tick=${tick}`);
@@ -216,13 +227,20 @@ const COLOURS = { release: "var(--ink)", deadline: "var(--fault)", miss: "var(--
 
 const DOTS = new Set(["put", "call", "setting", "object", "harm"]);
 
+// a line with an edge in the colour of the paper, which is seen in a bar too
+function edged(d, stroke, says) {
+  const it = shape("g", {}, says);
+  it.append(shape("path", { d, ...stroke, stroke: "var(--paper)", "stroke-width": 4.1 }), shape("path", { d, ...stroke }));
+  return it;
+}
+
 function sign(kind, x, top, says) {
   const bottom = top + 14, middle = top + 7, colour = COLOURS[kind] || "var(--soft)";
   const stroke = { stroke: colour, "stroke-width": 1.7, fill: "none", "stroke-linecap": "round" };
   if (kind === "release") return shape("path", { d: `M${x} ${bottom + 3}V${top - 4}M${x - 3.5} ${top + 1}L${x} ${top - 4.5}L${x + 3.5} ${top + 1}`, ...stroke }, says);
   if (kind === "deadline") return shape("path", { d: `M${x} ${top - 4}V${bottom + 3}M${x - 3.5} ${bottom - 1}L${x} ${bottom + 4}L${x + 3.5} ${bottom - 1}`, ...stroke }, says);
-  if (kind === "miss" || kind === "fault" || kind === "cancel") return shape("path", { d: `M${x - 4} ${middle - 4}L${x + 4} ${middle + 4}M${x + 4} ${middle - 4}L${x - 4} ${middle + 4}`, ...stroke }, says);
-  if (kind === "trigger" || kind === "script") return shape("path", { d: `M${x + 3} ${top}L${x - 3} ${middle + 1}H${x + 3}L${x - 3} ${bottom}`, ...stroke }, says);
+  if (kind === "miss" || kind === "fault" || kind === "cancel") return edged(`M${x - 4} ${middle - 4}L${x + 4} ${middle + 4}M${x + 4} ${middle - 4}L${x - 4} ${middle + 4}`, stroke, says);
+  if (kind === "trigger" || kind === "script") return edged(`M${x + 3} ${top}L${x - 3} ${middle + 1}H${x + 3}L${x - 3} ${bottom}`, stroke, says);
   if (kind === "end") return shape("rect", { x: x - 1.5, y: top - 2, width: 3, height: 18, fill: colour }, says);
   return shape("circle", { cx: x, cy: top - 1, r: 2.6, fill: colour, stroke: "var(--paper)", "stroke-width": 0.6 }, says);
 }
@@ -256,6 +274,8 @@ function draw() {
     svg.append(shape("line", { x1: place(at), x2: place(at), y1: 18, y2: height, stroke: "var(--edge)" }));
     svg.append(words(place(at), 13, at, "var(--soft)", 11, { "text-anchor": "middle" }));
   }
+  // the tick that is shown: behind the bars as wide as it is, and before them a line
+  svg.append(shape("rect", { x: place(tick), y: 16, width: Math.max(scale, 1.5), height: height - 16, fill: "var(--here-edge)", "fill-opacity": 0.35 }));
   const tops = {};
   run.lanes.forEach((lane, number) => {
     const top = tops[lane.name] = 30 + number * laneHeight;
@@ -296,7 +316,7 @@ function draw() {
     }
   }
   const x = place(tick);
-  svg.append(shape("rect", { x, y: 16, width: Math.max(scale, 1.5), height: height - 16, fill: "var(--here-edge)", "fill-opacity": 0.35 }));
+  svg.append(shape("rect", { x: x - 0.5, y: 16, width: 1, height: height - 16, fill: "var(--here-edge)" }));
   svg.append(shape("path", { d: `M${x - 5} 15h10l-5 6z`, fill: "var(--here-edge)" }));
   const scrolled = by("drawing").scrollTop;
   by("drawing").replaceChildren(svg);

@@ -41,10 +41,13 @@ STATE_SAYS = {"run": "runs", "ready": "is ready", "block": "is blocked", "made":
 
 
 def text_at(x, y, text, colour=INK, size=11, anchor="start", weight="normal"):
-    return (
-        f'<text x="{x:.1f}" y="{y:.1f}" fill="{colour}" font-size="{size}" '
-        f'text-anchor="{anchor}" font-weight="{weight}">{escape(text)}</text>'
-    )
+    more = (f' text-anchor="{anchor}"' if anchor != "start" else "") + (f' font-weight="{weight}"' if weight != "normal" else "")
+    return f'<text x="{x:.1f}" y="{y:.1f}" fill="{colour}" font-size="{size}"{more}>{escape(text)}</text>'
+
+
+def over_others(texts):
+    """Texts with a white edge, which stays readable over lines."""
+    return ['<g stroke="white" stroke-width="3" stroke-linejoin="round" paint-order="stroke">', *texts, "</g>"] if texts else []
 
 
 def box(x, y, width, height, fill, title="", more=""):
@@ -74,7 +77,10 @@ def sign(kind, x, top, bottom, says=""):
     else:
         return f'<circle cx="{x:.1f}" cy="{top - 1:.1f}" r="2.3" fill="{colour}" stroke="white" stroke-width="0.6">{tip}</circle>'
     width = 2.4 if glyph == "miss" else 1.7
-    return f'<path d="{path}" stroke="{colour}" stroke-width="{width}" fill="none" stroke-linecap="round" stroke-linejoin="round">{tip}</path>'
+    ends = 'fill="none" stroke-linecap="round" stroke-linejoin="round"'
+    # a cross or a bolt that stands in a bar has a white edge
+    edge = f'<path d="{path}" stroke="white" stroke-width="{width + 2.4:.1f}" {ends}/>' if glyph in ("cross", "miss", "bolt") else ""
+    return f'{edge}<path d="{path}" stroke="{colour}" stroke-width="{width}" {ends}>{tip}</path>'
 
 
 def arrow(kind, x, start, end, says):

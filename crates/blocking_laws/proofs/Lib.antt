@@ -15,6 +15,7 @@ pub mod NamedMoves
 pub mod ObjectNumbers
 pub mod ProtocolLemmas
 pub mod QueueLemmas
+pub mod RestLemmas
 pub mod SettledLemmas
 pub mod StepLemmas
 pub mod TickLemmas

@@ -7,6 +7,7 @@ pub mod LowLines
 pub mod MovingLaws
 pub mod NumberLines
 pub mod OwnLines
+pub mod RestLaws
 pub mod RunLaws
 pub mod Stretches
 pub mod Windows

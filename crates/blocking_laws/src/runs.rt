@@ -5,6 +5,7 @@ ghost use Rattle.blocking_laws.specs.FreshLines.{RunsEnterFresh};
 ghost use Rattle.blocking_laws.specs.LowLines.{RunsEnterLow};
 ghost use Rattle.blocking_laws.specs.NumberLines.{RunsNumberObjects};
 ghost use Rattle.blocking_laws.specs.OwnLines.{RunsEnterFirst, RunsTellOwnLines};
+ghost use Rattle.blocking_laws.specs.RestLaws.{RestMovesRightly};
 ghost use Rattle.blocking_laws.specs.RunLaws.{RightMovesBoundBlocking};
 
 use crate::protocol::protocol_bounds_blocking;
@@ -60,4 +61,10 @@ pub fn numbers_of_objects_are_new()
 /// nor entered or left one: an action begins first (D.2.1, 9.5.1).
 pub fn who_enters_has_not_moved()
     ensures { RunsEnterFresh }
+{}
+
+/// A run of a source whose interrupts have no deadlines moves everybody rightly if it keeps the
+/// rest: what the laws above say of every run need not be asked of it.
+pub fn the_rest_moves_rightly()
+    ensures { RestMovesRightly }
 {}

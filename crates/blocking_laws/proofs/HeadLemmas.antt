@@ -210,11 +210,15 @@ module _ (actor : Who) (p : Image) where
 
 -- ---- an instant
 
-abbrev own_at : Option Who → Unit {0} → Event → Bool
+abbrev pub own_at : Option Who → Unit {0} → Event → Bool
 own_at r s event = is_own r event
 
-Nothing_shown : Unit {0} → World → Type 0
+pub Nothing_shown : Unit {0} → World → Type 0
 Nothing_shown s w = Unit {0}
+
+pub nothing_shown : (s : Unit {0}) (w : World) → Nothing_shown s w
+unfolding Nothing_shown
+nothing_shown s w = tt
 
 own-follow : (r : Option Who) (p : Image) (xs : List Said) → AllOwn r p xs → Follow see_nothing (own_at r) tt (map (λ x. event_of p x.line) xs)
 own-follow r p [] h = tt
@@ -224,11 +228,11 @@ own_settles : (r : Option Who) (p : Image) (s : Unit {0}) → Settles see_nothin
 unfolding Ownly Nothing_shown
 own_settles r p tt v xs h = record { follow = own-follow r p (in_order xs) (all_own-in_order r p xs h); shows = tt }
 
-own_others : (r : Option Who) (p : Image) → Others see_nothing (own_at r) Nothing_shown p
+pub own_others : (r : Option Who) (p : Image) → Others see_nothing (own_at r) Nothing_shown p
 unfolding Ownly Nothing_shown
 own_others r p = λ s. (Ownly r p, any_world, any_task, free_others (own_base r p), (λ w h. tt), own_settles r p s)
 
-effect_own : (name : Who) (p : Image) (w : World) → Onward see_nothing (own_at (Some name)) Nothing_shown tt (settles p (effect p name) w)
+pub effect_own : (name : Who) (p : Image) (w : World) → Onward see_nothing (own_at (Some name)) Nothing_shown tt (settles p (effect p name) w)
 unfolding Ownly
 effect_own name p w =
     settles_onward see_nothing (own_at (Some name)) Nothing_shown p tt (Ownly (Some name) p) (Either (Ownly (Some name) p) (Ownly (Some name) p))
@@ -254,13 +258,13 @@ instant_own p w =
     (behind_onward see_nothing (own_at w.ran) Nothing_shown (own_others w.ran p) (seen_behind see_nothing (own_at w.ran) tt (finish_action p w).1)
     (finish_action p w).0)
 
-opening_own : (p : Image) (script : List (ℤ × Item)) → Onward see_nothing (own_at None) Nothing_shown tt (opening p script)
+pub opening_own : (p : Image) (script : List (ℤ × Item)) → Onward see_nothing (own_at None) Nothing_shown tt (opening p script)
 unfolding Ownly
 opening_own p script =
     settles_onward see_nothing (own_at None) Nothing_shown p tt (Ownly None p) (Ownly None p) (opens p) (blank_world p script) (own_settles None p tt)
     (own_opens None p) tt
 
-follow-own : (r : Option Who) (s : Unit {0}) (xs : List Event) → Follow see_nothing (own_at r) s xs → AllAre (is_own r) xs
+pub follow-own : (r : Option Who) (s : Unit {0}) (xs : List Event) → Follow see_nothing (own_at r) s xs → AllAre (is_own r) xs
 follow-own r s [] h = tt
 follow-own r s (x ∷ xs) h = (h.0, follow-own r tt xs h.1)
 

@@ -10,9 +10,14 @@ pub mod FirstLemmas
 pub mod FreshLemmas
 pub mod HeadLemmas
 pub mod HoldLemmas
+pub mod LastActions
+pub mod LastMoves
+pub mod LastRuns
+pub mod LastTies
 pub mod LowLemmas
 pub mod NamedMoves
 pub mod ObjectNumbers
+pub mod OpenTold
 pub mod ProtocolLemmas
 pub mod QueueLemmas
 pub mod RestLemmas

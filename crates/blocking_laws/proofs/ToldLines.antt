@@ -16,13 +16,13 @@ use Rattle.line_laws.proofs.Ticks.LineByLine.{Follow, Follow-append, seen_behind
 use Rattle.ceiling_laws.specs.RunLaws.{Tells, told_first, told_on}
 
 module _ {S : Type 0} (see : S → Event → S) (lawful : S → Event → Bool) where
-  follows-then : (n : ℕ) (s : S) (events : List Event) (rest : List TraceLine) → Follow see lawful s events
+  pub follows-then : (n : ℕ) (s : S) (events : List Event) (rest : List TraceLine) → Follow see lawful s events
       → follows_lines see lawful (seen_behind see lawful s events) rest ≡ true → follows_lines see lawful s (at_tick n events ++ rest) ≡ true
   follows-then n s [] rest a b = b
   follows-then n s (x ∷ xs) rest a b =
       and_from (lawful s x) (follows_lines see lawful (see s x) (at_tick n xs ++ rest)) a.0 (follows-then n (see s x) xs rest a.1 b)
 
-  follows-alone : (n : ℕ) (s : S) (events : List Event) → Follow see lawful s events → follows_lines see lawful s (at_tick n events) ≡ true
+  pub follows-alone : (n : ℕ) (s : S) (events : List Event) → Follow see lawful s events → follows_lines see lawful s (at_tick n events) ≡ true
   follows-alone n s [] a = refl
   follows-alone n s (x ∷ xs) a = and_from (lawful s x) (follows_lines see lawful (see s x) (at_tick n xs)) a.0 (follows-alone n (see s x) xs a.1)
 
@@ -33,7 +33,7 @@ module _ {S : Type 0} (see : S → Event → S) (lawful : S → Event → Bool) 
     pub tocks : (seen : S) (w : World) → Follow see lawful seen (tock p w).1
     pub ends : (seen : S) (reason : Ended) → lawful seen (line.End reason) ≡ true
 
-  turn-follows : (now : ℕ) (s : S) (i t : World × List Event) (rest : Ran) (reason : Option Ended)
+  pub turn-follows : (now : ℕ) (s : S) (i t : World × List Event) (rest : Ran) (reason : Option Ended)
       → ((seen : S) (other : Ended) → lawful seen (line.End other) ≡ true) → Follow see lawful s i.1 → Follow see lawful (seen_behind see lawful s i.1) t.1
       → (reason ≡ None → follows_lines see lawful (seen_behind see lawful (seen_behind see lawful s i.1) t.1) rest.lines ≡ true)
       → follows_lines see lawful s (turn now i t rest reason).lines ≡ true

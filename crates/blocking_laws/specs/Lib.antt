@@ -3,9 +3,11 @@ pub mod DatedLines
 pub mod Examples
 pub mod FreshLines
 pub mod Holds
+pub mod LastExits
 pub mod LowLines
 pub mod MovingLaws
 pub mod NumberLines
+pub mod OpenActions
 pub mod OwnLines
 pub mod RestLaws
 pub mod RunLaws

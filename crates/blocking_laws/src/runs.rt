@@ -2,8 +2,10 @@
 //! program, script and bound. Each is the contract of a function that does nothing.
 ghost use Rattle.blocking_laws.specs.DatedLines.{RunsDateRightly};
 ghost use Rattle.blocking_laws.specs.FreshLines.{RunsEnterFresh};
+ghost use Rattle.blocking_laws.specs.LastExits.{RunsExitLast};
 ghost use Rattle.blocking_laws.specs.LowLines.{RunsEnterLow};
 ghost use Rattle.blocking_laws.specs.NumberLines.{RunsNumberObjects};
+ghost use Rattle.blocking_laws.specs.OpenActions.{OpenActionsAreTold};
 ghost use Rattle.blocking_laws.specs.OwnLines.{RunsEnterFirst, RunsTellOwnLines};
 ghost use Rattle.blocking_laws.specs.RestLaws.{RestMovesRightly};
 ghost use Rattle.blocking_laws.specs.RunLaws.{RightMovesBoundBlocking};
@@ -67,4 +69,16 @@ pub fn who_enters_has_not_moved()
 /// rest: what the laws above say of every run need not be asked of it.
 pub fn the_rest_moves_rightly()
     ensures { RestMovesRightly }
+{}
+
+/// In every run the action that somebody ends is the last one that it began: actions end in the
+/// reverse order of their beginning (9.5.1).
+pub fn actions_end_in_reverse_order()
+    ensures { RunsExitLast }
+{}
+
+/// In every run the actions that lines show as open are those of the marks, of each task that is
+/// there and of the agent, before each instant and behind it (9.5.1).
+pub fn open_actions_are_those_of_marks()
+    ensures { OpenActionsAreTold }
 {}

@@ -262,10 +262,15 @@ pub record SettingMoves (G : GoodWorld) (R : StepRelation) : Type 0 where
   pub cuts_script : (x : ℤ × Item) (rest : List (ℤ × Item)) (w : World) → G w → w.script ≡ x ∷ rest → int_le x.0 (pos w.time) ≡ true
       → R w [] (with_script rest w)
 
--- an action begins: what is said and done between `enter` and its mark is done inside
+-- lines that place somebody
+abbrev pub ArePlacings : List Said → Type 0
+ArePlacings [] = Unit {0}
+ArePlacings (x ∷ xs) = (coarse.is_placing x.line ≡ true) × ArePlacings xs
+
+-- an action begins: what is done between `enter` and its mark is done inside, and places who acts, if it says anything
 abbrev pub Begins : GoodWorld → StepRelation → Who → ObjectNo → Mode → Option CallNo → Option ℕ → Type 0
 Begins G R name o mode call release =
-    (w v : World) (xs : List Said) → G w → LetsIn name o mode w → R (open_action name o mode w) xs v
+    (w v : World) (xs : List Said) → G w → LetsIn name o mode w → ArePlacings xs → R (open_action name o mode w) xs v
     → R w (own (said.Enter name o mode) ∷ xs) (push name (new_frame (new_protected_mark o mode call release) None) v)
 
 -- Who acts opens marks, and begins actions that are no handler's; of who acts beside a protected action, or in an abortable part, it
@@ -385,7 +390,7 @@ module _ {G : GoodWorld} {May Other : Naming} {R : StepRelation} {Q : MoveRelati
   -- where its mark is opened, an action begins
   pub begun : (name : Who) (o : ObjectNo) (mode : Mode) (call : Option CallNo) (release : Option ℕ)
       → ((w : World) → G w → R w [] (push name (new_frame (new_protected_mark o mode call release) None) w)) → Begins G R name o mode call release
-  begun name o mode call release pushed w v xs good lets inside =
+  begun name o mode call release pushed w v xs good lets placed inside =
       let opened = open_action name o mode w in
       let f = new_frame (new_protected_mark o mode call release) None in
       let lines = own (said.Enter name o mode) ∷ xs in
@@ -468,8 +473,8 @@ module _ {G : GoodWorld} {May Other : Naming} {R : StepRelation} {Q : MoveRelati
     mark_openings = record {
       pushes = λ name f w g may region release action abortable. openings.pushes name f w g may region release abortable;
       begins =
-          λ name o mode call may w v xs g lets k. begun name o mode call None
-          (λ u good. openings.pushes name (new_frame (new_protected_mark o mode call None) None) u good may refl refl refl) w v xs g lets k;
+          λ name o mode call may w v xs g lets placed k. begun name o mode call None
+          (λ u good. openings.pushes name (new_frame (new_protected_mark o mode call None) None) u good may refl refl refl) w v xs g lets placed k;
       opens_scope = openings.opens_scope;
       outside = openings.outside;
       within_part = openings.within_part;
@@ -492,9 +497,10 @@ all_of moves = record {
   ends = action_ends (exits moves);
   handlers = record {
     handles =
-        λ o n w v xs g lets k. begun (finely moves) who.Agent o Write None (Some n)
+        λ o n w v xs g lets placed k. begun (finely moves) who.Agent o Write None (Some n)
         (λ u good.
-        moves.edits_task who.Agent (λ t. with_frames (new_frame (new_protected_mark o Write None (Some n)) None ∷ t.frames) t) u (λ t. refl)) w v xs g lets k;
+        moves.edits_task who.Agent (λ t. with_frames (new_frame (new_protected_mark o Write None (Some n)) None ∷ t.frames) t) u
+        (λ t. refl)) w v xs g lets placed k;
     has_served = λ r w g is. moves.has_served r w is;
   };
   settings = setting_moves (finely moves);

@@ -345,7 +345,7 @@ calm = record {
 }
 
 begins-calm : (name : Who) (o : ObjectNo) (mode : Mode) (call : Option CallNo) (release : Option ℕ) → Begins AnyWorld Calmly name o mode call release
-begins-calm name o mode call release w v xs good lets k =
+begins-calm name o mode call release w v xs good lets placed k =
     let f = new_frame (new_protected_mark o mode call release) None in (
       untouched-then (sight_of w) (sight_of v) (sight_of (push name f v)) k.0 (pushed-untouched name f v),
       tells_both [] [] (own (said.Enter name o mode) ∷ []) xs (λ more. refl) k.1,
@@ -354,7 +354,7 @@ begins-calm name o mode call release w v xs good lets k =
 pub calm_openings : MarkOpenings AnyWorld Anybody Anybody Calmly
 calm_openings = record {
   pushes = λ name f w g may region release action abortable. (pushed-untouched name f w, tells_none);
-  begins = λ name o mode call may w v xs g lets k. begins-calm name o mode call None w v xs g lets k;
+  begins = λ name o mode call may w v xs g lets placed k. begins-calm name o mode call None w v xs g lets placed k;
   opens_scope = λ p name scope b purpose w g may. (
     opened-untouched p (scope_of p scope).kept name
         (new_frame (new_scope_mark (next_id w) (region_of_next (scope_of p scope).kept w) purpose) (scope_of p scope).first) (begin_scope p name scope b w),
@@ -375,6 +375,6 @@ calm_ends = record { exits = λ name m w g may may_end held. (popped-untouched n
 
 pub calm_handlers : HandlerMoves AnyWorld Calmly
 calm_handlers = record {
-  handles = λ o n w v xs g lets k. begins-calm who.Agent o Write None (Some n) w v xs g lets k;
+  handles = λ o n w v xs g lets placed k. begins-calm who.Agent o Write None (Some n) w v xs g lets placed k;
   has_served = λ r w g is. (untouched (sight_of w), λ more. refl);
 }

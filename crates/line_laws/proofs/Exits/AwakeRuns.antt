@@ -23,7 +23,7 @@ awake-free (Some (waits_for.Select accepts delay terminate)) e = refl
 awake-free (Some (waits_for.Dependents r)) e = refl
 awake-free (Some waits_for.Release) e = refl
 
-runners-free : (p : Image) (script : List (ℤ × Item)) (bound : ℕ) → RunnersAreFree p script bound
+pub runners-free : (p : Image) (script : List (ℤ × Item)) (bound : ℕ) → RunnersAreFree p script bound
 runners-free p script bound w c n ran over = let h = comes-awake p script bound w c in awake-free (waiting_of w (who.Task n)) (h.awake (who.Task n) ran)
 
 pub runs_keep_exclusion : RunsKeepExclusion

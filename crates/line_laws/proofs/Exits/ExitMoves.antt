@@ -44,7 +44,7 @@ state-tells name f w named same = moved w (edit_task name f w) (same-tied name f
 
 -- ---- a region that begins to be left
 
-scope-action : (f : ScopeMark → ScopeMark) (mark : Mark) → action_in (edit_scope_mark f mark) ≡ action_in mark
+pub scope-action : (f : ScopeMark → ScopeMark) (mark : Mark) → action_in (edit_scope_mark f mark) ≡ action_in mark
 scope-action f (Scope m) = refl
 scope-action f (Handled s) = refl
 scope-action f (InProtected m) = refl
@@ -149,7 +149,7 @@ telling = record {
   fine = fine;
   openings = record {
     pushes = λ name f w g may region release action abortable. moved w (push name f w) (pushed-tied name f w action);
-    begins = λ name o mode call may w v xs g lets k. begins-tells name o mode call None w v xs k;
+    begins = λ name o mode call may w v xs g lets placed k. begins-tells name o mode call None w v xs k;
     opens_scope = λ p name scope b purpose w g may c s h. (s, refl, opens-tied p name scope b purpose w c s h);
     outside = λ name w g may is. tt;
     within_part = λ name f w g may top is. tt;
@@ -160,7 +160,7 @@ telling = record {
   };
   ends = record { exits = λ name m w g may may_end held. ends-tells name m w (held-on_top name m.object w held) };
   handlers = record {
-    handles = λ o n w v xs g lets k. begins-tells who.Agent o Write None (Some n) w v xs k;
+    handles = λ o n w v xs g lets placed k. begins-tells who.Agent o Write None (Some n) w v xs k;
     has_served = λ r w g is c s h. (s, refl, h);
   };
   settings = settings;

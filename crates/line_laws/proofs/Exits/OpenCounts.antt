@@ -38,7 +38,7 @@ opened-any name o [] h = absurd (omega (arith, h))
 opened-any name o (a ∷ actions) h =
     any-step (is_own name o a) (list_any (λ x. eqb o x.object && who_eq name x.who) actions) (opened name o actions) h (λ g. opened-any name o actions g)
 
-who_eq-path : (a b : Who) → who_eq a b ≡ true → a ≡ b
+pub who_eq-path : (a b : Who) → who_eq a b ≡ true → a ≡ b
 who_eq-path (who.Task a) (who.Task b) e = ap (λ (n : ℕ). who.Task (record { 0 = n })) (eqb-true a.0 b.0 e)
 who_eq-path (who.Task a) who.Agent e = absurd (false≢true e)
 who_eq-path who.Agent (who.Task b) e = absurd (false≢true e)

@@ -326,8 +326,8 @@ module _ (held : Option RegionNo) where
   busy_openings = record {
     pushes = λ name f w g may region release action abortable. pushed_above name f w g region release abortable;
     begins =
-        λ name o mode call may w v xs g lets k. begun (coarse_busies rooted held) name o mode call None
-        (λ u good. pushed_above name (new_frame (new_protected_mark o mode call None) None) u good refl refl refl) w v xs g lets k;
+        λ name o mode call may w v xs g lets placed k. begun (coarse_busies rooted held) name o mode call None
+        (λ u good. pushed_above name (new_frame (new_protected_mark o mode call None) None) u good refl refl refl) w v xs g lets placed k;
     opens_scope = λ p name scope b purpose w g may. scope_opened p name scope b purpose w g;
     outside = λ name w g may e. outside_task name w g e;
     within_part = λ name f w g may top e. part_of_task name f w g top e;

@@ -1,5 +1,5 @@
 -- Protected actions and entry bodies: each step keeps a relation that its parts keep.
-use Rattle.std.specs.Prelude.{ℕ, List, [], ◌∷◌, ◌++◌, Option, Some, None, false}
+use Rattle.std.specs.Prelude.{ℕ, Bool, List, [], ◌∷◌, ◌++◌, Option, Some, None, true, false}
 use Rattle.ann_base.specs.declared.exceptions.Raised.TheVariants as exception
 use Rattle.ann_base.specs.declared.identities.ObjectNo.{ObjectNo}
 use Rattle.ann_base.specs.declared.identities.CallNo.{CallNo}
@@ -9,6 +9,7 @@ use Rattle.profile_machine.specs.declared.world.scopes.Handed.{Handed}
 use Rattle.profile_machine.specs.declared.world.lines.Line.TheVariants as line
 use Rattle.profile_machine.specs.declared.world.lines.MeetingEnd.TheVariants as meeting
 use Rattle.trace_text.specs.declared.events.Mode.{Mode}
+use Rattle.trace_text.specs.declared.events.QueueEnd.TheVariants.{Head}
 use Rattle.trace_text.specs.declared.events.Who.{Who}
 use Rattle.profile_image.specs.declared.image.Image.{Image}
 use Rattle.profile_image.specs.declared.numbers.DeclNo.{DeclNo}
@@ -25,24 +26,23 @@ use Rattle.profile_machine.specs.declared.world.World.{World}
 use Rattle.profile_machine.specs.declared.world.lines.Part.TheVariants.{Own, ThePlacing}
 use Rattle.profile_image.specs.Program.{next_of, subprogram_of}
 use Rattle.profile_machine.specs.Tasks.{with_frames}
-use Rattle.profile_machine.specs.Dispatching.{to_tail}
+use Rattle.profile_machine.specs.Dispatching.{says_ready, to_head, to_tail}
 use Rattle.profile_machine.specs.Frames.{new_frame, edit_first, edit_top, goes_on, push, raises, with_mark}
 use Rattle.profile_machine.specs.declared.world.tasks.Cause.TheVariants as inherited_by
 use Rattle.profile_machine.specs.Values.{object_of}
-use Rattle.profile_machine.specs.Inheritance.{inherit_running}
-use Rattle.profile_machine.specs.Steps.{Step, Done, done, goes_on_with, says, changes, ◌▷◌}
+use Rattle.profile_machine.specs.Inheritance.{inherit, inherit_running, rises}
+use Rattle.profile_machine.specs.Steps.{Step, goes_on_with, says, changes, when, ◌▷◌}
 use Rattle.std.proofs.Common.{◌≡◌, refl, ap, ◌∙◌, append_assoc}
 use Rattle.profile_machine.specs.Protected.{entering, ceiling_of, new_protected_mark, mode_of, find_held, enter_or, where_let_inside, open_action}
 use Rattle.profile_machine.specs.Protected.{begin_action_on, begin_operation, call_operation_of, call_operation, begin_own_operation, call_own_operation}
 use Rattle.profile_machine.specs.Protected.{edit_top_protected, begin_call, body_opens, has_room_for_body, serve_call, edit_protected}
 use Rattle.machine_laws.proofs.Moves.{StepRelation, MoveRelation, LetsIn, FindsHeld, own}
-use Rattle.machine_laws.proofs.FineMoves.{GoodWorld, Naming}
+use Rattle.machine_laws.proofs.FineMoves.{GoodWorld, Naming, ready_line}
 use Rattle.machine_laws.proofs.FinestMoves.{FinestMoves, MarkOpenings, Begins, nature, chains, says-keeps}
 use Rattle.machine_laws.proofs.Kept.Entering.{entering-inside, entering-held, LetsIn-same, edit_task-objects}
 use Rattle.machine_laws.proofs.Kept.Dispatching.{to_tail-keeps}
 use Rattle.machine_laws.proofs.Kept.Frames.{edit_top-alters, goes_then-from, plain_steps}
 use Rattle.machine_laws.proofs.Kept.Scopes.{open_scope-alters}
-use Rattle.machine_laws.proofs.Kept.Inheritance.{inherit_running-keeps}
 use Rattle.machine_laws.proofs.Kept.Subprograms.{begin_body-keeps}
 use Rattle.profile_machine.specs.declared.world.marks.Mark.{Mark}
 use Rattle.profile_machine.specs.declared.world.marks.Mark.TheVariants.{Scope, Handled, InProtected, InAccept, Abortable, InInitialize, InFinalize, InAssign}
@@ -89,23 +89,37 @@ module _ {G : GoodWorld} {May Other : Naming} {R : StepRelation} {Q : MoveRelati
   where_let_inside-keeps p name o mode step may kept =
       looks-from (chains moves) _ (λ w good. enter_or-from p name o mode step w (entering p w name o mode) good may refl (kept w good))
 
-  -- an action begins: what is done between `enter` and the mark is done inside
-  entered-kept : (name : Who) (o : ObjectNo) (mode : Mode) (call : Option CallNo) (release : Option ℕ) (w : World) (said : List Said) (d : Done) → G w
-      → Begins G R name o mode call release → LetsIn name o mode w → Kept R (open_action name o mode w) (said ++ own (line.Enter name o mode) ∷ []) d
-      → Kept R w said (goes_on_with (changes (push name (new_frame (new_protected_mark o mode call release) None))) d)
-  unfolding Kept
-  entered-kept name o mode call release w said (done v ys) good begins h k =
-      (own (line.Enter name o mode) ∷ k.0, k.1 ∙ append_assoc said (own (line.Enter name o mode) ∷ []) k.0, begins w v k.0 good h k.2)
+  -- an action begins: between `enter` and the mark who acts inherits the ceiling, and is placed where its active priority rises
+  entered-kept : (p : Image) (name : Who) (o : ObjectNo) (mode : Mode) (call : Option CallNo) (release : Option ℕ) (w v : World) (said : List Said)
+      (rises : Bool)
+      → G w
+      → May name
+      → Begins G R name o mode call release → LetsIn name o mode w → R (open_action name o mode w) [] v
+      → Kept R w said
+      (goes_on_with (changes (push name (new_frame (new_protected_mark o mode call release) None)))
+      (when rises (to_head p ThePlacing name) v (said ++ own (line.Enter name o mode) ∷ [])))
+  unfolding Kept to_head says_ready
+  entered-kept p name o mode call release w v said true good may begins h first =
+      let opened = open_action name o mode w in
+      let placed = ready_line p ThePlacing name Head v ∷ [] in (
+        own (line.Enter name o mode) ∷ placed,
+        append_assoc said (own (line.Enter name o mode) ∷ []) placed,
+        begins w v placed good h (refl, tt)
+            (moves.goes_on opened v v {xs = []} {ys = placed} first (moves.places p ThePlacing name Head v (moves.behind opened v first) may)),
+      )
+  entered-kept p name o mode call release w v said false good may begins h first = (own (line.Enter name o mode) ∷ [], refl, begins w v [] good h tt first)
 
   pub begin_action_on-from : (p : Image) (name : Who) (o : ObjectNo) (mode : Mode) (call : Option CallNo) (release : Option ℕ) (w : World) → G w → May name
       → Begins G R name o mode call release → LetsIn name o mode w → From R w (begin_action_on p name o mode call release)
-  unfolding begin_action_on From
+  unfolding begin_action_on inherit_running From
   begin_action_on-from p name o mode call release w good may begins h said =
       let v = open_action name o mode w in
-      entered-kept name o mode call release w said
-      (inherit_running p name (inherited_by.Ceiling o) (ceiling_of (object_of v o)) v (said ++ own (line.Enter name o mode) ∷ [])) good begins h
-      (keeps-from (chains moves) (inherit_running p name (inherited_by.Ceiling o) (ceiling_of (object_of v o))) v (moves.inside name o mode w good h)
-      (inherit_running-keeps moves p name (inherited_by.Ceiling o) (ceiling_of (object_of v o)) may) (said ++ own (line.Enter name o mode) ∷ []))
+      let level = ceiling_of (object_of v o) in
+      let heir = inherit name (inherited_by.Ceiling o) level v in
+      entered-kept p name o mode call release w heir said (rises p name v heir) good may begins h
+      (moves.edits_task name (λ t. record t { inherited = record { cause = inherited_by.Ceiling o; level = level } ∷ t.inherited }) v
+      (moves.inside name o mode w good h)
+      (λ t. refl) (λ t. refl) (λ t. refl) (λ t. refl) (λ t. refl))
 
   pub edit_top_protected-alters : (name : Who) (f : ProtectedMark → ProtectedMark) → ((m : ProtectedMark) → (f m).release ≡ m.release)
       → ((m : ProtectedMark) → (f m).object ≡ m.object) → Alters G R (edit_top_protected name f)

@@ -49,8 +49,8 @@ module _ {G : GoodWorld} (fact : KeepsFact G) where
     ends = action_ends fact.exits;
     handlers = record {
       handles =
-          λ o n w v xs g lets k. begun fact.moves who.Agent o Write None (Some n)
-          (λ u good. fact.pushes who.Agent (new_frame (new_protected_mark o Write None (Some n)) None) u good refl) w v xs g lets k;
+          λ o n w v xs g lets placed k. begun fact.moves who.Agent o Write None (Some n)
+          (λ u good. fact.pushes who.Agent (new_frame (new_protected_mark o Write None (Some n)) None) u good refl) w v xs g lets placed k;
       has_served = λ r w g is. fact.has_served w g;
     };
     settings = setting_moves fact.moves;
